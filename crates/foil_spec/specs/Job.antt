@@ -1,0 +1,62 @@
+-- The job file: the fields of a record, its steps, and its checks in order.
+use Prim.Native.Nat.{ℕ, zero, suc, _+_, _*_, _/_, _%_, _^_}
+use mathlib.Core.Bool.{Bool, cond, not, _&&_, xor}
+use mathlib.Core.List.{List, [], _∷_}
+use lib.Dec.{leb, ltb, eqb}
+use lib.ListN.{length, getD}
+use Rattle.foil_spec.specs.Lists.{consIf}
+use Rattle.foil_spec.specs.Foil.{point}
+use Rattle.foil_spec.specs.Ledger.{Step, newFoil, draw, lay, lift, Refusal, _⇒_}
+
+-- the number of two bytes at a place, low byte first
+unfoldable pub number : List ℕ → ℕ → ℕ
+number bs at = getD bs at 0 + 256 * getD bs (at + 1) 0
+
+-- how many numbers belong to a bit: W, H, reach; a patch; net, S and T to lay; net to lift
+unfoldable pub fieldCount : ℕ → ℕ
+fieldCount k = getD (3 ∷ 4 ∷ 5 ∷ 1 ∷ []) k 0
+
+-- the record that begins at a place of the bytes
+module _ (bs : List ℕ) (at : ℕ) where
+  -- the map byte, whose bits say which fields follow
+  unfoldable pub mapByte : ℕ
+  mapByte = getD bs at 0
+
+  -- bit k of the map byte is set
+  unfoldable pub has : ℕ → Bool
+  has k = eqb (mapByte / 2 ^ k % 2) 1
+
+  -- where the fields of bit k begin, or would begin: after the map byte and the fields of lower bits
+  unfoldable pub fieldsAt : ℕ → ℕ
+  fieldsAt zero = at + 1
+  fieldsAt (suc k) = fieldsAt k + cond (has k) (2 * fieldCount k) 0
+
+  -- the place after the record
+  unfoldable pub recordEnd : ℕ
+  recordEnd = fieldsAt 4
+
+  -- number i of the fields of bit k
+  unfoldable pub field : ℕ → ℕ → ℕ
+  field k i = number bs (fieldsAt k + 2 * i)
+
+  -- the steps of the record, in bit order
+  unfoldable pub steps : List Step
+  steps =
+      consIf (has 0) (newFoil (field 0 0) (field 0 1) (field 0 2))
+      (consIf (has 1) (draw (field 1 0) (field 1 1) (field 1 2) (field 1 3))
+      (consIf (has 2) (lay (field 2 0) (point (field 2 1) (field 2 2)) (point (field 2 3) (field 2 4)))
+      (consIf (has 3) (lift (field 3 0)) [])))
+
+  -- the end mark
+  unfoldable pub isEnd : Bool
+  isEnd = eqb mapByte 0
+
+  -- the checks of a record, in order; the first record is the one at place 0
+  unfoldable pub recordChecks : List Refusal
+  recordChecks =
+      (leb (length bs) at ⇒ 14)
+      ∷ (ltb 15 mapByte ⇒ 15)
+      ∷ (xor (eqb at 0) (has 0) ⇒ 16)
+      ∷ (isEnd && ltb (at + 1) (length bs) ⇒ 17)
+      ∷ (not isEnd && ltb (length bs) recordEnd ⇒ 14)
+      ∷ []

@@ -1,0 +1,10 @@
+-- The definitions of document 01, in its order.
+pub mod Lists
+pub mod Foil
+pub mod Strips
+pub mod Paths
+pub mod Ledger
+pub mod Lent
+pub mod Job
+pub mod Calls
+pub mod Sequence

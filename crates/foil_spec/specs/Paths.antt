@@ -1,0 +1,84 @@
+-- Paths (document 01: ways), over any test f of free points (x first, then y), a width W and a height H.
+use Prim.Native.Nat.{ℕ, zero, suc, _-_, _*_, min, max}
+use mathlib.Core.Bool.{Bool, cond, true, false, not, _&&_, _||_}
+use mathlib.Core.List.{List, [], _∷_, map}
+use mathlib.Core.Option.{Option, none, some}
+use lib.Dec.{ltb, eqb}
+use lib.ListN.{length}
+use Rattle.foil_spec.specs.Lists.{range, keep, all, each}
+use Rattle.foil_spec.specs.Foil.{Point, point, same}
+
+-- which way the next segment (document 01: leg) may go
+pub data Heading : Type 0 where
+  either level upright : Heading
+
+-- after the segment from p to q the next one goes the other way
+unfoldable pub after : Point → Point → Heading
+after p q = cond (eqb (p .y) (q .y)) upright level
+
+-- the test passes at every number from the smaller one to the larger one, both included
+unfoldable pub between : (ℕ → Bool) → ℕ → ℕ → Bool
+between g a b = all g (range (min a b) (suc (max a b - min a b)))
+
+module _ (f : ℕ → ℕ → Bool) where
+  -- a level segment: one row, two columns, all its points free, both ends included
+  unfoldable pub levelFree : Point → Point → Bool
+  levelFree p q =
+      eqb (p .y) (q .y) && not (eqb (p .x) (q .x)) && between (λ (x : ℕ). f x (p .y)) (p .x) (q .x)
+
+  -- an upright segment: one column, two rows, all its points free, both ends included
+  unfoldable pub uprightFree : Point → Point → Bool
+  uprightFree p q =
+      eqb (p .x) (q .x) && not (eqb (p .y) (q .y)) && between (λ (y : ℕ). f (p .x) y) (p .y) (q .y)
+
+  -- a segment that goes as the heading says
+  unfoldable pub segment : Heading → Point → Point → Bool
+  segment either p q = levelFree p q || uprightFree p q
+  segment level p q = levelFree p q
+  segment upright p q = uprightFree p q
+
+  -- from p over the corners to T by segments that alternate, the first as the heading says
+  unfoldable pub leads : Point → Heading → Point → List Point → Bool
+  leads T h p [] = same p T
+  leads T h p (q ∷ cs) = segment h p q && leads T (after p q) q cs
+
+  -- the corners are a path from S to T
+  unfoldable pub isPath : Point → Point → List Point → Bool
+  isPath S T [] = false
+  isPath S T (p ∷ cs) = same p S && f (p .x) (p .y) && leads T either p cs
+
+-- the corners less two, and 0 for one or two corners
+unfoldable pub bends : List Point → ℕ
+bends cs = length cs - 2
+
+-- smaller y first, then smaller x
+unfoldable pub pointBefore : Point → Point → Bool
+pointBefore p q = ltb (p .y) (q .y) || eqb (p .y) (q .y) && ltb (p .x) (q .x)
+
+-- at the first corner where the lists differ, that of the first list comes first
+unfoldable pub before : List Point → List Point → Bool
+before [] ds = false
+before (p ∷ cs) [] = false
+before (p ∷ cs) (q ∷ ds) = pointBefore p q || same p q && before cs ds
+
+-- the points of the foil, by y, then x
+unfoldable pub points : ℕ → ℕ → List Point
+points W H = each (λ (y : ℕ). map (λ (x : ℕ). point x y) (range 0 W)) (range 0 H)
+
+module _ (f : ℕ → ℕ → Bool) (W H : ℕ) (T : Point) where
+  -- every way to go on from p to T by n segments, in order: each point is tried as the next corner
+  unfoldable pub goings : ℕ → Heading → Point → List (List Point)
+  goings zero h p = cond (same p T) ([] ∷ []) []
+  goings (suc n) h p =
+      each (λ (q : Point). map (λ (cs : List Point). q ∷ cs) (goings n (after p q) q))
+      (keep (segment f h p) (points W H))
+
+  -- the first path from S of n, else of n + 1, .. segments, in all so many tries
+  unfoldable pub firstFrom : Point → ℕ → ℕ → Option (List Point)
+  firstFrom S zero n = none
+  firstFrom S (suc tries) n =
+      elim (goings n either S) [ [] ↦ firstFrom S tries (suc n) | cs ∷ more ↦ some (S ∷ cs) ]
+
+-- the first path of fewest bends from S to T, if there is one; none needs more than W * H segments
+unfoldable pub firstPath : (ℕ → ℕ → Bool) → ℕ → ℕ → Point → Point → Option (List Point)
+firstPath f W H S T = cond (f (S .x) (S .y)) (firstFrom f W H T S (suc (W * H)) 0) none
