@@ -64,15 +64,13 @@ unfoldable pub entryAt : List ℕ → ℕ → Entry
 entryAt t k =
     entry (getD t (k * 5) 0) (getD t (k * 5 + 1) 0) (getD t (k * 5 + 2) 0) (getD t (k * 5 + 3) 0) (getD t (k * 5 + 4) 0)
 
+-- the layout of width W, height H and clearance d whose entries are the first n of a table
+unfoldable pub layoutOf : ℕ → ℕ → ℕ → ℕ → List ℕ → Layout
+layoutOf W H d n t = record { width = W; height = H; clearance = d; entries = map (entryAt t) (range 0 n) }
+
 -- the layout that the record and the table hold
 unfoldable pub held : Lent → Layout
-held m =
-    record {
-      width = m .board .width;
-      height = m .board .height;
-      clearance = m .board .clearance;
-      entries = map (entryAt (m .table)) (range 0 (m .board .entries));
-    }
+held m = layoutOf (m .board .width) (m .board .height) (m .board .clearance) (m .board .entries) (m .table)
 
 -- the layout keeps the rules of the sections on the foil and the strips
 unfoldable pub layoutOk : Layout → Bool

@@ -1,0 +1,3 @@
+-- Laws of tests and lists that the other laws are proved with.
+pub mod Tests
+pub mod Members

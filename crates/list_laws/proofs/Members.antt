@@ -1,0 +1,162 @@
+-- Members of lists, and lists in order.
+use Prim.Native.Nat.{ℕ, zero, suc, _+_, _≤_, _<_}
+use native.Mathlib.Nat.{not-suc-le-zero}
+use native.Mathlib.Omega.{arith}
+use mathlib.Core.Path.{_≡_, refl, sym, ap, ap₂, _∙_, subst}
+use mathlib.Core.Bool.{Bool, true, false, not, _&&_, _||_, Bool-discrete}
+use mathlib.Core.List.{List, [], _∷_, _++_, map}
+use mathlib.Core.Logic.{_⊎_, inl, inr, ⊎-elim, by-cases}
+use native.Mathlib.Decide.{ℕ-discrete}
+use lib.Dec.{ltb}
+use borrow.Author.Tests.{lt-ltb}
+use lib.ListN.{length}
+use Rattle.foil_spec.specs.Lists.{range, keep, consIf, all, each}
+use Rattle.list_laws.proofs.Tests.{clash, and-l, and-r, and-i, parts}
+
+module _ {A : Type 0} where
+  abbrev pub In : A → List A → Type 0
+  In x [] = ⊥
+  In x (y ∷ ys) = (x ≡ y) ⊎ In x ys
+
+  pub in-left : (x : A) (xs ys : List A) → In x xs → In x (xs ++ ys)
+  in-left x [] ys h = absurd h
+  in-left x (z ∷ xs) ys (inl e) = inl e
+  in-left x (z ∷ xs) ys (inr h) = inr (in-left x xs ys h)
+
+  pub in-right : (x : A) (xs ys : List A) → In x ys → In x (xs ++ ys)
+  in-right x [] ys h = h
+  in-right x (z ∷ xs) ys h = inr (in-right x xs ys h)
+
+  pub in-cases : (x : A) (xs ys : List A) → In x (xs ++ ys) → In x xs ⊎ In x ys
+  in-cases x [] ys h = inr h
+  in-cases x (z ∷ xs) ys (inl e) = inl (inl e)
+  in-cases x (z ∷ xs) ys (inr h) = ⊎-elim (λ k. inl (inr k)) (λ k. inr k) (in-cases x xs ys h)
+
+  in-consIf : (b : Bool) (x y : A) (ys : List A) → In x ys → In x (consIf b y ys)
+  in-consIf true x y ys h = inr h
+  in-consIf false x y ys h = h
+
+  pub in-keep : (p : A → Bool) (x : A) (xs : List A) → In x xs → p x ≡ true → In x (keep p xs)
+  in-keep p x [] h t = h
+  in-keep p x (y ∷ ys) (inl e) t = rw (← e) (rw t (inl refl))
+  in-keep p x (y ∷ ys) (inr h) t = in-consIf (p y) x y (keep p ys) (in-keep p x ys h t)
+
+  of-consIf : (b : Bool) (x y : A) (ys : List A) → In x (consIf b y ys) → ((x ≡ y) × (b ≡ true)) ⊎ In x ys
+  of-consIf true x y ys (inl e) = inl (e, refl)
+  of-consIf true x y ys (inr h) = inr h
+  of-consIf false x y ys h = inr h
+
+  pub of-keep : (p : A → Bool) (x : A) (xs : List A) → In x (keep p xs) → In x xs × (p x ≡ true)
+  of-keep p x [] h = absurd h
+  of-keep p x (y ∷ ys) h =
+      ⊎-elim
+      (λ (k : (x ≡ y) × (p y ≡ true)). (inl (k .0), ap p (k .0) ∙ k .1))
+      (λ (k : In x (keep p ys)). (inr (of-keep p x ys k .0), of-keep p x ys k .1))
+      (of-consIf (p y) x y (keep p ys) h)
+
+  pub of-all : (p : A → Bool) (x : A) (xs : List A) → all p xs ≡ true → In x xs → p x ≡ true
+  of-all p x [] t h = absurd h
+  of-all p x (y ∷ ys) t (inl e) = ap p e ∙ and-l (p y) (all p ys) t
+  of-all p x (y ∷ ys) t (inr h) = of-all p x ys (and-r (p y) (all p ys) t) h
+
+  pub to-all : (p : A → Bool) (xs : List A) → ((x : A) → In x xs → p x ≡ true) → all p xs ≡ true
+  to-all p [] h = refl
+  to-all p (y ∷ ys) h = and-i {a = p y} (h y (inl refl)) (to-all p ys (λ x k. h x (inr k)))
+
+  -- a list in order: each element comes before all that follow
+  abbrev pub Sorted : (A → A → Bool) → List A → Type 0
+  Sorted r [] = Unit {0}
+  Sorted r (x ∷ xs) = ((y : A) → In y xs → r x y ≡ true) × Sorted r xs
+
+  pub sorted-append : (r : A → A → Bool) (xs ys : List A) → Sorted r xs → Sorted r ys
+      → ((x y : A) → In x xs → In y ys → r x y ≡ true) → Sorted r (xs ++ ys)
+  sorted-append r [] ys sx sy h = sy
+  sorted-append r (x ∷ xs) ys sx sy h = (
+    λ y k. ⊎-elim (λ (u : In y xs). sx .0 y u) (λ (u : In y ys). h x y (inl refl) u) (in-cases y xs ys k),
+    sorted-append r xs ys (sx .1) sy (λ a b u v. h a b (inr u) v),
+  )
+
+  sorted-consIf : (r : A → A → Bool) (b : Bool) (x : A) (ys : List A) → ((y : A) → In y ys → r x y ≡ true) → Sorted r ys → Sorted r (consIf b x ys)
+  sorted-consIf r true x ys h s = (h, s)
+  sorted-consIf r false x ys h s = s
+
+  pub sorted-keep : (r : A → A → Bool) (p : A → Bool) (xs : List A) → Sorted r xs → Sorted r (keep p xs)
+  sorted-keep r p [] s = s
+  sorted-keep r p (x ∷ xs) s =
+      sorted-consIf r (p x) x (keep p xs) (λ y k. s .0 y (of-keep p y xs k .0)) (sorted-keep r p xs (s .1))
+
+module _ {A B : Type 0} where
+  pub in-map : (f : A → B) (x : A) (xs : List A) → In x xs → In (f x) (map f xs)
+  in-map f x [] h = h
+  in-map f x (y ∷ ys) (inl e) = inl (ap f e)
+  in-map f x (y ∷ ys) (inr h) = inr (in-map f x ys h)
+
+  pub of-map : (f : A → B) (z : B) (xs : List A) → In z (map f xs) → (x : A) × In x xs × (z ≡ f x)
+  of-map f z [] h = absurd h
+  of-map f z (y ∷ ys) (inl e) = (y, inl refl, e)
+  of-map f z (y ∷ ys) (inr h) = let r = of-map f z ys h in (r .0, inr (r .1), r .2)
+
+  pub in-each : (f : A → List B) (z : B) (x : A) (xs : List A) → In x xs → In z (f x) → In z (each f xs)
+  in-each f z x [] h k = absurd h
+  in-each f z x (y ∷ ys) (inl e) k = in-left z (f y) (each f ys) (subst (λ (w : A). In z (f w)) e k)
+  in-each f z x (y ∷ ys) (inr h) k = in-right z (f y) (each f ys) (in-each f z x ys h k)
+
+  pub of-each : (f : A → List B) (z : B) (xs : List A) → In z (each f xs) → (x : A) × In x xs × In z (f x)
+  of-each f z [] h = absurd h
+  of-each f z (y ∷ ys) h =
+      ⊎-elim
+      (λ (k : In z (f y)). (y, inl refl, k))
+      (λ (k : In z (each f ys)). let r = of-each f z ys k in (r .0, inr (r .1), r .2))
+      (in-cases z (f y) (each f ys) h)
+
+  -- lists in order one after the other are in order, where what the earlier elements give comes before what the later ones give
+  pub sorted-each : (q : A → A → Bool) (r : B → B → Bool) (f : A → List B) (xs : List A) → Sorted q xs
+      → ((x : A) → In x xs → Sorted r (f x))
+      → ((x y : A) (u v : B) → q x y ≡ true → In u (f x) → In v (f y) → r u v ≡ true)
+      → Sorted r (each f xs)
+  sorted-each q r f [] s h k = tt
+  sorted-each q r f (x ∷ xs) s h k =
+      sorted-append r (f x) (each f xs) (h x (inl refl)) (sorted-each q r f xs (s .1) (λ y u. h y (inr u)) k)
+      (λ u v hu hv. let w = of-each f v xs hv in k x (w .0) u v (s .0 (w .0) (w .1)) hu (w .2))
+
+  pub sorted-map : (q : A → A → Bool) (r : B → B → Bool) (f : A → B) (xs : List A) → Sorted q xs
+      → ((x y : A) → q x y ≡ true → r (f x) (f y) ≡ true) → Sorted r (map f xs)
+  sorted-map q r f [] s k = tt
+  sorted-map q r f (x ∷ xs) s k =
+      (λ v hv. let w = of-map f v xs hv in rw (w .2) (k x (w .0) (s .0 (w .0) (w .1))), sorted-map q r f xs (s .1) k)
+
+pub in-range : (k a n : ℕ) → a ≤ k → k < a + n → In k (range a n)
+in-range k a zero h l = absurd (let z : k < a = omega arith in omega arith)
+in-range k a (suc n) h l = by-cases (ℕ-discrete k a) (λ e. inl e) (λ ne. inr (in-range k (suc a) n (omega arith) (omega arith)))
+
+pub of-range : (k a n : ℕ) → In k (range a n) → (a ≤ k) × (k < a + n)
+of-range k a zero h = absurd h
+of-range k a (suc n) (inl e) = omega arith
+of-range k a (suc n) (inr h) = let r = of-range k (suc a) n h in omega arith
+
+pub sorted-range : (a n : ℕ) → Sorted ltb (range a n)
+sorted-range a zero = tt
+sorted-range a (suc n) = (λ k h. lt-ltb a k (of-range k (suc a) n h .0), sorted-range (suc a) n)
+
+module _ {A : Type 0} where
+  pub sorted-weaken : (q r : A → A → Bool) (xs : List A) → Sorted q xs → ((x y : A) → In x xs → In y xs → q x y ≡ true → r x y ≡ true) → Sorted r xs
+  sorted-weaken q r [] s h = tt
+  sorted-weaken q r (x ∷ xs) s h =
+      (λ y k. h x y (inl refl) (inr k) (s .0 y k), sorted-weaken q r xs (s .1) (λ a b u v. h a b (inr u) (inr v)))
+
+  -- two lists in one strict order that have the same members are one
+  pub sorted-same : (r : A → A → Bool) → ((x y : A) → r x y ≡ true → r y x ≡ true → ⊥) → (xs ys : List A) → Sorted r xs → Sorted r ys
+      → ((z : A) → In z xs → In z ys) → ((z : A) → In z ys → In z xs) → xs ≡ ys
+  sorted-same r asym [] [] sx sy f g = refl
+  sorted-same r asym [] (y ∷ ys) sx sy f g = absurd (g y (inl refl))
+  sorted-same r asym (x ∷ xs) [] sx sy f g = absurd (f x (inl refl))
+  sorted-same r asym (x ∷ xs) (y ∷ ys) sx sy f g =
+      let e : x ≡ y =
+      ⊎-elim (λ (k : x ≡ y). k)
+      (λ (k : In x ys). ⊎-elim (λ (j : y ≡ x). sym j) (λ (j : In y xs). absurd (asym x y (sx .0 y j) (sy .0 x k))) (g y (inl refl)))
+      (f x (inl refl)) in
+      let t : xs ≡ ys =
+      sorted-same r asym xs ys (sx .1) (sy .1)
+      (λ z k. ⊎-elim (λ (j : z ≡ y). absurd (let s = subst (λ (w : A). r x w ≡ true) (j ∙ sym e) (sx .0 z k) in asym x x s s)) (λ (j : In z ys). j) (f z (inr k)))
+      (λ z k. ⊎-elim (λ (j : z ≡ x). absurd (let s = subst (λ (w : A). r y w ≡ true) (j ∙ e) (sy .0 z k) in asym y y s s)) (λ (j : In z xs). j) (g z (inr k))) in
+      ap₂ {A = A} {B = List A} {C = List A} (λ a l. a ∷ l) e t

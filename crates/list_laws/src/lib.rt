@@ -1,0 +1,1 @@
+// Laws of tests and lists, in proofs/: no code.
