@@ -1,2 +1,3 @@
--- What is proved of the definitions in this crate; the laws stand in the crate foil_laws.
+-- What is proved beside the definitions; their laws stand in the crates list_laws, strip_laws, path_laws and ledger_laws.
 pub mod Starred
+pub mod Written

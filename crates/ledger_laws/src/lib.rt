@@ -1,0 +1,1 @@
+// Laws of the ledger and of what is lent, in proofs/: no code.
