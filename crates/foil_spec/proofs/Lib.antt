@@ -1,3 +1,3 @@
--- What is proved beside the definitions; their laws stand in the crates list_laws, strip_laws, path_laws and ledger_laws.
+-- What is proved beside the definitions; their other laws stand in the crates whose names end in _laws.
 pub mod Starred
 pub mod Written

@@ -3,16 +3,19 @@ use Prim.Native.Nat.{ℕ}
 use mathlib.Core.Path.{_≡_, refl}
 use mathlib.Core.Bool.{xor}
 use mathlib.Core.List.{List, [], _∷_, map, reverse}
-use mathlib.Core.Option.{none, some}
-use lib.ListN.{length}
+use mathlib.Core.Option.{some}
 use Rattle.foil_spec.specs.Foil.{Point, point, Entry, entry, Layout}
 use Rattle.foil_spec.specs.Foil.{sizeOk, clearanceOk, netOk, boxOk, within, blocks, free}
-use Rattle.foil_spec.specs.Strips.{Strip, stopIn, stop, scan, scanAt, starts, isRun, isTop, begun, stripsFrom, holds, placeOf}
-use Rattle.foil_spec.specs.Paths.{after, between, levelFree, uprightFree, segment, bends, points, goings, firstFrom, firstPath}
-use Rattle.foil_spec.specs.Ledger.{stripsOf, pathOf, noPath, cornersOf, leg, legsFrom, legs, ofNet, inUse, offFoil, blocked}
+use Rattle.foil_spec.specs.Strips.{Strip, stopIn, stop, scan, scanAt, starts, isRun, isTop, begun}
+use Rattle.foil_spec.specs.Strips.{stripsFrom, holds, placeOf}
+use Rattle.foil_spec.specs.Paths.{after, between, levelFree, uprightFree, segment, bends, points, goings}
+use Rattle.foil_spec.specs.Paths.{firstFrom, firstPath}
+use Rattle.foil_spec.specs.Ledger.{stripsOf, pathOf, noPath, cornersOf, leg, legsFrom, legs, ofNet, inUse}
+use Rattle.foil_spec.specs.Ledger.{offFoil, blocked}
 use Rattle.foil_spec.specs.Ledger.{tooLong, tooFine, next, says, first, short, refusals, settle, ledgerStep, Room}
-use Rattle.foil_spec.specs.Ledger.{Step, newFoil, draw, lay, lift, lookUp, Answer, refused, accepted, laid, found}
-use Rattle.foil_spec.specs.Job.{number, fieldCount, mapByte, has, fieldsAt, recordEnd, field, steps, isEnd, recordChecks}
+use Rattle.foil_spec.specs.Ledger.{newFoil, draw, lay, lift, lookUp, refused, accepted, laid, found}
+use Rattle.foil_spec.specs.Job.{number, fieldCount, mapByte, has, fieldsAt, recordEnd, field, steps, isEnd}
+use Rattle.foil_spec.specs.Job.{recordChecks}
 use Rattle.foil_spec.specs.Calls.{Call, step, runRecord, Reply, answered, ran, atEnd}
 use Rattle.foil_spec.specs.Calls.{endsJob, andThen, actAll, actRecord, tooLarge, ledgerCall}
 
@@ -158,7 +161,11 @@ cases =
       calls = runRecord jobBytes 0 ∷ runRecord jobBytes 15 ∷ step (lift 5) ∷ [];
       outcome =
           record {
-            replies = ran (accepted ∷ accepted ∷ []) (some 15) ∷ ran (laid jobCorners 2 ∷ []) (some 26) ∷ answered accepted ∷ [];
+            replies =
+                ran (accepted ∷ accepted ∷ []) (some 15)
+                ∷ ran (laid jobCorners 2 ∷ []) (some 26)
+                ∷ answered accepted
+                ∷ [];
             entries = entry 0 2 0 3 3 ∷ [];
             strips = strip 0 0 2 3 ∷ strip 3 0 6 3 ∷ strip 0 3 6 4 ∷ [];
           };

@@ -7,7 +7,7 @@ use lib.Dec.{ltb, eqb}
 use lib.ListN.{length}
 use Rattle.foil_spec.specs.Lists.{any}
 use Rattle.foil_spec.specs.Foil.{Layout}
-use Rattle.foil_spec.specs.Ledger.{Step, Answer, refused, accepted, laid, found, Refusal, _⇒_, first}
+use Rattle.foil_spec.specs.Ledger.{Step, Answer, refused, accepted, laid, found, _⇒_, first}
 use Rattle.foil_spec.specs.Ledger.{Room, short, After, ledgerStep}
 use Rattle.foil_spec.specs.Lent.{Lent, sound, roomOf, stepOn}
 use Rattle.foil_spec.specs.Job.{steps, isEnd, recordEnd, recordChecks}
@@ -30,15 +30,15 @@ endsJob accepted = false
 endsJob (laid cs n) = false
 endsJob (found n) = false
 
+-- a step's answer in front of those of the steps after it, which are not done where it ends the job
+unfoldable pub andThen : {S : Type 0} → After Answer S → After (List Answer) S → After (List Answer) S
+andThen a b =
+    cond (endsJob (a .answer))
+    (record { answer = a .answer ∷ []; state = a .state })
+    (record { answer = a .answer ∷ b .answer; state = b .state })
+
 -- a record on any state, where `act` does a step
 module _ {S : Type 0} (act : Step → S → After Answer S) where
-  -- a step's answer in front of those of the steps after it, which are not done where it ends the job
-  unfoldable pub andThen : After Answer S → After (List Answer) S → After (List Answer) S
-  andThen a b =
-      cond (endsJob (a .answer))
-      (record { answer = a .answer ∷ []; state = a .state })
-      (record { answer = a .answer ∷ b .answer; state = b .state })
-
   -- the steps one after the other
   unfoldable pub actAll : List Step → S → After (List Answer) S
   actAll [] s = record { answer = []; state = s }

@@ -1,6 +1,6 @@
 -- Paths (document 01: ways), over any test f of free points (x first, then y), a width W and a height H.
 use Prim.Native.Nat.{ℕ, zero, suc, _-_, _*_, min, max}
-use mathlib.Core.Bool.{Bool, cond, true, false, not, _&&_, _||_}
+use mathlib.Core.Bool.{Bool, cond, false, not, _&&_, _||_}
 use mathlib.Core.List.{List, [], _∷_, map}
 use mathlib.Core.Option.{Option, none, some}
 use lib.Dec.{ltb, eqb}

@@ -1,17 +1,15 @@
 -- Members of lists, and lists in order.
 use Prim.Native.Nat.{ℕ, zero, suc, _+_, _≤_, _<_}
-use native.Mathlib.Nat.{not-suc-le-zero}
 use native.Mathlib.Omega.{arith}
-use mathlib.Core.Path.{_≡_, refl, sym, ap, ap₂, _∙_, subst}
-use mathlib.Core.Bool.{Bool, true, false, not, _&&_, _||_, Bool-discrete}
+use mathlib.Core.Path.{_≡_, refl, ap, _∙_, subst}
+use mathlib.Core.Bool.{Bool, true, false}
 use mathlib.Core.List.{List, [], _∷_, _++_, map}
 use mathlib.Core.Logic.{_⊎_, inl, inr, ⊎-elim, by-cases}
 use native.Mathlib.Decide.{ℕ-discrete}
 use lib.Dec.{ltb}
 use borrow.Author.Tests.{lt-ltb}
-use lib.ListN.{length}
 use Rattle.foil_spec.specs.Lists.{range, keep, consIf, all, each}
-use Rattle.list_laws.proofs.Tests.{clash, and-l, and-r, and-i, parts}
+use Rattle.list_laws.proofs.Tests.{and-l, and-r, and-i}
 
 module _ {A : Type 0} where
   abbrev pub In : A → List A → Type 0
@@ -76,7 +74,8 @@ module _ {A : Type 0} where
     sorted-append r xs ys (sx .1) sy (λ a b u v. h a b (inr u) v),
   )
 
-  sorted-consIf : (r : A → A → Bool) (b : Bool) (x : A) (ys : List A) → ((y : A) → In y ys → r x y ≡ true) → Sorted r ys → Sorted r (consIf b x ys)
+  sorted-consIf : (r : A → A → Bool) (b : Bool) (x : A) (ys : List A) → ((y : A) → In y ys → r x y ≡ true)
+      → Sorted r ys → Sorted r (consIf b x ys)
   sorted-consIf r true x ys h s = (h, s)
   sorted-consIf r false x ys h s = s
 
@@ -109,7 +108,7 @@ module _ {A B : Type 0} where
       (λ (k : In z (each f ys)). let r = of-each f z ys k in (r .0, inr (r .1), r .2))
       (in-cases z (f y) (each f ys) h)
 
-  -- lists in order one after the other are in order, where what the earlier elements give comes before what the later ones give
+  -- lists in order one after the other are in order, where what earlier elements give comes before the rest
   pub sorted-each : (q : A → A → Bool) (r : B → B → Bool) (f : A → List B) (xs : List A) → Sorted q xs
       → ((x : A) → In x xs → Sorted r (f x))
       → ((x y : A) (u v : B) → q x y ≡ true → In u (f x) → In v (f y) → r u v ≡ true)
@@ -127,7 +126,8 @@ module _ {A B : Type 0} where
 
 pub in-range : (k a n : ℕ) → a ≤ k → k < a + n → In k (range a n)
 in-range k a zero h l = absurd (let z : k < a = omega arith in omega arith)
-in-range k a (suc n) h l = by-cases (ℕ-discrete k a) (λ e. inl e) (λ ne. inr (in-range k (suc a) n (omega arith) (omega arith)))
+in-range k a (suc n) h l =
+    by-cases (ℕ-discrete k a) (λ e. inl e) (λ ne. inr (in-range k (suc a) n (omega arith) (omega arith)))
 
 pub of-range : (k a n : ℕ) → In k (range a n) → (a ≤ k) × (k < a + n)
 of-range k a zero h = absurd h
@@ -137,26 +137,3 @@ of-range k a (suc n) (inr h) = let r = of-range k (suc a) n h in omega arith
 pub sorted-range : (a n : ℕ) → Sorted ltb (range a n)
 sorted-range a zero = tt
 sorted-range a (suc n) = (λ k h. lt-ltb a k (of-range k (suc a) n h .0), sorted-range (suc a) n)
-
-module _ {A : Type 0} where
-  pub sorted-weaken : (q r : A → A → Bool) (xs : List A) → Sorted q xs → ((x y : A) → In x xs → In y xs → q x y ≡ true → r x y ≡ true) → Sorted r xs
-  sorted-weaken q r [] s h = tt
-  sorted-weaken q r (x ∷ xs) s h =
-      (λ y k. h x y (inl refl) (inr k) (s .0 y k), sorted-weaken q r xs (s .1) (λ a b u v. h a b (inr u) (inr v)))
-
-  -- two lists in one strict order that have the same members are one
-  pub sorted-same : (r : A → A → Bool) → ((x y : A) → r x y ≡ true → r y x ≡ true → ⊥) → (xs ys : List A) → Sorted r xs → Sorted r ys
-      → ((z : A) → In z xs → In z ys) → ((z : A) → In z ys → In z xs) → xs ≡ ys
-  sorted-same r asym [] [] sx sy f g = refl
-  sorted-same r asym [] (y ∷ ys) sx sy f g = absurd (g y (inl refl))
-  sorted-same r asym (x ∷ xs) [] sx sy f g = absurd (f x (inl refl))
-  sorted-same r asym (x ∷ xs) (y ∷ ys) sx sy f g =
-      let e : x ≡ y =
-      ⊎-elim (λ (k : x ≡ y). k)
-      (λ (k : In x ys). ⊎-elim (λ (j : y ≡ x). sym j) (λ (j : In y xs). absurd (asym x y (sx .0 y j) (sy .0 x k))) (g y (inl refl)))
-      (f x (inl refl)) in
-      let t : xs ≡ ys =
-      sorted-same r asym xs ys (sx .1) (sy .1)
-      (λ z k. ⊎-elim (λ (j : z ≡ y). absurd (let s = subst (λ (w : A). r x w ≡ true) (j ∙ sym e) (sx .0 z k) in asym x x s s)) (λ (j : In z ys). j) (f z (inr k)))
-      (λ z k. ⊎-elim (λ (j : z ≡ x). absurd (let s = subst (λ (w : A). r y w ≡ true) (j ∙ e) (sy .0 z k) in asym y y s s)) (λ (j : In z xs). j) (g z (inr k))) in
-      ap₂ {A = A} {B = List A} {C = List A} (λ a l. a ∷ l) e t

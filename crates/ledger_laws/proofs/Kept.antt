@@ -1,0 +1,198 @@
+-- An accepted step, and so every call, leaves a layout that keeps the rules.
+use Prim.Native.Nat.{ℕ, suc, _≤_, _<_}
+use native.Mathlib.Omega.{arith}
+use mathlib.Core.Path.{_≡_, refl, ap, _∙_}
+use mathlib.Core.Bool.{Bool, true, false, not, cond, _&&_}
+use mathlib.Core.List.{List, [], _∷_}
+use mathlib.Core.Option.{Option, none, some, Option·getD}
+use lib.Dec.{leb}
+use borrow.Author.Tests.{ltb-false, leb-true, lt-ltb, le-ltb}
+use lib.ListN.{length}
+use Rattle.foil_spec.specs.Lists.{all, keep, consIf}
+use Rattle.foil_spec.specs.Foil.{Point, Entry, entry, Layout, sizeOk, clearanceOk, netOk, boxOk, entryOk, free}
+use Rattle.foil_spec.specs.Ledger.{stripsOf, pathOf, cornersOf, legs, ofNet, withEntries, tooLong, tooFine, next}
+use Rattle.foil_spec.specs.Ledger.{Step, newFoil, draw, lay, lift, lookUp, Answer, After, first, Room, refusals}
+use Rattle.foil_spec.specs.Ledger.{settle, ledgerStep}
+use Rattle.foil_spec.specs.Lent.{layoutOk}
+use Rattle.foil_spec.specs.Calls.{Call, step, runRecord, endsJob, andThen, actAll, actRecord, ledgerCall}
+use Rattle.list_laws.proofs.Tests.{and-l, and-r, and-i, not-ff, parts, all-append, all-keep}
+use Rattle.path_laws.proofs.Laws.{gives-first}
+use Rattle.strip_laws.proofs.Laws.{one-strip}
+use Rattle.ledger_laws.proofs.Refusals.{none-applies}
+use Rattle.ledger_laws.proofs.Legs.{free-inside, legs-ok}
+
+-- the rules, one by one
+pub record Keeps (l : Layout) : Type 0 where
+  pub width : sizeOk (l .width) ≡ true
+  pub height : sizeOk (l .height) ≡ true
+  pub clearance : clearanceOk (l .clearance) ≡ true
+  pub entries : all (entryOk (l .width) (l .height)) (l .entries) ≡ true
+  pub long : tooLong l ≡ false
+  pub fine : tooFine l ≡ false
+
+pub of-ok : (l : Layout) → layoutOk l ≡ true → Keeps l
+unfolding layoutOk
+of-ok l g =
+    record {
+      width = search parts;
+      height = search parts;
+      clearance = search parts;
+      entries = search parts;
+      long = search parts;
+      fine = search parts;
+    }
+
+pub to-ok : (l : Layout) → Keeps l → layoutOk l ≡ true
+unfolding layoutOk
+to-ok l g = simp (g .width, g .height, g .clearance, g .entries, g .long, g .fine)
+
+-- ---- each step
+
+positive : (n : ℕ) → sizeOk n ≡ true → 0 < n
+unfolding sizeOk
+positive n h = leb-true 1 n (and-l (leb 1 n) (leb n 4096) h)
+
+-- a foil without entries
+abbrev pub bare : ℕ → ℕ → ℕ → Layout
+bare W H d = record { width = W; height = H; clearance = d; entries = [] }
+
+pub bare-free : (d W H x y : ℕ) → x < W → y < H → free (bare W H d) x y ≡ true
+unfolding free
+bare-free d W H x y hx hy = simp (lt-ltb x W hx, lt-ltb y H hy)
+
+new-fine : (W H d : ℕ) → sizeOk W ≡ true → sizeOk H ≡ true → tooFine (bare W H d) ≡ false
+unfolding tooFine stripsOf
+new-fine W H d hW hH = rw (one-strip (free (bare W H d)) W H (positive W hW) (positive H hH) (bare-free d W H)) refl
+
+pub new-kept : (W H d : ℕ) (r : Room) (b : Bool) (l : Layout) → first (refusals (newFoil W H d) r b l) ≡ none
+    → layoutOk (next (newFoil W H d) l) ≡ true
+unfolding refusals next tooLong
+new-kept W H d r b l h =
+    let s : (sizeOk W && sizeOk H) ≡ true = not-ff _ (search none-applies) in
+    let w : sizeOk W ≡ true = and-l (sizeOk W) (sizeOk H) s in
+    let v : sizeOk H ≡ true = and-r (sizeOk W) (sizeOk H) s in
+    to-ok _
+    (record {
+      width = w;
+      height = v;
+      clearance = not-ff (clearanceOk d) (search none-applies);
+      entries = refl;
+      long = refl;
+      fine = new-fine W H d w v;
+    })
+
+patch-ok : (W H : ℕ) (x0 y0 x1 y1 : ℕ) → boxOk W H (entry 0 x0 y0 x1 y1) ≡ true
+    → entryOk W H (entry 0 x0 y0 x1 y1) ≡ true
+unfolding entryOk
+patch-ok W H x0 y0 x1 y1 h = rw h refl
+
+laid-ok : (l : Layout) (net : ℕ) (S T : Point) (o : Option (List Point)) → pathOf l S T ≡ o → netOk net ≡ true
+    → all (entryOk (l .width) (l .height)) (legs net (Option·getD o [])) ≡ true
+unfolding pathOf legs
+laid-ok l net S T none e h = refl
+laid-ok l net S T (some cs) e h =
+    let i = free-inside l in
+    legs-ok (l .width) (l .height) net h (free l) i T S cs
+    (gives-first (free l) (l .width) (l .height) i S T cs e .path)
+
+length-consIf : {A : Type 0} (t : Bool) (x : A) (xs : List A) → length (consIf t x xs) ≤ suc (length xs)
+length-consIf true x xs = omega arith
+length-consIf false x xs = omega arith
+
+length-keep : {A : Type 0} (p : A → Bool) (xs : List A) → length (keep p xs) ≤ length xs
+length-keep p [] = omega arith
+length-keep p (x ∷ xs) = omega (arith, length-consIf (p x) x (keep p xs), length-keep p xs)
+
+lift-short : (l : Layout) (p : Entry → Bool) → tooLong l ≡ false → tooLong (withEntries l (keep p (l .entries))) ≡ false
+unfolding tooLong
+lift-short l p h =
+    le-ltb 128 (length (keep p (l .entries)))
+    (omega (arith, ltb-false 128 (length (l .entries)) h, length-keep p (l .entries)))
+
+-- an accepted step leaves a layout that keeps the rules
+pub next-kept : (s : Step) (r : Room) (b : Bool) (l : Layout) → layoutOk l ≡ true → first (refusals s r b l) ≡ none
+    → layoutOk (next s l) ≡ true
+unfolding refusals next cornersOf
+next-kept (newFoil W H d) r b l g h = new-kept W H d r b l h
+next-kept (draw x0 y0 x1 y1) r b l g h =
+    let k = of-ok l g in
+    let e : entryOk (l .width) (l .height) (entry 0 x0 y0 x1 y1) ≡ true =
+    patch-ok (l .width) (l .height) x0 y0 x1 y1 (not-ff _ (search none-applies)) in
+    to-ok _
+    (record {
+      width = k .width;
+      height = k .height;
+      clearance = k .clearance;
+      entries =
+          all-append (entryOk (l .width) (l .height)) (l .entries) _ (k .entries)
+          (and-i {a = entryOk (l .width) (l .height) (entry 0 x0 y0 x1 y1)} e refl);
+      long = search none-applies;
+      fine = search none-applies depth 9;
+    })
+next-kept (lay net S T) r b l g h =
+    let k = of-ok l g in
+    to-ok _
+    (record {
+      width = k .width;
+      height = k .height;
+      clearance = k .clearance;
+      entries =
+          all-append (entryOk (l .width) (l .height)) (l .entries) _ (k .entries)
+          (laid-ok l net S T (pathOf l S T) refl (not-ff (netOk net) (search none-applies)));
+      long = search none-applies depth 12;
+      fine = search none-applies depth 12;
+    })
+next-kept (lift net) r b l g h =
+    let k = of-ok l g in
+    let p : Entry → Bool = λ e. not (ofNet net e) in
+    to-ok _
+    (record {
+      width = k .width;
+      height = k .height;
+      clearance = k .clearance;
+      entries = all-keep (entryOk (l .width) (l .height)) p (l .entries) (k .entries);
+      long = lift-short l p (k .long);
+      fine = search none-applies depth 9;
+    })
+next-kept (lookUp p) r b l g h = g
+
+-- ---- every call
+
+settle-kept : (o : Option ℕ) (s : Step) (r : Room) (l : Layout) → first (refusals s r false l) ≡ o → layoutOk l ≡ true
+    → layoutOk (settle o s l .state) ≡ true
+unfolding settle
+settle-kept (some n) s r l e g = g
+settle-kept none s r l e g = next-kept s r false l g e
+
+pub step-kept : (r : Room) (s : Step) (l : Layout) → layoutOk l ≡ true → layoutOk (ledgerStep r s l .state) ≡ true
+unfolding ledgerStep
+step-kept r s l g = settle-kept (first (refusals s r false l)) s r l refl g
+
+pub then-kept : (a : After Answer Layout) (b : After (List Answer) Layout) → layoutOk (a .state) ≡ true
+    → layoutOk (b .state) ≡ true → layoutOk (andThen a b .state) ≡ true
+unfolding andThen
+then-kept a b g h = go (endsJob (a .answer)) _ refl
+  where
+    go : (t : Bool) (c : After (List Answer) Layout) → c .state ≡ b .state
+        → layoutOk (cond t (record { answer = a .answer ∷ []; state = a .state }) c .state) ≡ true
+    go true c e = g
+    go false c e = ap layoutOk e ∙ h
+
+pub steps-kept : (r : Room) (ss : List Step) (l : Layout) → layoutOk l ≡ true
+    → layoutOk (actAll (ledgerStep r) ss l .state) ≡ true
+unfolding actAll
+steps-kept r [] l g = g
+steps-kept r (s ∷ ss) l g =
+    then-kept (ledgerStep r s l) _ (step-kept r s l g) (steps-kept r ss (ledgerStep r s l .state) (step-kept r s l g))
+
+record-kept : (r : Room) (o : Option ℕ) (e : Bool) (ss : List Step) (p : ℕ) (l : Layout) → layoutOk l ≡ true
+    → layoutOk (actRecord (ledgerStep r) o e ss p l .state) ≡ true
+unfolding actRecord
+record-kept r (some n) e ss p l g = g
+record-kept r none true ss p l g = g
+record-kept r none false ss p l g = steps-kept r ss l g
+
+pub call-kept : (r : Room) (c : Call) (l : Layout) → layoutOk l ≡ true → layoutOk (ledgerCall r c l .state) ≡ true
+unfolding ledgerCall
+call-kept r (step s) l g = step-kept r s l g
+call-kept r (runRecord bs at) l g = record-kept r _ _ _ _ l g

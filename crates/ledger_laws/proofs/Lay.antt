@@ -1,0 +1,209 @@
+-- Lay answers 9 exactly where there is no path, lays the first one, and lift takes it back.
+use Prim.Native.Nat.{ℕ}
+use native.Mathlib.Omega.{arith}
+use mathlib.Core.Path.{_≡_, refl, sym, ap, _∙_, subst}
+use mathlib.Core.Bool.{Bool, true, false, not}
+use mathlib.Core.List.{List, [], _∷_, _++_, append-nil}
+use mathlib.Core.Option.{Option, none, some, Option·getD}
+use lib.Dec.{ltb}
+use borrow.Author.Tests.{eq-eqb, lt-leb}
+use lib.ListN.{length}
+use Rattle.foil_spec.specs.Lists.{keep, any}
+use Rattle.foil_spec.specs.Foil.{Point, Entry, Layout, netOk, free}
+use Rattle.foil_spec.specs.Paths.{isPath, bends}
+use Rattle.foil_spec.specs.Ledger.{pathOf, noPath, cornersOf, leg, legsFrom, legs, ofNet, inUse, withEntries}
+use Rattle.foil_spec.specs.Ledger.{offFoil, blocked}
+use Rattle.foil_spec.specs.Ledger.{tooLong, tooFine, next, says, _⇒_, first, Room, short, refusals, settle, ledgerStep}
+use Rattle.foil_spec.specs.Ledger.{lay, lift, refused, accepted, laid}
+use Rattle.list_laws.proofs.Tests.{clash, or-l, or-r, or-ir, not-ff}
+use Rattle.path_laws.proofs.Laws.{IsFirst, gives-first, gives-none, none-is}
+use Rattle.ledger_laws.specs.Demand3.{MayLay, NoWay, LaysFirst, LiftsBack}
+use Rattle.ledger_laws.proofs.Refusals.{none-applies}
+use Rattle.ledger_laws.proofs.Legs.{free-inside}
+use Rattle.ledger_laws.proofs.Kept.{of-ok}
+
+-- ---- 9
+
+free-on : (l : Layout) (p : Point) → free l (p .x) (p .y) ≡ true → offFoil l p ≡ false
+unfolding offFoil
+free-on l p h =
+    let i = free-inside l (p .x) (p .y) h in
+    rw (lt-leb (l .width) (p .x) (i .0), lt-leb (l .height) (p .y) (i .1)) refl
+
+-- the refusals of such a lay are those from 9 on
+lay-from-9 : (r : Room) (l : Layout) (net : ℕ) (S T : Point) → MayLay r l net S T
+    → first (refusals (lay net S T) r false l)
+    ≡ first (
+    (noPath (pathOf l S T) ⇒ 9)
+    ∷ (ltb (r .corners) (length (cornersOf l S T)) ⇒ 12)
+    ∷ (tooLong (next (lay net S T) l) ⇒ 10)
+    ∷ (tooFine (next (lay net S T) l) ⇒ 11)
+    ∷ [])
+unfolding refusals first blocked
+lay-from-9 r l net S T m =
+    rw (
+      m .long,
+      m .allowed,
+      m .unused,
+      free-on l S (m .start-free),
+      free-on l T (m .end-free),
+      m .start-free,
+      m .end-free,
+    ) refl
+
+settled-9 : (o : Option ℕ) (net : ℕ) (S T : Point) (l : Layout) → settle o (lay net S T) l .answer ≡ refused 9
+    → o ≡ some 9
+unfolding settle says
+settled-9 none net S T l h = absurd (let z : _≡_ {A = ℕ} 0 1 = cc in omega arith)
+settled-9 (some n) net S T l h = let e : n ≡ 9 = cc in ap {A = ℕ} {B = Option ℕ} some e
+
+after-9 : (a b c : Bool) → first ((a ⇒ 12) ∷ (b ⇒ 10) ∷ (c ⇒ 11) ∷ []) ≡ some 9 → ⊥
+unfolding first
+after-9 true b c h = let e : _≡_ {A = ℕ} 12 9 = cc in omega arith
+after-9 false true c h = let e : _≡_ {A = ℕ} 10 9 = cc in omega arith
+after-9 false false true h = let e : _≡_ {A = ℕ} 11 9 = cc in omega arith
+after-9 false false false h = let z : _≡_ {A = ℕ} 0 1 = cc in omega arith
+
+only-9 : (o : Option (List Point)) (a b c : Bool)
+    → first ((noPath o ⇒ 9) ∷ (a ⇒ 12) ∷ (b ⇒ 10) ∷ (c ⇒ 11) ∷ []) ≡ some 9
+    → o ≡ none
+unfolding noPath first
+only-9 none a b c h = refl
+only-9 (some cs) a b c h = absurd (after-9 a b c h)
+
+answers-9 : (r : Room) (l : Layout) (net : ℕ) (S T : Point) → MayLay r l net S T → pathOf l S T ≡ none
+    → ledgerStep r (lay net S T) l .answer ≡ refused 9
+unfolding ledgerStep settle first noPath
+answers-9 r l net S T m e = rw (lay-from-9 r l net S T m, e) refl
+
+pub no-way : NoWay
+unfolding pathOf ledgerStep
+no-way r l net S T m = (only-where, where-none)
+  where
+    only-where : ledgerStep r (lay net S T) l .answer ≡ refused 9 → (cs : List Point) → isPath (free l) S T cs ≡ true
+        → ⊥
+    only-where h cs p =
+        let e : first (refusals (lay net S T) r false l) ≡ some 9 =
+        settled-9 (first (refusals (lay net S T) r false l)) net S T l h in
+        gives-none (free l) (l .width) (l .height) (free-inside l) S T
+        (only-9 (pathOf l S T) _ _ _ (sym (lay-from-9 r l net S T m) ∙ e)) cs p
+
+    where-none : ((cs : List Point) → isPath (free l) S T cs ≡ true → ⊥)
+        → ledgerStep r (lay net S T) l .answer ≡ refused 9
+    where-none h =
+        answers-9 r l net S T m (none-is (free l) (l .width) (l .height) (free-inside l) S T h)
+
+-- ---- the track
+
+-- a lay that is answered with corners was not refused, and they are those of the first path
+record Laid (r : Room) (l : Layout) (net : ℕ) (S T : Point) (cs : List Point) (n : ℕ) : Type 0 where
+  unrefused : first (refusals (lay net S T) r false l) ≡ none
+  corners : cs ≡ cornersOf l S T
+  bent : n ≡ bends (cornersOf l S T)
+
+settled-laid : (o : Option ℕ) (net : ℕ) (S T : Point) (l : Layout) (cs : List Point) (n : ℕ)
+    → settle o (lay net S T) l .answer ≡ laid cs n → (o ≡ none) × (cs ≡ cornersOf l S T) × (n ≡ bends (cornersOf l S T))
+unfolding settle says
+settled-laid none net S T l cs n h = (refl, cc, cc)
+settled-laid (some k) net S T l cs n h = absurd (let z : _≡_ {A = ℕ} 0 1 = cc in omega arith)
+
+of-laid : (r : Room) (l : Layout) (net : ℕ) (S T : Point) (cs : List Point) (n : ℕ)
+    → ledgerStep r (lay net S T) l .answer ≡ laid cs n → Laid r l net S T cs n
+unfolding ledgerStep
+of-laid r l net S T cs n h =
+    let a = settled-laid (first (refusals (lay net S T) r false l)) net S T l cs n h in
+    record { unrefused = a .0; corners = a .1; bent = a .2 }
+
+has-path : (r : Room) (l : Layout) (net : ℕ) (S T : Point) → first (refusals (lay net S T) r false l) ≡ none
+    → noPath (pathOf l S T) ≡ false
+unfolding refusals
+has-path r l net S T h = search none-applies depth 12
+
+path-is : (l : Layout) (S T : Point) (o : Option (List Point)) → pathOf l S T ≡ o → noPath o ≡ false
+    → pathOf l S T ≡ some (Option·getD (pathOf l S T) [])
+unfolding noPath
+path-is l S T none e h = clash refl h
+path-is l S T (some cs) e h = rw e refl
+
+pub lays-first : LaysFirst
+unfolding pathOf cornersOf
+lays-first r l net S T cs n h =
+    let a = of-laid r l net S T cs n h in
+    let e = path-is l S T (pathOf l S T) refl (has-path r l net S T (a .unrefused)) in (
+      subst (λ (ds : List Point). IsFirst (free l) S T ds) (sym (a .corners))
+          (gives-first (free l) (l .width) (l .height) (free-inside l) S T (cornersOf l S T) e),
+      a .bent ∙ ap bends (sym (a .corners)),
+    )
+
+-- ---- lifting it
+
+-- entries of other nets stay, and those of the net go
+keep-others : (net : ℕ) (es ds : List Entry) → inUse net es ≡ false
+    → keep (λ (e : Entry). not (ofNet net e)) (es ++ ds) ≡ es ++ keep (λ (e : Entry). not (ofNet net e)) ds
+unfolding inUse
+keep-others net [] ds h = refl
+keep-others net (e ∷ es) ds h =
+    let a : ofNet net e ≡ false = or-l (ofNet net e) (any (ofNet net) es) h in
+    rw a (ap (λ (xs : List Entry). e ∷ xs) (keep-others net es ds (or-r (ofNet net e) (any (ofNet net) es) h)))
+
+leg-net : (net : ℕ) (p q : Point) → ofNet net (leg net p q) ≡ true
+unfolding ofNet leg
+leg-net net p q = eq-eqb net net refl
+
+drop-legs : (net : ℕ) (p : Point) (cs : List Point) → keep (λ (e : Entry). not (ofNet net e)) (legsFrom net p cs) ≡ []
+unfolding legsFrom
+drop-legs net p [] = refl
+drop-legs net p (q ∷ cs) = rw (leg-net net p q) (drop-legs net q cs)
+
+keep-none : (net : ℕ) (cs : List Point) → keep (λ (e : Entry). not (ofNet net e)) (legs net cs) ≡ []
+unfolding legs
+keep-none net [] = refl
+keep-none net (p ∷ []) = rw (leg-net net p p) refl
+keep-none net (p ∷ q ∷ cs) = drop-legs net p (q ∷ cs)
+
+used-right : (net : ℕ) (es ds : List Entry) → inUse net ds ≡ true → inUse net (es ++ ds) ≡ true
+unfolding inUse
+used-right net [] ds h = h
+used-right net (e ∷ es) ds h = or-ir (ofNet net e) (used-right net es ds h)
+
+legs-used : (net : ℕ) (p : Point) (cs : List Point) → inUse net (legs net (p ∷ cs)) ≡ true
+unfolding inUse legs legsFrom
+legs-used net p [] = rw (leg-net net p p) refl
+legs-used net p (q ∷ cs) = rw (leg-net net p q) refl
+
+path-used : (f : ℕ → ℕ → Bool) (S T : Point) (net : ℕ) (cs : List Point) → isPath f S T cs ≡ true
+    → inUse net (legs net cs) ≡ true
+unfolding isPath
+path-used f S T net [] h = clash h refl
+path-used f S T net (p ∷ cs) h = legs-used net p cs
+
+lifted : (r : Room) (l : Layout) (net : ℕ) (cs : List Point) → netOk net ≡ true → inUse net (l .entries) ≡ false
+    → inUse net (legs net cs) ≡ true → tooFine l ≡ false → short r ≡ false
+    → ledgerStep r (lift net) (withEntries l (l .entries ++ legs net cs)) ≡ record { answer = accepted; state = l }
+unfolding ledgerStep refusals first settle says next
+lifted r l net cs ok unused used fine long =
+    let e : keep (λ (x : Entry). not (ofNet net x)) (l .entries ++ legs net cs) ≡ l .entries =
+    keep-others net (l .entries) (legs net cs) unused
+    ∙ ap (λ (xs : List Entry). l .entries ++ xs) (keep-none net cs) ∙ append-nil (l .entries) in
+    rw (e, long, ok, used-right net (l .entries) (legs net cs) used, fine)
+    (ap (λ (es : List Entry). record { answer = accepted; state = withEntries l es }) e)
+
+laid-state : (r : Room) (l : Layout) (net : ℕ) (S T : Point) → first (refusals (lay net S T) r false l) ≡ none
+    → ledgerStep r (lay net S T) l .state ≡ withEntries l (l .entries ++ legs net (cornersOf l S T))
+unfolding ledgerStep settle next
+laid-state r l net S T h = rw h refl
+
+lay-checked : (r : Room) (l : Layout) (net : ℕ) (S T : Point) → first (refusals (lay net S T) r false l) ≡ none
+    → (netOk net ≡ true) × (inUse net (l .entries) ≡ false)
+unfolding refusals
+lay-checked r l net S T h = (not-ff (netOk net) (search none-applies), search none-applies)
+
+pub lifts-back : LiftsBack
+lifts-back r r′ l net S T cs n g h long =
+    let a = of-laid r l net S T cs n h in
+    let c = lay-checked r l net S T (a .unrefused) in
+    let p = lays-first r l net S T cs n h .0 .path in
+    let used : inUse net (legs net (cornersOf l S T)) ≡ true =
+    ap (λ (ds : List Point). inUse net (legs net ds)) (sym (a .corners)) ∙ path-used (free l) S T net cs p in
+    ap (ledgerStep r′ (lift net)) (laid-state r l net S T (a .unrefused))
+    ∙ lifted r′ l net (cornersOf l S T) (c .0) (c .1) used (of-ok l g .fine) long

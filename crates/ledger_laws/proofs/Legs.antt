@@ -1,0 +1,70 @@
+-- The legs of a path are entries that a table may hold.
+use Prim.Native.Nat.{ℕ, suc, _<_, min, max}
+use native.Mathlib.Omega.{arith}
+use mathlib.Core.Path.{_≡_, refl}
+use mathlib.Core.Bool.{Bool, true, _||_, or-true}
+use mathlib.Core.List.{List, [], _∷_}
+use mathlib.Core.Logic.{_⊎_, inl, inr, ⊎-elim}
+use lib.Dec.{ltb, eqb}
+use borrow.Author.Tests.{ltb-true, lt-ltb, le-leb, eq-eqb}
+use Rattle.foil_spec.specs.Lists.{all}
+use Rattle.foil_spec.specs.Foil.{Point, Layout, netOk, boxOk, entryOk, free}
+use Rattle.foil_spec.specs.Paths.{Heading, either, segment, after, leads, isPath}
+use Rattle.foil_spec.specs.Ledger.{leg, legsFrom, legs}
+use Rattle.list_laws.proofs.Tests.{and-l, and-r, and-i, parts}
+use Rattle.path_laws.proofs.Segments.{Level, Upright, of-segment, end-free}
+
+pub free-inside : (l : Layout) (x y : ℕ) → free l x y ≡ true → (x < l .width) × (y < l .height)
+unfolding free
+free-inside l x y h =
+    let a : ltb x (l .width) ≡ true = search parts in
+    let b : ltb y (l .height) ≡ true = search parts in
+    (ltb-true x (l .width) a, ltb-true y (l .height) b)
+
+module _ (W H net : ℕ) (ok : netOk net ≡ true) where
+  leg-ok : (p q : Point) → (p .x < W) × (p .y < H) → (q .x < W) × (q .y < H) → (p .x ≡ q .x) ⊎ (p .y ≡ q .y)
+      → entryOk W H (leg net p q) ≡ true
+  unfolding entryOk boxOk leg
+  leg-ok p q i j d =
+      simp (
+        lt-ltb (min (p .x) (q .x)) (suc (max (p .x) (q .x))) (omega arith),
+        lt-ltb (min (p .y) (q .y)) (suc (max (p .y) (q .y))) (omega arith),
+        le-leb (suc (max (p .x) (q .x))) W (omega arith),
+        le-leb (suc (max (p .y) (q .y))) H (omega arith),
+        ok,
+      ) (thin d)
+    where
+      thin : (p .x ≡ q .x) ⊎ (p .y ≡ q .y)
+          → (eqb net 0
+          || (eqb (suc (max (p .x) (q .x))) (suc (min (p .x) (q .x)))
+          || eqb (suc (max (p .y) (q .y))) (suc (min (p .y) (q .y))))) ≡ true
+      thin (inl e) = simp (eq-eqb (suc (max (p .x) (q .x))) (suc (min (p .x) (q .x))) (omega arith), or-true)
+      thin (inr e) = simp (eq-eqb (suc (max (p .y) (q .y))) (suc (min (p .y) (q .y))) (omega arith), or-true)
+
+  module _ (f : ℕ → ℕ → Bool) (inside : (x y : ℕ) → f x y ≡ true → (x < W) × (y < H)) (T : Point) where
+    in-line : (h : Heading) (p q : Point) → segment f h p q ≡ true → (p .x ≡ q .x) ⊎ (p .y ≡ q .y)
+    in-line h p q s =
+        ⊎-elim (λ (a : Level f p q). inr (a .row)) (λ (a : Upright f p q). inl (a .column)) (of-segment f h p q s)
+
+    from-ok : (h : Heading) (p : Point) (cs : List Point) → f (p .x) (p .y) ≡ true → leads f T h p cs ≡ true
+        → all (entryOk W H) (legsFrom net p cs) ≡ true
+    unfolding leads legsFrom
+    from-ok h p [] e l = refl
+    from-ok h p (q ∷ cs) e l =
+        let s : segment f h p q ≡ true = and-l (segment f h p q) (leads f T (after p q) q cs) l in
+        let e′ = end-free f h p q s in
+        and-i {a = entryOk W H (leg net p q)}
+        (leg-ok p q (inside (p .x) (p .y) e) (inside (q .x) (q .y) e′) (in-line h p q s))
+        (from-ok (after p q) q cs e′ (and-r (segment f h p q) (leads f T (after p q) q cs) l))
+
+    pub legs-ok : (S : Point) (cs : List Point) → isPath f S T cs ≡ true → all (entryOk W H) (legs net cs) ≡ true
+    unfolding isPath legs
+    legs-ok S [] h = refl
+    legs-ok S (p ∷ []) h =
+        let e : f (p .x) (p .y) ≡ true = search parts in
+        let i = inside (p .x) (p .y) e in
+        and-i {a = entryOk W H (leg net p p)} (leg-ok p p i i (inl refl)) refl
+    legs-ok S (p ∷ q ∷ cs) h =
+        let e : f (p .x) (p .y) ≡ true = search parts in
+        let l : leads f T either p (q ∷ cs) ≡ true = search parts in
+        from-ok either p (q ∷ cs) e l

@@ -1,0 +1,8 @@
+-- Laws of the ledger and of what is lent.
+pub mod Stored
+pub mod Refusals
+pub mod Legs
+pub mod Kept
+pub mod Steps
+pub mod Lay
+pub mod Demand3

@@ -1,0 +1,30 @@
+-- The first refusal that applies, and what is known where none does.
+use Prim.Native.Nat.{ℕ}
+use mathlib.Core.Path.{_≡_, refl}
+use mathlib.Core.Bool.{Bool, true, false}
+use mathlib.Core.List.{List, _∷_}
+use mathlib.Core.Option.{none, some, Option·some-ne-none}
+use Rattle.foil_spec.specs.Foil.{Layout}
+use Rattle.foil_spec.specs.Ledger.{Step, newFoil, draw, lay, lift, lookUp, Refusal, _⇒_, first, Room, short, refusals}
+
+pub no-rule : (a : Bool) (n : ℕ) (rs : List Refusal) → first ((a ⇒ n) ∷ rs) ≡ none → a ≡ false
+unfolding first
+no-rule true n rs h = absurd (Option·some-ne-none n h)
+no-rule false n rs h = refl
+
+pub no-more : (a : Bool) (n : ℕ) (rs : List Refusal) → first ((a ⇒ n) ∷ rs) ≡ none → first rs ≡ none
+unfolding first
+no-more true n rs h = absurd (Option·some-ne-none n h)
+no-more false n rs h = h
+
+-- where no refusal applies, any one of them does not
+pub ruleset none-applies = (no-rule, no-more)
+
+-- every step is refused by 12 where the lists are too short
+pub short-refused : (s : Step) (r : Room) (b : Bool) (l : Layout) → short r ≡ true → first (refusals s r b l) ≡ some 12
+unfolding refusals first
+short-refused (newFoil W H d) r b l e = rw e refl
+short-refused (draw x0 y0 x1 y1) r b l e = rw e refl
+short-refused (lay net S T) r b l e = rw e refl
+short-refused (lift net) r b l e = rw e refl
+short-refused (lookUp p) r b l e = rw e refl

@@ -1,0 +1,142 @@
+-- What is lent after a layout is stored in it: it reads back, it is sound, and a front part of it goes the same way.
+use Prim.Native.Nat.{ℕ, zero, suc, _+_, _-_, _*_, _≤_}
+use native.Mathlib.Omega.{arith}
+use mathlib.Core.Path.{_≡_, refl, ap, ap₂, _∙_, fun-ext}
+use mathlib.Core.Bool.{true, false}
+use mathlib.Core.List.{List, [], _∷_, _++_, map, append-assoc}
+use lib.Dec.{ltb}
+use borrow.Author.Tests.{eq-eqb, ltb-false}
+use lib.ListN.{length, drop, replicate}
+use Rattle.foil_spec.specs.Lists.{range, each}
+use Rattle.foil_spec.specs.Foil.{Point, Entry, Layout}
+use Rattle.foil_spec.specs.Strips.{Strip}
+use Rattle.foil_spec.specs.Ledger.{stripsOf, withEntries, tooLong, tooFine}
+use Rattle.foil_spec.specs.Lent.{Lent, withCorners, entryNumbers, stripNumbers, pointNumbers, written, boardOf, store}
+use Rattle.foil_spec.specs.Lent.{entryAt, layoutOf, held, layoutOk, sameNumbers, sound}
+use Rattle.foil_spec.specs.Sequence.{Lending, front, back}
+use Rattle.foil_spec.proofs.Written.{written-again, take-written, written-back, drop-past}
+use Rattle.list_laws.proofs.Tests.{parts}
+
+-- ---- how long the flat lists are
+
+pub length-entries : (es : List Entry) → length (each entryNumbers es) ≡ 5 * length es
+unfolding entryNumbers
+length-entries [] = refl
+length-entries (e ∷ es) = omega (arith, length-entries es)
+
+pub length-strips : (ss : List Strip) → length (each stripNumbers ss) ≡ 4 * length ss
+unfolding stripNumbers
+length-strips [] = refl
+length-strips (s ∷ ss) = omega (arith, length-strips ss)
+
+pub length-points : (ps : List Point) → length (each pointNumbers ps) ≡ 2 * length ps
+unfolding pointNumbers
+length-points [] = refl
+length-points (p ∷ ps) = omega (arith, length-points ps)
+
+-- the entries and the strips of a layout that keeps the rules fit their lists
+pub entries-fit : (l : Layout) → layoutOk l ≡ true → length (each entryNumbers (l .entries)) ≤ 640
+unfolding layoutOk tooLong
+entries-fit l g =
+    let h : ltb 128 (length (l .entries)) ≡ false = search parts in
+    omega (arith, length-entries (l .entries), ltb-false 128 (length (l .entries)) h)
+
+pub strips-fit : (l : Layout) → layoutOk l ≡ true → length (each stripNumbers (stripsOf l)) ≤ 16384
+unfolding layoutOk tooFine
+strips-fit l g =
+    let h : ltb 4096 (length (stripsOf l)) ≡ false = search parts in
+    omega (arith, length-strips (stripsOf l), ltb-false 4096 (length (stripsOf l)) h)
+
+-- ---- reading back
+
+map-later : {A : Type 0} (g : ℕ → A) (a n : ℕ) → map g (range (suc a) n) ≡ map (λ (k : ℕ). g (suc k)) (range a n)
+map-later g a zero = refl
+map-later {A} g a (suc n) = ap (λ (xs : List A). g (suc a) ∷ xs) (map-later g (suc a) n)
+
+entry-later : (e : Entry) (t : List ℕ) (k : ℕ) → entryAt (entryNumbers e ++ t) (suc k) ≡ entryAt t k
+unfolding entryAt entryNumbers
+entry-later e t k =
+    let a : suc k * 5 ≡ suc (suc (suc (suc (suc (k * 5))))) = omega arith in
+    let b : (j : ℕ) → suc k * 5 + j ≡ suc (suc (suc (suc (suc (k * 5 + j))))) = λ j. omega arith in
+    rw (b 1, b 2, b 3, b 4, a) refl
+
+entry-here : (e : Entry) (t : List ℕ) → entryAt (entryNumbers e ++ t) 0 ≡ e
+unfolding entryAt entryNumbers
+entry-here e t = refl
+
+read-back : (es : List Entry) (rest : List ℕ) → map (entryAt (each entryNumbers es ++ rest)) (range 0 (length es)) ≡ es
+read-back [] rest = refl
+read-back (e ∷ es) rest =
+    let t : List ℕ = each entryNumbers es ++ rest in
+    ap (λ (u : List ℕ). map (entryAt u) (range 0 (suc (length es))))
+    (append-assoc (entryNumbers e) (each entryNumbers es) rest)
+    ∙ ap₂ {A = Entry} {B = List Entry} {C = List Entry} (λ a b. a ∷ b) (entry-here e t)
+    (map-later (entryAt (entryNumbers e ++ t)) 0 (length es)
+    ∙ ap (λ (g : ℕ → Entry). map g (range 0 (length es))) (fun-ext (λ k. entry-later e t k))
+    ∙ read-back es rest)
+
+pub held-store : (l : Layout) (m : Lent) → held (store l m) ≡ l
+unfolding held store boardOf layoutOf written
+held-store l m =
+    ap (withEntries l)
+    (read-back (l .entries) (replicate (640 - length (each entryNumbers (l .entries))) 0 ++ drop 640 (m .table)))
+
+same-refl : (l : List ℕ) → sameNumbers l l ≡ true
+unfolding sameNumbers
+same-refl [] = refl
+same-refl (x ∷ l) = rw (eq-eqb x x refl) (same-refl l)
+
+-- ---- storing again, and in front parts
+
+abbrev withLists : Lent → List ℕ → List ℕ → Lent
+withLists m t s = record { board = m .board; table = t; strips = s; corners = m .corners }
+
+pub store-again : (l l′ : Layout) (m : Lent) → layoutOk l ≡ true → store l′ (store l m) ≡ store l′ m
+unfolding store
+store-again l l′ m g =
+    ap₂ (withLists (store l′ m))
+    (written-again 640 (each entryNumbers (l .entries)) (m .table) (entries-fit l g) (each entryNumbers (l′ .entries)))
+    (written-again 16384 (each stripNumbers (stripsOf l)) (m .strips) (strips-fit l g)
+    (each stripNumbers (stripsOf l′)))
+
+-- 13 does not apply to what a layout that keeps the rules is stored in
+pub sound-store : (l : Layout) (m : Lent) → layoutOk l ≡ true → sound (store l m) ≡ true
+unfolding sound
+sound-store l m g =
+    rw (
+      held-store l m,
+      store-again l l m g,
+      g,
+      eq-eqb (store l m .board .strips) (store l m .board .strips) refl,
+      same-refl (store l m .table),
+      same-refl (store l m .strips),
+    ) refl
+
+module _ (c : Lending) (m : Lent) (long-table : 640 ≤ c .tableFront) (long-strips : 16384 ≤ c .stripFront) where
+  pub front-store : (l : Layout) → layoutOk l ≡ true → front c (store l m) ≡ store l (front c m)
+  unfolding front store
+  front-store l g =
+      ap₂ (withLists (withCorners (store l m) (c .corners)))
+      (take-written 640 (each entryNumbers (l .entries)) (m .table) (entries-fit l g) (c .tableFront) long-table)
+      (take-written 16384 (each stripNumbers (stripsOf l)) (m .strips) (strips-fit l g) (c .stripFront) long-strips)
+
+  -- what was lent comes back, written, to lists that hold anything
+  pub back-new : (l : Layout) (ks : List ℕ) → layoutOk l ≡ true
+      → back c m (withCorners (store l (front c m)) ks) ≡ withCorners (store l m) ks
+  unfolding front store back
+  back-new l ks g =
+      ap₂ (withLists (withCorners (store l m) ks))
+      (written-back 640 (each entryNumbers (l .entries)) (m .table) (entries-fit l g) (c .tableFront) long-table)
+      (written-back 16384 (each stripNumbers (stripsOf l)) (m .strips) (strips-fit l g) (c .stripFront) long-strips)
+
+  -- and to lists that hold a layout
+  pub back-store : (l l′ : Layout) (ks : List ℕ) → layoutOk l ≡ true → layoutOk l′ ≡ true
+      → back c (store l m) (withCorners (store l′ (front c m)) ks) ≡ withCorners (store l′ m) ks
+  unfolding store back
+  back-store l l′ ks g g′ =
+      ap₂ (withLists (withCorners (store l′ m) ks))
+      (ap (λ (t : List ℕ). store l′ (front c m) .table ++ t)
+      (drop-past 640 (each entryNumbers (l .entries)) (m .table) (entries-fit l g) (c .tableFront) long-table))
+      (ap (λ (t : List ℕ). store l′ (front c m) .strips ++ t)
+      (drop-past 16384 (each stripNumbers (stripsOf l)) (m .strips) (strips-fit l g) (c .stripFront) long-strips))
+      ∙ back-new l′ ks g′

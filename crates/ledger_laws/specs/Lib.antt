@@ -1,0 +1,2 @@
+-- The statements that are proved of the ledger.
+pub mod Demand3

@@ -1,0 +1,272 @@
+-- How `firstPath` finds what it gives: the first of the ways to go on by the fewest segments, and no path is missed.
+use Prim.Native.Nat.{ℕ, zero, suc, _+_, _*_, _≤_, _<_}
+use native.Mathlib.Omega.{arith}
+use native.Mathlib.Decide.{ℕ-discrete, decLe}
+use mathlib.Core.Path.{_≡_, refl, sym, ap, _∙_, subst, subst₂}
+use mathlib.Core.Bool.{Bool, true, false, cond, _&&_}
+use mathlib.Core.List.{List, [], _∷_}
+use mathlib.Core.Option.{none, some, Option·some-injective, Option·none-ne-some}
+use mathlib.Core.Logic.{_⊎_, inl, inr, ⊎-elim, by-cases}
+use lib.Dec.{ltb, eqb}
+use borrow.Author.Tests.{ltb-true, eqb-true}
+use lib.ListN.{length}
+use Rattle.foil_spec.specs.Foil.{Point, same}
+use Rattle.foil_spec.specs.Paths.{either, segment, leads, isPath, bends, pointBefore, before}
+use Rattle.foil_spec.specs.Paths.{goings, firstFrom, firstPath}
+use Rattle.list_laws.proofs.Tests.{clash, and-l, and-r, or-cases, parts, true-or-false}
+use Rattle.list_laws.proofs.Members.{In, Sorted}
+use Rattle.path_laws.proofs.Segments.{same-eq, same-self, Level, Upright, of-segment}
+use Rattle.path_laws.proofs.Goings.{of-goings, in-goings, sorted-goings, before-tail}
+use Rattle.path_laws.proofs.Bound.{enough}
+
+-- ---- the order of corner lists is strict
+pub order : (p q : Point) → pointBefore p q ≡ true → (p .y < q .y) ⊎ ((p .y ≡ q .y) × (p .x < q .x))
+unfolding pointBefore
+order p q h =
+    ⊎-elim
+    (λ k. inl (ltb-true (p .y) (q .y) k))
+    (λ k.
+    inr (
+      eqb-true (p .y) (q .y) (and-l (eqb (p .y) (q .y)) (ltb (p .x) (q .x)) k),
+      ltb-true (p .x) (q .x) (and-r (eqb (p .y) (q .y)) (ltb (p .x) (q .x)) k),
+    ))
+    (or-cases (ltb (p .y) (q .y)) (eqb (p .y) (q .y) && ltb (p .x) (q .x)) h)
+
+not-both : (p q : Point) → (p .y < q .y) ⊎ ((p .y ≡ q .y) × (p .x < q .x))
+    → (q .y < p .y) ⊎ ((q .y ≡ p .y) × (q .x < p .x)) → ⊥
+not-both p q (inl a) (inl b) = omega arith
+not-both p q (inl a) (inr b) = omega arith
+not-both p q (inr a) (inl b) = omega arith
+not-both p q (inr a) (inr b) = omega arith
+
+not-self : (p q : Point) → pointBefore p q ≡ true → p ≡ q → ⊥
+not-self p q h e = go (order p q h)
+  where
+    go : (p .y < q .y) ⊎ ((p .y ≡ q .y) × (p .x < q .x)) → ⊥
+    go (inl a) = let ey = ap (λ (z : Point). z .y) e in omega arith
+    go (inr a) = let ex = ap (λ (z : Point). z .x) e in omega arith
+
+pub before-both : (cs ds : List Point) → before cs ds ≡ true → before ds cs ≡ true → ⊥
+unfolding before
+before-both [] ds h k = clash h refl
+before-both (p ∷ cs) [] h k = clash h refl
+before-both (p ∷ cs) (q ∷ ds) h k =
+    ⊎-elim
+    (λ (a : pointBefore p q ≡ true).
+    ⊎-elim
+    (λ (b : pointBefore q p ≡ true). not-both p q (order p q a) (order q p b))
+    (λ (b : (same q p && before ds cs) ≡ true).
+    not-self p q a (sym (same-eq q p (and-l (same q p) (before ds cs) b))))
+    (or-cases (pointBefore q p) (same q p && before ds cs) k))
+    (λ (a : (same p q && before cs ds) ≡ true).
+    ⊎-elim
+    (λ (b : pointBefore q p ≡ true). not-self q p b (sym (same-eq p q (and-l (same p q) (before cs ds) a))))
+    (λ (b : (same q p && before ds cs) ≡ true).
+    before-both cs ds (and-r (same p q) (before cs ds) a) (and-r (same q p) (before ds cs) b))
+    (or-cases (pointBefore q p) (same q p && before ds cs) k))
+    (or-cases (pointBefore p q) (same p q && before cs ds) h)
+
+is-nil : (cs : List Point) → length cs ≡ 0 → cs ≡ []
+is-nil [] e = refl
+is-nil (c ∷ cs) e = absurd (omega arith)
+
+module _ (f : ℕ → ℕ → Bool) (S T : Point) where
+  -- a path, taken apart
+  pub record Parts (cs : List Point) : Type 0 where
+    pub rest : List Point
+    pub is : cs ≡ S ∷ rest
+    pub start : f (S .x) (S .y) ≡ true
+    pub on : leads f T either S rest ≡ true
+
+  pub of-path : (cs : List Point) → isPath f S T cs ≡ true → Parts cs
+  unfolding isPath
+  of-path [] h = clash h refl
+  of-path (p ∷ cs) h =
+      let a : same p S ≡ true = search parts in
+      let b : f (p .x) (p .y) ≡ true = search parts in
+      let c : leads f T either p cs ≡ true = search parts in
+      let e : p ≡ S = same-eq p S a in
+      record {
+        rest = cs;
+        is = ap (λ (q : Point). q ∷ cs) e;
+        start = subst (λ (q : Point). f (q .x) (q .y) ≡ true) e b;
+        on = subst (λ (q : Point). leads f T either q cs ≡ true) e c;
+      }
+
+  pub to-path : (cs : List Point) → f (S .x) (S .y) ≡ true → leads f T either S cs ≡ true
+      → isPath f S T (S ∷ cs) ≡ true
+  unfolding isPath
+  to-path cs e h = simp (same-self S, e, h)
+
+  -- no path leaves S and is back by one segment
+  no-loop : (cs : List Point) → leads f T either S [] ≡ true → leads f T either S cs ≡ true → length cs ≡ 1 → ⊥
+  unfolding leads
+  no-loop [] h k e = omega arith
+  no-loop (q ∷ r ∷ cs) h k e = omega arith
+  no-loop (q ∷ []) h k e =
+      let s : segment f either S q ≡ true = and-l (segment f either S q) (same q T) k in
+      let back : q ≡ S = same-eq q T (and-r (segment f either S q) (same q T) k) ∙ sym (same-eq S T h) in
+      still (subst (λ (z : Point). segment f either S z ≡ true) back s)
+    where
+      still : segment f either S S ≡ true → ⊥
+      still s =
+          ⊎-elim (λ (a : Level f S S). a .apart refl) (λ (a : Upright f S S). a .apart refl)
+          (of-segment f either S S s)
+
+module _ (f : ℕ → ℕ → Bool) (W H : ℕ) (S T : Point) where
+  -- the ways to go on from S by n segments
+  abbrev goingOn : ℕ → List (List Point)
+  goingOn n = goings f W H T n either S
+
+  from-nil : (tries n : ℕ) → goingOn n ≡ []
+      → firstFrom f W H T S (suc tries) n ≡ firstFrom f W H T S tries (suc n)
+  unfolding firstFrom
+  from-nil tries n e = rw (e, firstFrom) refl
+
+  from-cons : (tries n : ℕ) (cs : List Point) (more : List (List Point)) → goingOn n ≡ cs ∷ more
+      → firstFrom f W H T S (suc tries) n ≡ some (S ∷ cs)
+  unfolding firstFrom
+  from-cons tries n cs more e = rw (e, firstFrom) refl
+
+  -- what was found from n segments on: the first way by m segments, and there is none by fewer
+  record Found (n : ℕ) (cs : List Point) : Type 0 where
+    m : ℕ
+    ds : List Point
+    more : List (List Point)
+    is : cs ≡ S ∷ ds
+    here : goingOn m ≡ ds ∷ more
+    none-yet : (k : ℕ) → n ≤ k → k < m → goingOn k ≡ []
+
+  found-step : (tries n : ℕ) (cs : List Point) (gs : List (List Point)) → goingOn n ≡ gs
+      → firstFrom f W H T S (suc tries) n ≡ some cs
+      → (firstFrom f W H T S tries (suc n) ≡ some cs → Found (suc n) cs) → Found n cs
+  found-step tries n cs [] e h go =
+      let r = go (sym (from-nil tries n e) ∙ h) in
+      record {
+        m = r .m;
+        ds = r .ds;
+        more = r .more;
+        is = r .is;
+        here = r .here;
+        none-yet = λ k l u.
+            by-cases (ℕ-discrete k n) (λ (q : k ≡ n). ap goingOn q ∙ e) (λ q. r .none-yet k (omega arith) u);
+      }
+  found-step tries n cs (ds ∷ more) e h go =
+      record {
+        m = n;
+        ds = ds;
+        more = more;
+        is = Option·some-injective cs (S ∷ ds) (sym h ∙ from-cons tries n ds more e);
+        here = e;
+        none-yet = λ k l u. absurd (let z : n < n = omega arith in omega arith);
+      }
+
+  found : (tries n : ℕ) (cs : List Point) → firstFrom f W H T S tries n ≡ some cs → Found n cs
+  unfolding firstFrom
+  found zero n cs h = absurd (Option·none-ne-some cs h)
+  found (suc tries) n cs h = found-step tries n cs (goingOn n) refl h (found tries (suc n) cs)
+
+  empty-step : (tries n : ℕ) (gs : List (List Point)) → goingOn n ≡ gs → firstFrom f W H T S (suc tries) n ≡ none
+      → (firstFrom f W H T S tries (suc n) ≡ none → (k : ℕ) → suc n ≤ k → k < suc n + tries → goingOn k ≡ [])
+      → (k : ℕ) → n ≤ k → k < n + suc tries → goingOn k ≡ []
+  empty-step tries n [] e h go k l u =
+      by-cases (ℕ-discrete k n) (λ (q : k ≡ n). ap goingOn q ∙ e)
+      (λ q. go (sym (from-nil tries n e) ∙ h) k (omega arith) (omega arith))
+  empty-step tries n (ds ∷ more) e h go k l u =
+      absurd (Option·none-ne-some (S ∷ ds) (sym h ∙ from-cons tries n ds more e))
+
+  empty : (tries n : ℕ) → firstFrom f W H T S tries n ≡ none
+      → (k : ℕ) → n ≤ k → k < n + tries → goingOn k ≡ []
+  empty zero n h k l u = absurd (omega arith)
+  empty (suc tries) n h k l u = empty-step tries n (goingOn n) refl h (empty tries (suc n)) k l u
+
+  some-found : (cs : List Point) → firstPath f W H S T ≡ some cs → (f (S .x) (S .y) ≡ true) × Found 0 cs
+  unfolding firstPath
+  some-found cs h =
+      ⊎-elim (λ (e : f (S .x) (S .y) ≡ true). (e, found (suc (W * H)) 0 cs (given true e)))
+      (λ (e : f (S .x) (S .y) ≡ false). absurd (Option·none-ne-some cs (given false e)))
+      (true-or-false (f (S .x) (S .y)))
+    where
+      given : (b : Bool) → f (S .x) (S .y) ≡ b → cond b (firstFrom f W H T S (suc (W * H)) 0) none ≡ some cs
+      given b e = subst (λ (c : Bool). cond c (firstFrom f W H T S (suc (W * H)) 0) none ≡ some cs) e h
+
+  module _ (inside : (x y : ℕ) → f x y ≡ true → (x < W) × (y < H)) where
+    not-empty : (cs : List Point) → leads f T either S cs ≡ true → goingOn (length cs) ≡ [] → ⊥
+    not-empty cs h e = subst (λ (l : List (List Point)). In cs l) e (in-goings f W H T inside either S cs h)
+
+    -- firstPath gives nothing only where there is no path
+    pub nothing-missed : firstPath f W H S T ≡ none → (cs : List Point) → isPath f S T cs ≡ true → ⊥
+    unfolding firstPath
+    nothing-missed h cs k =
+        let a = of-path f S T cs k in
+        let e = enough f W H inside T either S (a .rest) (a .start) (a .on) in
+        let g : firstFrom f W H T S (suc (W * H)) 0 ≡ none =
+        subst (λ (b : Bool). cond b (firstFrom f W H T S (suc (W * H)) 0) none ≡ none) (a .start) h in
+        not-empty (e .0) (e .1) (empty (suc (W * H)) 0 g (length (e .0)) (omega arith) (omega arith))
+
+    module _ (cs : List Point) (r : Found 0 cs) where
+      first-on : (leads f T either S (r .ds) ≡ true) × (length (r .ds) ≡ r .m)
+      first-on =
+          of-goings f W H T (r .m) either S (r .ds)
+          (subst (λ (l : List (List Point)). In (r .ds) l) (sym (r .here)) (inl refl))
+
+      not-shorter : (es : List Point) → leads f T either S es ≡ true → length (r .ds) ≤ length es
+      not-shorter es h =
+          by-cases (decLe (length (r .ds)) (length es)) (λ l. l)
+          (λ l.
+          let o = first-on .1 in
+          absurd (not-empty es h (r .none-yet (length es) (omega arith) (omega arith))))
+
+      same-length : (es : List Point) → leads f T either S es ≡ true → length es ≡ length (r .ds)
+          → (S ∷ r .ds ≡ S ∷ es) ⊎ (before (S ∷ r .ds) (S ∷ es) ≡ true)
+      same-length es h e =
+          let o = first-on .1 in
+          let i : In es (goingOn (length es)) = in-goings f W H T inside either S es h in
+          let j : In es (r .ds ∷ r .more) =
+          subst (λ (l : List (List Point)). In es l) (ap goingOn (e ∙ o) ∙ r .here) i in
+          let s : Sorted before (r .ds ∷ r .more) =
+          subst (λ (l : List (List Point)). Sorted before l) (r .here) (sorted-goings f W H T (r .m) either S) in
+          ⊎-elim
+          (λ (q : es ≡ r .ds). inl (ap (λ (l : List Point). S ∷ l) (sym q)))
+          (λ (q : In es (r .more)). inr (before-tail S (r .ds) es (s .0 es q)))
+          j
+
+      same-bends : (es : List Point) → leads f T either S es ≡ true → bends (S ∷ es) ≡ bends (S ∷ r .ds)
+          → length es ≡ length (r .ds)
+      unfolding bends
+      same-bends es h e =
+          by-cases (ℕ-discrete (length es) (length (r .ds))) (λ q. q)
+          (λ q.
+          let l = not-shorter es h in
+          let one : length es ≡ 1 = omega arith in
+          let nil : length (r .ds) ≡ 0 = omega arith in
+          absurd
+          (no-loop f S T es
+          (subst (λ (l : List Point). leads f T either S l ≡ true) (is-nil (r .ds) nil) (first-on .0)) h one))
+
+    -- what firstPath gives is a path, has fewest bends, and comes first among the paths with as few
+    module _ (cs : List Point) (given : firstPath f W H S T ≡ some cs) where
+      pub given-path : isPath f S T cs ≡ true
+      given-path =
+          let a = some-found cs given in
+          subst (λ (l : List Point). isPath f S T l ≡ true) (sym (a .1 .is))
+          (to-path f S T (a .1 .ds) (a .0) (first-on cs (a .1) .0))
+
+      pub given-fewest : (ds : List Point) → isPath f S T ds ≡ true → bends cs ≤ bends ds
+      unfolding bends
+      given-fewest ds k =
+          let r = some-found cs given .1 in
+          let b = of-path f S T ds k in
+          let l = not-shorter cs r (b .rest) (b .on) in
+          let u : length cs ≡ suc (length (r .ds)) = ap length (r .is) in
+          let v : length ds ≡ suc (length (b .rest)) = ap length (b .is) in
+          omega arith
+
+      pub given-first : (ds : List Point) → isPath f S T ds ≡ true → bends ds ≡ bends cs
+          → (cs ≡ ds) ⊎ (before cs ds ≡ true)
+      given-first ds k e =
+          let r = some-found cs given .1 in
+          let b = of-path f S T ds k in
+          let w : bends (S ∷ b .rest) ≡ bends (S ∷ r .ds) = ap bends (sym (b .is)) ∙ e ∙ ap bends (r .is) in
+          subst₂ (λ (l m : List Point). (l ≡ m) ⊎ (before l m ≡ true)) (sym (r .is)) (sym (b .is))
+          (same-length cs r (b .rest) (b .on) (same-bends cs r (b .rest) (b .on) w))

@@ -1,0 +1,1 @@
+// Laws of paths, in proofs/: no code.

@@ -1,0 +1,1 @@
+// Laws of runs and strips, in proofs/: no code.
