@@ -51,10 +51,13 @@ netOk net = leb 1 net && leb net 999
 unfoldable pub boxOk : ℕ → ℕ → Entry → Bool
 boxOk W H e = ltb (e .x0) (e .x1) && leb (e .x1) W && ltb (e .y0) (e .y1) && leb (e .y1) H
 
--- an entry that a table may hold: net 0 is a drawn patch, any other a leg, one point wide in one direction
+-- net 0 is a drawn patch; any other net's entry is a leg, one point wide in one direction
+unfoldable pub shapeOk : Entry → Bool
+shapeOk e = eqb (e .net) 0 || netOk (e .net) && (eqb (e .x1) (suc (e .x0)) || eqb (e .y1) (suc (e .y0)))
+
+-- an entry that a table may hold
 unfoldable pub entryOk : ℕ → ℕ → Entry → Bool
-entryOk W H e =
-    boxOk W H e && (eqb (e .net) 0 || netOk (e .net) && (eqb (e .x1) (suc (e .x0)) || eqb (e .y1) (suc (e .y0))))
+entryOk W H e = boxOk W H e && shapeOk e
 
 -- lo − d ≤ v < hi + d
 unfoldable pub within : ℕ → ℕ → ℕ → ℕ → Bool

@@ -19,8 +19,11 @@ pub record Lent : Type 0 where
   pub strips : List ℕ
   pub corners : List ℕ
 
+abbrev pub lent : Board → List ℕ → List ℕ → List ℕ → Lent
+lent b t s ks = record { board = b; table = t; strips = s; corners = ks }
+
 abbrev pub withCorners : Lent → List ℕ → Lent
-withCorners m ks = record { board = m .board; table = m .table; strips = m .strips; corners = ks }
+withCorners m ks = lent (m .board) (m .table) (m .strips) ks
 
 -- a place of the table is five numbers
 unfoldable pub entryNumbers : Entry → List ℕ

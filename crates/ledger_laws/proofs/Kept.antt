@@ -9,7 +9,7 @@ use lib.Dec.{leb}
 use borrow.Author.Tests.{ltb-false, leb-true, lt-ltb, le-ltb}
 use lib.ListN.{length}
 use Rattle.foil_spec.specs.Lists.{all, keep, consIf}
-use Rattle.foil_spec.specs.Foil.{Point, Entry, entry, Layout, sizeOk, clearanceOk, netOk, boxOk, entryOk, free}
+use Rattle.foil_spec.specs.Foil.{Point, Entry, entry, Layout, sizeOk, clearanceOk, netOk, boxOk, shapeOk, entryOk, free}
 use Rattle.foil_spec.specs.Ledger.{stripsOf, pathOf, cornersOf, legs, ofNet, withEntries, tooLong, tooFine, next}
 use Rattle.foil_spec.specs.Ledger.{Step, newFoil, draw, lay, lift, lookUp, Answer, After, first, Room, refusals}
 use Rattle.foil_spec.specs.Ledger.{settle, ledgerStep}
@@ -83,7 +83,7 @@ new-kept W H d r b l h =
 
 patch-ok : (W H : ℕ) (x0 y0 x1 y1 : ℕ) → boxOk W H (entry 0 x0 y0 x1 y1) ≡ true
     → entryOk W H (entry 0 x0 y0 x1 y1) ≡ true
-unfolding entryOk
+unfolding entryOk shapeOk
 patch-ok W H x0 y0 x1 y1 h = rw h refl
 
 laid-ok : (l : Layout) (net : ℕ) (S T : Point) (o : Option (List Point)) → pathOf l S T ≡ o → netOk net ≡ true

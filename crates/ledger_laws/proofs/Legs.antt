@@ -8,7 +8,7 @@ use mathlib.Core.Logic.{_⊎_, inl, inr, ⊎-elim}
 use lib.Dec.{ltb, eqb}
 use borrow.Author.Tests.{ltb-true, lt-ltb, le-leb, eq-eqb}
 use Rattle.foil_spec.specs.Lists.{all}
-use Rattle.foil_spec.specs.Foil.{Point, Layout, netOk, boxOk, entryOk, free}
+use Rattle.foil_spec.specs.Foil.{Point, Layout, netOk, boxOk, shapeOk, entryOk, free}
 use Rattle.foil_spec.specs.Paths.{Heading, either, segment, after, leads, isPath}
 use Rattle.foil_spec.specs.Ledger.{leg, legsFrom, legs}
 use Rattle.list_laws.proofs.Tests.{and-l, and-r, and-i, parts}
@@ -24,7 +24,7 @@ free-inside l x y h =
 module _ (W H net : ℕ) (ok : netOk net ≡ true) where
   leg-ok : (p q : Point) → (p .x < W) × (p .y < H) → (q .x < W) × (q .y < H) → (p .x ≡ q .x) ⊎ (p .y ≡ q .y)
       → entryOk W H (leg net p q) ≡ true
-  unfolding entryOk boxOk leg
+  unfolding entryOk boxOk shapeOk leg
   leg-ok p q i j d =
       simp (
         lt-ltb (min (p .x) (q .x)) (suc (max (p .x) (q .x))) (omega arith),

@@ -4,5 +4,6 @@ pub mod Refusals
 pub mod Legs
 pub mod Kept
 pub mod Steps
+pub mod Sound
 pub mod Lay
 pub mod Demand3

@@ -22,7 +22,7 @@ use Rattle.foil_spec.specs.Sequence.{answersIn, cornersAll, shown}
 use Rattle.foil_spec.proofs.Written.{length-written}
 use Rattle.list_laws.proofs.Tests.{parts}
 use Rattle.ledger_laws.proofs.Refusals.{none-applies}
-use Rattle.ledger_laws.proofs.Stored.{length-points, entries-fit, strips-fit, held-store, store-again}
+use Rattle.ledger_laws.proofs.Stored.{Long, length-points, entries-fit, strips-fit, held-store, store-again}
 use Rattle.ledger_laws.proofs.Stored.{sound-store}
 use Rattle.ledger_laws.proofs.Kept.{step-kept}
 
@@ -55,11 +55,6 @@ step-is s l m g =
     (finish-is (first (refusals s (roomOf (store l m)) false l)) s l m g)
 
 -- ---- the room that is lent
-
--- lists that are long enough
-pub record Long (m : Lent) : Type 0 where
-  pub table : 640 ≤ length (m .table)
-  pub strips : 16384 ≤ length (m .strips)
 
 pub long-lists : (m : Lent) → short (roomOf m) ≡ false → Long m
 unfolding short roomOf

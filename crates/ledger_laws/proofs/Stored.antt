@@ -19,6 +19,11 @@ use Rattle.list_laws.proofs.Tests.{parts}
 
 -- ---- how long the flat lists are
 
+-- lists that are long enough
+pub record Long (m : Lent) : Type 0 where
+  pub table : 640 ≤ length (m .table)
+  pub strips : 16384 ≤ length (m .strips)
+
 pub length-entries : (es : List Entry) → length (each entryNumbers es) ≡ 5 * length es
 unfolding entryNumbers
 length-entries [] = refl
@@ -81,7 +86,7 @@ held-store l m =
     ap (withEntries l)
     (read-back (l .entries) (replicate (640 - length (each entryNumbers (l .entries))) 0 ++ drop 640 (m .table)))
 
-same-refl : (l : List ℕ) → sameNumbers l l ≡ true
+pub same-refl : (l : List ℕ) → sameNumbers l l ≡ true
 unfolding sameNumbers
 same-refl [] = refl
 same-refl (x ∷ l) = rw (eq-eqb x x refl) (same-refl l)

@@ -1,0 +1,175 @@
+-- What 13 asks of the record and the lists, number by number.
+use Prim.Native.Nat.{ℕ, zero, suc, _+_, _-_, _*_, _≤_, _<_}
+use native.Mathlib.Omega.{arith}
+use mathlib.Core.Path.{_≡_, refl, sym, ap, ap₂, _∙_, subst}
+use mathlib.Core.Bool.{Bool, true, false, not, _&&_}
+use mathlib.Core.List.{List, [], _∷_, _++_, map, append-assoc, append-nil}
+use lib.Dec.{ltb, eqb}
+use borrow.Author.Tests.{eqb-true, eq-eqb, ltb-false}
+use lib.ListN.{length, getD, take, drop, replicate, length-map, length-append, length-drop, length-replicate}
+use lib.ListN.{getD-replicate, take-append-drop}
+use lib.Seq.{ext-getD, take-add, drop-drop, getD-take, getD-drop, length-take-le, take-at}
+use Rattle.foil_spec.specs.Lists.{range, each}
+use Rattle.foil_spec.specs.Foil.{Entry, Layout}
+use Rattle.foil_spec.specs.Ledger.{stripsOf, tooLong}
+use Rattle.foil_spec.specs.Lent.{Lent, lent, entryNumbers, stripNumbers, written, boardOf, store, entryAt, layoutOf, held}
+use Rattle.foil_spec.specs.Lent.{layoutOk, sameNumbers, sound}
+use Rattle.foil_spec.specs.declared.Board.{Board}
+use Rattle.foil_spec.proofs.Written.{written-zero}
+use Rattle.list_laws.proofs.Tests.{clash, and-l, and-r, parts}
+use Rattle.ledger_laws.proofs.Stored.{Long, length-entries, length-strips, entries-fit, strips-fit, same-refl}
+use Rattle.ledger_laws.proofs.Kept.{Keeps, of-ok}
+
+same-is : (a b : List ℕ) → sameNumbers a b ≡ true → a ≡ b
+unfolding sameNumbers
+same-is [] [] h = refl
+same-is [] (n ∷ b) h = clash h refl
+same-is (m ∷ a) [] h = clash h refl
+same-is (m ∷ a) (n ∷ b) h =
+    ap₂ {A = ℕ} {B = List ℕ} {C = List ℕ} (λ x l. x ∷ l)
+    (eqb-true m n (and-l (eqb m n) (sameNumbers a b) h))
+    (same-is a b (and-r (eqb m n) (sameNumbers a b) h))
+
+-- ---- the entries of a table, and the numbers that they are read from
+
+pub length-range : (a n : ℕ) → length (range a n) ≡ n
+length-range a zero = refl
+length-range a (suc n) = ap suc (length-range (suc a) n)
+
+pub length-read : (t : List ℕ) (n : ℕ) → length (map (entryAt t) (range 0 n)) ≡ n
+length-read t n = length-map (range 0 n) (entryAt t) ∙ length-range 0 n
+
+five : (l : List ℕ) → 5 ≤ length l
+    → getD l 0 0 ∷ getD l 1 0 ∷ getD l 2 0 ∷ getD l 3 0 ∷ getD l 4 0 ∷ [] ≡ take 5 l
+five [] h = absurd (omega arith)
+five (a ∷ []) h = absurd (omega arith)
+five (a ∷ b ∷ []) h = absurd (omega arith)
+five (a ∷ b ∷ c ∷ []) h = absurd (omega arith)
+five (a ∷ b ∷ c ∷ d ∷ []) h = absurd (omega arith)
+five (a ∷ b ∷ c ∷ d ∷ e ∷ l) h = refl
+
+entry-read : (t : List ℕ) (k : ℕ) → k * 5 + 5 ≤ length t → entryNumbers (entryAt t k) ≡ take 5 (drop (k * 5) t)
+unfolding entryNumbers entryAt
+entry-read t k h =
+    let d = length-drop (k * 5) t in
+    rw (
+      ← (getD-drop (k * 5) t 1 0),
+      ← (getD-drop (k * 5) t 2 0),
+      ← (getD-drop (k * 5) t 3 0),
+      ← (getD-drop (k * 5) t 4 0),
+    )
+    (let z : getD t (k * 5) 0 ≡ getD (drop (k * 5) t) 0 0 =
+    ap (λ (i : ℕ). getD t i 0) (let e : k * 5 ≡ k * 5 + 0 = omega arith in e) ∙ sym (getD-drop (k * 5) t 0 0) in
+    rw z (five (drop (k * 5) t) (omega arith)))
+
+-- the entries, as numbers again, are the numbers that they were read from
+read-from : (t : List ℕ) (a n : ℕ) → (a + n) * 5 ≤ length t
+    → each entryNumbers (map (entryAt t) (range a n)) ≡ take (n * 5) (drop (a * 5) t)
+read-from t a zero h = refl
+read-from t a (suc n) h =
+    let e : 5 + n * 5 ≡ suc n * 5 = omega arith in
+    let s : a * 5 + 5 ≡ suc a * 5 = omega arith in
+    ap₂ (λ (x y : List ℕ). x ++ y) (entry-read t a (omega arith))
+    (read-from t (suc a) n (omega arith)
+    ∙ ap (λ (k : ℕ). take (n * 5) (drop k t)) (sym s)
+    ∙ ap (λ (l : List ℕ). take (n * 5) l) (sym (drop-drop 5 (a * 5) t)))
+    ∙ sym (take-add 5 (n * 5) (drop (a * 5) t))
+    ∙ ap (λ (k : ℕ). take k (drop (a * 5) t)) e
+
+pub read-numbers : (t : List ℕ) (n : ℕ) → n * 5 ≤ length t
+    → each entryNumbers (map (entryAt t) (range 0 n)) ≡ take (n * 5) t
+read-numbers t n h = read-from t 0 n (omega arith)
+
+-- ---- lists that are as `written` leaves them
+
+module _ (n : ℕ) (ns l : List ℕ) (fits : length ns ≤ n) where
+  -- the first n numbers
+  pub front-written : take n (written n ns l) ≡ ns ++ replicate (n - length ns) 0
+  unfolding written
+  front-written =
+      let h : length (ns ++ replicate (n - length ns) 0) ≡ n = simp (length-append, length-replicate) (omega arith) in
+      rw (← append-assoc) (take-at (ns ++ replicate (n - length ns) 0) (drop n l) n h)
+
+  -- a list with such a front is as `written` leaves it
+  pub is-written : take n l ≡ ns ++ replicate (n - length ns) 0 → l ≡ written n ns l
+  unfolding written
+  is-written e =
+      sym (take-append-drop n l) ∙ ap (λ (x : List ℕ). x ++ drop n l) e ∙ append-assoc ns (replicate (n - length ns) 0) (drop n l)
+
+module _ (a n : ℕ) (l : List ℕ) (le : a ≤ n) (long : n ≤ length l) where
+  middle : ((k : ℕ) → a ≤ k → k < n → getD l k 0 ≡ 0) → take (n - a) (drop a l) ≡ replicate (n - a) 0
+  middle h =
+      let d = length-drop a l in
+      let t = length-take-le (n - a) (drop a l) (omega arith) in
+      ext-getD 0 (take (n - a) (drop a l)) (replicate (n - a) 0) (t ∙ sym (length-replicate (n - a) 0))
+      (λ i u.
+      let v : i < n - a = omega arith in
+      getD-take (n - a) (drop a l) i 0 v ∙ getD-drop a l i 0 ∙ h (a + i) (omega arith) (omega arith)
+      ∙ sym (getD-replicate (n - a) i 0 0 v))
+
+  -- zeros from place a up to place n
+  pub zeros-written : ((k : ℕ) → a ≤ k → k < n → getD l k 0 ≡ 0) → l ≡ written n (take a l) l
+  zeros-written h =
+      let t = length-take-le a l (omega arith) in
+      let e : a + (n - a) ≡ n = omega arith in
+      is-written n (take a l) l (omega arith)
+      (ap (λ (k : ℕ). take k l) (sym e) ∙ take-add a (n - a) l
+      ∙ ap₂ (λ (x : List ℕ) (k : ℕ). take a l ++ x) (middle h) t
+      ∙ ap (λ (k : ℕ). take a l ++ replicate (n - k) 0) (sym t))
+
+-- ---- 13
+
+-- what is known of lists that 13 does not apply to
+pub record Sound (m : Lent) : Type 0 where
+  pub kept : layoutOk (held m) ≡ true
+  pub few : m .board .entries ≤ 128
+  pub counted : m .board .strips ≡ length (stripsOf (held m))
+  pub table-is : m .table ≡ store (held m) m .table
+  pub strips-are : m .strips ≡ store (held m) m .strips
+
+read-few : (m : Lent) → tooLong (held m) ≡ false → m .board .entries ≤ 128
+unfolding tooLong held layoutOf
+read-few m h =
+    let n : ℕ = length (map (entryAt (m .table)) (range 0 (m .board .entries))) in
+    omega (arith, ltb-false 128 n h, length-read (m .table) (m .board .entries))
+
+pub of-sound : (m : Lent) → sound m ≡ true → Sound m
+unfolding sound store boardOf
+of-sound m h =
+    let g : layoutOk (held m) ≡ true = search parts in
+    let c : eqb (m .board .strips) (length (stripsOf (held m))) ≡ true = search parts in
+    record {
+      kept = g;
+      few = read-few m (of-ok (held m) g .long);
+      counted = eqb-true _ _ c;
+      table-is = same-is _ _ (search parts);
+      strips-are = same-is _ _ (search parts);
+    }
+
+pub to-sound : (m : Lent) → layoutOk (held m) ≡ true → m .board .strips ≡ length (stripsOf (held m))
+    → m .table ≡ store (held m) m .table → m .strips ≡ store (held m) m .strips → sound m ≡ true
+unfolding sound
+to-sound m g c t s =
+    simp (
+      g,
+      eq-eqb (m .board .strips) (store (held m) m .board .strips) (unfold store boardOf in c),
+      subst (λ (l : List ℕ). sameNumbers (m .table) l ≡ true) t (same-refl (m .table)),
+      subst (λ (l : List ℕ). sameNumbers (m .strips) l ≡ true) s (same-refl (m .strips)),
+    )
+
+-- it is what it says, stored
+pub sound-store-is : (m : Lent) → Sound m → store (held m) m ≡ m
+unfolding store boardOf held layoutOf
+sound-store-is m s =
+    λ i.
+    lent
+    (record {
+      width = m .board .width;
+      height = m .board .height;
+      clearance = m .board .clearance;
+      entries = length-read (m .table) (m .board .entries) i;
+      strips = sym (s .counted) i;
+    })
+    (sym (s .table-is) i)
+    (sym (s .strips-are) i)
+    (m .corners)
