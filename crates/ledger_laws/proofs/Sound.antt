@@ -2,23 +2,21 @@
 use Prim.Native.Nat.{ℕ, zero, suc, _+_, _-_, _*_, _≤_, _<_}
 use native.Mathlib.Omega.{arith}
 use mathlib.Core.Path.{_≡_, refl, sym, ap, ap₂, _∙_, subst}
-use mathlib.Core.Bool.{Bool, true, false, not, _&&_}
-use mathlib.Core.List.{List, [], _∷_, _++_, map, append-assoc, append-nil}
-use lib.Dec.{ltb, eqb}
+use mathlib.Core.Bool.{true, false}
+use mathlib.Core.List.{List, [], _∷_, _++_, map, append-assoc}
+use lib.Dec.{eqb}
 use borrow.Author.Tests.{eqb-true, eq-eqb, ltb-false}
 use lib.ListN.{length, getD, take, drop, replicate, length-map, length-append, length-drop, length-replicate}
 use lib.ListN.{getD-replicate, take-append-drop}
 use lib.Seq.{ext-getD, take-add, drop-drop, getD-take, getD-drop, length-take-le, take-at}
 use Rattle.foil_spec.specs.Lists.{range, each}
-use Rattle.foil_spec.specs.Foil.{Entry, Layout}
 use Rattle.foil_spec.specs.Ledger.{stripsOf, tooLong}
-use Rattle.foil_spec.specs.Lent.{Lent, lent, entryNumbers, stripNumbers, written, boardOf, store, entryAt, layoutOf, held}
+use Rattle.foil_spec.specs.Lent.{Lent, lent, entryNumbers, written, boardOf, store, entryAt, layoutOf, held}
 use Rattle.foil_spec.specs.Lent.{layoutOk, sameNumbers, sound}
-use Rattle.foil_spec.specs.declared.Board.{Board}
-use Rattle.foil_spec.proofs.Written.{written-zero}
 use Rattle.list_laws.proofs.Tests.{clash, and-l, and-r, parts}
-use Rattle.ledger_laws.proofs.Stored.{Long, length-entries, length-strips, entries-fit, strips-fit, same-refl}
-use Rattle.ledger_laws.proofs.Kept.{Keeps, of-ok}
+use Rattle.list_laws.proofs.Members.{length-range}
+use Rattle.ledger_laws.proofs.Stored.{same-refl}
+use Rattle.ledger_laws.proofs.Kept.{of-ok}
 
 same-is : (a b : List ℕ) → sameNumbers a b ≡ true → a ≡ b
 unfolding sameNumbers
@@ -31,10 +29,6 @@ same-is (m ∷ a) (n ∷ b) h =
     (same-is a b (and-r (eqb m n) (sameNumbers a b) h))
 
 -- ---- the entries of a table, and the numbers that they are read from
-
-pub length-range : (a n : ℕ) → length (range a n) ≡ n
-length-range a zero = refl
-length-range a (suc n) = ap suc (length-range (suc a) n)
 
 pub length-read : (t : List ℕ) (n : ℕ) → length (map (entryAt t) (range 0 n)) ≡ n
 length-read t n = length-map (range 0 n) (entryAt t) ∙ length-range 0 n

@@ -1,15 +1,17 @@
 -- Members of lists, and lists in order.
 use Prim.Native.Nat.{ℕ, zero, suc, _+_, _≤_, _<_}
 use native.Mathlib.Omega.{arith}
-use mathlib.Core.Path.{_≡_, refl, ap, _∙_, subst}
+use native.Mathlib.Nat.{add-zero}
+use mathlib.Core.Path.{_≡_, refl, sym, ap, _∙_, subst}
 use mathlib.Core.Bool.{Bool, true, false}
 use mathlib.Core.List.{List, [], _∷_, _++_, map}
 use mathlib.Core.Logic.{_⊎_, inl, inr, ⊎-elim, by-cases}
 use native.Mathlib.Decide.{ℕ-discrete}
 use lib.Dec.{ltb}
+use lib.ListN.{length}
 use borrow.Author.Tests.{lt-ltb}
-use Rattle.foil_spec.specs.Lists.{range, keep, consIf, all, each}
-use Rattle.list_laws.proofs.Tests.{and-l, and-r, and-i}
+use Rattle.foil_spec.specs.Lists.{range, keep, consIf, all, any, each}
+use Rattle.list_laws.proofs.Tests.{both, clash, and-l, and-r, and-i, or-l, or-r, or-cases, or-il, or-ir}
 
 module _ {A : Type 0} where
   abbrev pub In : A → List A → Type 0
@@ -60,6 +62,24 @@ module _ {A : Type 0} where
   pub to-all : (p : A → Bool) (xs : List A) → ((x : A) → In x xs → p x ≡ true) → all p xs ≡ true
   to-all p [] h = refl
   to-all p (y ∷ ys) h = and-i {a = p y} (h y (inl refl)) (to-all p ys (λ x k. h x (inr k)))
+
+  pub in-any : (p : A → Bool) (x : A) (xs : List A) → In x xs → p x ≡ true → any p xs ≡ true
+  in-any p x [] h t = absurd h
+  in-any p x (y ∷ ys) (inl e) t = or-il (any p ys) (sym (ap p e) ∙ t)
+  in-any p x (y ∷ ys) (inr h) t = or-ir (p y) (in-any p x ys h t)
+
+  pub of-any : (p : A → Bool) (xs : List A) → any p xs ≡ true → (x : A) × In x xs × (p x ≡ true)
+  of-any p [] t = clash t refl
+  of-any p (y ∷ ys) t =
+      ⊎-elim
+      (λ (k : p y ≡ true). (y, inl refl, k))
+      (λ (k : any p ys ≡ true). let r = of-any p ys k in (r .0, inr (r .1), r .2))
+      (or-cases (p y) (any p ys) t)
+
+  pub not-any : (p : A → Bool) (x : A) (xs : List A) → any p xs ≡ false → In x xs → p x ≡ false
+  not-any p x [] t h = absurd h
+  not-any p x (y ∷ ys) t (inl e) = ap p e ∙ or-l (p y) (any p ys) t
+  not-any p x (y ∷ ys) t (inr h) = not-any p x ys (or-r (p y) (any p ys) t) h
 
   -- a list in order: each element comes before all that follow
   abbrev pub Sorted : (A → A → Bool) → List A → Type 0
@@ -124,6 +144,10 @@ module _ {A B : Type 0} where
   sorted-map q r f (x ∷ xs) s k =
       (λ v hv. let w = of-map f v xs hv in rw (w .2) (k x (w .0) (s .0 (w .0) (w .1))), sorted-map q r f xs (s .1) k)
 
+pub length-range : (a n : ℕ) → length (range a n) ≡ n
+length-range a zero = refl
+length-range a (suc n) = ap suc (length-range (suc a) n)
+
 pub in-range : (k a n : ℕ) → a ≤ k → k < a + n → In k (range a n)
 in-range k a zero h l = absurd (let z : k < a = omega arith in omega arith)
 in-range k a (suc n) h l =
@@ -137,3 +161,54 @@ of-range k a (suc n) (inr h) = let r = of-range k (suc a) n h in omega arith
 pub sorted-range : (a n : ℕ) → Sorted ltb (range a n)
 sorted-range a zero = tt
 sorted-range a (suc n) = (λ k h. lt-ltb a k (of-range k (suc a) n h .0), sorted-range (suc a) n)
+
+-- a test of all that the places below n give
+module _ {A : Type 0} (p : A → Bool) (g : ℕ → A) (n : ℕ) where
+  pub all-places : ((k : ℕ) → k < n → p (g k) ≡ true) → all p (map g (range 0 n)) ≡ true
+  all-places h =
+      to-all p (map g (range 0 n))
+      (λ x i.
+      let k = of-map g x (range 0 n) i in
+      let l = of-range (k .0) 0 n (k .1) in
+      ap p (k .2) ∙ h (k .0) (omega arith))
+
+  pub at-place : all p (map g (range 0 n)) ≡ true → (k : ℕ) → k < n → p (g k) ≡ true
+  at-place h k l =
+      of-all p (g k) (map g (range 0 n)) h (in-map g k (range 0 n) (in-range k 0 n (omega arith) (omega arith)))
+
+  pub not-all : (k : ℕ) → k < n → p (g k) ≡ false → all p (map g (range 0 n)) ≡ false
+  not-all k l e = both (all p (map g (range 0 n))) (λ h. clash (at-place h k l) e) (λ h. h)
+
+  pub any-place : (k : ℕ) → k < n → p (g k) ≡ true → any p (map g (range 0 n)) ≡ true
+  any-place k l e =
+      in-any p (g k) (map g (range 0 n)) (in-map g k (range 0 n) (in-range k 0 n (omega arith) (omega arith))) e
+
+  pub no-place : ((k : ℕ) → k < n → p (g k) ≡ false) → any p (map g (range 0 n)) ≡ false
+  no-place h =
+      both (any p (map g (range 0 n)))
+      (λ t.
+      let a = of-any p (map g (range 0 n)) t in
+      let k = of-map g (a .0) (range 0 n) (a .1) in
+      let l = of-range (k .0) 0 n (k .1) in
+      clash (sym (ap p (k .2)) ∙ a .2) (h (k .0) (omega arith)))
+      (λ t. t)
+
+-- ---- one place more
+
+module _ {A : Type 0} where
+  pub keep-append : (p : A → Bool) (xs ys : List A) → keep p (xs ++ ys) ≡ keep p xs ++ keep p ys
+  keep-append p [] ys = refl
+  keep-append p (x ∷ xs) ys = go (p x) (keep-append p xs ys)
+    where
+      go : (b : Bool) → keep p (xs ++ ys) ≡ keep p xs ++ keep p ys
+          → consIf b x (keep p (xs ++ ys)) ≡ consIf b x (keep p xs) ++ keep p ys
+      go true e = ap (λ (l : List A). x ∷ l) e
+      go false e = e
+
+  -- the places below n + 1 are those below n, then n
+  pub map-last : (g : ℕ → A) (a n : ℕ) → map g (range a (suc n)) ≡ map g (range a n) ++ (g (a + n) ∷ [])
+  map-last g a zero = ap (λ (k : ℕ). g k ∷ []) (sym (add-zero a))
+  map-last g a (suc n) =
+      ap (λ (l : List A). g a ∷ l)
+      (map-last g (suc a) n
+      ∙ ap (λ (k : ℕ). map g (range (suc a) n) ++ (g k ∷ [])) (let e : suc a + n ≡ a + suc n = omega arith in e))

@@ -16,7 +16,8 @@ use Rattle.foil_spec.specs.Paths.{after, leads, points}
 use Rattle.list_laws.proofs.Tests.{and-l, and-r, and-i, or-cases, or-il, or-ir, not-t, not-ff, true-or-false}
 use Rattle.path_laws.proofs.Segments.{same-eq, same-self, end-free, start-free, in-points, between-join}
 use Rattle.path_laws.proofs.Segments.{Level, Upright, to-level, to-upright, of-segment, either-segment}
-use Rattle.path_laws.proofs.Counting.{in-any, of-any, not-any, count, count-lt, count-length, length-points}
+use Rattle.list_laws.proofs.Members.{in-any, of-any, not-any}
+use Rattle.path_laws.proofs.Counting.{count, count-lt, count-length, length-points}
 
 pub after-level : (f : ℕ → ℕ → Bool) (p q : Point) → Level f p q → after p q ≡ upright
 unfolding after

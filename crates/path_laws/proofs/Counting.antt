@@ -1,16 +1,16 @@
--- Lists with an element that passes a test, how many elements pass, and how many points the foil has.
-use Prim.Native.Nat.{ℕ, zero, suc, _+_, _*_, _≤_, _<_}
+-- How many elements of a list pass a test, and how many points the foil has.
+use Prim.Native.Nat.{ℕ, _+_, _*_, _≤_, _<_}
 use native.Mathlib.Omega.{arith}
 use mathlib.Core.Path.{_≡_, refl, sym, ap, _∙_}
 use mathlib.Core.Bool.{Bool, true, false}
 use mathlib.Core.List.{List, [], _∷_, map}
-use mathlib.Core.Logic.{inl, inr, ⊎-elim}
+use mathlib.Core.Logic.{inl, inr}
 use lib.ListN.{length, length-append, length-map}
-use Rattle.foil_spec.specs.Lists.{range, any, each}
+use Rattle.foil_spec.specs.Lists.{range, each}
 use Rattle.foil_spec.specs.Foil.{Point, point}
 use Rattle.foil_spec.specs.Paths.{points}
-use Rattle.list_laws.proofs.Tests.{clash, or-l, or-r, or-cases, or-il, or-ir}
-use Rattle.list_laws.proofs.Members.{In}
+use Rattle.list_laws.proofs.Tests.{clash}
+use Rattle.list_laws.proofs.Members.{In, length-range}
 
 one : Bool → ℕ
 one true = 1
@@ -33,24 +33,6 @@ one-most true = omega arith
 one-most false = omega arith
 
 module _ {A : Type 0} where
-  pub in-any : (p : A → Bool) (x : A) (xs : List A) → In x xs → p x ≡ true → any p xs ≡ true
-  in-any p x [] h t = absurd h
-  in-any p x (y ∷ ys) (inl e) t = or-il (any p ys) (sym (ap p e) ∙ t)
-  in-any p x (y ∷ ys) (inr h) t = or-ir (p y) (in-any p x ys h t)
-
-  pub of-any : (p : A → Bool) (xs : List A) → any p xs ≡ true → (x : A) × In x xs × (p x ≡ true)
-  of-any p [] t = clash t refl
-  of-any p (y ∷ ys) t =
-      ⊎-elim
-      (λ (k : p y ≡ true). (y, inl refl, k))
-      (λ (k : any p ys ≡ true). let r = of-any p ys k in (r .0, inr (r .1), r .2))
-      (or-cases (p y) (any p ys) t)
-
-  pub not-any : (p : A → Bool) (x : A) (xs : List A) → any p xs ≡ false → In x xs → p x ≡ false
-  not-any p x [] t h = absurd h
-  not-any p x (y ∷ ys) t (inl e) = ap p e ∙ or-l (p y) (any p ys) t
-  not-any p x (y ∷ ys) t (inr h) = not-any p x ys (or-r (p y) (any p ys) t) h
-
   -- how many elements pass the test
   pub count : (A → Bool) → List A → ℕ
   count p [] = 0
@@ -74,10 +56,6 @@ module _ {A : Type 0} where
   unfolding count
   count-length p [] = omega arith
   count-length p (x ∷ xs) = omega (arith, one-most (p x), count-length p xs)
-
-length-range : (a n : ℕ) → length (range a n) ≡ n
-length-range a zero = refl
-length-range a (suc n) = ap suc (length-range (suc a) n)
 
 abbrev row : ℕ → ℕ → List Point
 row W y = map (λ (x : ℕ). point x y) (range 0 W)

@@ -1,0 +1,4 @@
+-- Laws that the proofs of the state check use.
+pub mod Shapes
+pub mod Entries
+pub mod Fronts

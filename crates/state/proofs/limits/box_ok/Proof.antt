@@ -1,0 +1,29 @@
+use borrow.Author.Tests.{lt-ltb, le-ltb, lt-leb, le-leb}
+use Rattle.foil_spec.specs.Foil.{boxOk}
+use Rattle.state.proofs.limits.box_ok.Statement.{statement}
+use Rattle.state.proofs.limits.box_ok.Tie as tie
+use Rattle.state.proofs.limits.box_ok.Reads as reads
+use Rattle.state.proofs.limits.box_ok.Lts as lts
+
+-- src/limits.rt:38:9
+returns : tie.Need-returns
+unfolding boxOk
+returns c = simp (le-ltb _ _ (c .if1 .taken))
+
+-- src/limits.rt:41:9
+returns-2 : tie.Need-returns-2
+unfolding boxOk
+returns-2 c = simp (lt-ltb _ _ (c .before .if1 .left), lt-leb _ _ (c .if2 .taken))
+
+-- src/limits.rt:44:9
+returns-3 : tie.Need-returns-3
+unfolding boxOk
+returns-3 c = simp (lt-ltb _ _ (c .before .before .if1 .left), le-leb _ _ (c .before .if2 .left), le-ltb _ _ (c .if3 .taken))
+
+-- src/limits.rt:34:1
+returns-4 : tie.Need-returns-4
+unfolding boxOk
+returns-4 c = simp (lt-ltb _ _ (c .before .before .if1 .left), le-leb _ _ (c .before .if2 .left), lt-ltb _ _ (c .if3 .left))
+
+pub box-ok-spec : {M : Type 1} → statement M
+box-ok-spec = tie.close (tie.spec returns returns-2 returns-3 returns-4)
