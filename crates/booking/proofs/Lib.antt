@@ -1,0 +1,4 @@
+-- Laws that the proofs of the booking use.
+pub mod Filling
+pub mod Copying
+pub mod Nets

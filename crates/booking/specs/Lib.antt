@@ -1,0 +1,2 @@
+-- What the contracts of the booking cite.
+pub mod Rows
