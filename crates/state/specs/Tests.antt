@@ -1,9 +1,15 @@
--- What the tests of the state check say of lists.
+-- What the tests of the state check say.
 use Prim.Native.Nat.{ℕ, _≤_, _<_}
 use mathlib.Core.Path.{_≡_}
-use mathlib.Core.Bool.{Bool, true, false}
+use mathlib.Core.Bool.{Bool, true, false, _&&_}
 use mathlib.Core.List.{List}
-use lib.ListN.{getD}
+use lib.Dec.{leb}
+use lib.ListN.{length, getD}
+use Rattle.foil_spec.specs.Lists.{each}
+use Rattle.foil_spec.specs.Foil.{Layout, sizeOk, clearanceOk}
+use Rattle.foil_spec.specs.Ledger.{stripsOf}
+use Rattle.foil_spec.specs.Lent.{stripNumbers, written}
+use Rattle.foil_spec.specs.declared.Board.{Board}
 
 -- the answer says whether P holds
 abbrev pub Answers : Type 0 → Bool → Type 0
@@ -13,3 +19,13 @@ Answers P false = P → ⊥
 -- the numbers from place a up to place b are zero
 pub record Zeros (l : List ℕ) (a b : ℕ) : Type 0 where
   pub zero-at : (k : ℕ) → a ≤ k → k < b → getD l k 0 ≡ 0
+
+-- the record's width, height, clearance and number of entries are in their limits
+unfoldable pub boardOk : Board → Bool
+boardOk b = sizeOk (b .width) && sizeOk (b .height) && clearanceOk (b .clearance) && leb (b .entries) 128
+
+-- a layout has no more strips than a list has places, so many as counted, and they stand in the list s
+pub record StripsRight (l : Layout) (count : ℕ) (s : List ℕ) : Type 0 where
+  pub few : length (stripsOf l) ≤ 4096
+  pub counted : count ≡ length (stripsOf l)
+  pub listed : s ≡ written 16384 (each stripNumbers (stripsOf l)) s

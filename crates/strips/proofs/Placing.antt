@@ -1,0 +1,134 @@
+-- The place of a point's strip: along the list, and for the strips of a board.
+use Prim.Native.Nat.{ℕ, zero, suc, _+_, _≤_, _<_}
+use native.Mathlib.Omega.{arith}
+use mathlib.Core.Path.{_≡_, refl, sym, ap, ap₂, _∙_}
+use mathlib.Core.Bool.{Bool, true, false}
+use mathlib.Core.List.{List, [], _∷_, _++_, map}
+use mathlib.Core.Logic.{inl, inr}
+use lib.Dec.{leb, ltb}
+use lib.ListN.{length}
+use borrow.Author.Tests.{lt-leb, le-ltb}
+use Rattle.foil_spec.specs.Lists.{range, any, each}
+use Rattle.foil_spec.specs.Foil.{Point}
+use Rattle.foil_spec.specs.Strips.{Strip, strips, holds, placeOf}
+use Rattle.foil_spec.specs.Lent.{stripNumbers}
+use Rattle.list_laws.proofs.Tests.{both, clash, and-no-r, or-il, or-ir}
+use Rattle.list_laws.proofs.Members.{In}
+use Rattle.strip_laws.proofs.Laws.{in-a-strip, only-free}
+use Rattle.strips.specs.Join.{at}
+use Rattle.strips.specs.Places.{listedStrip, listedStrips, placeIn}
+use Rattle.strips.specs.declared.Place.the-variants.{At, Nowhere}
+use Rattle.strips.proofs.Listing.{listed-at}
+
+-- a point beside a strip
+module _ (p : Point) (s : Strip) where
+  pub left-of : p .x < s .x0 → holds p s ≡ false
+  unfolding holds
+  left-of a = simp (lt-leb _ _ a)
+
+  pub right-of : s .x1 ≤ p .x → holds p s ≡ false
+  unfolding holds
+  right-of a = and-no-r (leb (s .x0) (p .x)) _ (simp (le-ltb _ _ a))
+
+  pub above : p .y < s .y0 → holds p s ≡ false
+  unfolding holds
+  above a = and-no-r (leb (s .x0) (p .x)) _ (and-no-r (ltb (p .x) (s .x1)) _ (simp (lt-leb _ _ a)))
+
+  pub below : s .y1 ≤ p .y → holds p s ≡ false
+  unfolding holds
+  below a =
+      and-no-r (leb (s .x0) (p .x)) _
+      (and-no-r (ltb (p .x) (s .x1)) _ (and-no-r (leb (s .y0) (p .y)) _ (le-ltb _ _ a)))
+
+module _ (p : Point) where
+  place-yes : (ss : List Strip) → any (holds p) ss ≡ true → placeIn p ss ≡ At (placeOf p ss)
+  unfolding placeIn
+  place-yes ss e = rw e refl
+
+  place-no : (ss : List Strip) → any (holds p) ss ≡ false → placeIn p ss ≡ Nowhere
+  unfolding placeIn
+  place-no ss e = rw e refl
+
+  -- the strips g a, g (a + 1), .. along the list
+  module _ (g : ℕ → Strip) where
+    none-holds : (n a : ℕ) → ((i : ℕ) → a ≤ i → i < a + n → holds p (g i) ≡ false)
+        → any (holds p) (map g (range a n)) ≡ false
+    none-holds zero a h = refl
+    none-holds (suc n) a h =
+        rw (h a (omega arith) (omega arith)) (none-holds n (suc a) (λ i l m. h i (omega arith) (omega arith)))
+
+    first-holds : (n m a : ℕ) → m < n → ((i : ℕ) → a ≤ i → i < a + m → holds p (g i) ≡ false)
+        → holds p (g (a + m)) ≡ true
+        → (any (holds p) (map g (range a n)) ≡ true) × (placeOf p (map g (range a n)) ≡ m)
+    unfolding placeOf
+    first-holds zero m a l h e = absurd (omega arith)
+    first-holds (suc n) zero a l h e =
+        let q : a + 0 ≡ a = omega arith in
+        let k : holds p (g a) ≡ true = rw q at e in
+        rw k (refl, refl)
+    first-holds (suc n) (suc m) a l h e =
+        let q : a + suc m ≡ suc a + m = omega arith in
+        let r = first-holds n m (suc a) (omega arith) (λ i j k. h i (omega arith) (omega arith)) (rw q at e) in
+        rw (h a (omega arith) (omega arith)) (r .0, ap suc (r .1))
+
+  -- the loop's answers
+  module _ (l : List ℕ) (count : ℕ) where
+    pub place-none : ((i : ℕ) → i < count → holds p (listedStrip l i) ≡ false)
+        → placeIn p (listedStrips l count) ≡ Nowhere
+    unfolding listedStrips
+    place-none h =
+        place-no (map (listedStrip l) (range 0 count))
+        (none-holds (listedStrip l) count 0 (λ i a b. h i (omega arith)))
+
+    pub place-at : (k : ℕ) → k < count → ((i : ℕ) → i < k → holds p (listedStrip l i) ≡ false)
+        → holds p (listedStrip l k) ≡ true → placeIn p (listedStrips l count) ≡ At k
+    unfolding listedStrips
+    place-at k lt h e =
+        let q : 0 + k ≡ k = omega arith in
+        let r = first-holds (listedStrip l) count k 0 lt (λ i a b. h i (omega arith)) (rw q e) in
+        place-yes (map (listedStrip l) (range 0 count)) (r .0) ∙ ap At (r .1)
+
+-- the strips that were written are those that are read
+numbered : (g : ℕ → Strip) (a : ℕ) (ss : List Strip) → ((k : ℕ) → k < length ss → g (a + k) ≡ at ss k)
+    → map g (range a (length ss)) ≡ ss
+numbered g a [] h = refl
+numbered g a (s ∷ ss) h =
+    let q : a + 0 ≡ a = omega arith in
+    ap₂ (λ (t : Strip) (ts : List Strip). t ∷ ts) (ap g (sym q) ∙ h 0 (omega arith))
+    (numbered g (suc a) ss (λ k l. ap g (shift k) ∙ h (suc k) (omega arith)))
+  where
+    shift : (k : ℕ) → suc a + k ≡ a + suc k
+    shift k = omega arith
+
+pub listed-strips : (ss : List Strip) (r : List ℕ) → listedStrips (each stripNumbers ss ++ r) (length ss) ≡ ss
+unfolding listedStrips
+listed-strips ss r =
+    numbered (listedStrip (each stripNumbers ss ++ r)) 0 ss
+    (λ k l. ap (listedStrip (each stripNumbers ss ++ r)) (from-zero k) ∙ listed-at r ss k l)
+  where
+    from-zero : (k : ℕ) → 0 + k ≡ k
+    from-zero k = omega arith
+
+module _ {A : Type 0} (q : A → Bool) where
+  any-of : (x : A) (xs : List A) → In x xs → q x ≡ true → any q xs ≡ true
+  any-of x [] i e = absurd i
+  any-of x (y ∷ ys) (inl k) e = or-il (any q ys) (sym (ap q k) ∙ e)
+  any-of x (y ∷ ys) (inr k) e = or-ir (q y) (any-of x ys k e)
+
+  none-of : (xs : List A) → ((x : A) → In x xs → q x ≡ false) → any q xs ≡ false
+  none-of [] h = refl
+  none-of (x ∷ xs) h = rw (h x (inl refl)) (none-of xs (λ y k. h y (inr k)))
+
+-- on a board a free point has a place, and no other point has
+module _ (f : ℕ → ℕ → Bool) (W H : ℕ) (p : Point) where
+  pub place-free : p .x < W → p .y < H → f (p .x) (p .y) ≡ true
+      → placeIn p (strips f W H) ≡ At (placeOf p (strips f W H))
+  place-free lx ly e =
+      let s = in-a-strip f W H p lx ly e in
+      place-yes p (strips f W H) (any-of (holds p) (s .0) (strips f W H) (s .1) (s .2))
+
+  pub place-blocked : f (p .x) (p .y) ≡ false → placeIn p (strips f W H) ≡ Nowhere
+  place-blocked e =
+      place-no p (strips f W H)
+      (none-of (holds p) (strips f W H)
+      (λ s i. both (holds p s) (λ k. clash (only-free f W H p s i k .2) e) (λ k. k)))

@@ -1,0 +1,308 @@
+-- `strips::join::join_row` meets its contract: the row is joined up to column x.
+use Prim.Native.Nat.{ℕ, _-_}
+use mathlib.Core.Path.{refl, ap, subst}
+use native.Mathlib.Omega.{arith}
+use lib.ListN.{getD, set}
+use borrow.Author.Needs.{needs}
+use Rattle.foil_spec.specs.Foil.{free}
+use Rattle.foil_spec.specs.Strips.{rowOf}
+use Rattle.foil_spec.specs.Lent.{layoutOf}
+use Rattle.strips.specs.Sweep.{Sweep}
+use Rattle.strips.specs.declared.sweep.Swept.{Swept}
+use Rattle.strips.specs.declared.sweep.Swept.the-variants.{Run as found}
+use Rattle.strips.specs.Join.{Opened}
+use Rattle.strips.proofs.JoiningRow.{JoiningRow, row-start, row-old, row-new, row-full, row-none, row-end}
+use Rattle.strips.proofs.join.join_row.Statement.{statement}
+use Rattle.strips.proofs.join.join_row.Tie as tie
+use Rattle.strips.proofs.join.join_row.Reads as reads
+use Rattle.strips.proofs.join.join_row.Lts as lts
+use Rattle.strips.proofs.join.is_open.Reads as is-open-reads
+use Rattle.strips.proofs.sweep.sweep.Reads as sweep-reads
+use Rattle.strips.proofs.join.wide.Reads as wide-reads
+use Rattle.strips.proofs.join.put.Reads as put-reads
+
+abbrev Inv-loop : tie.InvT-loop
+Inv-loop out₀ last₀ table ord n d w h y z c x₀ j₀ count₀ out last x j count =
+    JoiningRow table ord n d w h y z c out₀ last₀ out last x j count
+
+abbrev μ-loop : tie.MeasureT-loop
+μ-loop out₀ last₀ table ord n d w h y z c x₀ j₀ count₀ out last x j count = w - x
+
+-- back to the function's start, to the loop's turn, to the run that the sweep found, and to the new strip's run
+abbrev atStart : tie.In-loop Inv-loop μ-loop → tie.Start Inv-loop μ-loop
+atStart c = c .before .before .before .before .before .before
+
+abbrev inLoop : tie.After-known-told Inv-loop μ-loop → tie.In-loop Inv-loop μ-loop
+inLoop c = c .before .before .before .before
+
+abbrev atRun : tie.After-is-open Inv-loop μ-loop → tie.After-known-told Inv-loop μ-loop
+atRun c = c .before .before .before .before
+
+abbrev notOpen : tie.After-slice-known4 Inv-loop μ-loop → tie.Else1 Inv-loop μ-loop
+notOpen c = c .before .before .before .before .before
+
+-- the run that the sweep found: from a up to b, and on from place i of the order
+abbrev a : tie.After-known-told Inv-loop μ-loop → ℕ
+a c = c .before .a .given .0 .0
+
+abbrev b : tie.After-known-told Inv-loop μ-loop → ℕ
+b c = c .before .a .given .0 .1 .0
+
+abbrev i : tie.After-known-told Inv-loop μ-loop → ℕ
+i c = c .before .a .given .0 .1 .1 .0
+
+-- what the sweep from column x of the row answers
+abbrev Found : tie.Start Inv-loop μ-loop → ℕ → Swept → Type 0
+Found c x r =
+    Sweep
+    (rowOf (free (layoutOf (c .args .w) (c .args .h) (c .args .d) (c .args .n) (c .args .table .now))) (c .args .y))
+    (c .args .table .now) (c .args .ord .now) (c .args .n) (c .args .d) (c .args .w) (c .args .y) x r
+
+answered : (c : tie.After-sweep Inv-loop μ-loop)
+    → Found (atStart (c .before)) (c .before .before .loop .x) (c .sweep .result)
+answered c =
+    c .sweep .ensures (atStart (c .before) .args .h) (omega (arith, atStart (c .before) .pre .1 .1 .0))
+
+swept : (c : tie.After-known-told Inv-loop μ-loop)
+    → Found (atStart (inLoop c)) (inLoop c .before .loop .x) (found (a c) (b c) (i c))
+swept c =
+    subst (λ (r : Swept). Found (atStart (inLoop c)) (inLoop c .before .loop .x) r) (c .before .a .given .1)
+    (answered (c .before .before .before))
+
+-- the strip at place k goes on with the run, or does not
+abbrev GoesOn : tie.After-is-open Inv-loop μ-loop → ℕ → Type 0
+GoesOn c k =
+    Opened (inLoop (atRun c) .before .loop .out) k (inLoop (atRun c) .before .loop .count) (a (atRun c)) (b (atRun c))
+    (atStart (inLoop (atRun c)) .args .y)
+
+opened : (c : tie.Then1 Inv-loop μ-loop)
+    → GoesOn (c .before)
+    (getD (inLoop (atRun (c .before)) .before .loop .last) (c .before .before .before .before .wide .result) 0)
+opened c = rw (c .if1 .taken) at (c .before .is-open .ensures)
+
+closed : (c : tie.Else1 Inv-loop μ-loop)
+    → GoesOn (c .before) (getD (inLoop (atRun (c .before)) .before .loop .last) (a (atRun (c .before))) 0) → ⊥
+closed c =
+    rw (c .before .before .before .before .wide .ensures) at (rw (c .if1 .left) at (c .before .is-open .ensures))
+
+loop-holds : tie.Need-loop-holds Inv-loop μ-loop
+loop-holds c =
+    let s = c .before .before .before .before in
+    row-start _ _ _ _ _ _ _ _ _ _ _ (omega (arith, s .pre .1 .1 .0)) (s .pre .1 .1 .1)
+    (omega (arith, s .pre .1 .1 .0))
+
+sweep-requires : tie.Need-sweep-requires Inv-loop μ-loop
+sweep-requires c κs = (
+  atStart c .pre .0,
+  (
+    atStart c .pre .1 .0,
+    (
+      omega (arith, c .before .loop .inv .xw, c .before .loop .inv .jn, atStart c .pre .1 .1 .0),
+      c .before .loop .inv .behind,
+    ),
+  ),
+)
+
+enum-known-a : tie.Need-enum-known-a Inv-loop μ-loop
+enum-known-a c = search needs
+
+enum-told : tie.Need-enum-told Inv-loop μ-loop
+enum-told c = search needs
+
+same-length : tie.Need-same-length Inv-loop μ-loop
+same-length c = c .before .before .before .before .loop .inv .same-out
+
+same-length-2 : tie.Need-same-length-2 Inv-loop μ-loop
+same-length-2 c = c .before .before .before .before .loop .inv .same-last
+
+returns : tie.Need-returns Inv-loop μ-loop
+returns c =
+    let l = c .before .before .before in
+    row-none _ _ _ _ _ _ _ _ _ _ _ (omega (arith, atStart l .pre .1 .1 .0)) (atStart l .pre .1 .1 .1) _ _ _ _ _
+    (l .before .loop .inv)
+    (subst (λ (r : Swept). Found (atStart l) (l .before .loop .x) r) (c .enum-told .given .1)
+    (answered (c .before .before)))
+
+wide-requires : tie.Need-wide-requires Inv-loop μ-loop
+wide-requires c κs = search needs
+
+mul-k : tie.Need-mul-k Inv-loop μ-loop
+mul-k c =
+    let r = c .before in
+    omega (
+      arith,
+      c .wide .ensures,
+      swept r .gt,
+      swept r .stop .le,
+      inLoop r .before .loop .inv .same-last,
+      atStart (inLoop r) .pre .1 .1 .0,
+    )
+
+slice-read-k : tie.Need-slice-read-k Inv-loop μ-loop
+slice-read-k c =
+    let r = c .before .before in
+    omega (
+      arith,
+      c .before .wide .ensures,
+      swept r .gt,
+      swept r .stop .le,
+      inLoop r .before .loop .inv .same-last,
+      atStart (inLoop r) .pre .1 .1 .0,
+    )
+
+is-open-requires : tie.Need-is-open-requires Inv-loop μ-loop
+is-open-requires c κs =
+    let l = inLoop (c .before .before .before) in
+    omega (arith, l .before .loop .inv .small, l .before .loop .inv .same-out, atStart l .pre .1 .1 .0)
+
+mul-out : tie.Need-mul-out Inv-loop μ-loop
+mul-out c =
+    let l = inLoop (atRun (c .before)) in
+    omega (arith, opened c .lt, l .before .loop .inv .small, l .before .loop .inv .same-out, atStart l .pre .1 .1 .0)
+
+add-out : tie.Need-add-out Inv-loop μ-loop
+add-out c =
+    let l = inLoop (atRun (c .before)) in
+    omega (arith, opened c .lt, l .before .loop .inv .small, l .before .loop .inv .same-out, atStart l .pre .1 .1 .0)
+
+mul-out-2 : tie.Need-mul-out-2 Inv-loop μ-loop
+mul-out-2 c =
+    let l = inLoop (atRun (c .before)) in
+    omega (arith, opened c .lt, l .before .loop .inv .small, l .before .loop .inv .same-out, atStart l .pre .1 .1 .0)
+
+slice-write-out : tie.Need-slice-write-out Inv-loop μ-loop
+slice-write-out c =
+    let l = inLoop (atRun (c .before)) in
+    omega (arith, opened c .lt, l .before .loop .inv .small, l .before .loop .inv .same-out, atStart l .pre .1 .1 .0)
+
+same-length-3 : tie.Need-same-length-3 Inv-loop μ-loop
+same-length-3 c = inLoop (atRun (c .before .before)) .before .loop .inv .same-out
+
+same-length-4 : tie.Need-same-length-4 Inv-loop μ-loop
+same-length-4 c = inLoop (atRun (c .before .before)) .before .loop .inv .same-last
+
+returns-2 : tie.Need-returns-2 Inv-loop μ-loop
+returns-2 c =
+    let r = atRun (c .before .before) in
+    let l = inLoop r in
+    row-full _ _ _ _ _ _ _ _ _ _ _ (omega (arith, atStart l .pre .1 .1 .0)) (atStart l .pre .1 .1 .1) _ _ _ _ _
+    (l .before .loop .inv) _ _ _ (swept r) (closed (c .before)) (c .if2 .taken)
+
+put-requires : tie.Need-put-requires Inv-loop μ-loop
+put-requires c κs =
+    let l = inLoop (atRun (c .before .before .before)) in
+    omega (
+      arith,
+      c .before .if2 .left,
+      l .before .loop .inv .small,
+      l .before .loop .inv .same-out,
+      atStart l .pre .1 .1 .0,
+    )
+
+mul-last : tie.Need-mul-last Inv-loop μ-loop
+mul-last c =
+    let o = notOpen c .before in
+    let r = atRun o in
+    omega (
+      arith,
+      o .before .before .before .wide .ensures,
+      swept r .gt,
+      swept r .stop .le,
+      inLoop r .before .loop .inv .same-last,
+      atStart (inLoop r) .pre .1 .1 .0,
+    )
+
+slice-write-last : tie.Need-slice-write-last Inv-loop μ-loop
+slice-write-last c =
+    let o = notOpen c .before in
+    let r = atRun o in
+    omega (
+      arith,
+      o .before .before .before .wide .ensures,
+      swept r .gt,
+      swept r .stop .le,
+      inLoop r .before .loop .inv .same-last,
+      atStart (inLoop r) .pre .1 .1 .0,
+    )
+
+add-count : tie.Need-add-count Inv-loop μ-loop
+add-count c = omega (arith, inLoop (atRun (notOpen c .before)) .before .loop .inv .small)
+
+loop-less : tie.Need-loop-less Inv-loop μ-loop
+loop-less c =
+    let r = atRun (c .before) in
+    omega (arith, swept r .from, swept r .gt, swept r .stop .le)
+
+loop-again : tie.Need-loop-again Inv-loop μ-loop
+loop-again c =
+    let r = atRun (c .before) in
+    let l = inLoop r in
+    row-old _ _ _ _ _ _ _ _ _ _ _ (omega (arith, atStart l .pre .1 .1 .0)) (atStart l .pre .1 .1 .1) _ _ _ _ _
+    (l .before .loop .inv) _ _ _ (swept r) _
+    (ap (λ (u : ℕ). getD (l .before .loop .last) u 0) (c .before .before .before .before .wide .ensures))
+    (opened c) _ refl
+
+loop-less-2 : tie.Need-loop-less-2 Inv-loop μ-loop
+loop-less-2 c =
+    let r = atRun (notOpen c .before) in
+    omega (arith, swept r .from, swept r .gt, swept r .stop .le)
+
+loop-again-2 : tie.Need-loop-again-2 Inv-loop μ-loop
+loop-again-2 c =
+    let o = notOpen c .before in
+    let r = atRun o in
+    let l = inLoop r in
+    row-new _ _ _ _ _ _ _ _ _ _ _ (omega (arith, atStart l .pre .1 .1 .0)) (atStart l .pre .1 .1 .1) _ _ _ _ _
+    (l .before .loop .inv) _ _ _ (swept r) (closed (notOpen c))
+    (omega (arith, c .before .before .before .before .if2 .left, l .before .loop .inv .small)) _ _
+    (c .before .before .put .kept .0) (c .before .before .put .ensures)
+    (ap (λ (u : ℕ). set (l .before .loop .last) u (l .before .loop .count))
+    (o .before .before .before .wide .ensures))
+
+same-length-5 : tie.Need-same-length-5 Inv-loop μ-loop
+same-length-5 c = c .before .loop .inv .same-out
+
+same-length-6 : tie.Need-same-length-6 Inv-loop μ-loop
+same-length-6 c = c .before .loop .inv .same-last
+
+returns-3 : tie.Need-returns-3 Inv-loop μ-loop
+returns-3 c =
+    let s = c .before .before .before .before .before .before in
+    row-end _ _ _ _ _ _ _ _ _ _ _ (omega (arith, s .pre .1 .1 .0)) (s .pre .1 .1 .1) _ _ _ _ _
+    (c .before .loop .inv) (c .loop-test .left)
+
+pub join-row-spec : {M : Type 1} → statement M
+join-row-spec =
+    tie.close
+    (tie.spec
+    Inv-loop
+    μ-loop
+    loop-holds
+    sweep-requires
+    enum-known-a
+    enum-told
+    same-length
+    same-length-2
+    returns
+    wide-requires
+    mul-k
+    slice-read-k
+    is-open-requires
+    mul-out
+    add-out
+    mul-out-2
+    slice-write-out
+    same-length-3
+    same-length-4
+    returns-2
+    put-requires
+    mul-last
+    slice-write-last
+    add-count
+    loop-less
+    loop-again
+    loop-less-2
+    loop-again-2
+    same-length-5
+    same-length-6
+    returns-3)

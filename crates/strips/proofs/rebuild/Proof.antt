@@ -1,0 +1,76 @@
+-- `strips::rebuild` meets its contract.
+use native.Mathlib.Omega.{arith}
+use borrow.Author.Needs.{needs}
+use Rattle.strips.proofs.Listing.{rebuilt}
+use Rattle.strips.proofs.rebuild.Statement.{statement}
+use Rattle.strips.proofs.rebuild.Tie as tie
+use Rattle.strips.proofs.rebuild.Reads as reads
+use Rattle.strips.proofs.rebuild.Lts as lts
+use Rattle.strips.proofs.join.join.Reads as join-reads
+use Rattle.strips.proofs.order.order.Reads as order-reads
+use Rattle.strips.proofs.clear.Reads as clear-reads
+
+-- back to the function's start
+abbrev atStart : tie.After-ord3 → tie.Start
+atStart c = c .before .before .before .before .before .before .before .before
+
+slice-aggregate-order : tie.Need-slice-aggregate-order
+slice-aggregate-order c = search needs
+
+order-requires : tie.Need-order-requires
+order-requires c κs =
+    let p = c .before .before .before .pre .0 in
+    omega (arith, p .few, p .entries .len)
+
+slice-aggregate-join : tie.Need-slice-aggregate-join
+slice-aggregate-join c = search needs
+
+slice-aggregate-join-2 : tie.Need-slice-aggregate-join-2
+slice-aggregate-join-2 c = search needs
+
+join-requires : tie.Need-join-requires
+join-requires c κs =
+    let p = atStart c .pre in (
+      p .0 .entries,
+      (c .before .before .before .before .order .ensures, omega (arith, p .0 .width, p .0 .height, p .1)),
+    )
+
+same-length : tie.Need-same-length
+same-length c = search needs
+
+returns : tie.Need-returns
+returns c =
+    let j = c .before .before .before .before in
+    (omega (arith, j .join .ensures .count, c .if1 .taken), j .join .kept .0)
+
+mul-clear : tie.Need-mul-clear
+mul-clear c = search needs
+
+clear-requires : tie.Need-clear-requires
+clear-requires c κs = search needs
+
+same-length-2 : tie.Need-same-length-2
+same-length-2 c = search needs
+
+returns-2 : tie.Need-returns-2
+returns-2 c =
+    let e = c .before .before .before .before in
+    let j = e .before .before .before .before in
+    rebuilt _ _ _ _ _ (j .join .kept .0) (omega (arith, atStart (j .before) .pre .1)) (e .if1 .left)
+    (j .join .ensures) (c .before .before .clear .ensures)
+
+pub rebuild-spec : {M : Type 1} → statement M
+rebuild-spec =
+    tie.close
+    (tie.spec
+    slice-aggregate-order
+    order-requires
+    slice-aggregate-join
+    slice-aggregate-join-2
+    join-requires
+    same-length
+    returns
+    mul-clear
+    clear-requires
+    same-length-2
+    returns-2)
