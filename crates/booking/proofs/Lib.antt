@@ -2,3 +2,4 @@
 pub mod Filling
 pub mod Copying
 pub mod Nets
+pub mod Taking

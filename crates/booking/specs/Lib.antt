@@ -1,2 +1,3 @@
 -- What the contracts of the booking cite.
 pub mod Rows
+pub mod Booked

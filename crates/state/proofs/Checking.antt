@@ -6,9 +6,9 @@ use mathlib.Core.Bool.{Bool, true, false, not}
 use mathlib.Core.List.{List, [], map}
 use lib.Dec.{leb}
 use lib.ListN.{length, getD, take, length-append, length-drop, length-replicate}
-use borrow.Author.Tests.{le-leb, leb-true, ltb-false, le-ltb, not-true}
+use borrow.Author.Tests.{le-leb, leb-true, ltb-false, le-ltb, not-true, not-false}
 use Rattle.foil_spec.specs.Lists.{range, all, each}
-use Rattle.foil_spec.specs.Foil.{Layout, entryOk}
+use Rattle.foil_spec.specs.Foil.{Layout, sizeOk, clearanceOk, entryOk}
 use Rattle.foil_spec.specs.Ledger.{stripsOf, tooLong, tooFine}
 use Rattle.foil_spec.specs.Lent.{Lent, lent, entryNumbers, stripNumbers, written, store, entryAt, layoutOf, held, layoutOk, sound}
 use Rattle.foil_spec.specs.declared.Board.{Board}
@@ -37,19 +37,19 @@ module _ (l : Layout) (count : ℕ) (s : List ℕ) where
   miscounted c e d r = d (e ∙ sym (r .counted))
 
   -- the list built anew has the same front, or not
-  pub compared : (out o : List ℕ) (r : Bool) → out ≡ written 16384 (each stripNumbers (stripsOf l)) o
-      → length (stripsOf l) ≤ 4096 → count ≡ length (stripsOf l)
+  pub compared : (out o : List ℕ) (c : ℕ) (r : Bool) → c ≡ length (stripsOf l) → c ≤ 4096
+      → out ≡ written 16384 (each stripNumbers (stripsOf l)) o → c ≡ count
       → Answers (take 16384 out ≡ take 16384 s) r → Answers (StripsRight l count s) r
-  compared out o true e few c h =
+  compared out o c true n few e k h =
       let ns : List ℕ = each stripNumbers (stripsOf l) in
       let fits : length ns ≤ 16384 = omega (arith, length-strips (stripsOf l)) in
       record {
-        few = few;
-        counted = c;
+        few = omega arith;
+        counted = sym k ∙ n;
         listed =
             is-written 16384 ns s fits (sym h ∙ ap (take 16384) e ∙ front-written 16384 ns o fits);
       }
-  compared out o false e few c h =
+  compared out o c false n few e k h =
       λ r.
       let ns : List ℕ = each stripNumbers (stripsOf l) in
       let fits : length ns ≤ 16384 = omega (arith, length-strips (stripsOf l)) in
@@ -111,16 +111,36 @@ module _ (b : Board) (t s : List ℕ) where
   bad-rest true h n = clash n refl
   bad-rest false h n = not-sound (λ k. h (zeros-after k))
 
+  -- what the test of the record says
+  pub record BoardFits : Type 0 where
+    pub yes : boardOk b ≡ true
+    pub few : b .entries ≤ 128
+    pub small : b .clearance ≤ 15
+    pub wide : b .width ≤ 4096
+    pub high : b .height ≤ 4096
+
+  pub board-fits : (r : Bool) → r ≡ boardOk b → not r ≡ false → BoardFits
+  unfolding boardOk sizeOk clearanceOk
+  board-fits r e n =
+      let h : boardOk b ≡ true = sym e ∙ not-false r n in
+      let x : leb (b .entries) 128 ≡ true = search parts in
+      let y : leb (b .clearance) 15 ≡ true = search parts in
+      let u : leb (b .width) 4096 ≡ true = search parts in
+      let v : leb (b .height) 4096 ≡ true = search parts in
+      record {
+        yes = h;
+        few = leb-true (b .entries) 128 x;
+        small = leb-true (b .clearance) 15 y;
+        wide = leb-true (b .width) 4096 u;
+        high = leb-true (b .height) 4096 v;
+      }
+
   -- what the tests before that of the strips have shown
   pub record Shown : Type 0 where
     pub long : 640 ≤ length t
-    pub board : boardOk b ≡ true
+    pub board : BoardFits
     pub entries : all (entryOk (b .width) (b .height)) (map (entryAt t) (range 0 (b .entries))) ≡ true
     pub rest : Zeros t (b .entries * 5) 640
-
-  few : boardOk b ≡ true → b .entries ≤ 128
-  unfolding boardOk
-  few h = let k : leb (b .entries) 128 ≡ true = search parts in leb-true (b .entries) 128 k
 
   abbrev l : Layout
   l = layoutOf (b .width) (b .height) (b .clearance) (b .entries) t
@@ -128,7 +148,7 @@ module _ (b : Board) (t s : List ℕ) where
   all-kept : Shown → length (stripsOf l) ≤ 4096 → layoutOk l ≡ true
   unfolding layoutOf tooLong tooFine boardOk
   all-kept h f =
-      let k = h .board in
+      let k = h .board .yes in
       to-ok l
       (record {
         width = search parts;
@@ -137,15 +157,21 @@ module _ (b : Board) (t s : List ℕ) where
         entries = h .entries;
         long =
             le-ltb 128 (length (map (entryAt t) (range 0 (b .entries))))
-            (omega (arith, length-read t (b .entries), few (h .board)));
+            (omega (arith, length-read t (b .entries), h .board .few));
         fine = le-ltb 4096 (length (stripsOf l)) f;
       })
 
   table-right : Shown → t ≡ written 640 (each entryNumbers (map (entryAt t) (range 0 (b .entries)))) t
   table-right h =
-      let f = few (h .board) in
+      let f = h .board .few in
       zeros-written (b .entries * 5) 640 t (omega arith) (h .long) (h .rest .zero-at)
       ∙ ap (λ (ns : List ℕ). written 640 ns t) (sym (read-numbers t (b .entries) (omega (arith, h .long))))
+
+  pub shown : 640 ≤ length t → BoardFits
+      → (r : Bool) → r ≡ all (entryOk (b .width) (b .height)) (map (entryAt t) (range 0 (b .entries))) → not r ≡ false
+      → (q : Bool) → Answers (Zeros t (b .entries * 5) 640) q → not q ≡ false → Shown
+  shown len fits r e n true z k = record { long = len; board = fits; entries = sym e ∙ not-false r n; rest = z }
+  shown len fits r e n false z k = clash refl k
 
   pub all-right : (r : Bool) → Shown → Answers (StripsRight l (b .strips) s) r → r ≡ sound m
   unfolding held store layoutOf

@@ -5,14 +5,75 @@ pub use limits::box_ok;
 pub use limits::clearance_ok;
 pub use limits::net_ok;
 pub use limits::size_ok;
+use foil_spec::Board;
+use strips::rebuild;
+use strips::Built;
 ghost use mathlib.Core.Path.{_≡_};
 ghost use Prim.Native.Nat.{_*_, _+_, _≤_, _-_};
-ghost use mathlib.Core.List.{map};
+ghost use mathlib.Core.List.{[], map};
 ghost use lib.ListN.{length, take};
 ghost use Rattle.foil_spec.specs.Lists.{range, all};
 ghost use Rattle.foil_spec.specs.Foil.{entryOk};
-ghost use Rattle.foil_spec.specs.Lent.{entryAt};
-ghost use Rattle.state.specs.Tests.{Answers, Zeros};
+ghost use Rattle.foil_spec.specs.Lent.{lent, entryAt, layoutOf, sound};
+ghost use Rattle.strips.specs.Table.{Table};
+ghost use Rattle.state.specs.Tests.{Answers, Zeros, boardOk, StripsRight};
+
+// Whether the record, the table and the strips keep document 01's rules, whatever they hold.
+pub fn is_sound(table: &[u16], strips: &[u16], board: Board) -> bool
+    ensures { λ r. ⌜ r ≡ sound (lent board (now (table .entry)) (now (strips .entry)) []) ⌝ }
+{
+    if table.len() < 640 {
+        return false;
+    }
+    if strips.len() < 16384 {
+        return false;
+    }
+    if !board_ok(board) {
+        return false;
+    }
+    let n = board.entries;
+    if !entries_ok(table, n, board.width, board.height) {
+        return false;
+    }
+    if !zeros(table, n * 5, 640) {
+        return false;
+    }
+    strips_ok(table, strips, board)
+}
+
+// Whether the record's width, height, clearance and number of entries are in their limits.
+fn board_ok(board: Board) -> bool
+    ensures { λ r. ⌜ r ≡ boardOk board ⌝ }
+{
+    if !limits::size_ok(board.width) {
+        return false;
+    }
+    if !limits::size_ok(board.height) {
+        return false;
+    }
+    if !limits::clearance_ok(board.clearance) {
+        return false;
+    }
+    board.entries <= 128
+}
+
+// Whether the strips are those of the table, as many as the record says.
+fn strips_ok(table: &[u16], strips: &[u16], board: Board) -> bool
+    requires { ⌜ Table (now table) (board .entries) (board .clearance) (board .width) (board .height) ⌝ }
+    requires { ⌜ 16384 ≤ length (now strips) ⌝ }
+    ensures { λ r. ⌜ Answers (StripsRight (layoutOf (board .width) (board .height) (board .clearance)
+        (board .entries) (now (table .entry))) (board .strips) (now (strips .entry))) r ⌝ }
+{
+    let mut out = [0u16; 16384];
+    let built = rebuild(&mut out, table, board.entries, board.clearance, board.width, board.height);
+    let Built::Strips(count) = built else {
+        return false;
+    };
+    if count != board.strips {
+        return false;
+    }
+    same_front(&out, strips, 16384)
+}
 
 // Whether entry k of the table is one that a table may hold.
 fn entry_ok(table: &[u16], k: usize, w: u16, h: u16) -> bool

@@ -1,0 +1,62 @@
+-- Rows and strips that are copied over make the lists that hold the layout.
+use Prim.Native.Nat.{ℕ, _+_, _-_, _≤_, _<_}
+use native.Mathlib.Omega.{arith}
+use native.Mathlib.Nat.{zero-add}
+use mathlib.Core.Path.{_≡_, refl, sym, ap, _∙_}
+use mathlib.Core.Bool.{true, false}
+use mathlib.Core.List.{List, [], _++_, map, append-assoc}
+use lib.ListN.{length, take, drop, replicate}
+use lib.Seq.{paste}
+use borrow.Author.Tests.{lt-ltb, le-ltb}
+use Rattle.foil_spec.specs.Lists.{range, each}
+use Rattle.foil_spec.specs.Foil.{Layout}
+use Rattle.foil_spec.specs.Ledger.{stripsOf, tooFine}
+use Rattle.foil_spec.specs.Lent.{entryNumbers, stripNumbers, written, boardOf, entryAt, layoutOf}
+use Rattle.foil_spec.specs.declared.Board.{Board}
+use Rattle.ledger_laws.proofs.Stored.{length-entries, length-strips}
+use Rattle.ledger_laws.proofs.Sound.{length-read, front-written}
+use Rattle.booking.specs.Rows.{rowsOf}
+use Rattle.booking.specs.Booked.{Stored, Unchanged}
+use Rattle.booking.proofs.Filling.{length-rows}
+
+pub rows-long : (n : ℕ) (rows : List ℕ) → n ≤ 128 → rows ≡ rowsOf (map (entryAt rows) (range 0 n)) → 640 ≤ length rows
+rows-long n rows few e =
+    let k = length-read rows n in
+    omega (arith, length-rows (map (entryAt rows) (range 0 n)) (omega arith), ap length e)
+
+-- what is written to one list and copied from there is written to the other
+copied : (n : ℕ) (ns l d : List ℕ) → length ns ≤ n → paste d 0 (written n ns l) n ≡ written n ns d
+unfolding written
+copied n ns l d fits =
+    let e : 0 + n ≡ n = zero-add n in
+    ap (λ (x : List ℕ). x ++ drop (0 + n) d) (front-written n ns l fits)
+    ∙ ap (λ (k : ℕ). (ns ++ replicate (n - length ns) 0) ++ drop k d) e
+    ∙ append-assoc ns (replicate (n - length ns) 0) (drop n d)
+
+module _ (w h d n : ℕ) (rows : List ℕ) (t s : List ℕ) where
+  abbrev l : Layout
+  l = layoutOf w h d n rows
+
+  pub refused : (t′ s′ : List ℕ) → 4096 < length (stripsOf l) → t′ ≡ t → s′ ≡ s → Unchanged l t s t′ s′
+  unfolding tooFine
+  refused t′ s′ m a b = record { many = lt-ltb 4096 (length (stripsOf l)) m; table = a; strips = b }
+
+  pub taken : (out o t′ s′ : List ℕ) (c : ℕ) → n ≤ 128 → rows ≡ rowsOf (map (entryAt rows) (range 0 n))
+      → c ≡ length (stripsOf l) → c ≤ 4096 → out ≡ written 16384 (each stripNumbers (stripsOf l)) o
+      → t′ ≡ paste t 0 rows 640 → s′ ≡ paste s 0 out 16384
+      → Stored l t s t′ s′ (record { width = w; height = h; clearance = d; entries = n; strips = c })
+  unfolding tooFine boardOf layoutOf rowsOf
+  taken out o t′ s′ c few r e m q a b =
+      let es = length-entries (map (entryAt rows) (range 0 n)) in
+      let k = length-read rows n in
+      let ss = length-strips (stripsOf l) in
+      record {
+        fine = le-ltb 4096 (length (stripsOf l)) (omega arith);
+        board = λ i. record { width = w; height = h; clearance = d; entries = sym k i; strips = e i };
+        table =
+            a ∙ ap (λ (x : List ℕ). paste t 0 x 640) r
+            ∙ copied 640 (each entryNumbers (map (entryAt rows) (range 0 n))) [] t (omega arith);
+        strips =
+            b ∙ ap (λ (x : List ℕ). paste s 0 x 16384) q
+            ∙ copied 16384 (each stripNumbers (stripsOf l)) o s (omega arith);
+      }
