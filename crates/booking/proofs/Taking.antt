@@ -25,7 +25,7 @@ rows-long n rows few e =
     omega (arith, length-rows (map (entryAt rows) (range 0 n)) (omega arith), ap length e)
 
 -- what is written to one list and copied from there is written to the other
-copied : (n : ℕ) (ns l d : List ℕ) → length ns ≤ n → paste d 0 (written n ns l) n ≡ written n ns d
+pub copied : (n : ℕ) (ns l d : List ℕ) → length ns ≤ n → paste d 0 (written n ns l) n ≡ written n ns d
 unfolding written
 copied n ns l d fits =
     let e : 0 + n ≡ n = zero-add n in

@@ -115,7 +115,7 @@ joined-full f w h o out last count v z x rest more s e q j =
     ap length (j .split ∙ ap (λ (r : List Strip). j .done ++ r) e) ∙ length-append (j .done) (s ∷ more) in
     omega (arith, n, j .counted)
 
--- row v, which the rows before row z are equal to
+-- row v, which all rows from there up to z are equal to
 module _ (f : ℕ → ℕ → Bool) (w h v z : ℕ) (ch : Change f h v z) where
   -- the columns from a up to b are a run of row u
   abbrev isRunOf : ℕ → ℕ → ℕ → Bool

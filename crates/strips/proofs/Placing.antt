@@ -1,17 +1,17 @@
 -- The place of a point's strip: along the list, and for the strips of a board.
-use Prim.Native.Nat.{ℕ, zero, suc, _+_, _≤_, _<_}
+use Prim.Native.Nat.{ℕ, zero, suc, _+_, _-_, _≤_, _<_}
 use native.Mathlib.Omega.{arith}
 use mathlib.Core.Path.{_≡_, refl, sym, ap, ap₂, _∙_}
 use mathlib.Core.Bool.{Bool, true, false}
 use mathlib.Core.List.{List, [], _∷_, _++_, map}
 use mathlib.Core.Logic.{inl, inr}
 use lib.Dec.{leb, ltb}
-use lib.ListN.{length}
+use lib.ListN.{length, drop, replicate}
 use borrow.Author.Tests.{lt-leb, le-ltb}
 use Rattle.foil_spec.specs.Lists.{range, any, each}
 use Rattle.foil_spec.specs.Foil.{Point}
 use Rattle.foil_spec.specs.Strips.{Strip, strips, holds, placeOf}
-use Rattle.foil_spec.specs.Lent.{stripNumbers}
+use Rattle.foil_spec.specs.Lent.{stripNumbers, written}
 use Rattle.list_laws.proofs.Tests.{both, clash, and-no-r, or-il, or-ir}
 use Rattle.list_laws.proofs.Members.{In}
 use Rattle.strip_laws.proofs.Laws.{in-a-strip, only-free}
@@ -100,7 +100,7 @@ numbered g a (s ∷ ss) h =
     shift : (k : ℕ) → suc a + k ≡ a + suc k
     shift k = omega arith
 
-pub listed-strips : (ss : List Strip) (r : List ℕ) → listedStrips (each stripNumbers ss ++ r) (length ss) ≡ ss
+listed-strips : (ss : List Strip) (r : List ℕ) → listedStrips (each stripNumbers ss ++ r) (length ss) ≡ ss
 unfolding listedStrips
 listed-strips ss r =
     numbered (listedStrip (each stripNumbers ss ++ r)) 0 ss
@@ -108,6 +108,12 @@ listed-strips ss r =
   where
     from-zero : (k : ℕ) → 0 + k ≡ k
     from-zero k = omega arith
+
+pub listed-written : (n : ℕ) (ss : List Strip) (old : List ℕ)
+    → listedStrips (written n (each stripNumbers ss) old) (length ss) ≡ ss
+unfolding written
+listed-written n ss old =
+    listed-strips ss (replicate (n - length (each stripNumbers ss)) 0 ++ drop n old)
 
 module _ {A : Type 0} (q : A → Bool) where
   any-of : (x : A) (xs : List A) → In x xs → q x ≡ true → any q xs ≡ true

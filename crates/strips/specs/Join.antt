@@ -58,12 +58,12 @@ pub record Joined
   pub opens : (a b : ℕ) → a < w → 0 < bound v z x a → isRun (rowOf f (bound v z x a - 1)) w (run a b) ≡ true
       → Open last cur count a b (bound v z x a)
 
--- row y, to which the rows before row z are equal, is joined: there are r strips so far, or there are too many
+-- row y, and with it all rows up to z, is joined: there are r strips so far, or there are too many
 pub record RowJoined (f : ℕ → ℕ → Bool) (w h : ℕ) (o out last : List ℕ) (r y z : ℕ) : Type 0 where
   pub held : r ≤ 4096 → Joined f w h o out last r y z w (stripsFrom f w h z)
   pub over : 4096 < r → (r ≡ 4097) × (4096 < length (strips f w h))
 
--- row y is joined to c strips, however the list came
+-- row y is joined to the c strips before, whatever list o they were begun on
 abbrev pub JoinsRow : (ℕ → ℕ → Bool) → ℕ → ℕ → List ℕ → List ℕ → ℕ → ℕ → ℕ → List ℕ → List ℕ → ℕ → Type 0
 JoinsRow f w h out last c y z out′ last′ r =
     (o : List ℕ) → Joined f w h o out last c y z 0 (stripsFrom f w h y) → RowJoined f w h o out′ last′ r y z

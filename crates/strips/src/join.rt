@@ -55,9 +55,9 @@ fn put(out: &mut [u16], k: usize, a: u16, y: u16, b: u16, t: u16)
     out[k * 4 + 3] = t;
 }
 
-// Joins the runs of row y, which the rows before row z are equal to, to the c strips of out. last has
-// for each column the place of the last strip that began there, and may hold anything else.
-// Answers how many strips there are then, 4,097 for more than 4,096.
+// Joins the runs of row y, which all rows from there up to z are equal to, to the c strips of out.
+// last has for each column the place of the last strip that began there; where none began, it may
+// hold anything. Answers how many strips there are then, 4,097 for more than 4,096.
 fn join_row(
     out: &mut [u16],
     last: &mut [usize],

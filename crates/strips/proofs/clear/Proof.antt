@@ -5,8 +5,6 @@ use native.Mathlib.Omega.{arith}
 use Rattle.strips.proofs.Listing.{Clearing, cleared-start, clearing-more, clearing-done}
 use Rattle.strips.proofs.clear.Statement.{statement}
 use Rattle.strips.proofs.clear.Tie as tie
-use Rattle.strips.proofs.clear.Reads as reads
-use Rattle.strips.proofs.clear.Lts as lts
 
 abbrev Inv-loop : tie.InvT-loop
 Inv-loop out₀ from to k₀ out k = Clearing out₀ out from to k

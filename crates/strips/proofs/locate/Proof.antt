@@ -10,9 +10,6 @@ use Rattle.strips.specs.Places.{listedStrip}
 use Rattle.strips.proofs.Placing.{place-at, place-none}
 use Rattle.strips.proofs.locate.Statement.{statement}
 use Rattle.strips.proofs.locate.Tie as tie
-use Rattle.strips.proofs.locate.Reads as reads
-use Rattle.strips.proofs.locate.Lts as lts
-use Rattle.strips.proofs.holds_at.Reads as holds-at-reads
 
 abbrev Inv-loop : tie.InvT-loop
 Inv-loop list count x y k₀ k = (k ≤ count) × ((i : ℕ) → i < k → holds (point x y) (listedStrip list i) ≡ false)

@@ -1,21 +1,15 @@
 -- `strips::rebuild` meets its contract.
 use native.Mathlib.Omega.{arith}
-use borrow.Author.Needs.{needs}
 use Rattle.strips.proofs.Listing.{rebuilt}
 use Rattle.strips.proofs.rebuild.Statement.{statement}
 use Rattle.strips.proofs.rebuild.Tie as tie
-use Rattle.strips.proofs.rebuild.Reads as reads
-use Rattle.strips.proofs.rebuild.Lts as lts
-use Rattle.strips.proofs.join.join.Reads as join-reads
-use Rattle.strips.proofs.order.order.Reads as order-reads
-use Rattle.strips.proofs.clear.Reads as clear-reads
 
 -- back to the function's start
 abbrev atStart : tie.After-ord3 → tie.Start
 atStart c = c .before .before .before .before .before .before .before .before
 
 slice-aggregate-order : tie.Need-slice-aggregate-order
-slice-aggregate-order c = search needs
+slice-aggregate-order c = omega arith
 
 order-requires : tie.Need-order-requires
 order-requires c κs =
@@ -23,10 +17,10 @@ order-requires c κs =
     omega (arith, p .few, p .entries .len)
 
 slice-aggregate-join : tie.Need-slice-aggregate-join
-slice-aggregate-join c = search needs
+slice-aggregate-join c = omega arith
 
 slice-aggregate-join-2 : tie.Need-slice-aggregate-join-2
-slice-aggregate-join-2 c = search needs
+slice-aggregate-join-2 c = omega arith
 
 join-requires : tie.Need-join-requires
 join-requires c κs =
@@ -36,7 +30,7 @@ join-requires c κs =
     )
 
 same-length : tie.Need-same-length
-same-length c = search needs
+same-length c = omega arith
 
 returns : tie.Need-returns
 returns c =
@@ -44,13 +38,13 @@ returns c =
     (omega (arith, j .join .ensures .count, c .if1 .taken), j .join .kept .0)
 
 mul-clear : tie.Need-mul-clear
-mul-clear c = search needs
+mul-clear c = omega arith
 
 clear-requires : tie.Need-clear-requires
-clear-requires c κs = search needs
+clear-requires c κs = omega arith
 
 same-length-2 : tie.Need-same-length-2
-same-length-2 c = search needs
+same-length-2 c = omega arith
 
 returns-2 : tie.Need-returns-2
 returns-2 c =

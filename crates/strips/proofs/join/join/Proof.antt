@@ -13,10 +13,6 @@ use Rattle.strips.specs.Join.{Joined}
 use Rattle.strips.proofs.Joining.{joined-start, joined-toward, joined-next, joined-over, joined-end}
 use Rattle.strips.proofs.join.join.Statement.{statement}
 use Rattle.strips.proofs.join.join.Tie as tie
-use Rattle.strips.proofs.join.join.Reads as reads
-use Rattle.strips.proofs.join.join.Lts as lts
-use Rattle.strips.proofs.join.join_row.Reads as join-row-reads
-use Rattle.strips.proofs.rows.next_change.Reads as next-change-reads
 
 abbrev Inv-loop : tie.InvT-loop
 Inv-loop out₀ last₀ table ord n d w h y₀ count₀ out last y count =

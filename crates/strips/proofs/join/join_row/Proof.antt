@@ -3,7 +3,6 @@ use Prim.Native.Nat.{ℕ, _-_}
 use mathlib.Core.Path.{refl, ap, subst}
 use native.Mathlib.Omega.{arith}
 use lib.ListN.{getD, set}
-use borrow.Author.Needs.{needs}
 use Rattle.foil_spec.specs.Foil.{free}
 use Rattle.foil_spec.specs.Strips.{rowOf}
 use Rattle.foil_spec.specs.Lent.{layoutOf}
@@ -14,12 +13,6 @@ use Rattle.strips.specs.Join.{Opened}
 use Rattle.strips.proofs.JoiningRow.{JoiningRow, row-start, row-old, row-new, row-full, row-none, row-end}
 use Rattle.strips.proofs.join.join_row.Statement.{statement}
 use Rattle.strips.proofs.join.join_row.Tie as tie
-use Rattle.strips.proofs.join.join_row.Reads as reads
-use Rattle.strips.proofs.join.join_row.Lts as lts
-use Rattle.strips.proofs.join.is_open.Reads as is-open-reads
-use Rattle.strips.proofs.sweep.sweep.Reads as sweep-reads
-use Rattle.strips.proofs.join.wide.Reads as wide-reads
-use Rattle.strips.proofs.join.put.Reads as put-reads
 
 abbrev Inv-loop : tie.InvT-loop
 Inv-loop out₀ last₀ table ord n d w h y z c x₀ j₀ count₀ out last x j count =
@@ -104,10 +97,10 @@ sweep-requires c κs = (
 )
 
 enum-known-a : tie.Need-enum-known-a Inv-loop μ-loop
-enum-known-a c = search needs
+enum-known-a c = omega arith
 
 enum-told : tie.Need-enum-told Inv-loop μ-loop
-enum-told c = search needs
+enum-told c = omega arith
 
 same-length : tie.Need-same-length Inv-loop μ-loop
 same-length c = c .before .before .before .before .loop .inv .same-out
@@ -124,7 +117,7 @@ returns c =
     (answered (c .before .before)))
 
 wide-requires : tie.Need-wide-requires Inv-loop μ-loop
-wide-requires c κs = search needs
+wide-requires c κs = omega arith
 
 mul-k : tie.Need-mul-k Inv-loop μ-loop
 mul-k c =

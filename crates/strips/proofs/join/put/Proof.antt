@@ -3,59 +3,56 @@ use Prim.Native.Nat.{_*_}
 use Rattle.strips.proofs.Listing.{four-sets}
 use native.Mathlib.Omega.{arith}
 use lib.ListN.{length-set}
-use borrow.Author.Needs.{needs}
 use Rattle.strips.proofs.join.put.Statement.{statement}
 use Rattle.strips.proofs.join.put.Tie as tie
-use Rattle.strips.proofs.join.put.Reads as reads
-use Rattle.strips.proofs.join.put.Lts as lts
 
 mul-out : tie.Need-mul-out
-mul-out c = search needs
+mul-out c = omega arith
 
 mul-out-2 : tie.Need-mul-out-2
-mul-out-2 c = search needs
+mul-out-2 c = omega arith
 
 slice-write-out : tie.Need-slice-write-out
-slice-write-out c = search needs
+slice-write-out c = omega arith
 
 mul-out-3 : tie.Need-mul-out-3
-mul-out-3 c = search needs
+mul-out-3 c = omega arith
 
 add-out : tie.Need-add-out
-add-out c = search needs
+add-out c = omega arith
 
 mul-out-4 : tie.Need-mul-out-4
-mul-out-4 c = search needs
+mul-out-4 c = omega arith
 
 slice-write-out-2 : tie.Need-slice-write-out-2
 slice-write-out-2 c = simp length-set (omega arith)
 
 mul-out-5 : tie.Need-mul-out-5
-mul-out-5 c = search needs
+mul-out-5 c = omega arith
 
 add-out-2 : tie.Need-add-out-2
-add-out-2 c = search needs
+add-out-2 c = omega arith
 
 mul-out-6 : tie.Need-mul-out-6
-mul-out-6 c = search needs
+mul-out-6 c = omega arith
 
 slice-write-out-3 : tie.Need-slice-write-out-3
 slice-write-out-3 c = simp length-set (omega arith)
 
 mul-out-7 : tie.Need-mul-out-7
-mul-out-7 c = search needs
+mul-out-7 c = omega arith
 
 add-out-3 : tie.Need-add-out-3
-add-out-3 c = search needs
+add-out-3 c = omega arith
 
 mul-out-8 : tie.Need-mul-out-8
-mul-out-8 c = search needs
+mul-out-8 c = omega arith
 
 slice-write-out-4 : tie.Need-slice-write-out-4
 slice-write-out-4 c = simp length-set (omega arith)
 
 same-length : tie.Need-same-length
-same-length c = search needs
+same-length c = simp length-set
 
 returns : tie.Need-returns
 returns c =

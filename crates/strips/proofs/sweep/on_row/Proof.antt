@@ -1,36 +1,32 @@
 -- `strips::sweep::on_row` meets its contract.
-use borrow.Author.Needs.{needs}
 use native.Mathlib.Omega.{arith}
 use Rattle.foil_spec.specs.Lent.{entryAt}
 use Rattle.strips.proofs.sweep.on_row.Statement.{statement}
 use Rattle.strips.proofs.sweep.on_row.Tie as tie
-use Rattle.strips.proofs.sweep.on_row.Reads as reads
-use Rattle.strips.proofs.sweep.on_row.Lts as lts
-use Rattle.strips.proofs.sweep.within.Reads as within-reads
 
 mul-within : tie.Need-mul-within
-mul-within c = search needs
+mul-within c = omega arith
 
 add-within : tie.Need-add-within
-add-within c = search needs
+add-within c = omega arith
 
 mul-within-2 : tie.Need-mul-within-2
-mul-within-2 c = search needs
+mul-within-2 c = omega arith
 
 shared-slice-read-within : tie.Need-shared-slice-read-within
-shared-slice-read-within c = search needs
+shared-slice-read-within c = omega arith
 
 mul-within-3 : tie.Need-mul-within-3
-mul-within-3 c = search needs
+mul-within-3 c = omega arith
 
 add-within-2 : tie.Need-add-within-2
-add-within-2 c = search needs
+add-within-2 c = omega arith
 
 mul-within-4 : tie.Need-mul-within-4
-mul-within-4 c = search needs
+mul-within-4 c = omega arith
 
 shared-slice-read-within-2 : tie.Need-shared-slice-read-within-2
-shared-slice-read-within-2 c = search needs
+shared-slice-read-within-2 c = omega arith
 
 within-requires : tie.Need-within-requires
 unfolding entryAt

@@ -5,18 +5,11 @@ use native.Mathlib.Omega.{arith}
 use mathlib.Core.Path.{_≡_, refl, sym, _∙_}
 use mathlib.Core.Logic.{⊎-elim, inl, inr}
 use lib.ListN.{getD}
-use borrow.Author.Needs.{needs}
 use Rattle.foil_spec.specs.Lent.{entryAt}
 use Rattle.strips.proofs.Sweeping.{Sweeping, sweeping-start, sweeping-off, sweeping-on, sweep-run}
 use Rattle.strips.proofs.Sweeping.{LeftAt, left-run, left-none}
 use Rattle.strips.proofs.sweep.sweep.Statement.{statement}
 use Rattle.strips.proofs.sweep.sweep.Tie as tie
-use Rattle.strips.proofs.sweep.sweep.Reads as reads
-use Rattle.strips.proofs.sweep.sweep.Lts as lts
-use Rattle.strips.proofs.sweep.greater.Reads as greater-reads
-use Rattle.strips.proofs.sweep.less.Reads as less-reads
-use Rattle.strips.proofs.sweep.on_row.Reads as on-row-reads
-use Rattle.strips.proofs.sweep.past.Reads as past-reads
 
 abbrev Inv-loop : tie.InvT-loop
 Inv-loop table ord n d w y x i at₀ j₀ at j = (at ≡ at₀) × (j₀ ≤ j) × Sweeping table ord n d w y x at j
@@ -108,7 +101,7 @@ sub-less : tie.Need-sub-less Inv-loop μ-loop Inv-scan μ-scan
 sub-less c = omega arith
 
 less-requires : tie.Need-less-requires Inv-loop μ-loop Inv-scan μ-scan
-less-requires c κs = search needs
+less-requires c κs = omega arith
 
 returns : tie.Need-returns Inv-loop μ-loop Inv-scan μ-scan
 unfolding entryAt
@@ -126,7 +119,7 @@ past-requires c κs =
     (omega (arith, klt l, p .0 .len), omega (arith, p .0 .small, p .0 .x-end _ (klt l)))
 
 greater-requires : tie.Need-greater-requires Inv-loop μ-loop Inv-scan μ-scan
-greater-requires c κs = search needs
+greater-requires c κs = omega arith
 
 add-j : tie.Need-add-j Inv-loop μ-loop Inv-scan μ-scan
 add-j c =

@@ -1,20 +1,18 @@
 -- `strips::sweep::within` meets its contract.
+use native.Mathlib.Omega.{arith}
 use mathlib.Core.Path.{sym}
 use Rattle.strips.proofs.Free.{within-below, within-above, within-yes}
-use borrow.Author.Needs.{needs}
 use Rattle.strips.proofs.sweep.within.Statement.{statement}
 use Rattle.strips.proofs.sweep.within.Tie as tie
-use Rattle.strips.proofs.sweep.within.Reads as reads
-use Rattle.strips.proofs.sweep.within.Lts as lts
 
 add-if1 : tie.Need-add-if1
-add-if1 c = search needs
+add-if1 c = omega arith
 
 returns : tie.Need-returns
 returns c = sym (within-below _ _ _ _ (c .if1 .taken))
 
 add-if2 : tie.Need-add-if2
-add-if2 c = search needs
+add-if2 c = omega arith
 
 returns-2 : tie.Need-returns-2
 returns-2 c = sym (within-above _ _ _ _ (c .if2 .taken))

@@ -1,0 +1,3 @@
+-- Laws that the proofs of the calls use.
+pub mod Refusing
+pub mod Making

@@ -1,0 +1,152 @@
+use borrow.Author.Needs.{needs}
+use Rattle.foil.proofs.lift.Statement.{statement}
+use Rattle.foil.proofs.lift.Tie as tie
+use Rattle.foil.proofs.lift.Reads as reads
+use Rattle.foil.proofs.lift.Lts as lts
+use Rattle.booking.proofs.in_use.Reads as in-use-reads
+use Rattle.booking.proofs.without.Reads as without-reads
+use Rattle.foil.proofs.lists_short.Reads as lists-short-reads
+use Rattle.foil.proofs.refuse.Reads as refuse-reads
+use Rattle.foil.proofs.settle.Reads as settle-reads
+use Rattle.state.proofs.is_sound.Reads as is-sound-reads
+use Rattle.state.proofs.net_ok.Reads as net-ok-reads
+
+-- src/lib.rt:101:8
+lists-short-requires : tie.Need-lists-short-requires
+lists-short-requires c κs = search needs
+
+-- src/lib.rt:102:9
+refuse-requires : tie.Need-refuse-requires
+refuse-requires c κs = search needs
+
+-- src/lib.rt:102:9
+same-length : tie.Need-same-length
+same-length c = search needs
+
+-- src/lib.rt:102:9
+same-length-2 : tie.Need-same-length-2
+same-length-2 c = search needs
+
+-- src/lib.rt:102:9
+returns : tie.Need-returns
+returns c = ?
+
+-- src/lib.rt:104:9
+is-sound-requires : tie.Need-is-sound-requires
+is-sound-requires c κs = search needs
+
+-- src/lib.rt:105:9
+refuse-requires-2 : tie.Need-refuse-requires-2
+refuse-requires-2 c κs = search needs
+
+-- src/lib.rt:105:9
+same-length-3 : tie.Need-same-length-3
+same-length-3 c = search needs
+
+-- src/lib.rt:105:9
+same-length-4 : tie.Need-same-length-4
+same-length-4 c = search needs
+
+-- src/lib.rt:105:9
+returns-2 : tie.Need-returns-2
+returns-2 c = ?
+
+-- src/lib.rt:107:9
+net-ok-requires : tie.Need-net-ok-requires
+net-ok-requires c κs = search needs
+
+-- src/lib.rt:108:9
+refuse-requires-3 : tie.Need-refuse-requires-3
+refuse-requires-3 c κs = search needs
+
+-- src/lib.rt:108:9
+same-length-5 : tie.Need-same-length-5
+same-length-5 c = search needs
+
+-- src/lib.rt:108:9
+same-length-6 : tie.Need-same-length-6
+same-length-6 c = search needs
+
+-- src/lib.rt:108:9
+returns-3 : tie.Need-returns-3
+returns-3 c = ?
+
+-- src/lib.rt:111:9
+in-use-requires : tie.Need-in-use-requires
+in-use-requires c κs = ?
+
+-- src/lib.rt:112:9
+refuse-requires-4 : tie.Need-refuse-requires-4
+refuse-requires-4 c κs = search needs
+
+-- src/lib.rt:112:9
+same-length-7 : tie.Need-same-length-7
+same-length-7 c = search needs
+
+-- src/lib.rt:112:9
+same-length-8 : tie.Need-same-length-8
+same-length-8 c = search needs
+
+-- src/lib.rt:112:9
+returns-4 : tie.Need-returns-4
+returns-4 c = ?
+
+-- src/lib.rt:115:24
+slice-aggregate-without : tie.Need-slice-aggregate-without
+slice-aggregate-without c = search needs
+
+-- src/lib.rt:115:9
+without-requires : tie.Need-without-requires
+without-requires c κs = ?
+
+-- src/lib.rt:116:27
+slice-aggregate-settle : tie.Need-slice-aggregate-settle
+slice-aggregate-settle c = search needs
+
+-- src/lib.rt:116:5
+settle-requires : tie.Need-settle-requires
+settle-requires c κs = ?
+
+-- src/lib.rt:97:1
+same-length-9 : tie.Need-same-length-9
+same-length-9 c = search needs
+
+-- src/lib.rt:97:1
+same-length-10 : tie.Need-same-length-10
+same-length-10 c = search needs
+
+-- src/lib.rt:97:1
+returns-5 : tie.Need-returns-5
+returns-5 c = ?
+
+pub lift-spec : {M : Type 1} → statement M
+lift-spec =
+    tie.close
+    (tie.spec
+    lists-short-requires
+    refuse-requires
+    same-length
+    same-length-2
+    returns
+    is-sound-requires
+    refuse-requires-2
+    same-length-3
+    same-length-4
+    returns-2
+    net-ok-requires
+    refuse-requires-3
+    same-length-5
+    same-length-6
+    returns-3
+    in-use-requires
+    refuse-requires-4
+    same-length-7
+    same-length-8
+    returns-4
+    slice-aggregate-without
+    without-requires
+    slice-aggregate-settle
+    settle-requires
+    same-length-9
+    same-length-10
+    returns-5)

@@ -1,0 +1,15 @@
+use Rattle.foil.proofs.lists_short.Statement.{statement}
+use Rattle.foil.proofs.lists_short.Tie as tie
+use Rattle.foil.proofs.lists_short.Reads as reads
+use Rattle.foil.proofs.lists_short.Lts as lts
+
+-- src/lib.rt:147:9
+returns : tie.Need-returns
+returns c = ?
+
+-- src/lib.rt:143:1
+returns-2 : tie.Need-returns-2
+returns-2 c = ?
+
+pub lists-short-spec : {M : Type 1} → statement M
+lists-short-spec = tie.close (tie.spec returns returns-2)

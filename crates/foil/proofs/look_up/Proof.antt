@@ -1,0 +1,68 @@
+use borrow.Author.Needs.{needs}
+use Rattle.foil.proofs.look_up.Statement.{statement}
+use Rattle.foil.proofs.look_up.Tie as tie
+use Rattle.foil.proofs.look_up.Reads as reads
+use Rattle.foil.proofs.look_up.Lts as lts
+use Rattle.foil.proofs.lists_short.Reads as lists-short-reads
+use Rattle.state.proofs.is_sound.Reads as is-sound-reads
+use Rattle.strips.proofs.locate.Reads as locate-reads
+
+-- src/lib.rt:123:8
+lists-short-requires : tie.Need-lists-short-requires
+lists-short-requires c κs = search needs
+
+-- src/lib.rt:124:9
+returns : tie.Need-returns
+returns c = ?
+
+-- src/lib.rt:126:9
+is-sound-requires : tie.Need-is-sound-requires
+is-sound-requires c κs = search needs
+
+-- src/lib.rt:127:9
+returns-2 : tie.Need-returns-2
+returns-2 c = ?
+
+-- src/lib.rt:130:9
+returns-3 : tie.Need-returns-3
+returns-3 c = ?
+
+-- src/lib.rt:133:9
+returns-4 : tie.Need-returns-4
+returns-4 c = ?
+
+-- src/lib.rt:135:9
+locate-requires : tie.Need-locate-requires
+locate-requires c κs = ?
+
+-- src/lib.rt:136:19
+enum-known-place : tie.Need-enum-known-place
+enum-known-place c = search needs
+
+-- src/lib.rt:137:9
+enum-told : tie.Need-enum-told
+enum-told c = search needs
+
+-- src/lib.rt:137:9
+returns-5 : tie.Need-returns-5
+returns-5 c = ?
+
+-- src/lib.rt:120:1
+returns-6 : tie.Need-returns-6
+returns-6 c = ?
+
+pub look-up-spec : {M : Type 1} → statement M
+look-up-spec =
+    tie.close
+    (tie.spec
+    lists-short-requires
+    returns
+    is-sound-requires
+    returns-2
+    returns-3
+    returns-4
+    locate-requires
+    enum-known-place
+    enum-told
+    returns-5
+    returns-6)

@@ -1,0 +1,178 @@
+// The calls on a foil, over slices of numbers: the table has five numbers a place, the strip list
+// four. None has a `requires`: whatever is lent, each answers, and changes only what document 01 says.
+use booking::append;
+use booking::book;
+use booking::copy_front;
+use booking::in_use;
+use booking::without;
+use booking::Booked;
+use foil_spec::Board;
+use state::box_ok;
+use state::clearance_ok;
+use state::is_sound;
+use state::net_ok;
+use state::size_ok;
+use strips::locate;
+use strips::Place;
+ghost use mathlib.Core.Path.{_≡_};
+ghost use Prim.Native.Nat.{_≤_};
+ghost use mathlib.Core.List.{List, [], map};
+ghost use lib.ListN.{length};
+ghost use Rattle.foil_spec.specs.Lists.{range};
+ghost use Rattle.foil_spec.specs.Foil.{point};
+ghost use Rattle.foil_spec.specs.Ledger.{newFoil, draw as draws, lift as lifts, lookUp};
+ghost use Rattle.foil_spec.specs.Lent.{lent, entryAt, layoutOf};
+ghost use Rattle.strips.specs.Table.{Table};
+ghost use Rattle.booking.specs.Rows.{rowsOf};
+ghost use Rattle.foil.specs.Contract.{StepDone, Looked, TooShort, Settled, refusedBy};
+
+// What a call answers: the number of a refusal, or that it is accepted, with the numbers of corners
+// and bends after a lay, and with the strip's place after a look up.
+pub enum Answer {
+    Refused(u8),
+    Accepted,
+    Laid(usize, usize),
+    Found(usize),
+}
+
+// An answer, and the board's record after it.
+pub struct Done {
+    pub answer: Answer,
+    pub board: Board,
+}
+
+// Begins a foil of w by h with clearance d: an empty table, and one strip, the whole foil.
+pub fn new_foil(table: &mut [u16], strips: &mut [u16], board: Board, w: u16, h: u16, d: u16) -> Done
+    ensures { λ r. ⌜ StepDone (newFoil w h d) (lent board (now (table .entry)) (now (strips .entry)) [])
+        r (now (table .exit)) (now (strips .exit)) [] ⌝ }
+{
+    if lists_short(table, strips) {
+        return refuse(12, board);
+    }
+    if !size_ok(w) {
+        return refuse(1, board);
+    }
+    if !size_ok(h) {
+        return refuse(1, board);
+    }
+    if !clearance_ok(d) {
+        return refuse(2, board);
+    }
+    let rows = [0u16; 640];
+    let bare = Board {
+        width: w,
+        height: h,
+        clearance: d,
+        entries: 0,
+        strips: 0,
+    };
+    settle(table, strips, &rows, 0, bare)
+}
+
+// Draws a patch: appends an entry of net 0.
+pub fn draw(table: &mut [u16], strips: &mut [u16], board: Board, x0: u16, y0: u16, x1: u16, y1: u16) -> Done
+    ensures { λ r. ⌜ StepDone (draws x0 y0 x1 y1) (lent board (now (table .entry)) (now (strips .entry)) [])
+        r (now (table .exit)) (now (strips .exit)) [] ⌝ }
+{
+    if lists_short(table, strips) {
+        return refuse(12, board);
+    }
+    if !is_sound(table, strips, board) {
+        return refuse(13, board);
+    }
+    if !box_ok(board.width, board.height, x0, y0, x1, y1) {
+        return refuse(3, board);
+    }
+    let n = board.entries;
+    if 128 <= n {
+        return refuse(10, board);
+    }
+    let mut rows = [0u16; 640];
+    copy_front(&mut rows, table, 640);
+    append(&mut rows, n, 0, x0, y0, x1, y1);
+    settle(table, strips, &rows, n + 1, board)
+}
+
+// Lifts a net: takes out all its entries, the rest keeping their order.
+pub fn lift(table: &mut [u16], strips: &mut [u16], board: Board, net: u16) -> Done
+    ensures { λ r. ⌜ StepDone (lifts net) (lent board (now (table .entry)) (now (strips .entry)) [])
+        r (now (table .exit)) (now (strips .exit)) [] ⌝ }
+{
+    if lists_short(table, strips) {
+        return refuse(12, board);
+    }
+    if !is_sound(table, strips, board) {
+        return refuse(13, board);
+    }
+    if !net_ok(net) {
+        return refuse(4, board);
+    }
+    let n = board.entries;
+    if !in_use(table, n, net) {
+        return refuse(6, board);
+    }
+    let mut rows = [0u16; 640];
+    let left = without(&mut rows, table, n, net);
+    settle(table, strips, &rows, left, board)
+}
+
+// Looks a point up: the place of the one strip that holds it. Nothing is changed.
+pub fn look_up(table: &[u16], strips: &[u16], board: Board, x: u16, y: u16) -> Answer
+    ensures { λ r. ⌜ Looked (point x y) (lent board (now (table .entry)) (now (strips .entry)) []) r ⌝ }
+{
+    if lists_short(table, strips) {
+        return Answer::Refused(12);
+    }
+    if !is_sound(table, strips, board) {
+        return Answer::Refused(13);
+    }
+    if board.width <= x {
+        return Answer::Refused(7);
+    }
+    if board.height <= y {
+        return Answer::Refused(7);
+    }
+    let place = locate(strips, board.strips, x, y);
+    let Place::At(k) = place else {
+        return Answer::Refused(8);
+    };
+    Answer::Found(k)
+}
+
+// Whether the lent table or strip list is too short (12).
+fn lists_short(table: &[u16], strips: &[u16]) -> bool
+    ensures { λ r. ⌜ TooShort (now (table .entry)) (now (strips .entry)) r ⌝ }
+{
+    if table.len() < 640 {
+        return true;
+    }
+    strips.len() < 16384
+}
+
+// A refusal by its number; the record stays as it is.
+fn refuse(number: u8, board: Board) -> Done
+    ensures { λ r. ⌜ r ≡ refusedBy number board ⌝ }
+{
+    Done {
+        answer: Answer::Refused(number),
+        board,
+    }
+}
+
+// Takes the rows' n entries over, or refuses by 11.
+fn settle(table: &mut [u16], strips: &mut [u16], rows: &[u16], n: usize, board: Board) -> Done
+    requires { ⌜ Table (now rows) n (board .clearance) (board .width) (board .height) ⌝ }
+    requires { ⌜ now rows ≡ rowsOf (map (entryAt (now rows)) (range 0 n)) ⌝ }
+    requires { ⌜ (640 ≤ length (now table)) × (16384 ≤ length (now strips)) ⌝ }
+    ensures { λ r. ⌜ Settled (layoutOf (board .width) (board .height) (board .clearance) n (now (rows .entry)))
+        board (now (table .entry)) (now (strips .entry)) (now (table .exit)) (now (strips .exit)) r ⌝ }
+{
+    let booked = book(table, strips, rows, n, board);
+    let Booked::Taken(after) = booked else {
+        return refuse(11, board);
+    };
+    Done {
+        answer: Answer::Accepted,
+        board: after,
+    }
+}
