@@ -6,8 +6,8 @@ pub use rows::append;
 pub use rows::copy_front;
 pub use rows::in_use;
 pub use rows::without;
-use strips::rebuild;
 use strips::Built;
+use strips::rebuild;
 ghost use mathlib.Core.Path.{_≡_};
 ghost use Prim.Native.Nat.{_≤_};
 ghost use mathlib.Core.List.{map};
@@ -34,7 +34,14 @@ pub fn book(table: &mut [u16], strips: &mut [u16], rows: &[u16], n: usize, board
         (now (table .entry)) (now (strips .entry)) (now (table .exit)) (now (strips .exit)) r ⌝ }
 {
     let mut out = [0u16; 16384];
-    let built = rebuild(&mut out, rows, n, board.clearance, board.width, board.height);
+    let built = rebuild(
+        &mut out,
+        rows,
+        n,
+        board.clearance,
+        board.width,
+        board.height,
+    );
     let Built::Strips(count) = built else {
         return Booked::TooFine;
     };

@@ -1,18 +1,16 @@
 -- The rows that a call makes are those of the layout that its step leaves.
 use Prim.Native.Nat.{ℕ, _-_, _≤_}
 use native.Mathlib.Omega.{arith}
-use mathlib.Core.Path.{_≡_, refl, sym, ap, _∙_, subst}
+use mathlib.Core.Path.{_≡_, refl, sym, ap, _∙_}
 use mathlib.Core.Bool.{true}
-use mathlib.Core.List.{List, [], _∷_, _++_, map}
-use lib.ListN.{length, take, drop, replicate}
+use mathlib.Core.List.{List, [], _++_, map}
+use lib.ListN.{length, drop, replicate}
 use lib.Seq.{paste}
 use Rattle.foil_spec.specs.Lists.{range, all, each}
-use Rattle.foil_spec.specs.Foil.{Entry, Layout, entryOk}
-use Rattle.foil_spec.specs.Ledger.{withEntries}
-use Rattle.foil_spec.specs.Lent.{Lent, lent, entryNumbers, written, store, entryAt, layoutOf, held}
-use Rattle.foil_spec.specs.declared.Board.{Board}
+use Rattle.foil_spec.specs.Foil.{Entry, entryOk}
+use Rattle.foil_spec.specs.Lent.{Lent, entryNumbers, written, store, entryAt, layoutOf, held}
 use Rattle.ledger_laws.proofs.Stored.{read-back, entries-fit}
-use Rattle.ledger_laws.proofs.Sound.{Sound, front-written}
+use Rattle.ledger_laws.proofs.Sound.{Sound}
 use Rattle.strips.specs.Table.{Table}
 use Rattle.strips.proofs.Tables.{table-of}
 use Rattle.booking.specs.Rows.{rowsOf}

@@ -1,26 +1,26 @@
 -- What a refused step leaves, what an accepted one does, and the tests that both begin with.
-use Prim.Native.Nat.{ℕ, _+_, _/_, _≤_, _<_}
+use Prim.Native.Nat.{ℕ, _/_, _≤_, _<_}
 use native.Mathlib.Omega.{arith}
 use mathlib.Core.Path.{_≡_, refl, sym, ap, _∙_, subst}
-use mathlib.Core.Bool.{Bool, true, false, not, _||_, or-true}
+use mathlib.Core.Bool.{Bool, true, false, not}
 use mathlib.Core.List.{List, [], _∷_}
 use mathlib.Core.Option.{Option, none, some}
 use mathlib.Core.Logic.{⊎-elim}
 use lib.Dec.{ltb}
 use lib.ListN.{length}
 use borrow.Author.Tests.{lt-ltb, le-ltb, not-true, not-false}
-use Rattle.foil_spec.specs.Lists.{each}
 use Rattle.foil_spec.specs.Foil.{Layout}
-use Rattle.foil_spec.specs.Ledger.{stripsOf, tooFine, next, says, _⇒_, first, short, refusals, Step, After}
-use Rattle.foil_spec.specs.Ledger.{Answer as Outcome, refused, accepted}
-use Rattle.foil_spec.specs.Lent.{Lent, lent, boardOf, store, held, sound, roomOf, cornersAfter, finish, stepOn}
+use Rattle.foil_spec.specs.Ledger.{tooFine, next, says, _⇒_, first, short, refusals, Step}
+use Rattle.foil_spec.specs.Ledger.{refused, accepted}
+use Rattle.foil_spec.specs.Lent.{Lent, lent, store, held, sound, roomOf, cornersAfter, finish, stepOn}
 use Rattle.foil_spec.specs.declared.Board.{Board}
 use Rattle.list_laws.proofs.Tests.{lt-or-le}
 use Rattle.ledger_laws.proofs.Stored.{Long}
 use Rattle.ledger_laws.proofs.Steps.{long-lists}
+use Rattle.ledger_laws.proofs.Refusals.{short-refused, Reads, broken-refused}
 use Rattle.booking.specs.Booked.{Stored, Unchanged}
 use Rattle.foil.specs.Contract.{answerOf, StepDone, refusedBy, TooShort, Settled, fits, over}
-use Rattle.foil.specs.declared.Answer.the-variants.{Refused, Accepted}
+use Rattle.foil.specs.declared.Answer.the-variants.{Accepted}
 use Rattle.foil.specs.declared.Done.{Done}
 
 -- ---- the lists' lengths
@@ -51,12 +51,43 @@ module _ (t s : List ℕ) where
 abbrev pub refusal : Step → Lent → Option ℕ
 refusal c m = first (refusals c (roomOf m) (not (sound m)) (held m))
 
-pub refused-done : (c : Step) (m : Lent) (n : ℕ) → refusal c m ≡ some n
-    → StepDone c m (refusedBy n (m .board)) (m .table) (m .strips) (m .corners)
+pub refused-done : (c : Step) (m : Lent) (n : ℕ) (r : Done) → r ≡ refusedBy n (m .board) → refusal c m ≡ some n
+    → StepDone c m r (m .table) (m .strips) (m .corners)
 unfolding stepOn finish answerOf
-refused-done c m n e =
+refused-done c m n r q e =
     let o : stepOn c m ≡ record { answer = refused n; state = m } = rw e refl in
-    record { answer = rw o refl; board = rw o refl; table = rw o refl; strips = rw o refl; corners = rw o refl }
+    record {
+      answer = ap (λ (x : Done). x .answer) q ∙ rw o refl;
+      board = ap (λ (x : Done). x .board) q ∙ rw o refl;
+      table = rw o refl;
+      strips = rw o refl;
+      corners = rw o refl;
+    }
+
+-- every step is refused by 12 where the lists are too short
+pub short-done : (c : Step) (b : Board) (t s : List ℕ) (r : Done) (k : Bool) → TooShort t s k → k ≡ true
+    → r ≡ refusedBy 12 b → StepDone c (lent b t s []) r t s []
+short-done c b t s r k h e q =
+    let m : Lent = lent b t s [] in
+    refused-done c m 12 r q (short-refused c (roomOf m) (not (sound m)) (held m) (sym (h .is b []) ∙ e))
+
+-- lists that are long enough, and that keep the rules
+pub record Ready (m : Lent) : Type 0 where
+  pub long : short (roomOf m) ≡ false
+  pub fine : sound m ≡ true
+
+module _ (b : Board) (t s : List ℕ) (k : Bool) (k-is : TooShort t s k) (e : k ≡ false) (g : Bool)
+    (g-is : g ≡ sound (lent b t s [])) where
+  -- a step that reads them is refused by 13 where they break a rule
+  pub broken-done : (c : Step) → Reads c → not g ≡ true → (r : Done) → r ≡ refusedBy 13 b
+      → StepDone c (lent b t s []) r t s []
+  broken-done c n y r q =
+      let m : Lent = lent b t s [] in
+      refused-done c m 13 r q
+      (rw (sym g-is ∙ not-true g y) (broken-refused c (roomOf m) (held m) n (sym (k-is .is b []) ∙ e)))
+
+  pub ready : not g ≡ false → Ready (lent b t s [])
+  ready y = record { long = sym (k-is .is b []) ∙ e; fine = sym g-is ∙ not-false g y }
 
 module _ (c : Step) (m : Lent) (r : Done) (t s : List ℕ) where
   pub accepted-done : refusal c m ≡ none → says c (held m) ≡ accepted → r .answer ≡ Accepted
@@ -64,7 +95,7 @@ module _ (c : Step) (m : Lent) (r : Done) (t s : List ℕ) where
   unfolding stepOn finish answerOf store cornersAfter
   accepted-done e a q k =
       let o : stepOn c m
-          ≡ record { answer = accepted; state = store (next c (held m)) m } = rw (e, a) refl in
+      ≡ record { answer = accepted; state = store (next c (held m)) m } = rw (e, a) refl in
       record {
         answer = q ∙ rw o refl;
         board = k .board ∙ rw o refl;
@@ -82,10 +113,10 @@ module _ (c : Step) (m : Lent) (r : Done) (t s : List ℕ) where
       accepted-done (f ∙ rw (n .fine) refl) a q n
   settled-done l e f a (over k q b) =
       let n = subst (λ (x : Layout). Unchanged x (m .table) (m .strips) t s) e k in
-      let d = refused-done c m 11 (f ∙ rw (n .many) refl) in
+      let d = refused-done c m 11 r (λ i. record { answer = q i; board = b i }) (f ∙ rw (n .many) refl) in
       record {
-        answer = q ∙ d .answer;
-        board = b ∙ d .board;
+        answer = d .answer;
+        board = d .board;
         table = n .table ∙ d .table;
         strips = n .strips ∙ d .strips;
         corners = d .corners;

@@ -1,19 +1,19 @@
 // The calls on a foil, over slices of numbers: the table has five numbers a place, the strip list
 // four. None has a `requires`: whatever is lent, each answers, and changes only what document 01 says.
+use booking::Booked;
 use booking::append;
 use booking::book;
 use booking::copy_front;
 use booking::in_use;
 use booking::without;
-use booking::Booked;
 use foil_spec::Board;
 use state::box_ok;
 use state::clearance_ok;
 use state::is_sound;
 use state::net_ok;
 use state::size_ok;
-use strips::locate;
 use strips::Place;
+use strips::locate;
 ghost use mathlib.Core.Path.{_≡_};
 ghost use Prim.Native.Nat.{_≤_};
 ghost use mathlib.Core.List.{List, [], map};
@@ -70,7 +70,15 @@ pub fn new_foil(table: &mut [u16], strips: &mut [u16], board: Board, w: u16, h: 
 }
 
 // Draws a patch: appends an entry of net 0.
-pub fn draw(table: &mut [u16], strips: &mut [u16], board: Board, x0: u16, y0: u16, x1: u16, y1: u16) -> Done
+pub fn draw(
+    table: &mut [u16],
+    strips: &mut [u16],
+    board: Board,
+    x0: u16,
+    y0: u16,
+    x1: u16,
+    y1: u16,
+) -> Done
     ensures { λ r. ⌜ StepDone (draws x0 y0 x1 y1) (lent board (now (table .entry)) (now (strips .entry)) [])
         r (now (table .exit)) (now (strips .exit)) [] ⌝ }
 {

@@ -60,7 +60,7 @@ pub bare-free : (d W H x y : ℕ) → x < W → y < H → free (bare W H d) x y 
 unfolding free
 bare-free d W H x y hx hy = simp (lt-ltb x W hx, lt-ltb y H hy)
 
-new-fine : (W H d : ℕ) → sizeOk W ≡ true → sizeOk H ≡ true → tooFine (bare W H d) ≡ false
+pub new-fine : (W H d : ℕ) → sizeOk W ≡ true → sizeOk H ≡ true → tooFine (bare W H d) ≡ false
 unfolding tooFine stripsOf
 new-fine W H d hW hH = rw (one-strip (free (bare W H d)) W H (positive W hW) (positive H hH) (bare-free d W H)) refl
 
@@ -81,12 +81,12 @@ new-kept W H d r b l h =
       fine = new-fine W H d w v;
     })
 
-patch-ok : (W H : ℕ) (x0 y0 x1 y1 : ℕ) → boxOk W H (entry 0 x0 y0 x1 y1) ≡ true
+pub patch-ok : (W H : ℕ) (x0 y0 x1 y1 : ℕ) → boxOk W H (entry 0 x0 y0 x1 y1) ≡ true
     → entryOk W H (entry 0 x0 y0 x1 y1) ≡ true
 unfolding entryOk shapeOk
 patch-ok W H x0 y0 x1 y1 h = rw h refl
 
-laid-ok : (l : Layout) (net : ℕ) (S T : Point) (o : Option (List Point)) → pathOf l S T ≡ o → netOk net ≡ true
+pub laid-ok : (l : Layout) (net : ℕ) (S T : Point) (o : Option (List Point)) → pathOf l S T ≡ o → netOk net ≡ true
     → all (entryOk (l .width) (l .height)) (legs net (Option·getD o [])) ≡ true
 unfolding pathOf legs
 laid-ok l net S T none e h = refl

@@ -28,3 +28,21 @@ short-refused (draw x0 y0 x1 y1) r b l e = rw e refl
 short-refused (lay net S T) r b l e = rw e refl
 short-refused (lift net) r b l e = rw e refl
 short-refused (lookUp p) r b l e = rw e refl
+
+-- every step but a new foil reads what is lent
+abbrev pub Reads : Step → Type 0
+Reads (newFoil W H d) = ⊥
+Reads (draw x0 y0 x1 y1) = Unit {0}
+Reads (lay net S T) = Unit {0}
+Reads (lift net) = Unit {0}
+Reads (lookUp p) = Unit {0}
+
+-- and is refused by 13 where that breaks a rule
+pub broken-refused : (s : Step) (r : Room) (l : Layout) → Reads s → short r ≡ false
+    → first (refusals s r true l) ≡ some 13
+unfolding refusals first
+broken-refused (newFoil W H d) r l n e = absurd n
+broken-refused (draw x0 y0 x1 y1) r l n e = rw e refl
+broken-refused (lay net S T) r l n e = rw e refl
+broken-refused (lift net) r l n e = rw e refl
+broken-refused (lookUp p) r l n e = rw e refl

@@ -10,13 +10,15 @@ use borrow.Author.Tests.{le-leb, leb-true, ltb-false, le-ltb, not-true, not-fals
 use Rattle.foil_spec.specs.Lists.{range, all, each}
 use Rattle.foil_spec.specs.Foil.{Layout, sizeOk, clearanceOk, entryOk}
 use Rattle.foil_spec.specs.Ledger.{stripsOf, tooLong, tooFine}
-use Rattle.foil_spec.specs.Lent.{Lent, lent, entryNumbers, stripNumbers, written, store, entryAt, layoutOf, held, layoutOk, sound}
+use Rattle.foil_spec.specs.Lent.{Lent, lent, entryNumbers, stripNumbers, written, store, entryAt, layoutOf, held}
+use Rattle.foil_spec.specs.Lent.{layoutOk, sound}
 use Rattle.foil_spec.specs.declared.Board.{Board}
 use Rattle.foil_spec.proofs.Written.{written-zero}
 use Rattle.list_laws.proofs.Tests.{both, clash, parts}
 use Rattle.ledger_laws.proofs.Stored.{length-entries, length-strips}
 use Rattle.ledger_laws.proofs.Kept.{of-ok, to-ok}
-use Rattle.ledger_laws.proofs.Sound.{Sound, of-sound, to-sound, length-read, read-numbers, front-written, is-written, zeros-written}
+use Rattle.ledger_laws.proofs.Sound.{Sound, of-sound, to-sound, length-read, read-numbers, front-written}
+use Rattle.ledger_laws.proofs.Sound.{is-written, zeros-written}
 use Rattle.state.specs.Tests.{Answers, Zeros, boardOk, StripsRight}
 
 length-at-least : (n : ℕ) (ns old : List ℕ) → n ≤ length (written n ns old)
@@ -100,7 +102,7 @@ module _ (b : Board) (t s : List ℕ) where
         zero-at = λ i p q.
             let ns : List ℕ = each entryNumbers (map (entryAt t) (range 0 (b .entries))) in
             let c : length ns ≡ b .entries * 5 =
-                omega (arith, length-entries (map (entryAt t) (range 0 (b .entries))), length-read t (b .entries)) in
+            omega (arith, length-entries (map (entryAt t) (range 0 (b .entries))), length-read t (b .entries)) in
             let j : length ns + (i - length ns) ≡ i = omega arith in
             ap (λ (l : List ℕ). getD l i 0) (k .table-is)
             ∙ ap (λ (x : ℕ). getD (written 640 ns t) x 0) (sym j)

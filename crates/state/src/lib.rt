@@ -1,13 +1,13 @@
 // The state check: whether the record, the table and the strips keep document 01's rules (13).
 mod limits;
 
+use foil_spec::Board;
 pub use limits::box_ok;
 pub use limits::clearance_ok;
 pub use limits::net_ok;
 pub use limits::size_ok;
-use foil_spec::Board;
-use strips::rebuild;
 use strips::Built;
+use strips::rebuild;
 ghost use mathlib.Core.Path.{_≡_};
 ghost use Prim.Native.Nat.{_*_, _+_, _≤_, _-_};
 ghost use mathlib.Core.List.{[], map};
@@ -65,7 +65,14 @@ fn strips_ok(table: &[u16], strips: &[u16], board: Board) -> bool
         (board .entries) (now (table .entry))) (board .strips) (now (strips .entry))) r ⌝ }
 {
     let mut out = [0u16; 16384];
-    let built = rebuild(&mut out, table, board.entries, board.clearance, board.width, board.height);
+    let built = rebuild(
+        &mut out,
+        table,
+        board.entries,
+        board.clearance,
+        board.width,
+        board.height,
+    );
     let Built::Strips(count) = built else {
         return false;
     };

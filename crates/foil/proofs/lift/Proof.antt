@@ -1,3 +1,9 @@
+use native.Mathlib.Omega.{arith}
+use Rattle.ledger_laws.proofs.Sound.{of-sound}
+use Rattle.foil.proofs.Refusing.{long-enough, short-done, broken-done, ready}
+use Rattle.foil.proofs.Limits.{held-limits}
+use Rattle.foil.proofs.Beginning.{no-rows}
+use Rattle.foil.proofs.Lifting.{no-net, not-there, lifted-again, lifted-table, lifted}
 use borrow.Author.Needs.{needs}
 use Rattle.foil.proofs.lift.Statement.{statement}
 use Rattle.foil.proofs.lift.Tie as tie
@@ -29,7 +35,8 @@ same-length-2 c = search needs
 
 -- src/lib.rt:102:9
 returns : tie.Need-returns
-returns c = ?
+returns c =
+    short-done _ _ _ _ _ _ (c .before .before .lists-short .ensures) (c .before .if1 .taken) (c .refuse .ensures)
 
 -- src/lib.rt:104:9
 is-sound-requires : tie.Need-is-sound-requires
@@ -49,7 +56,9 @@ same-length-4 c = search needs
 
 -- src/lib.rt:105:9
 returns-2 : tie.Need-returns-2
-returns-2 c = ?
+returns-2 c =
+    broken-done _ _ _ _ (c .before .before .before .before .before .before .lists-short .ensures) (c .before .before .before .before .before .if1 .left) _
+    (c .before .before .is-sound .ensures) _ tt (c .before .if2 .taken) _ (c .refuse2 .ensures)
 
 -- src/lib.rt:107:9
 net-ok-requires : tie.Need-net-ok-requires
@@ -69,11 +78,19 @@ same-length-6 c = search needs
 
 -- src/lib.rt:108:9
 returns-3 : tie.Need-returns-3
-returns-3 c = ?
+returns-3 c =
+    no-net _ _ _ _
+    (ready _ _ _ _ (c .before .before .before .before .before .before .before .before .lists-short .ensures) (c .before .before .before .before .before .before .before .if1 .left) _ (c .before .before .before .before .is-sound .ensures) (c .before .before .before .if2 .left)) _
+    (c .before .before .net-ok .ensures) (c .before .if3 .taken) _ (c .refuse3 .ensures)
 
 -- src/lib.rt:111:9
 in-use-requires : tie.Need-in-use-requires
-in-use-requires c κs = ?
+in-use-requires c κs =
+    omega (
+      arith,
+      (long-enough _ _ (c .before .before .before .before .before .before .before .before .before .before .before .before .before .args .board) _ (c .before .before .before .before .before .before .before .before .lists-short .ensures) (c .before .before .before .before .before .before .before .if1 .left)) .table,
+      (held-limits _ _ _ (of-sound _ ((ready _ _ _ _ (c .before .before .before .before .before .before .before .before .lists-short .ensures) (c .before .before .before .before .before .before .before .if1 .left) _ (c .before .before .before .before .is-sound .ensures) (c .before .before .before .if2 .left)) .fine))) .few,
+    )
 
 -- src/lib.rt:112:9
 refuse-requires-4 : tie.Need-refuse-requires-4
@@ -89,7 +106,11 @@ same-length-8 c = search needs
 
 -- src/lib.rt:112:9
 returns-4 : tie.Need-returns-4
-returns-4 c = ?
+returns-4 c =
+    not-there _ _ _ _
+    (ready _ _ _ _ (c .before .before .before .before .before .before .before .before .before .before .before .lists-short .ensures) (c .before .before .before .before .before .before .before .before .before .before .if1 .left) _ (c .before .before .before .before .before .before .before .is-sound .ensures) (c .before .before .before .before .before .before .if2 .left)) _
+    (c .before .before .before .before .before .net-ok .ensures) (c .before .before .before .before .if3 .left) _
+    (c .before .before .in-use .ensures) (c .before .if4 .taken) _ (c .refuse4 .ensures)
 
 -- src/lib.rt:115:24
 slice-aggregate-without : tie.Need-slice-aggregate-without
@@ -97,7 +118,11 @@ slice-aggregate-without c = search needs
 
 -- src/lib.rt:115:9
 without-requires : tie.Need-without-requires
-without-requires c κs = ?
+without-requires c κs = (
+  (held-limits _ _ _ (of-sound _ ((ready _ _ _ _ (c .before .before .before .before .before .before .before .before .before .before .before .before .lists-short .ensures) (c .before .before .before .before .before .before .before .before .before .before .before .if1 .left) _ (c .before .before .before .before .before .before .before .before .is-sound .ensures) (c .before .before .before .before .before .before .before .if2 .left)) .fine))) .few,
+  omega (arith, (long-enough _ _ (c .before .before .before .before .before .before .before .before .before .before .before .before .before .before .before .before .before .args .board) _ (c .before .before .before .before .before .before .before .before .before .before .before .before .lists-short .ensures) (c .before .before .before .before .before .before .before .before .before .before .before .if1 .left)) .table, (held-limits _ _ _ (of-sound _ ((ready _ _ _ _ (c .before .before .before .before .before .before .before .before .before .before .before .before .lists-short .ensures) (c .before .before .before .before .before .before .before .before .before .before .before .if1 .left) _ (c .before .before .before .before .before .before .before .before .is-sound .ensures) (c .before .before .before .before .before .before .before .if2 .left)) .fine))) .few),
+  no-rows,
+)
 
 -- src/lib.rt:116:27
 slice-aggregate-settle : tie.Need-slice-aggregate-settle
@@ -105,7 +130,19 @@ slice-aggregate-settle c = search needs
 
 -- src/lib.rt:116:5
 settle-requires : tie.Need-settle-requires
-settle-requires c κs = ?
+settle-requires c κs = (
+  lifted-table _ _ _ _
+      (ready _ _ _ _ (c .before .before .before .before .before .before .before .before .before .before .before .before .before .before .before .before .before .lists-short .ensures) (c .before .before .before .before .before .before .before .before .before .before .before .before .before .before .before .before .if1 .left) _ (c .before .before .before .before .before .before .before .before .before .before .before .before .before .is-sound .ensures) (c .before .before .before .before .before .before .before .before .before .before .before .before .if2 .left)) _
+      (c .before .before .before .before .before .before .before .before .before .before .before .net-ok .ensures) (c .before .before .before .before .before .before .before .before .before .before .if3 .left) _
+      (c .before .before .before .before .before .before .before .before .in-use .ensures) (c .before .before .before .before .before .before .before .if4 .left) _ _ (c .before .before .before .before .without .ensures),
+  (
+    lifted-again _ _ _ _
+        (ready _ _ _ _ (c .before .before .before .before .before .before .before .before .before .before .before .before .before .before .before .before .before .lists-short .ensures) (c .before .before .before .before .before .before .before .before .before .before .before .before .before .before .before .before .if1 .left) _ (c .before .before .before .before .before .before .before .before .before .before .before .before .before .is-sound .ensures) (c .before .before .before .before .before .before .before .before .before .before .before .before .if2 .left)) _
+        (c .before .before .before .before .before .before .before .before .before .before .before .net-ok .ensures) (c .before .before .before .before .before .before .before .before .before .before .if3 .left) _
+        (c .before .before .before .before .before .before .before .before .in-use .ensures) (c .before .before .before .before .before .before .before .if4 .left) _ _ (c .before .before .before .before .without .ensures),
+    ((long-enough _ _ (c .before .before .before .before .before .before .before .before .before .before .before .before .before .before .before .before .before .before .before .before .before .before .args .board) _ (c .before .before .before .before .before .before .before .before .before .before .before .before .before .before .before .before .before .lists-short .ensures) (c .before .before .before .before .before .before .before .before .before .before .before .before .before .before .before .before .if1 .left)) .table, (long-enough _ _ (c .before .before .before .before .before .before .before .before .before .before .before .before .before .before .before .before .before .before .before .before .before .before .args .board) _ (c .before .before .before .before .before .before .before .before .before .before .before .before .before .before .before .before .before .lists-short .ensures) (c .before .before .before .before .before .before .before .before .before .before .before .before .before .before .before .before .if1 .left)) .strips),
+  ),
+)
 
 -- src/lib.rt:97:1
 same-length-9 : tie.Need-same-length-9
@@ -117,7 +154,12 @@ same-length-10 c = search needs
 
 -- src/lib.rt:97:1
 returns-5 : tie.Need-returns-5
-returns-5 c = ?
+returns-5 c =
+    lifted _ _ _ _
+    (ready _ _ _ _ (c .before .before .before .before .before .before .before .before .before .before .before .before .before .before .before .before .before .before .before .before .before .before .lists-short .ensures) (c .before .before .before .before .before .before .before .before .before .before .before .before .before .before .before .before .before .before .before .before .before .if1 .left) _ (c .before .before .before .before .before .before .before .before .before .before .before .before .before .before .before .before .before .before .is-sound .ensures) (c .before .before .before .before .before .before .before .before .before .before .before .before .before .before .before .before .before .if2 .left)) _
+    (c .before .before .before .before .before .before .before .before .before .before .before .before .before .before .before .before .net-ok .ensures) (c .before .before .before .before .before .before .before .before .before .before .before .before .before .before .before .if3 .left) _
+    (c .before .before .before .before .before .before .before .before .before .before .before .before .before .in-use .ensures) (c .before .before .before .before .before .before .before .before .before .before .before .before .if4 .left) _ _ (c .before .before .before .before .before .before .before .before .before .without .ensures)
+    _ _ _ (c .before .before .before .before .settle .ensures)
 
 pub lift-spec : {M : Type 1} → statement M
 lift-spec =

@@ -1,3 +1,4 @@
+use Rattle.foil.proofs.Refusing.{short-table, by-strips}
 use Rattle.foil.proofs.lists_short.Statement.{statement}
 use Rattle.foil.proofs.lists_short.Tie as tie
 use Rattle.foil.proofs.lists_short.Reads as reads
@@ -5,11 +6,11 @@ use Rattle.foil.proofs.lists_short.Lts as lts
 
 -- src/lib.rt:147:9
 returns : tie.Need-returns
-returns c = ?
+returns c = short-table _ _ (c .if1 .taken)
 
 -- src/lib.rt:143:1
 returns-2 : tie.Need-returns-2
-returns-2 c = ?
+returns-2 c = by-strips _ _ (c .if1 .left)
 
 pub lists-short-spec : {M : Type 1} → statement M
 lists-short-spec = tie.close (tie.spec returns returns-2)

@@ -1,3 +1,7 @@
+use mathlib.Core.Path.{sym, _∙_}
+use Rattle.foil_spec.specs.Foil.{point}
+use Rattle.foil.proofs.Refusing.{ready}
+use Rattle.foil.proofs.Looking.{look-short, look-broken, off-right, off-below, strips-long, nowhere, somewhere}
 use borrow.Author.Needs.{needs}
 use Rattle.foil.proofs.look_up.Statement.{statement}
 use Rattle.foil.proofs.look_up.Tie as tie
@@ -13,7 +17,7 @@ lists-short-requires c κs = search needs
 
 -- src/lib.rt:124:9
 returns : tie.Need-returns
-returns c = ?
+returns c = look-short _ _ _ _ _ (c .before .lists-short .ensures) (c .if1 .taken)
 
 -- src/lib.rt:126:9
 is-sound-requires : tie.Need-is-sound-requires
@@ -21,19 +25,29 @@ is-sound-requires c κs = search needs
 
 -- src/lib.rt:127:9
 returns-2 : tie.Need-returns-2
-returns-2 c = ?
+returns-2 c =
+    look-broken _ _ _ _ _ (c .before .before .before .lists-short .ensures) (c .before .before .if1 .left) _
+    (c .before .is-sound .ensures) (c .if2 .taken)
 
 -- src/lib.rt:130:9
 returns-3 : tie.Need-returns-3
-returns-3 c = ?
+returns-3 c =
+    off-right _ _ _ _
+    (ready _ _ _ _ (c .before .before .before .before .before .lists-short .ensures) (c .before .before .before .before .if1 .left) _ (c .before .before .before .is-sound .ensures) (c .before .before .if2 .left))
+    (c .if3 .taken)
 
 -- src/lib.rt:133:9
 returns-4 : tie.Need-returns-4
-returns-4 c = ?
+returns-4 c =
+    off-below _ _ _ _
+    (ready _ _ _ _ (c .before .before .before .before .before .before .before .lists-short .ensures) (c .before .before .before .before .before .before .if1 .left) _ (c .before .before .before .before .before .is-sound .ensures) (c .before .before .before .before .if2 .left))
+    (c .if4 .taken)
 
 -- src/lib.rt:135:9
 locate-requires : tie.Need-locate-requires
-locate-requires c κs = ?
+locate-requires c κs =
+    strips-long _ _ _ (point (c .before .before .before .before .before .before .before .before .before .before .args .x) (c .before .before .before .before .before .before .before .before .before .before .args .y))
+    (ready _ _ _ _ (c .before .before .before .before .before .before .before .lists-short .ensures) (c .before .before .before .before .before .before .if1 .left) _ (c .before .before .before .before .before .is-sound .ensures) (c .before .before .before .before .if2 .left))
 
 -- src/lib.rt:136:19
 enum-known-place : tie.Need-enum-known-place
@@ -45,11 +59,17 @@ enum-told c = search needs
 
 -- src/lib.rt:137:9
 returns-5 : tie.Need-returns-5
-returns-5 c = ?
+returns-5 c =
+    nowhere _ _ _ _
+    (ready _ _ _ _ (c .before .before .before .before .before .before .before .before .before .before .lists-short .ensures) (c .before .before .before .before .before .before .before .before .before .if1 .left) _ (c .before .before .before .before .before .before .before .before .is-sound .ensures) (c .before .before .before .before .before .before .before .if2 .left))
+    (c .before .before .before .before .before .if3 .left) (c .before .before .before .if4 .left) (sym (c .before .before .locate .ensures) ∙ c .enum-told .given .1)
 
 -- src/lib.rt:120:1
 returns-6 : tie.Need-returns-6
-returns-6 c = ?
+returns-6 c =
+    somewhere _ _ _ _
+    (ready _ _ _ _ (c .before .before .before .before .before .before .before .before .before .before .before .lists-short .ensures) (c .before .before .before .before .before .before .before .before .before .before .if1 .left) _ (c .before .before .before .before .before .before .before .before .before .is-sound .ensures) (c .before .before .before .before .before .before .before .before .if2 .left))
+    (c .before .before .before .before .before .before .if3 .left) (c .before .before .before .before .if4 .left) _ (sym (c .before .before .before .locate .ensures) ∙ c .before .place .given .1)
 
 pub look-up-spec : {M : Type 1} → statement M
 look-up-spec =

@@ -1,3 +1,7 @@
+use mathlib.Core.Path.{sym, _∙_}
+use borrow.Author.Tests.{not-false}
+use Rattle.foil.proofs.Refusing.{long-enough, short-done}
+use Rattle.foil.proofs.Beginning.{no-width, no-height, no-clearance, no-rows, bare-table, begun}
 use borrow.Author.Needs.{needs}
 use Rattle.foil.proofs.new_foil.Statement.{statement}
 use Rattle.foil.proofs.new_foil.Tie as tie
@@ -27,7 +31,8 @@ same-length-2 c = search needs
 
 -- src/lib.rt:50:9
 returns : tie.Need-returns
-returns c = ?
+returns c =
+    short-done _ _ _ _ _ _ (c .before .before .lists-short .ensures) (c .before .if1 .taken) (c .refuse .ensures)
 
 -- src/lib.rt:52:9
 size-ok-requires : tie.Need-size-ok-requires
@@ -47,7 +52,9 @@ same-length-4 c = search needs
 
 -- src/lib.rt:53:9
 returns-2 : tie.Need-returns-2
-returns-2 c = ?
+returns-2 c =
+    no-width _ _ _ _ _ _ _ (c .before .before .before .before .lists-short .ensures) (c .before .before .before .if1 .left) _
+    (c .before .before .size-ok .ensures) (c .before .if2 .taken) _ (c .refuse2 .ensures)
 
 -- src/lib.rt:55:9
 size-ok-requires-2 : tie.Need-size-ok-requires-2
@@ -67,7 +74,9 @@ same-length-6 c = search needs
 
 -- src/lib.rt:56:9
 returns-3 : tie.Need-returns-3
-returns-3 c = ?
+returns-3 c =
+    no-height _ _ _ _ _ _ _ (c .before .before .before .before .before .before .lists-short .ensures) (c .before .before .before .before .before .if1 .left) _
+    (c .before .before .before .before .size-ok .ensures) (c .before .before .before .if2 .left) _ (c .before .before .size-ok2 .ensures) (c .before .if3 .taken) _ (c .refuse3 .ensures)
 
 -- src/lib.rt:58:9
 clearance-ok-requires : tie.Need-clearance-ok-requires
@@ -87,7 +96,10 @@ same-length-8 c = search needs
 
 -- src/lib.rt:59:9
 returns-4 : tie.Need-returns-4
-returns-4 c = ?
+returns-4 c =
+    no-clearance _ _ _ _ _ _ _ (c .before .before .before .before .before .before .before .before .lists-short .ensures) (c .before .before .before .before .before .before .before .if1 .left) _
+    (c .before .before .before .before .before .before .size-ok .ensures) (c .before .before .before .before .before .if2 .left) _ (c .before .before .before .before .size-ok2 .ensures)
+    (c .before .before .before .if3 .left) _ (c .before .before .clearance-ok .ensures) (c .before .if4 .taken) _ (c .refuse4 .ensures)
 
 -- src/lib.rt:69:27
 slice-aggregate-settle : tie.Need-slice-aggregate-settle
@@ -95,7 +107,18 @@ slice-aggregate-settle c = search needs
 
 -- src/lib.rt:69:5
 settle-requires : tie.Need-settle-requires
-settle-requires c κs = ?
+settle-requires c κs = (
+  bare-table _ _ _ (sym (c .before .before .before .before .before .before .before .before .size-ok .ensures) ∙ not-false _ (c .before .before .before .before .before .before .before .if2 .left))
+      (sym (c .before .before .before .before .before .before .size-ok2 .ensures) ∙ not-false _ (c .before .before .before .before .before .if3 .left))
+      (sym (c .before .before .before .before .clearance-ok .ensures) ∙ not-false _ (c .before .before .before .if4 .left)),
+  (
+    no-rows,
+    (
+      (long-enough _ _ (c .before .before .before .before .before .before .before .before .before .before .before .before .before .before .before .args .board) _ (c .before .before .before .before .before .before .before .before .before .before .lists-short .ensures) (c .before .before .before .before .before .before .before .before .before .if1 .left)) .table,
+      (long-enough _ _ (c .before .before .before .before .before .before .before .before .before .before .before .before .before .before .before .args .board) _ (c .before .before .before .before .before .before .before .before .before .before .lists-short .ensures) (c .before .before .before .before .before .before .before .before .before .if1 .left)) .strips,
+    ),
+  ),
+)
 
 -- src/lib.rt:45:1
 same-length-9 : tie.Need-same-length-9
@@ -107,7 +130,11 @@ same-length-10 c = search needs
 
 -- src/lib.rt:45:1
 returns-5 : tie.Need-returns-5
-returns-5 c = ?
+returns-5 c =
+    begun _ _ _ _ _ _ _ (c .before .before .before .before .before .before .before .before .before .before .before .before .before .before .before .lists-short .ensures) (c .before .before .before .before .before .before .before .before .before .before .before .before .before .before .if1 .left) _
+    (c .before .before .before .before .before .before .before .before .before .before .before .before .before .size-ok .ensures) (c .before .before .before .before .before .before .before .before .before .before .before .before .if2 .left) _ (c .before .before .before .before .before .before .before .before .before .before .before .size-ok2 .ensures)
+    (c .before .before .before .before .before .before .before .before .before .before .if3 .left) _ (c .before .before .before .before .before .before .before .before .before .clearance-ok .ensures) (c .before .before .before .before .before .before .before .before .if4 .left)
+    _ _ _ (c .before .before .before .before .settle .ensures)
 
 pub new-foil-spec : {M : Type 1} → statement M
 new-foil-spec =

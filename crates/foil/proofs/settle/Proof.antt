@@ -1,3 +1,6 @@
+use mathlib.Core.Path.{refl, ap}
+use Rattle.foil.specs.Contract.{fits, over}
+use Rattle.foil.specs.declared.Done.{Done}
 use borrow.Author.Needs.{needs}
 use Rattle.foil.proofs.settle.Statement.{statement}
 use Rattle.foil.proofs.settle.Tie as tie
@@ -32,7 +35,9 @@ same-length-2 c = search needs
 
 -- src/lib.rt:172:9
 returns : tie.Need-returns
-returns c = ?
+returns c =
+    over (rw (c .before .enum-told .given .1) at (c .before .before .before .before .before .before .before .book .ensures))
+    (ap (λ (x : Done). x .answer) (c .refuse .ensures)) (ap (λ (x : Done). x .board) (c .refuse .ensures))
 
 -- src/lib.rt:163:1
 same-length-3 : tie.Need-same-length-3
@@ -44,7 +49,8 @@ same-length-4 c = search needs
 
 -- src/lib.rt:163:1
 returns-2 : tie.Need-returns-2
-returns-2 c = ?
+returns-2 c =
+    fits (rw (c .before .booked .given .1) at (c .before .before .before .before .before .before .before .book .ensures)) refl
 
 pub settle-spec : {M : Type 1} → statement M
 settle-spec =

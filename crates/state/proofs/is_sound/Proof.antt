@@ -58,9 +58,11 @@ returns-5 c = bad-rest _ _ _ (c .before .zeros .result) (c .before .zeros .ensur
 -- src/lib.rt:41:5
 strips-ok-requires : tie.Need-strips-ok-requires
 strips-ok-requires c κs =
-    let b = board-fits _ (c .before .before .before .before .before .before .before .before .before .before .args .table .now) (c .before .before .before .before .before .before .before .before .before .before .args .strips .now) _ (c .before .before .before .before .before .board-ok .ensures) (c .before .before .before .before .if3 .left) in
-    (table-of _ _ _ _ _ (b .few) (omega (arith, b .few)) (b .small) (b .wide) (b .high)
-    (sym (c .before .before .before .entries-ok .ensures) ∙ not-false _ (c .before .before .if4 .left)), omega arith)
+    let b = board-fits _ (c .before .before .before .before .before .before .before .before .before .before .args .table .now) (c .before .before .before .before .before .before .before .before .before .before .args .strips .now) _ (c .before .before .before .before .before .board-ok .ensures) (c .before .before .before .before .if3 .left) in (
+      table-of _ _ _ _ _ (b .few) (omega (arith, b .few)) (b .small) (b .wide) (b .high)
+          (sym (c .before .before .before .entries-ok .ensures) ∙ not-false _ (c .before .before .if4 .left)),
+      omega arith,
+    )
 
 -- src/lib.rt:22:1
 returns-6 : tie.Need-returns-6

@@ -1,4 +1,3 @@
-use native.Mathlib.Omega.{arith}
 use Rattle.state.proofs.Checking.{too-many, miscounted, compared}
 use borrow.Author.Needs.{needs}
 use Rattle.state.proofs.strips_ok.Statement.{statement}

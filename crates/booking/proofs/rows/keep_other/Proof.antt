@@ -102,7 +102,7 @@ shared-slice-read-append-5 c = search needs
 
 -- src/rows.rt:75:5
 append-requires : tie.Need-append-requires
-append-requires c κs = 
+append-requires c κs =
     (omega (arith, c .before .before .before .before .before .before .before .before .before .before .pre .2 .few), kept-long _ _ _ _ _ (omega arith) (c .before .before .before .before .before .before .before .before .before .before .pre .2))
 
 -- src/rows.rt:84:5
@@ -116,7 +116,7 @@ same-length c = search needs
 -- src/rows.rt:68:1
 returns-2 : tie.Need-returns-2
 unfolding entryAt
-returns-2 c = 
+returns-2 c =
     kept-more _ _ _ _ _ (c .before .before .before .before .before .before .before .before .before .before .before .before .before .pre .2) _
     (c .before .before .before .before .before .before .before .before .before .if1 .left) (c .before .before .append .ensures)
 

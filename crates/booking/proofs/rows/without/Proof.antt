@@ -35,10 +35,10 @@ loop-less c = omega arith
 -- src/rows.rt:60:5
 loop-again : tie.Need-loop-again Inv-loop μ-loop
 loop-again c = (
-      omega arith,
-      c .before .before .keep-other .ensures,
-      omega (arith, c .before .before .keep-other .kept .0, c .before .before .before .before .before .loop .inv .2),
-    )
+  omega arith,
+  c .before .before .keep-other .ensures,
+  omega (arith, c .before .before .keep-other .kept .0, c .before .before .before .before .before .loop .inv .2),
+)
 
 -- src/rows.rt:54:1
 same-length : tie.Need-same-length Inv-loop μ-loop
