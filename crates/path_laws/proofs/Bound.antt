@@ -3,11 +3,10 @@ use Prim.Native.Nat.{ℕ, zero, suc, _+_, _*_, _≤_, _<_}
 use native.Mathlib.Omega.{arith}
 use native.Mathlib.Nat.{zero-add, suc-add}
 use native.Mathlib.Decide.{ℕ-discrete}
-use mathlib.Core.Path.{_≡_, refl, sym, _∙_, subst}
+use mathlib.Core.Path.{_≡_, sym, _∙_, subst}
 use mathlib.Core.Bool.{Bool, true, false, not, _&&_, _||_}
 use mathlib.Core.List.{List, [], _∷_}
 use mathlib.Core.Logic.{_⊎_, inl, inr, ⊎-elim, by-cases}
-use borrow.Author.Tests.{eq-eqb, ne-eqb}
 use lib.ListN.{length}
 use Rattle.foil_spec.specs.Lists.{any}
 use Rattle.foil_spec.specs.Foil.{Point, point, same}
@@ -17,15 +16,8 @@ use Rattle.list_laws.proofs.Tests.{and-l, and-r, and-i, or-cases, or-il, or-ir,
 use Rattle.path_laws.proofs.Segments.{same-eq, same-self, end-free, start-free, in-points, between-join}
 use Rattle.path_laws.proofs.Segments.{Level, Upright, to-level, to-upright, of-segment, either-segment}
 use Rattle.list_laws.proofs.Members.{in-any, of-any, not-any}
+use Rattle.path_laws.proofs.Segments.{leads-either, after-level, after-upright}
 use Rattle.path_laws.proofs.Counting.{count, count-lt, count-length, length-points}
-
-pub after-level : (f : ℕ → ℕ → Bool) (p q : Point) → Level f p q → after p q ≡ upright
-unfolding after
-after-level f p q s = rw (eq-eqb (p .y) (q .y) (s .row)) refl
-
-pub after-upright : (f : ℕ → ℕ → Bool) (p q : Point) → Upright f p q → after p q ≡ level
-unfolding after
-after-upright f p q s = rw (ne-eqb (p .y) (q .y) (s .apart)) refl
 
 -- from p to q by one free segment, or standing still
 unfoldable linked : (ℕ → ℕ → Bool) → Point → Point → Bool
@@ -145,14 +137,6 @@ module _ (f : ℕ → ℕ → Bool) (W H : ℕ) (inside : (x y : ℕ) → f x y 
       (stable-or (suc (W * H)))
 
   -- ---- back from there to segments that alternate
-  leads-either : (h : Heading) (p : Point) (cs : List Point) → leads f T h p cs ≡ true → leads f T either p cs ≡ true
-  unfolding leads
-  leads-either h p [] l = l
-  leads-either h p (q ∷ cs) l =
-      and-i {a = segment f either p q}
-      (either-segment f h p q (and-l (segment f h p q) (leads f T (after p q) q cs) l))
-      (and-r (segment f h p q) (leads f T (after p q) q cs) l)
-
   abbrev Going : Point → ℕ → Type 0
   Going p n = (cs : List Point) × (leads f T either p cs ≡ true) × (length cs ≤ n)
 
@@ -178,7 +162,7 @@ module _ (f : ℕ → ℕ → Bool) (W H : ℕ) (inside : (x y : ℕ) → f x y 
       (λ (e : p .x ≡ r .x).
       let here : r ≡ p = λ i. point (sym e i) (sym (a .row ∙ b .row) i) in
       let l : length cs ≤ suc (length cs) = omega arith in
-      (cs, subst (λ (z : Point). leads f T either z cs ≡ true) here (leads-either (after q r) r cs h), l))
+      (cs, subst (λ (z : Point). leads f T either z cs ≡ true) here (leads-either f T (after q r) r cs h), l))
       (λ (n : ¬ (p .x ≡ r .x)).
       let c : Level f p r =
       record {
@@ -198,7 +182,7 @@ module _ (f : ℕ → ℕ → Bool) (W H : ℕ) (inside : (x y : ℕ) → f x y 
       (λ (e : p .y ≡ r .y).
       let here : r ≡ p = λ i. point (sym (a .column ∙ b .column) i) (sym e i) in
       let l : length cs ≤ suc (length cs) = omega arith in
-      (cs, subst (λ (z : Point). leads f T either z cs ≡ true) here (leads-either (after q r) r cs h), l))
+      (cs, subst (λ (z : Point). leads f T either z cs ≡ true) here (leads-either f T (after q r) r cs h), l))
       (λ (n : ¬ (p .y ≡ r .y)).
       let c : Upright f p r =
       record {

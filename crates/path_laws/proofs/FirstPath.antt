@@ -113,6 +113,17 @@ module _ (f : ℕ → ℕ → Bool) (S T : Point) where
           ⊎-elim (λ (a : Level f S S). a .apart refl) (λ (a : Upright f S S). a .apart refl)
           (of-segment f either S S s)
 
+  -- of two ways to go on from S with equal bends, one no shorter than the other, both have as many segments
+  pub same-bends : (cs ds : List Point) → leads f T either S cs ≡ true → leads f T either S ds ≡ true
+      → length cs ≤ length ds → bends (S ∷ ds) ≡ bends (S ∷ cs) → length ds ≡ length cs
+  unfolding bends
+  same-bends cs ds h k l e =
+      by-cases (ℕ-discrete (length ds) (length cs)) (λ q. q)
+      (λ q.
+      let one : length ds ≡ 1 = omega arith in
+      let nil : length cs ≡ 0 = omega arith in
+      absurd (no-loop ds (subst (λ (l : List Point). leads f T either S l ≡ true) (is-nil cs nil) h) k one))
+
 module _ (f : ℕ → ℕ → Bool) (W H : ℕ) (S T : Point) where
   -- the ways to go on from S by n segments
   abbrev goingOn : ℕ → List (List Point)
@@ -231,19 +242,6 @@ module _ (f : ℕ → ℕ → Bool) (W H : ℕ) (S T : Point) where
           (λ (q : In es (r .more)). inr (before-tail S (r .ds) es (s .0 es q)))
           j
 
-      same-bends : (es : List Point) → leads f T either S es ≡ true → bends (S ∷ es) ≡ bends (S ∷ r .ds)
-          → length es ≡ length (r .ds)
-      unfolding bends
-      same-bends es h e =
-          by-cases (ℕ-discrete (length es) (length (r .ds))) (λ q. q)
-          (λ q.
-          let l = not-shorter es h in
-          let one : length es ≡ 1 = omega arith in
-          let nil : length (r .ds) ≡ 0 = omega arith in
-          absurd
-          (no-loop f S T es
-          (subst (λ (l : List Point). leads f T either S l ≡ true) (is-nil (r .ds) nil) (first-on .0)) h one))
-
     -- what firstPath gives is a path, has fewest bends, and comes first among the paths with as few
     module _ (cs : List Point) (given : firstPath f W H S T ≡ some cs) where
       pub given-path : isPath f S T cs ≡ true
@@ -269,4 +267,5 @@ module _ (f : ℕ → ℕ → Bool) (W H : ℕ) (S T : Point) where
           let b = of-path f S T ds k in
           let w : bends (S ∷ b .rest) ≡ bends (S ∷ r .ds) = ap bends (sym (b .is)) ∙ e ∙ ap bends (r .is) in
           subst₂ (λ (l m : List Point). (l ≡ m) ⊎ (before l m ≡ true)) (sym (r .is)) (sym (b .is))
-          (same-length cs r (b .rest) (b .on) (same-bends cs r (b .rest) (b .on) w))
+          (same-length cs r (b .rest) (b .on)
+          (same-bends f S T (r .ds) (b .rest) (first-on cs r .0) (b .on) (not-shorter cs r (b .rest) (b .on)) w))

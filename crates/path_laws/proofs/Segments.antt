@@ -4,14 +4,14 @@ use native.Mathlib.Omega.{arith}
 use native.Mathlib.Decide.{decLe}
 use mathlib.Core.Path.{_≡_, refl, subst}
 use mathlib.Core.Bool.{Bool, true, false, _&&_}
-use mathlib.Core.List.{map}
+use mathlib.Core.List.{List, [], _∷_, map}
 use mathlib.Core.Logic.{_⊎_, inl, inr, ⊎-elim, by-cases}
 use lib.Dec.{ltb, eqb}
 use borrow.Author.Tests.{eqb-true, eqb-false, eq-eqb, ne-eqb, lt-ltb, ltb-true}
 use Rattle.foil_spec.specs.Lists.{range}
 use Rattle.foil_spec.specs.Foil.{Point, point, same}
 use Rattle.foil_spec.specs.Paths.{Heading, either, level, upright, between, levelFree, uprightFree, segment}
-use Rattle.foil_spec.specs.Paths.{pointBefore, points}
+use Rattle.foil_spec.specs.Paths.{after, leads, pointBefore, points}
 use Rattle.list_laws.proofs.Tests.{and-l, and-r, and-i, or-cases, or-il, or-ir, parts}
 use Rattle.list_laws.proofs.Members.{In, Sorted, in-range, of-range, in-map, of-map, in-each, of-all, to-all}
 use Rattle.list_laws.proofs.Members.{sorted-range, sorted-map, sorted-each}
@@ -121,6 +121,23 @@ module _ (f : ℕ → ℕ → Bool) where
       between-at (λ (y : ℕ). f (p .x) y) (p .y) (q .y) (p .y) (a .clear) (omega arith) (omega arith))
       (of-segment h p q s)
 
+  pub after-level : (p q : Point) → Level p q → after p q ≡ upright
+  unfolding after
+  after-level p q s = rw (eq-eqb (p .y) (q .y) (s .row)) refl
+
+  pub after-upright : (p q : Point) → Upright p q → after p q ≡ level
+  unfolding after
+  after-upright p q s = rw (ne-eqb (p .y) (q .y) (s .apart)) refl
+
+  pub leads-either : (T : Point) (h : Heading) (p : Point) (cs : List Point)
+      → leads f T h p cs ≡ true → leads f T either p cs ≡ true
+  unfolding leads
+  leads-either T h p [] l = l
+  leads-either T h p (q ∷ cs) l =
+      and-i {a = segment f either p q}
+      (either-segment h p q (and-l (segment f h p q) (leads f T (after p q) q cs) l))
+      (and-r (segment f h p q) (leads f T (after p q) q cs) l)
+
 pub in-points : (W H : ℕ) (p : Point) → p .x < W → p .y < H → In p (points W H)
 unfolding points
 in-points W H p hx hy =
@@ -128,13 +145,13 @@ in-points W H p hx hy =
     (in-range (p .y) 0 H (omega arith) (omega arith))
     (in-map (λ (x : ℕ). point x (p .y)) (p .x) (range 0 W) (in-range (p .x) 0 W (omega arith) (omega arith)))
 
-before-row : (p q : Point) → p .y ≡ q .y → p .x < q .x → pointBefore p q ≡ true
+pub before-row : (p q : Point) → p .y ≡ q .y → p .x < q .x → pointBefore p q ≡ true
 unfolding pointBefore
 before-row p q e l =
     or-ir (ltb (p .y) (q .y))
     (and-i {a = eqb (p .y) (q .y)} (eq-eqb (p .y) (q .y) e) (lt-ltb (p .x) (q .x) l))
 
-before-rows : (p q : Point) → p .y < q .y → pointBefore p q ≡ true
+pub before-rows : (p q : Point) → p .y < q .y → pointBefore p q ≡ true
 unfolding pointBefore
 before-rows p q l = or-il (eqb (p .y) (q .y) && ltb (p .x) (q .x)) (lt-ltb (p .y) (q .y) l)
 

@@ -1,0 +1,165 @@
+-- Laws of painting: edges are shut entry by entry.
+use Prim.Native.Nat.{ℕ, suc, _+_, _-_, _*_, _≤_, _<_, max}
+use native.Mathlib.Omega.{arith}
+use native.Mathlib.Decide.{decLe, decLt}
+use mathlib.Core.Path.{_≡_, refl, sym, _∙_}
+use mathlib.Core.Bool.{Bool, not}
+use mathlib.Core.List.{List}
+use lib.ListN.{getD, set, length, length-set}
+use lib.Seq.{getD-set-same, getD-set-other}
+use borrow.Author.Count.{below-more}
+use Rattle.foil_spec.specs.Lent.{entryAt}
+use Rattle.list_laws.proofs.Tests.{clash, and-i}
+use Rattle.grid.specs.Size.{stride, area}
+use Rattle.grid.specs.Zones.{extent, Boxes}
+use Rattle.grid.specs.Lines.{Rising}
+use Rattle.grid.proofs.Blocked.{within-of, turned-blocks, blocked-ahead, blocked-past, misses-along}
+use Rattle.grid.proofs.Blocked.{misses-line}
+use Rattle.grid.specs.Edges.{Filled, Block, FirstFrom, Paint, hit, missed, Missed, EntryPainted, Painted}
+
+-- Places of a list set to one number.
+pub filled-none : (a v : ℕ) (l : List ℕ) → Filled a a v l l
+filled-none a v l = record {
+  size = refl;
+  inside = λ i p q. absurd (omega arith);
+  low = λ i p. refl;
+  high = λ i p. refl;
+}
+
+pub filled-more : {a b v : ℕ} {l₀ : List ℕ} (l : List ℕ) → a ≤ b → b < length l₀ → Filled a b v l₀ l →
+    Filled a (b + 1) v l₀ (set l b v)
+filled-more {a} {b} {v} l p fit F = record {
+  size = length-set l b v ∙ F .size;
+  inside = below-more (λ i. a ≤ i → getD (set l b v) i 0 ≡ v) b
+      (λ i u w. getD-set-other l b i v 0 (omega arith) ∙ F .inside i u w)
+      (λ w. getD-set-same l b v 0 (let s = F .size in omega arith));
+  low = λ i u. getD-set-other l b i v 0 (omega arith) ∙ F .low i u;
+  high = λ i u. getD-set-other l b i v 0 (omega arith) ∙ F .high i (omega arith);
+}
+
+pub filled-done : {a b c v : ℕ} {l₀ l : List ℕ} → b ≡ c → Filled a b v l₀ l → Filled a c v l₀ l
+filled-done e h = rw (← e) h
+
+-- A rectangle of edges.
+pub block-none : (a lo hi : ℕ) (e : List ℕ) → Block a a lo hi e e
+block-none a lo hi e = record { size = refl; shut = λ j l p. absurd (omega arith); kept = λ j i l out. refl }
+
+pub block-more : {a b lo hi : ℕ} {e₀ e e′ : List ℕ} → a ≤ b → lo ≤ stride → hi ≤ stride → Block a b lo hi e₀ e →
+    Filled (b * stride + lo) (max (b * stride + lo) (b * stride + hi)) 0 e e′ → Block a (b + 1) lo hi e₀ e′
+block-more {a} {b} {lo} {hi} {e₀} {e} {e′} p flo fhi K F = record {
+  size = F .size ∙ K .size;
+  shut = below-more (λ j. a ≤ j → (i : ℕ) → lo ≤ i → i < hi → getD e′ (j * stride + i) 0 ≡ 0) b
+      (λ j lj aj i li hi′. F .low (j * stride + i) (omega arith) ∙ K .shut j lj aj i li hi′)
+      (λ aj i li hi′. F .inside (b * stride + i) (omega arith) (omega arith));
+  kept = λ j i li out. same j i li out (decLt j b) (decLt b j) (decLt i lo)
+      ∙ K .kept j i li (λ u v w x. out (omega arith) v w x);
+}
+  where
+    same : (j i : ℕ) → i < stride → (j < b + 1 → a ≤ j → lo ≤ i → i < hi → ⊥) → Dec (j < b) → Dec (b < j) →
+        Dec (i < lo) → getD e′ (j * stride + i) 0 ≡ getD e (j * stride + i) 0
+    same j i li out (yes u) v w = F .low (j * stride + i) (omega arith)
+    same j i li out (no u) (yes v) w = F .high (j * stride + i) (omega arith)
+    same j i li out (no u) (no v) (yes w) = F .low (j * stride + i) (omega arith)
+    same j i li out (no u) (no v) (no w) = F .high (j * stride + i) (right (decLe hi i))
+      where
+        right : Dec (hi ≤ i) → max (b * stride + lo) (b * stride + hi) ≤ j * stride + i
+        right (yes z) = omega arith
+        right (no z) = absurd (out (omega arith) (omega arith) (omega arith) (omega arith))
+
+pub block-done : {a b c lo hi : ℕ} {e₀ e : List ℕ} → b ≡ c → Block a b lo hi e₀ e → Block a c lo hi e₀ e
+block-done e h = rw (← e) h
+
+-- The first line at a number or after it.
+pub first-at : (lines : List ℕ) (n v r : ℕ) → Rising lines n → r < n → ((k : ℕ) → k < r → getD lines k 0 < v) →
+    v ≤ getD lines r 0 → FirstFrom lines n v r
+first-at lines n v r R l p h = record { le = omega arith; low = p; high = λ k a b. pick k a b (decLt r k) }
+  where
+    pick : (k : ℕ) → r ≤ k → k < n → Dec (r < k) → v ≤ getD lines k 0
+    pick k a b (yes q) = let u = R .up r k q b in omega arith
+    pick k a b (no q) = let w : k ≡ r = omega arith in rw w h
+
+-- One entry.
+module _ {d : ℕ} {t : List ℕ} {upright : Bool} {lines : List ℕ} {m : ℕ} {cross : List ℕ} {n : ℕ} (k : ℕ)
+    {e₀ e : List ℕ} {a b lo hi u v x y s : ℕ} (A : FirstFrom lines m u a) (Z : FirstFrom lines m v b)
+    (L : FirstFrom cross n x lo) (H : FirstFrom cross n y hi) (K : Block a (max a b) s hi e₀ e)
+    (few : n ≤ stride) (R : Rising cross n) (B : Boxes (k + 1) t)
+    (eu : u ≡ extent (not upright) (entryAt t k) .from - d) (ev : v ≡ extent (not upright) (entryAt t k) .to + d)
+    (ex : x ≡ extent upright (entryAt t k) .from - d) (ey : y ≡ extent upright (entryAt t k) .to + d)
+    (es : s ≡ lo - 1) where
+  -- within the rectangle: the first number of the edge that is blocked is on it
+  inside : (j : ℕ) → j < m → (i : ℕ) → suc i < n → a ≤ j → j < b → lo ≤ suc i → i < hi →
+      Missed d t upright lines cross k j i → ⊥
+  inside j lj i li p q r z M =
+      let w = B .wide k (omega arith) upright in
+      let a1 = A .high j p lj in
+      let b1 = Z .low j q in
+      let c1 = L .high (suc i) r li in
+      let d1 = H .low i z in
+      let o = R .up i (suc i) (omega arith) li in
+      clash
+      (turned-blocks d upright (entryAt t k) (max (getD cross i 0) x) (getD lines j 0)
+      ∙ and-i (within-of _ _ d _ (omega arith) (omega arith)) (within-of _ _ d _ (omega arith) (omega arith)))
+      (M .point (max (getD cross i 0) x) (omega arith) (omega arith))
+
+  pub entry-painted : EntryPainted d t upright lines m cross n k e₀ e
+  entry-painted = record {
+    size = K .size;
+    edge = λ j lj i li. pick j lj i li (decLe a j) (decLt j b) (decLe lo (suc i)) (decLt i hi);
+  }
+    where
+      stays : (j i : ℕ) → suc i < n → (j < max a b → a ≤ j → s ≤ i → i < hi → ⊥) →
+          Missed d t upright lines cross k j i →
+          Paint (Missed d t upright lines cross k j i) (getD e₀ (j * stride + i) 0) (getD e (j * stride + i) 0)
+      stays j i li out M = rw (K .kept j i (omega arith) out) (missed M)
+
+      pick : (j : ℕ) → j < m → (i : ℕ) → suc i < n → Dec (a ≤ j) → Dec (j < b) → Dec (lo ≤ suc i) → Dec (i < hi) →
+          Paint (Missed d t upright lines cross k j i) (getD e₀ (j * stride + i) 0) (getD e (j * stride + i) 0)
+      pick j lj i li (yes p) (yes q) (yes r) (yes z) =
+          rw (K .shut j (omega arith) p i (omega arith) z) (hit (inside j lj i li p q r z))
+      pick j lj i li (no p) q r z =
+          let l = A .low j (omega arith) in
+          stays j i li (λ f g h w. omega arith)
+          (record { point = λ c f g. misses-line d upright _ c _ (blocked-ahead d (not upright) _ _ (omega arith)) })
+      pick j lj i li (yes p) (no q) r z =
+          let l = Z .high j (omega arith) lj in
+          stays j i li (λ f g h w. omega arith)
+          (record { point = λ c f g. misses-line d upright _ c _ (blocked-past d (not upright) _ _ (omega arith)) })
+      pick j lj i li (yes p) (yes q) (no r) z =
+          let l = L .low (suc i) (omega arith) in
+          stays j i li (λ f g h w. omega arith)
+          (record { point = λ c f g. misses-along d upright _ c _ (blocked-ahead d upright _ _ (omega arith)) })
+      pick j lj i li (yes p) (yes q) (yes r) (no z) =
+          let l = H .high i (omega arith) (omega arith) in
+          stays j i li (λ f g h w. omega arith)
+          (record { point = λ c f g. misses-along d upright _ c _ (blocked-past d upright _ _ (omega arith)) })
+
+-- All entries.
+module _ {d : ℕ} {t : List ℕ} {upright : Bool} {lines : List ℕ} {m : ℕ} {cross : List ℕ} {n : ℕ} where
+  pub painted-none : (e₀ e : List ℕ) → m ≤ stride → n ≤ stride → Filled 0 area 1 e₀ e →
+      Painted d t upright lines m cross n 0 e
+  painted-none e₀ e lm ln F = record {
+    free = λ j lj i li h b l. absurd (omega arith);
+    one = λ j lj i li h. F .inside (j * stride + i) (omega arith) (omega arith);
+  }
+
+  pub painted-more : {k : ℕ} {e e′ : List ℕ} → Painted d t upright lines m cross n k e →
+      EntryPainted d t upright lines m cross n k e e′ → Painted d t upright lines m cross n (k + 1) e′
+  painted-more {k} {e} {e′} P E = record {
+    free = λ j lj i li h. still j lj i li _ _ (E .edge j lj i li) refl h;
+    one = λ j lj i li h. opens j lj i li _ _ (E .edge j lj i li) refl h;
+  }
+    where
+      still : (j : ℕ) → j < m → (i : ℕ) → suc i < n → (u v : ℕ) → Paint (Missed d t upright lines cross k j i) u v →
+          u ≡ getD e (j * stride + i) 0 → v ≡ 1 → (b : ℕ) → b < k + 1 → Missed d t upright lines cross b j i
+      still j lj i li u v (hit z) q w = absurd (omega arith)
+      still j lj i li u v (missed M) q w =
+          below-more (λ b. Missed d t upright lines cross b j i) k (P .free j lj i li (sym q ∙ w)) M
+
+      opens : (j : ℕ) → j < m → (i : ℕ) → suc i < n → (u v : ℕ) → Paint (Missed d t upright lines cross k j i) u v →
+          u ≡ getD e (j * stride + i) 0 → ((b : ℕ) → b < k + 1 → Missed d t upright lines cross b j i) → v ≡ 1
+      opens j lj i li u v (hit z) q h = absurd (z (h k (omega arith)))
+      opens j lj i li u v (missed M) q h = q ∙ P .one j lj i li (λ b l. h b (omega arith))
+
+  pub painted-done : {k l : ℕ} {e : List ℕ} → k ≡ l → Painted d t upright lines m cross n k e →
+      Painted d t upright lines m cross n l e
+  painted-done e h = rw (← e) h

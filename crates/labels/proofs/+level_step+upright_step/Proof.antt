@@ -1,0 +1,278 @@
+-- The two steps of the walk call each other by turns; the label falls by one at each call.
+use native.Mathlib.Omega.{arith}
+use mathlib.Core.Path.{_∙_}
+use Rattle.labels.proofs.Walk.{grounded-next, level-done, level-more, upright-done, upright-more}
+use Prim.Native.Nat.{ℕ, _<_}
+use borrow.Fn.Kinds.{In}
+use borrow.Fn.PlainCycle.{Measures, is, falls, and}
+use Rattle.labels.proofs.level_step.Reads as level-step
+use Rattle.labels.proofs.level_step.Kinds as level-step-kinds
+use Rattle.labels.proofs.+level_step+upright_step.Lts-level_step as level-lts
+use Rattle.labels.proofs.upright_step.Reads as upright-step
+use Rattle.labels.proofs.upright_step.Kinds as upright-step-kinds
+use Rattle.labels.proofs.+level_step+upright_step.Lts-upright_step as upright-lts
+use Rattle.labels.proofs.next_stop.Reads as next-stop-reads
+use Rattle.labels.proofs.put_corner.Reads as put-corner-reads
+use Rattle.labels.proofs.+level_step+upright_step.{statement}
+use Rattle.labels.proofs.+level_step+upright_step.Tie.{close}
+
+abbrev μ-level-step : Measures 7 level-step-kinds.ps ℕ
+μ-level-step κs a = a .1 .1 .1 .1 .1 .1 .1 .1 .1 .1 .1 .0
+
+abbrev μ-upright-step : Measures 7 upright-step-kinds.ps ℕ
+μ-upright-step κs a = a .1 .1 .1 .1 .1 .1 .1 .1 .1 .1 .1 .0
+
+abbrev level-step-at : ℕ → In 7 level-step-kinds.ps
+level-step-at t =
+    and 7 level-step-kinds.ps (is 7 level-step-kinds.ps μ-level-step t) level-step.Pre
+
+abbrev level-step-below : ℕ → In 7 level-step-kinds.ps
+level-step-below t =
+    and 7 level-step-kinds.ps (falls 7 level-step-kinds.ps _<_ μ-level-step t) level-step.Pre
+
+abbrev upright-step-at : ℕ → In 7 upright-step-kinds.ps
+upright-step-at t =
+    and 7 upright-step-kinds.ps (is 7 upright-step-kinds.ps μ-upright-step t) upright-step.Pre
+
+abbrev upright-step-below : ℕ → In 7 upright-step-kinds.ps
+upright-step-below t =
+    and
+    7
+    upright-step-kinds.ps
+    (falls 7 upright-step-kinds.ps _<_ μ-upright-step t)
+    upright-step.Pre
+
+-- what the two steps know of the functions that they call, the other step among them, where the label is less
+abbrev level-calls : ℕ → level-lts.Claims
+level-calls t = (
+  next-stop-reads.Asked,
+  next-stop-reads.Learnt,
+  put-corner-reads.Asked,
+  put-corner-reads.Learnt,
+  upright-step-below t,
+  upright-step.Post,
+)
+
+abbrev upright-calls : ℕ → upright-lts.Claims
+upright-calls t = (
+  next-stop-reads.Asked,
+  next-stop-reads.Learnt,
+  put-corner-reads.Asked,
+  put-corner-reads.Learnt,
+  level-step-below t,
+  level-step.Post,
+)
+
+level-step-returns : (t : ℕ) →
+    level-lts.Need-returns (level-calls t) (level-step-at t) level-step.Post
+level-step-returns t c = level-done (c .if1 .taken)
+
+level-step-sub-next-stop : (t : ℕ) →
+    level-lts.Need-sub-next-stop (level-calls t) (level-step-at t) level-step.Post
+level-step-sub-next-stop t c = omega arith
+
+level-step-next-stop-requires : (t : ℕ) →
+    level-lts.Need-next-stop-requires (level-calls t) (level-step-at t) level-step.Post
+level-step-next-stop-requires t c κs = omega arith
+
+level-step-mul-put-corner : (t : ℕ) →
+    level-lts.Need-mul-put-corner (level-calls t) (level-step-at t) level-step.Post
+level-step-mul-put-corner t c = omega arith
+
+level-step-shared-slice-read-put-corner :
+    (t : ℕ) → level-lts.Need-shared-slice-read-put-corner (level-calls t) (level-step-at t) level-step.Post
+level-step-shared-slice-read-put-corner t c =
+    let at-stop = c .before .before in
+    let at-if1 = at-stop .before in
+    let at-start = at-if1 .before .before .before .before .before .before .before .before in
+    let pre = at-start .pre .1 in
+    let stop = at-stop .next-stop .ensures in
+    let above = at-if1 .if1 .left in
+    let next = grounded-next _ _ _ _ (pre .0 .level) (pre .1 .1) (pre .1 .0) (pre .1 .2) above (pre .1 .3) stop in
+    omega (arith, pre .0 .cols-size)
+
+level-step-mul-put-corner-2 : (t : ℕ) →
+    level-lts.Need-mul-put-corner-2 (level-calls t) (level-step-at t) level-step.Post
+level-step-mul-put-corner-2 t c = omega arith
+
+level-step-shared-slice-read-put-corner-2 :
+    (t : ℕ) → level-lts.Need-shared-slice-read-put-corner-2 (level-calls t) (level-step-at t) level-step.Post
+level-step-shared-slice-read-put-corner-2 t c =
+    let at-stop = c .before .before .before in
+    let at-start = at-stop .before .before .before .before .before .before .before .before .before in
+    omega (arith, at-start .pre .1)
+
+level-step-put-corner-requires : (t : ℕ) →
+    level-lts.Need-put-corner-requires (level-calls t) (level-step-at t) level-step.Post
+level-step-put-corner-requires t c κs = omega arith
+
+level-step-sub-upright-step : (t : ℕ) →
+    level-lts.Need-sub-upright-step (level-calls t) (level-step-at t) level-step.Post
+level-step-sub-upright-step t c = omega arith
+
+level-step-add-upright-step : (t : ℕ) →
+    level-lts.Need-add-upright-step (level-calls t) (level-step-at t) level-step.Post
+level-step-add-upright-step t c = omega arith
+
+level-step-upright-step-requires : (t : ℕ) →
+    level-lts.Need-upright-step-requires (level-calls t) (level-step-at t) level-step.Post
+level-step-upright-step-requires t c κs =
+    let at-stop = c .before .before .before .before .before .before .before in
+    let at-if1 = at-stop .before in
+    let at-start = at-if1 .before .before .before .before .before .before .before .before in
+    let pre = at-start .pre .1 in
+    let stop = at-stop .next-stop .ensures in
+    let above = at-if1 .if1 .left in
+    let next = grounded-next _ _ _ _ (pre .0 .level) (pre .1 .1) (pre .1 .0) (pre .1 .2) above (pre .1 .3) stop in
+    let at-put = c .before .before .before in (
+      omega (arith, at-start .pre .0),
+      (
+        pre .0,
+        (next .0, pre .1 .1, omega arith, next .1, omega (arith, pre .1 .4, at-put .put-corner .kept .0)),
+      ),
+    )
+
+level-step-same-length : (t : ℕ) →
+    level-lts.Need-same-length (level-calls t) (level-step-at t) level-step.Post
+level-step-same-length t c =
+    let at-step = c .before .before in
+    let at-put = at-step .before .before .before .before in
+    at-step .upright-step .kept .0 ∙ at-put .put-corner .kept .0
+
+level-step-returns-2 : (t : ℕ) →
+    level-lts.Need-returns-2 (level-calls t) (level-step-at t) level-step.Post
+level-step-returns-2 t c =
+    let at-stop = c .before .before .before .before .before .before .before .before .before .before in
+    let at-if1 = at-stop .before in
+    let at-start = at-if1 .before .before .before .before .before .before .before .before in
+    let pre = at-start .pre .1 in
+    let stop = at-stop .next-stop .ensures in
+    let above = at-if1 .if1 .left in
+    let next = grounded-next _ _ _ _ (pre .0 .level) (pre .1 .1) (pre .1 .0) (pre .1 .2) above (pre .1 .3) stop in
+    let at-step = c .before .before in
+    let at-put = at-step .before .before .before .before in
+    level-more (pre .1 .2) stop (next .0) (at-put .put-corner .ensures) (at-step .upright-step .ensures)
+
+upright-step-returns : (t : ℕ) →
+    upright-lts.Need-returns (upright-calls t) (upright-step-at t) upright-step.Post
+upright-step-returns t c = upright-done (c .if1 .taken)
+
+upright-step-sub-next-stop : (t : ℕ) →
+    upright-lts.Need-sub-next-stop (upright-calls t) (upright-step-at t) upright-step.Post
+upright-step-sub-next-stop t c = omega arith
+
+upright-step-next-stop-requires : (t : ℕ) →
+    upright-lts.Need-next-stop-requires (upright-calls t) (upright-step-at t) upright-step.Post
+upright-step-next-stop-requires t c κs = omega arith
+
+upright-step-mul-put-corner : (t : ℕ) →
+    upright-lts.Need-mul-put-corner (upright-calls t) (upright-step-at t) upright-step.Post
+upright-step-mul-put-corner t c = omega arith
+
+upright-step-shared-slice-read-put-corner :
+    (t : ℕ) → upright-lts.Need-shared-slice-read-put-corner (upright-calls t) (upright-step-at t) upright-step.Post
+upright-step-shared-slice-read-put-corner t c =
+    let at-stop = c .before .before in
+    let at-start = at-stop .before .before .before .before .before .before .before .before .before in
+    omega (arith, at-start .pre .1)
+
+upright-step-mul-put-corner-2 : (t : ℕ) →
+    upright-lts.Need-mul-put-corner-2 (upright-calls t) (upright-step-at t) upright-step.Post
+upright-step-mul-put-corner-2 t c = omega arith
+
+upright-step-shared-slice-read-put-corner-2 :
+    (t : ℕ) → upright-lts.Need-shared-slice-read-put-corner-2 (upright-calls t) (upright-step-at t) upright-step.Post
+upright-step-shared-slice-read-put-corner-2 t c =
+    let at-stop = c .before .before .before in
+    let at-if1 = at-stop .before in
+    let at-start = at-if1 .before .before .before .before .before .before .before .before in
+    let pre = at-start .pre .1 in
+    let stop = at-stop .next-stop .ensures in
+    let above = at-if1 .if1 .left in
+    let next = grounded-next _ _ _ _ (pre .0 .upright) (pre .1 .0) (pre .1 .1) (pre .1 .2) above (pre .1 .3) stop in
+    omega (arith, pre .0 .rows-size)
+
+upright-step-put-corner-requires : (t : ℕ) →
+    upright-lts.Need-put-corner-requires (upright-calls t) (upright-step-at t) upright-step.Post
+upright-step-put-corner-requires t c κs = omega arith
+
+upright-step-sub-level-step : (t : ℕ) →
+    upright-lts.Need-sub-level-step (upright-calls t) (upright-step-at t) upright-step.Post
+upright-step-sub-level-step t c = omega arith
+
+upright-step-add-level-step : (t : ℕ) →
+    upright-lts.Need-add-level-step (upright-calls t) (upright-step-at t) upright-step.Post
+upright-step-add-level-step t c = omega arith
+
+upright-step-level-step-requires : (t : ℕ) →
+    upright-lts.Need-level-step-requires (upright-calls t) (upright-step-at t) upright-step.Post
+upright-step-level-step-requires t c κs =
+    let at-stop = c .before .before .before .before .before .before .before in
+    let at-if1 = at-stop .before in
+    let at-start = at-if1 .before .before .before .before .before .before .before .before in
+    let pre = at-start .pre .1 in
+    let stop = at-stop .next-stop .ensures in
+    let above = at-if1 .if1 .left in
+    let next = grounded-next _ _ _ _ (pre .0 .upright) (pre .1 .0) (pre .1 .1) (pre .1 .2) above (pre .1 .3) stop in
+    let at-put = c .before .before .before in (
+      omega (arith, at-start .pre .0),
+      (
+        pre .0,
+        (pre .1 .0, next .0, omega arith, next .1, omega (arith, pre .1 .4, at-put .put-corner .kept .0)),
+      ),
+    )
+
+upright-step-same-length : (t : ℕ) →
+    upright-lts.Need-same-length (upright-calls t) (upright-step-at t) upright-step.Post
+upright-step-same-length t c =
+    let at-step = c .before .before in
+    let at-put = at-step .before .before .before .before in
+    at-step .level-step .kept .0 ∙ at-put .put-corner .kept .0
+
+upright-step-returns-2 : (t : ℕ) →
+    upright-lts.Need-returns-2 (upright-calls t) (upright-step-at t) upright-step.Post
+upright-step-returns-2 t c =
+    let at-stop = c .before .before .before .before .before .before .before .before .before .before in
+    let at-if1 = at-stop .before in
+    let at-start = at-if1 .before .before .before .before .before .before .before .before in
+    let pre = at-start .pre .1 in
+    let stop = at-stop .next-stop .ensures in
+    let above = at-if1 .if1 .left in
+    let next = grounded-next _ _ _ _ (pre .0 .upright) (pre .1 .0) (pre .1 .1) (pre .1 .2) above (pre .1 .3) stop in
+    let at-step = c .before .before in
+    let at-put = at-step .before .before .before .before in
+    upright-more (pre .1 .2) stop (next .0) (at-put .put-corner .ensures) (at-step .level-step .ensures)
+
+pub +level-step+upright-step-spec : {M : Type 1} → statement M
++level-step+upright-step-spec = close μ-level-step μ-upright-step (λ t. level-lts.spec (level-calls t)
+    (level-step-at t)
+    level-step.Post
+    (level-step-returns t)
+    (level-step-sub-next-stop t)
+    (level-step-next-stop-requires t)
+    (level-step-mul-put-corner t)
+    (level-step-shared-slice-read-put-corner t)
+    (level-step-mul-put-corner-2 t)
+    (level-step-shared-slice-read-put-corner-2 t)
+    (level-step-put-corner-requires t)
+    (level-step-sub-upright-step t)
+    (level-step-add-upright-step t)
+    (level-step-upright-step-requires t)
+    (level-step-same-length t)
+    (level-step-returns-2 t))
+    λ t. upright-lts.spec (upright-calls t)
+    (upright-step-at t)
+    upright-step.Post
+    (upright-step-returns t)
+    (upright-step-sub-next-stop t)
+    (upright-step-next-stop-requires t)
+    (upright-step-mul-put-corner t)
+    (upright-step-shared-slice-read-put-corner t)
+    (upright-step-mul-put-corner-2 t)
+    (upright-step-shared-slice-read-put-corner-2 t)
+    (upright-step-put-corner-requires t)
+    (upright-step-sub-level-step t)
+    (upright-step-add-level-step t)
+    (upright-step-level-step-requires t)
+    (upright-step-same-length t)
+    (upright-step-returns-2 t)

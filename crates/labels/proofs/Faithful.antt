@@ -1,0 +1,127 @@
+-- The escape grid is faithful to the board: joined crossings are spans, and the next corner can be taken on the grid.
+use Prim.Native.Nat.{ℕ, zero, suc, _+_, _-_, _≤_, _<_, min, max}
+use native.Mathlib.Nat.{add-zero}
+use native.Mathlib.Omega.{arith}
+use native.Mathlib.Decide.{decLe, decLt}
+use mathlib.Core.Path.{_≡_}
+use mathlib.Core.Bool.{Bool, true}
+use mathlib.Core.List.{List}
+use lib.ListN.{getD}
+use borrow.Author.Tests.{eq-eqb, eqb-true}
+use Rattle.reach.specs.Reach.{flip, Span, Reach, snapTo, Marks}
+use Rattle.reach.proofs.Reach.{span-refl, span-sym, span-trans, span-start, span-end, span-part}
+use Rattle.reach.proofs.Snap.{span-snap, reach-snap, snap-marked, snap-fixed, snap}
+use Rattle.grid.specs.Lines.{hasMark, Collected}
+use Rattle.grid.proofs.Board.{Edges}
+use Rattle.labels.specs.Line.{Linked}
+use Rattle.labels.proofs.Line.{linked-sym, linked-at, linked-part}
+
+-- m lines with n crossings each: a next corner c anywhere has one on the grid that is no later and reaches as far
+pub record Faithful (f : ℕ → ℕ → Bool) (T : ℕ → ℕ → Type 0) (cross : List ℕ) (n : ℕ) (lines : List ℕ) (m : ℕ)
+    (edge : List ℕ) : Type 0 where
+  pub joined : (j a b : ℕ) → j < m → a < n → b < n → f (getD cross a 0) (getD lines j 0) ≡ true → Linked edge j a b →
+      Span f (getD lines j 0) (getD cross a 0) (getD cross b 0)
+  pub links : (j a b : ℕ) → j < m → a < n → b < n → Span f (getD lines j 0) (getD cross a 0) (getD cross b 0) →
+      Linked edge j a b
+  pub near : (r i j c : ℕ) → i < n → j < m → Span f (getD lines j 0) (getD cross i 0) c →
+      Reach r (flip f) (flip T) (getD lines j 0) c →
+      (k : ℕ) × (k < n) × (getD cross k 0 ≤ c) × Span f (getD lines j 0) (getD cross i 0) (getD cross k 0)
+      × Reach r (flip f) (flip T) (getD lines j 0) (getD cross k 0)
+  pub sorted : (a b : ℕ) → a ≤ b → b < n → getD cross a 0 ≤ getD cross b 0
+
+module _ {f : ℕ → ℕ → Bool} {cross : List ℕ} {n : ℕ} {lines : List ℕ} {m : ℕ} {edge : List ℕ}
+    (E : Edges f cross n lines m edge) (j : ℕ) (lj : j < m) where
+  -- d edges up from crossing a
+  joined-up : (a d : ℕ) → a + d < n → f (getD cross a 0) (getD lines j 0) ≡ true → Linked edge j a (a + d) →
+      Span f (getD lines j 0) (getD cross a 0) (getD cross (a + d) 0)
+  joined-up a zero la h k = rw add-zero (span-refl f (getD lines j 0) (getD cross a 0) h)
+  joined-up a (suc d) la h k =
+      let e : a + suc d ≡ suc (a + d) = omega arith in
+      rw e
+      (span-trans f (getD lines j 0) (getD cross a 0) (getD cross (a + d) 0) (getD cross (suc (a + d)) 0)
+      (joined-up a d (omega arith) h (linked-part edge j a (a + suc d) a (a + d) (omega arith) (omega arith) k))
+      (E .span j (a + d) lj (omega arith)
+      (linked-at edge j a (a + suc d) (a + d) (omega arith) (omega arith) k)))
+
+  joined-le : (a b : ℕ) → a ≤ b → b < n → f (getD cross a 0) (getD lines j 0) ≡ true → Linked edge j a b →
+      Span f (getD lines j 0) (getD cross a 0) (getD cross b 0)
+  joined-le a b l lb h k =
+      let e : a + (b - a) ≡ b = omega arith in rw e at (joined-up a (b - a) (omega arith) h (rw e k))
+
+  joined-any : (a b : ℕ) → a < n → b < n → f (getD cross a 0) (getD lines j 0) ≡ true → Linked edge j a b →
+      Span f (getD lines j 0) (getD cross a 0) (getD cross b 0)
+  joined-any a b la lb h k = pick (decLe a b)
+    where
+      pick : Dec (a ≤ b) → Span f (getD lines j 0) (getD cross a 0) (getD cross b 0)
+      pick (yes p) = joined-le a b p lb h k
+      pick (no p) =
+          let one = linked-at edge j a b b (omega arith) (omega arith) k in
+          span-sym f (getD lines j 0) (getD cross b 0) (getD cross a 0)
+          (joined-le b a (omega arith) la
+          (span-start f (getD lines j 0) (getD cross b 0) (getD cross (suc b) 0) (E .span j b lj (omega arith) one))
+          (linked-sym edge j a b k))
+
+  links-any : ((a b : ℕ) → a ≤ b → b < n → getD cross a 0 ≤ getD cross b 0) → (a b : ℕ) → a < n → b < n →
+      Span f (getD lines j 0) (getD cross a 0) (getD cross b 0) → Linked edge j a b
+  unfolding Linked
+  links-any so a b la lb h i lo hi =
+      E .one j i lj (omega arith)
+      (pick (decLe a b) (so i (suc i) (omega arith) (omega arith)) (so (min a b) i lo (omega arith))
+      (so (suc i) (max a b) (omega arith) (omega arith)))
+    where
+      pick : Dec (a ≤ b) → getD cross i 0 ≤ getD cross (suc i) 0 → getD cross (min a b) 0 ≤ getD cross i 0 →
+          getD cross (suc i) 0 ≤ getD cross (max a b) 0 →
+          Span f (getD lines j 0) (getD cross i 0) (getD cross (suc i) 0)
+      pick (yes p) s1 s2 s3 =
+          let e1 : min a b ≡ a = omega arith in
+          let e2 : max a b ≡ b = omega arith in
+          let t2 = rw e1 at s2 in
+          let t3 = rw e2 at s3 in
+          span-part f (getD lines j 0) (getD cross a 0) (getD cross b 0) (getD cross i 0) (getD cross (suc i) 0)
+          (omega arith) (omega arith) h
+      pick (no p) s1 s2 s3 =
+          let e1 : min a b ≡ b = omega arith in
+          let e2 : max a b ≡ a = omega arith in
+          let t2 = rw e1 at s2 in
+          let t3 = rw e2 at s3 in
+          span-part f (getD lines j 0) (getD cross a 0) (getD cross b 0) (getD cross i 0) (getD cross (suc i) 0)
+          (omega arith) (omega arith) h
+
+collected-up : {marks : List ℕ} {size : ℕ} {lines : List ℕ} {n : ℕ} → Collected marks size lines n →
+    (a b : ℕ) → a ≤ b → b < n → getD lines a 0 ≤ getD lines b 0
+collected-up {lines = lines} C a b l lb = pick (decLt a b)
+  where
+    pick : Dec (a < b) → getD lines a 0 ≤ getD lines b 0
+    pick (yes p) = let s = C .rising .up a b p lb in omega arith
+    pick (no p) = let e : a ≡ b = omega arith in rw e (omega arith)
+
+-- The grid made from marks, where targets stay targets under snapping.
+module _ {f : ℕ → ℕ → Bool} {T : ℕ → ℕ → Type 0} {mx my : List ℕ} {w h : ℕ} {cross : List ℕ} {n : ℕ} {lines : List ℕ}
+    {m : ℕ} (X : Marks f (hasMark mx)) (Y : Marks (flip f) (hasMark my)) (inside : (x y : ℕ) → f x y ≡ true → x < w)
+    (target : (x y : ℕ) → T x y → T (snapTo (hasMark mx) x) (snapTo (hasMark my) y))
+    (C : Collected mx w cross n) (L : Collected my h lines m) where
+  near-any : (r i j c : ℕ) → i < n → j < m → Span f (getD lines j 0) (getD cross i 0) c →
+      Reach r (flip f) (flip T) (getD lines j 0) c →
+      (k : ℕ) × (k < n) × (getD cross k 0 ≤ c) × Span f (getD lines j 0) (getD cross i 0) (getD cross k 0)
+      × Reach r (flip f) (flip T) (getD lines j 0) (getD cross k 0)
+  near-any r i j c li lj sp rc =
+      let x : ℕ = getD cross i 0 in
+      let y : ℕ = getD lines j 0 in
+      let SX = snap f (hasMark mx) X in
+      let SY = snap (flip f) (hasMark my) Y in
+      let d = SX .down c in
+      let b = inside c y (span-end f y x c sp) in
+      let q = C .whole (snapTo (hasMark mx) c) (omega arith) (eqb-true _ _ (snap-marked (hasMark mx) c (X .first))) in
+      let ex = snap-fixed (hasMark mx) x (eq-eqb _ _ (C .sound i li)) in
+      let ey = snap-fixed (hasMark my) y (eq-eqb _ _ (L .sound j lj)) in
+      let s1 = span-snap f (snapTo (hasMark mx)) (snapTo (hasMark my)) SX SY y x c sp in
+      let r1 = reach-snap r (flip f) (flip T) _ _ SY SX (λ a e t. target e a t) y c rc in
+      (q .0, q .1, omega (arith, q .2), rw (← (q .2)) at (rw (ex, ey) at s1), rw (← (q .2)) at (rw ey at r1))
+
+  pub faithful : {edge : List ℕ} → Edges f cross n lines m edge → Faithful f T cross n lines m edge
+  faithful E = record {
+    joined = λ j a b lj. joined-any E j lj a b;
+    links = λ j a b lj. links-any E j lj (collected-up C) a b;
+    near = near-any;
+    sorted = collected-up C;
+  }

@@ -1,0 +1,151 @@
+-- Laws of the rounds: how the queues go on from one round to the next, and when the rounds end.
+use Prim.Native.Nat.{ℕ, _+_, _-_, _*_, _≤_, _<_}
+use native.Mathlib.Omega.{arith}
+use native.Mathlib.Decide.{ℕ-discrete}
+use mathlib.Core.Path.{_≡_, refl, _∙_}
+use mathlib.Core.Logic.{_≢_}
+use mathlib.Core.Bool.{false}
+use mathlib.Core.List.{List}
+use Rattle.grid.specs.Size.{area}
+use Rattle.labels.specs.Line.{along}
+use Rattle.labels.specs.Pass.{zeros, Cell, kept, none, new, Pass, Below, Full, Queued, Room, Added, PassTo}
+use Rattle.labels.specs.Rounds.{Begun, Rounds, start, more, Ended, stuck}
+use Rattle.labels.proofs.Pass.{visited-all, passing-room}
+
+-- One crossing in a pass.
+pub cell-keep : {other edge : List ℕ} {line n v k a b : ℕ} → Cell other edge line n v k a b → a ≢ 0 → b ≡ a
+cell-keep (kept h) z = refl
+cell-keep (none h) z = refl
+cell-keep (new q l r e) z = absurd (z refl)
+
+cell-back : {other edge : List ℕ} {line n v k a b : ℕ} → Cell other edge line n v k a b → b ≡ v → a ≡ v
+cell-back (kept h) z = z
+cell-back (none h) z = z
+cell-back (new q l r e) z = absurd (omega arith)
+
+cell-below : {other edge : List ℕ} {line n v k a b : ℕ} → Cell other edge line n v k a b → a ≤ v → b ≤ v + 1
+cell-below (kept h) z = omega arith
+cell-below (none h) z = omega arith
+cell-below (new q l r e) z = omega arith
+
+module _ {other edge : List ℕ} {m n v : ℕ} {l l′ : List ℕ} (P : Pass other edge m n v l l′) where
+  pub pass-below : Below m n l v → Below m n l′ (v + 1)
+  pass-below B = record { le = λ i li k lk. cell-below (P .cell i li k lk) (B .le i li k lk) }
+
+  module _ {t t′ : List ℕ} {q₀ q : ℕ} (A : Added m n v l l′ t t′ q₀ q) where
+    -- the queue of the labels v still is that after the pass
+    queue-kept : {a : ℕ} → 1 ≤ v → Queued t a q₀ m n l v → Queued t′ a q₀ m n l′ v
+    queue-kept pos Q = record {
+      line-in = λ p a b. omega (arith, A .old (2 * p) (omega arith), Q .line-in p a b);
+      cross-in = λ p a b. omega (arith, A .old (2 * p + 1) (omega arith), Q .cross-in p a b);
+      sound = λ p a b.
+          let s = Q .sound p a b in
+          rw (A .old (2 * p) (omega arith), A .old (2 * p + 1) (omega arith))
+          (cell-keep (P .cell _ (Q .line-in p a b) _ (Q .cross-in p a b)) (omega arith) ∙ s);
+      whole = λ i li k lk z.
+          let w = Q .whole i li k lk (cell-back (P .cell i li k lk) z) in (
+            w .0,
+            w .1,
+            w .2,
+            A .old (2 * w .0) (omega (arith, w .2)) ∙ w .3,
+            A .old (2 * w .0 + 1) (omega (arith, w .2)) ∙ w .4,
+          );
+    }
+
+    -- and what the pass added is the queue of the labels v + 1
+    queue-next : Below m n l v → Queued t′ q₀ q m n l′ (v + 1)
+    queue-next B = record {
+      line-in = λ p a b. A .line-in p b a;
+      cross-in = λ p a b. A .cross-in p b a;
+      sound = λ p a b. A .sound p b a;
+      whole = λ i li k lk z. A .whole i li k lk (was i li k lk z (ℕ-discrete (along l i k) 0)) (omega arith);
+    }
+      where
+        was : (i : ℕ) → i < m → (k : ℕ) → k < n → along l′ i k ≡ v + 1 → Dec (along l i k ≡ 0) → along l i k ≡ 0
+        was i li k lk z (yes y) = y
+        was i li k lk z (no y) =
+            let e = cell-keep (P .cell i li k lk) y in let b = B .le i li k lk in absurd (omega arith)
+
+-- before the round that looks for v: queues ql from la to lb and qu from ua to ub
+pub record Going (el eu : List ℕ) (nc nr : ℕ) (l₀ u₀ : List ℕ) (v : ℕ) (l u ql qu : List ℕ) (la lb ua ub : ℕ)
+    : Type 0 where
+  pub pos : 1 ≤ v
+  pub rounds : Rounds el eu nc nr l₀ u₀ v l u
+  pub level-low : Below nr nc l v
+  pub upright-low : Below nc nr u v
+  pub level-queue : Queued ql la lb nr nc l v
+  pub upright-queue : Queued qu ua ub nc nr u v
+  pub level-full : Full el l nr nc
+  pub upright-full : Full eu u nc nr
+  pub level-room : Room l ql lb
+  pub upright-room : Room u qu ub
+  pub level-order : la ≤ lb
+  pub upright-order : ua ≤ ub
+  pub top : v + (zeros l + zeros u) ≤ 2 * area + 1
+
+full-start : (edge : List ℕ) {lab : List ℕ} {m n : ℕ} → Below m n lab 1 → Full edge lab m n
+full-start edge B = record { joined = λ i li k q lk lq r z. let b = B .le i li k lk in absurd (omega arith) }
+
+pub going-start : (el eu : List ℕ) {nc nr : ℕ} {l u ql qu : List ℕ} → Begun l u ql qu nc nr →
+    Going el eu nc nr l u 1 l u ql qu 0 1 0 1
+going-start el eu B = record {
+  pos = omega arith;
+  rounds = start;
+  level-low = B .level-low;
+  upright-low = B .upright-low;
+  level-queue = B .level;
+  upright-queue = B .upright;
+  level-full = full-start el (B .level-low);
+  upright-full = full-start eu (B .upright-low);
+  level-room = B .level-room;
+  upright-room = B .upright-room;
+  level-order = omega arith;
+  upright-order = omega arith;
+  top = omega (arith, B .level-room .left, B .upright-room .left);
+}
+
+-- A level pass, and an upright pass after it.
+module _ {el eu : List ℕ} {nc nr : ℕ} {l₀ u₀ : List ℕ} {v : ℕ} {l u ql qu : List ℕ} {la lb ua ub : ℕ}
+    (G : Going el eu nc nr l₀ u₀ v l u ql qu la lb ua ub) {l′ ql′ : List ℕ} {le : ℕ}
+    (P : PassTo u el qu nr nc v ua ub l l′ ql ql′ lb le) where
+  level-pass : Pass u el nr nc v l l′
+  level-pass = visited-all (G .upright-queue) (P .visited)
+
+  -- the queue for the second pass
+  pub going-second : Queued ql′ la lb nr nc l′ v
+  going-second = queue-kept level-pass (P .added) (G .pos) (G .level-queue)
+
+  module _ {u′ qu′ : List ℕ} {ue : ℕ} (S : PassTo l′ eu ql′ nc nr v la lb u u′ qu qu′ ub ue) where
+    upright-pass : Pass l′ eu nc nr v u u′
+    upright-pass = visited-all going-second (S .visited)
+
+    -- there are new labels
+    pub going-next : le + ue ≢ lb + ub → Going el eu nc nr l₀ u₀ (v + 1) l′ u′ ql′ qu′ lb le ub ue
+    going-next ne =
+        let a = P .added .grew in
+        let b = S .added .grew in
+        record {
+          pos = omega arith;
+          rounds = more (G .rounds) level-pass upright-pass;
+          level-low = pass-below level-pass (G .level-low);
+          upright-low = pass-below upright-pass (G .upright-low);
+          level-queue = queue-next level-pass (P .added) (G .level-low);
+          upright-queue = queue-next upright-pass (S .added) (G .upright-low);
+          level-full = P .visited .full;
+          upright-full = S .visited .full;
+          level-room = passing-room (G .level-room) P;
+          upright-room = passing-room (G .upright-room) S;
+          level-order = a;
+          upright-order = b;
+          top = omega (arith, G .top, P .visited .count, S .visited .count);
+        }
+
+    -- there are none
+    pub going-stuck : (i j : ℕ) → le + ue ≡ lb + ub → along l j i ≡ 0 → along u i j ≡ 0 →
+        Ended el eu nc nr i j l₀ u₀ l′ u′ false
+    going-stuck i j e x y =
+        let a = P .added .grew in
+        let b = S .added .grew in
+        let sl : l′ ≡ l = P .visited .same (omega arith) in
+        let su : u′ ≡ u = S .visited .same (omega arith) in
+        rw (sl, su) (stuck (G .rounds) x y (rw sl at level-pass) (rw (su, sl) at upright-pass))

@@ -1,0 +1,115 @@
+-- Laws of joined crossings on a line, and of the scan along it.
+use Prim.Native.Nat.{ℕ, _+_, _-_, _*_, _≤_, _<_, min, max}
+use native.Mathlib.Omega.{arith}
+use native.Mathlib.Decide.{decLe, decLt}
+use mathlib.Core.Path.{_≡_, subst}
+use mathlib.Core.Logic.{_≢_}
+use mathlib.Core.List.{List}
+use lib.ListN.{getD}
+use Rattle.grid.specs.Size.{stride}
+use Rattle.labels.specs.Line.{across, Linked, RunStart, RunEnd, Scanned, Stop}
+
+module _ (edge : List ℕ) (line : ℕ) where
+  pub linked-refl : (a : ℕ) → Linked edge line a a
+  unfolding Linked
+  linked-refl a i lo hi = absurd (omega arith)
+
+  pub linked-sym : (a b : ℕ) → Linked edge line a b → Linked edge line b a
+  unfolding Linked
+  linked-sym a b h i lo hi = h i (omega arith) (omega arith)
+
+  pub linked-trans : (a b c : ℕ) → Linked edge line a b → Linked edge line b c → Linked edge line a c
+  unfolding Linked
+  linked-trans a b c h k i lo hi = pick (decLt i (max a b)) (decLe (min a b) i)
+    where
+      pick : Dec (i < max a b) → Dec (min a b ≤ i) → getD edge (line * stride + i) 0 ≡ 1
+      pick (yes p) (yes q) = h i q p
+      pick (no p) (yes q) = k i (omega arith) (omega arith)
+      pick (yes p) (no q) = k i (omega arith) (omega arith)
+      pick (no p) (no q) = k i (omega arith) (omega arith)
+
+  pub linked-at : (a b i : ℕ) → min a b ≤ i → i < max a b → Linked edge line a b → getD edge (line * stride + i) 0 ≡ 1
+  unfolding Linked
+  linked-at a b i lo hi h = h i lo hi
+
+  pub linked-part : (a b c d : ℕ) → min a b ≤ min c d → max c d ≤ max a b → Linked edge line a b → Linked edge line c d
+  unfolding Linked
+  linked-part a b c d p q h i lo hi = h i (omega arith) (omega arith)
+
+  -- one edge more, upwards or downwards
+  pub linked-up : (a b : ℕ) → a ≤ b → Linked edge line a b → getD edge (line * stride + b) 0 ≡ 1 →
+      Linked edge line a (b + 1)
+  unfolding Linked
+  linked-up a b l h k i lo hi = pick (decLt i b)
+    where
+      pick : Dec (i < b) → getD edge (line * stride + i) 0 ≡ 1
+      pick (yes p) = h i (omega arith) (omega arith)
+      pick (no p) = let e : i ≡ b = omega arith in rw e k
+
+  pub linked-down : (a b : ℕ) → 0 < a → a ≤ b → Linked edge line a b → getD edge (line * stride + (a - 1)) 0 ≡ 1 →
+      Linked edge line (a - 1) b
+  unfolding Linked
+  linked-down a b z l h k i lo hi = pick (decLe a i)
+    where
+      pick : Dec (a ≤ i) → getD edge (line * stride + i) 0 ≡ 1
+      pick (yes p) = h i (omega arith) (omega arith)
+      pick (no p) = let e : i ≡ a - 1 = omega arith in rw e k
+
+-- The run of a crossing, as far as its end is known.
+pub linked-first : (edge : List ℕ) (line a : ℕ) → Linked edge line a (a + 1 - 1)
+linked-first edge line a =
+    let e : a ≡ a + 1 - 1 = omega arith in
+    subst (λ (b : ℕ). Linked edge line a b) e (linked-refl edge line a)
+
+pub linked-on : (edge : List ℕ) (line a b : ℕ) → a < b → Linked edge line a (b - 1) →
+    getD edge (line * stride + (b - 1)) 0 ≡ 1 → Linked edge line a (b + 1 - 1)
+linked-on edge line a b l h k =
+    let e : (b - 1) + 1 ≡ b + 1 - 1 = omega arith in
+    rw (← e) (linked-up edge line a (b - 1) (omega arith) h k)
+
+-- a crossing joined with k is in the run of k
+pub in-run : {edge : List ℕ} {line n k lo hi : ℕ} (q : ℕ) → k < n → q < n → RunStart edge line k lo →
+    RunEnd edge line n k hi → Linked edge line k q → (lo ≤ q) × (q < hi)
+in-run {edge} {line} {n} {k} {lo} {hi} q lk lq s e r = (left (decLe lo q), right (decLt q hi))
+  where
+    left : Dec (lo ≤ q) → lo ≤ q
+    left (yes x) = x
+    left (no x) =
+        let a = s .le in absurd (s .stop (omega arith) (linked-at edge line k q (lo - 1) (omega arith) (omega arith) r))
+
+    right : Dec (q < hi) → q < hi
+    right (yes x) = x
+    right (no x) =
+        let a = e .after in
+        absurd (e .stop (omega arith) (linked-at edge line k q (hi - 1) (omega arith) (omega arith) r))
+
+-- The scan: nothing from lo to k, and the line is blocked after k: nothing at all.
+pub blocked : (other edge : List ℕ) (line n lo v k : ℕ) → lo ≤ k →
+    ((j : ℕ) → j < k → lo ≤ j → across other line j ≢ v) → across other line k ≢ v →
+    getD edge (line * stride + k) 0 ≢ 1 → Scanned other edge line n lo v n
+blocked other edge line n lo v k l h e b = record {
+  le = omega arith;
+  before = λ j q p r. pick j p r (decLt j k) (decLt k j);
+  found = λ z. absurd (omega arith);
+}
+  where
+    pick : (j : ℕ) → lo ≤ j → Linked edge line lo j → Dec (j < k) → Dec (k < j) → across other line j ≢ v
+    pick j p r (yes s) t = h j s p
+    pick j p r (no s) (yes t) = absurd (b (linked-at edge line lo j k (omega arith) (omega arith) r))
+    pick j p r (no s) (no t) = let w : j ≡ k = omega arith in rw w e
+
+-- the scan from a run's start
+pub stop-of : {other edge : List ℕ} {line n at v lo r : ℕ} → RunStart edge line at lo →
+    Scanned other edge line n lo v r → Stop other edge line n at v r
+stop-of {edge = edge} {line = line} {at = at} {lo = lo} {r = r} s c = record {
+  le = c .le;
+  before = λ k l h. c .before k l (reach k h (decLe lo k)) (linked-trans edge line lo at k (s .linked) h);
+  found = λ l.
+      (linked-trans edge line at lo r (linked-sym edge line lo at (s .linked)) (c .found l .1), c .found l .2);
+}
+  where
+    reach : (k : ℕ) → Linked edge line at k → Dec (lo ≤ k) → lo ≤ k
+    reach k h (yes p) = p
+    reach k h (no p) =
+        let q = s .le in
+        absurd (s .stop (omega arith) (linked-at edge line at k (lo - 1) (omega arith) (omega arith) h))

@@ -1,0 +1,216 @@
+-- What labels mean: a label k + 1 says that k segments, the first along the line, lead to a target, and no fewer.
+use Prim.Native.Nat.{ℕ, zero, suc, _+_, _-_, _≤_, _<_}
+use native.Mathlib.Omega.{arith}
+use native.Mathlib.Numerals.{add-one}
+use native.Mathlib.Decide.{decLe, decLt}
+use mathlib.Core.Path.{_≡_, refl, sym, subst, _∙_}
+use mathlib.Core.Logic.{_≢_}
+use mathlib.Core.Bool.{Bool, true}
+use mathlib.Core.List.{List}
+use lib.ListN.{getD}
+use Rattle.reach.specs.Reach.{flip, Span, Reach, TargetFree}
+use Rattle.reach.proofs.Reach.{span-sym, span-start}
+use Rattle.labels.specs.Line.{along, across, Linked}
+use Rattle.labels.specs.Pass.{Cell, kept, none, new, Pass, Below}
+use Rattle.labels.specs.Rounds.{Rounds, start, more}
+use Rattle.labels.specs.Walk.{Grounded}
+use Rattle.labels.proofs.Line.{linked-sym}
+use Rattle.labels.proofs.Going.{cell-keep, pass-below}
+use Rattle.labels.proofs.Faithful.{Faithful}
+
+-- what the label a of the point (x, y) says after n rounds
+pub record Says (f : ℕ → ℕ → Bool) (T : ℕ → ℕ → Type 0) (n x y a : ℕ) : Type 0 where
+  pub never : a ≡ 0 → (k : ℕ) → k ≤ n → Reach k f T x y → ⊥
+  pub reach : (k : ℕ) → a ≡ k + 1 → Reach k f T x y
+  pub least : (k : ℕ) → a ≡ k + 1 → (i : ℕ) → i < k → Reach i f T x y → ⊥
+
+-- the labels of m lines with n crossings each are right after r rounds
+pub record Labelled (f : ℕ → ℕ → Bool) (T : ℕ → ℕ → Type 0) (cross : List ℕ) (n : ℕ) (lines : List ℕ) (m r : ℕ)
+    (lab : List ℕ) : Type 0 where
+  pub says : (j : ℕ) → j < m → (i : ℕ) → i < n → Says f T r (getD cross i 0) (getD lines j 0) (along lab j i)
+
+reach-free : (n : ℕ) (f : ℕ → ℕ → Bool) (T : ℕ → ℕ → Type 0) → TargetFree f T → (x y : ℕ) → Reach n f T x y →
+    f x y ≡ true
+reach-free zero f T tf x y r = tf x y r
+reach-free (suc n) f T tf x y r = span-start f y x (r .0) (r .1)
+
+-- fewer rounds say less
+labelled-less : {f : ℕ → ℕ → Bool} {T : ℕ → ℕ → Type 0} {cross : List ℕ} {n : ℕ} {lines : List ℕ} {m : ℕ} (r : ℕ)
+    {lab : List ℕ} → Labelled f T cross n lines m (r + 1) lab → Labelled f T cross n lines m r lab
+labelled-less r L = record {
+  says = λ j lj i li.
+      let s = L .says j lj i li in
+      record { never = λ e k l h. s .never e k (omega arith) h; reach = s .reach; least = s .least };
+}
+
+-- A pass.
+module _ {f : ℕ → ℕ → Bool} {T : ℕ → ℕ → Type 0} (tf : TargetFree f T) {cross : List ℕ} {n : ℕ} {lines : List ℕ} {m : ℕ}
+    {edge : List ℕ} (F : Faithful f T cross n lines m edge) {other : List ℕ} {r : ℕ}
+    (O : Labelled (flip f) (flip T) lines m cross n r other) where
+  -- one segment to a crossing with a label k + 1
+  pub step-span : (i j q k : ℕ) → i < n → j < m → q < n → Linked edge j i q → across other j q ≡ k + 1 →
+      Span f (getD lines j 0) (getD cross i 0) (getD cross q 0)
+  step-span i j q k li lj lq h e =
+      let free = reach-free k (flip f) (flip T) (λ a b t. tf b a t) _ _ (O .says q lq j lj .reach k e) in
+      span-sym f (getD lines j 0) (getD cross q 0) (getD cross i 0)
+      (F .joined j q i lj lq li free (linked-sym edge j i q h))
+
+  pub step-reach : (i j q k : ℕ) → i < n → j < m → q < n → Linked edge j i q → across other j q ≡ k + 1 →
+      Reach (suc k) f T (getD cross i 0) (getD lines j 0)
+  step-reach i j q k li lj lq h e = (getD cross q 0, step-span i j q k li lj lq h e, O .says q lq j lj .reach k e)
+
+  -- no crossing with the label r + 1, and fewer segments do not lead there: nor do r + 1
+  no-step : (i j : ℕ) → i < n → j < m → ((q : ℕ) → q < n → Linked edge j i q → across other j q ≢ r + 1) →
+      ((k : ℕ) → k ≤ r → Reach k f T (getD cross i 0) (getD lines j 0) → ⊥) →
+      Reach (suc r) f T (getD cross i 0) (getD lines j 0) → ⊥
+  no-step i j li lj h low t =
+      let w = F .near r i j (t .0) li lj (t .1) (t .2) in
+      go (w .0) (w .1) (F .links j i (w .0) lj li (w .1) (w .3)) (w .4) (across other j (w .0)) refl
+    where
+      pick : (q k : ℕ) → q < n → Linked edge j i q → Reach r (flip f) (flip T) (getD lines j 0) (getD cross q 0) →
+          Dec (r < k) → Dec (k < r) → across other j q ≡ k + 1 → ⊥
+      pick q k lq lk rq (yes p) u e = O .says q lq j lj .least k e r p rq
+      pick q k lq lk rq (no p) (yes u) e = low (suc k) (omega arith) (step-reach i j q k li lj lq lk e)
+      pick q k lq lk rq (no p) (no u) e = h q lq lk (omega arith)
+
+      go : (q : ℕ) → q < n → Linked edge j i q → Reach r (flip f) (flip T) (getD lines j 0) (getD cross q 0) →
+          (a : ℕ) → across other j q ≡ a → ⊥
+      go q lq lk rq zero e = O .says q lq j lj .never e r (omega arith) rq
+      go q lq lk rq (suc k) e = pick q k lq lk rq (decLt r k) (decLt k r) (e ∙ sym (add-one k))
+
+  pass-cell : (i j : ℕ) → i < n → j < m → (a b : ℕ) → Cell other edge j n (r + 1) i a b →
+      Says f T r (getD cross i 0) (getD lines j 0) a → Says f T (r + 1) (getD cross i 0) (getD lines j 0) b
+  pass-cell i j li lj a b (kept z) s =
+      record { never = λ e k l t. absurd (z e); reach = s .reach; least = s .least }
+  pass-cell i j li lj a b (none h) s = record {
+    never = λ e k l t. pick k l t (decLe k r);
+    reach = λ k e. absurd (omega arith);
+    least = λ k e. absurd (omega arith);
+  }
+    where
+      pick : (k : ℕ) → k ≤ r + 1 → Reach k f T (getD cross i 0) (getD lines j 0) → Dec (k ≤ r) → ⊥
+      pick k l t (yes p) = s .never refl k p t
+      pick k l t (no p) =
+          let e : k ≡ suc r = omega arith in
+          no-step i j li lj h (s .never refl)
+          (subst (λ (x : ℕ). Reach x f T (getD cross i 0) (getD lines j 0)) e t)
+  pass-cell i j li lj a b (new q lq lk e) s = record {
+    never = λ z. absurd (omega arith);
+    reach = λ k z.
+        let u : suc r ≡ k = omega arith in
+        subst (λ (x : ℕ). Reach x f T (getD cross i 0) (getD lines j 0)) u (step-reach i j q r li lj lq lk e);
+    least = λ k z x l t. s .never refl x (omega arith) t;
+  }
+
+  pass-labels : {l l′ : List ℕ} → Labelled f T cross n lines m r l → Pass other edge m n (r + 1) l l′ →
+      Labelled f T cross n lines m (r + 1) l′
+  pass-labels {l} {l′} L P = record {
+    says = λ j lj i li. pass-cell i j li lj (along l j i) (along l′ j i) (P .cell j lj i li) (L .says j lj i li);
+  }
+
+pub rounds-pos : {el eu : List ℕ} {nc nr : ℕ} {l₀ u₀ : List ℕ} {v : ℕ} {l u : List ℕ} →
+    Rounds el eu nc nr l₀ u₀ v l u → 1 ≤ v
+rounds-pos start = omega arith
+rounds-pos (more r x y) = omega arith
+
+-- both lists of labels are right after n rounds
+abbrev pub Both : (ℕ → ℕ → Bool) → (ℕ → ℕ → Type 0) → List ℕ → ℕ → List ℕ → ℕ → ℕ → List ℕ → List ℕ → Type 0
+Both f T cols nc rows nr n l u = Labelled f T cols nc rows nr n l × Labelled (flip f) (flip T) rows nr cols nc n u
+
+-- The rounds.
+module _ {f : ℕ → ℕ → Bool} {T : ℕ → ℕ → Type 0} (tf : TargetFree f T) {cols : List ℕ} {nc : ℕ} {rows : List ℕ} {nr : ℕ}
+    {el eu : List ℕ} (L : Faithful f T cols nc rows nr el) (U : Faithful (flip f) (flip T) rows nr cols nc eu) where
+  both-more : (n v : ℕ) {l u l′ u′ : List ℕ} → v ≡ n + 1 → Both f T cols nc rows nr n l u → Pass u el nr nc v l l′ →
+      Pass l′ eu nc nr v u u′ → Both f T cols nc rows nr v l′ u′
+  both-more n v e B x y =
+      let l2 = pass-labels tf L (B .1) (B .0) (rw e at x) in
+      rw e (l2, pass-labels (λ a b t. tf b a t) U (labelled-less n l2) (B .1) (rw e at y))
+
+  pub rounds-labels : {l₀ u₀ : List ℕ} → Both f T cols nc rows nr 0 l₀ u₀ → {v : ℕ} {l u : List ℕ} →
+      Rounds el eu nc nr l₀ u₀ v l u → Both f T cols nc rows nr (v - 1) l u
+  rounds-labels B start = B
+  rounds-labels B (more {v = v} r x y) =
+      let p = rounds-pos r in
+      let e : v + 1 - 1 ≡ v = omega arith in
+      rw e (both-more (v - 1) v (omega arith) (rounds-labels B r) x y)
+
+-- A round that changes nothing: what has no label then is out of reach.
+module _ {f : ℕ → ℕ → Bool} {T : ℕ → ℕ → Type 0} (tf : TargetFree f T) {cross : List ℕ} {n : ℕ} {lines : List ℕ} {m : ℕ}
+    {edge : List ℕ} (F : Faithful f T cross n lines m edge) {r : ℕ} {l u : List ℕ}
+    (A : Labelled f T cross n lines m r l) (B : Labelled (flip f) (flip T) lines m cross n r u)
+    (C : Below n m u r) where
+  stuck-step : (k : ℕ) →
+      ((i : ℕ) → i < n → (j : ℕ) → j < m → along u i j ≡ 0 →
+      Reach k (flip f) (flip T) (getD lines j 0) (getD cross i 0) → ⊥) →
+      (j : ℕ) → j < m → (i : ℕ) → i < n → along l j i ≡ 0 →
+      Reach (suc k) f T (getD cross i 0) (getD lines j 0) → ⊥
+  stuck-step k ih j lj i li z t =
+      let w = F .near k i j (t .0) li lj (t .1) (t .2) in
+      go (w .0) (w .1) (F .links j i (w .0) lj li (w .1) (w .3)) (w .4) (along u (w .0) j) refl
+    where
+      go : (q : ℕ) → q < n → Linked edge j i q → Reach k (flip f) (flip T) (getD lines j 0) (getD cross q 0) →
+          (a : ℕ) → along u q j ≡ a → ⊥
+      go q lq lk rq zero e = ih q lq j lj e rq
+      go q lq lk rq (suc a) e =
+          let b = C .le q lq j lj in
+          A .says j lj i li .never z (suc a) (omega arith) (step-reach tf F B i j q a li lj lq lk (e ∙ sym (add-one a)))
+
+-- Every label but the first rests on one of the other direction, and is at most as large as the rounds allow.
+grounded-pass : {other edge : List ℕ} {m n v : ℕ} {l l′ : List ℕ} → Pass other edge m n v l l′ →
+    Grounded l other edge m n → Grounded l′ other edge m n
+grounded-pass {other} {edge} {m} {n} {v} {l} {l′} P G = record {
+  next = λ i li k lk w p e. go i li k lk w p (along l i k) (along l′ i k) refl (P .cell i li k lk) e;
+}
+  where
+    go : (i : ℕ) → i < m → (k : ℕ) → k < n → (w : ℕ) → 1 ≤ w → (x y : ℕ) → along l i k ≡ x →
+        Cell other edge i n v k x y → y ≡ w + 1 → (q : ℕ) × (q < n) × Linked edge i k q × (across other i q ≡ w)
+    go i li k lk w p x y ex (kept z) h = G .next i li k lk w p (ex ∙ h)
+    go i li k lk w p x y ex (none u) h = absurd (omega arith)
+    go i li k lk w p x y ex (new q lq z u) h = (q, lq, z, omega arith)
+
+-- a pass of the other direction keeps what is rested on
+grounded-other : {own other other′ edge edge′ : List ℕ} {m n v : ℕ} → Pass own edge′ n m v other other′ →
+    {l : List ℕ} → Grounded l other edge m n → Grounded l other′ edge m n
+grounded-other P G = record {
+  next = λ i li k lk w p e.
+      let r = G .next i li k lk w p e in
+      (r .0, r .1, r .2, cell-keep (P .cell (r .0) (r .1) i li) (omega (arith, r .3)) ∙ r .3);
+}
+
+module _ {el eu : List ℕ} {nc nr : ℕ} {l₀ u₀ : List ℕ} (bl : Below nr nc l₀ 1) (bu : Below nc nr u₀ 1) where
+  pub rounds-grounded : {v : ℕ} {l u : List ℕ} → Rounds el eu nc nr l₀ u₀ v l u →
+      Grounded l u el nr nc × Grounded u l eu nc nr
+  rounds-grounded start = (
+    record { next = λ j lj i li w p e. let b = bl .le j lj i li in absurd (omega arith) },
+    record { next = λ i li j lj w p e. let b = bu .le i li j lj in absurd (omega arith) },
+  )
+  rounds-grounded (more r x y) =
+      let ih = rounds-grounded r in
+      (grounded-other y (grounded-pass x (ih .0)), grounded-pass y (grounded-other x (ih .1)))
+
+  pub rounds-below : {v : ℕ} {l u : List ℕ} → Rounds el eu nc nr l₀ u₀ v l u → Below nr nc l v × Below nc nr u v
+  rounds-below start = (bl, bu)
+  rounds-below (more r x y) = let ih = rounds-below r in (pass-below x (ih .0), pass-below y (ih .1))
+
+module _ {f : ℕ → ℕ → Bool} {T : ℕ → ℕ → Type 0} (tf : TargetFree f T) {cols : List ℕ} {nc : ℕ} {rows : List ℕ} {nr : ℕ}
+    {el eu : List ℕ} (L : Faithful f T cols nc rows nr el) (U : Faithful (flip f) (flip T) rows nr cols nc eu)
+    {l₀ u₀ : List ℕ} (S : Both f T cols nc rows nr 0 l₀ u₀) (bl : Below nr nc l₀ 1) (bu : Below nc nr u₀ 1)
+    {v : ℕ} {l u : List ℕ} (R : Rounds el eu nc nr l₀ u₀ v l u) (P : Pass u el nr nc v l l)
+    (Q : Pass l eu nc nr v u u) where
+  still : Both f T cols nc rows nr v l u
+  still = let p = rounds-pos R in both-more tf L U (v - 1) v (omega arith) (rounds-labels tf L U S R) P Q
+
+  pub rounds-stuck : (k : ℕ) →
+      ((j : ℕ) → j < nr → (i : ℕ) → i < nc → along l j i ≡ 0 → Reach k f T (getD cols i 0) (getD rows j 0) → ⊥)
+      × ((i : ℕ) → i < nc → (j : ℕ) → j < nr → along u i j ≡ 0 →
+      Reach k (flip f) (flip T) (getD rows j 0) (getD cols i 0) → ⊥)
+  rounds-stuck zero = (
+    λ j lj i li z t. still .0 .says j lj i li .never z 0 (omega arith) t,
+    λ i li j lj z t. still .1 .says i li j lj .never z 0 (omega arith) t,
+  )
+  rounds-stuck (suc k) =
+      let ih = rounds-stuck k in
+      let low = rounds-below bl bu R in (
+        stuck-step tf L (still .0) (still .1) (low .1) k (ih .1),
+        stuck-step (λ a b t. tf b a t) U (still .1) (still .0) (low .0) k (ih .0),
+      )

@@ -1,0 +1,253 @@
+-- Laws of a pass: visiting only the crossings with the label v, from the queue, does what a pass over all lines does.
+use Prim.Native.Nat.{ℕ, zero, suc, _+_, _-_, _*_, _≤_, _<_}
+use native.Mathlib.Nat.{add-zero}
+use native.Mathlib.Omega.{arith}
+use native.Mathlib.Decide.{decLe, decLt, ℕ-discrete}
+use mathlib.Core.Path.{_≡_, refl, sym, subst, _∙_}
+use mathlib.Core.Logic.{_≢_}
+use mathlib.Core.List.{List}
+use lib.ListN.{getD}
+use borrow.Author.Count.{below-more}
+use Rattle.grid.specs.Size.{stride}
+use Rattle.labels.specs.Line.{along, across, Linked, RunStart, RunEnd}
+use Rattle.labels.specs.Pass.{zeros, Cell, kept, none, new, Pass, Full, Queued, Room, Fill, held, fresh}
+use Rattle.labels.specs.Pass.{RunFilled, RunPushed, Visit, passed, ran, Part, stood, got, Visited, Added}
+use Rattle.labels.specs.Pass.{PassTo}
+use Rattle.labels.proofs.Line.{linked-sym, linked-trans, linked-part, in-run}
+
+fill-on : {v a b : ℕ} → Fill v a b → b ≢ 0
+fill-on (held h) = h
+fill-on fresh = λ e. omega arith
+
+fill-held : {v a b : ℕ} → Fill v a b → a ≢ 0 → b ≡ a
+fill-held (held h) z = refl
+fill-held fresh z = absurd (z refl)
+
+-- The labels outside of a run that is filled stay, and so do those in it.
+module _ {line lo hi v n : ℕ} {l₀ l : List ℕ} {c : ℕ} (R : RunFilled line lo hi v l₀ l c) (few : n ≤ stride)
+    (le : hi ≤ n) where
+  other-line : (i k : ℕ) → k < n → i ≢ line → along l i k ≡ along l₀ i k
+  other-line i k lk ne = pick (decLt i line)
+    where
+      pick : Dec (i < line) → along l i k ≡ along l₀ i k
+      pick (yes x) = R .low (i * stride + k) (omega arith)
+      pick (no x) = R .high (i * stride + k) (omega arith)
+
+  -- a crossing is in the run, or its label is as it was
+  run-cases : (i k : ℕ) → k < n → {P : Type 0} → (i ≡ line → lo ≤ k → k < hi → P) → (along l i k ≡ along l₀ i k → P) → P
+  run-cases i k lk {P} f g = pick (ℕ-discrete i line) (decLe lo k) (decLt k hi)
+    where
+      pick : Dec (i ≡ line) → Dec (lo ≤ k) → Dec (k < hi) → P
+      pick (no x) y z = g (other-line i k lk x)
+      pick (yes x) (yes y) (yes z) = f x y z
+      pick (yes x) (no y) z = g (R .low (i * stride + k) (omega arith))
+      pick (yes x) (yes y) (no z) = g (R .high (i * stride + k) (omega arith))
+
+  run-held : (i k : ℕ) → k < n → along l₀ i k ≢ 0 → along l i k ≡ along l₀ i k
+  run-held i k lk ne = run-cases i k lk (λ x y z. rw x (fill-held (R .fill k z y) (rw x at ne))) (λ e. e)
+
+  run-grown : (i k : ℕ) → k < n → along l₀ i k ≢ 0 → along l i k ≢ 0
+  run-grown i k lk ne = rw (run-held i k lk ne) ne
+
+-- A part of a pass.
+part-fresh : {other edge : List ℕ} {line n v k a b : ℕ} (h : ℕ) → h < n → Linked edge line k h →
+    across other line h ≡ v → Part other edge line n v k a b → b ≡ 0 → Part other edge line n v k a (v + 1)
+part-fresh h l r e stood z = rw z (got h l r e)
+part-fresh h l r e (got q lq s f) z = absurd (omega arith)
+
+part-fill : {other edge : List ℕ} {line n v k a b c : ℕ} (h : ℕ) → h < n → Linked edge line k h →
+    across other line h ≡ v → Part other edge line n v k a b → Fill v b c → Part other edge line n v k a c
+part-fill h l r e x (held y) = x
+part-fill h l r e x fresh = part-fresh h l r e x refl
+
+pub visited-none : (other edge from : List ℕ) (m n v a : ℕ) (l : List ℕ) → Full edge l m n →
+    Visited other edge from m n v a a l l 0
+visited-none other edge from m n v a l F = record {
+  size = refl;
+  part = λ i li k lk. stood;
+  did = λ r p q. absurd (omega arith);
+  count = add-zero (zeros l);
+  same = λ e. refl;
+  full = F;
+}
+
+-- place p of the queue is crossing h of a line, and its label is v
+module _ {other edge from : List ℕ} {m n v a p : ℕ} {l₀ l : List ℕ} {c line h : ℕ} (ll : line < m) (lh : h < n)
+    (el : getD from (2 * p + 1) 0 ≡ line) (eh : getD from (2 * p) 0 ≡ h)
+    (G : Visited other edge from m n v a p l₀ l c) where
+  -- its run was filled before
+  visited-skip : 2 ≤ along l line h → Visited other edge from m n v a (p + 1) l₀ l c
+  visited-skip t = record {
+    size = G .size;
+    part = G .part;
+    did = below-more
+        (λ r. a ≤ r → (q : ℕ) → q < n → Linked edge (getD from (2 * r + 1) 0) (getD from (2 * r) 0) q →
+        along l (getD from (2 * r + 1) 0) q ≢ 0) p
+        (G .did) (λ at q lq z. rw el (G .full .joined line ll h q lh lq (rw (el, eh) at z) t));
+    count = G .count;
+    same = G .same;
+    full = G .full;
+  }
+
+  -- its run is filled now
+  module _ {l′ : List ℕ} {r lo hi : ℕ} (few : n ≤ stride) (ev : across other line h ≡ v) (s : RunStart edge line h lo)
+      (e : RunEnd edge line n h hi) (R : RunFilled line lo hi v l l′ r) where
+    run-on : (q : ℕ) → q < n → Linked edge line h q → along l′ line q ≢ 0
+    run-on q lq z = let w = in-run q lh lq s e z in fill-on (R .fill q (w .1) (w .0))
+
+    in-line : (k : ℕ) → lo ≤ k → k < hi → Linked edge line k h
+    in-line k x y =
+        let z = e .after in
+        let w = s .le in
+        linked-part edge line lo (hi - 1) k h (omega arith) (omega arith)
+        (linked-trans edge line lo h (hi - 1) (s .linked) (e .linked))
+
+    visited-run : Visited other edge from m n v a (p + 1) l₀ l′ (c + r)
+    visited-run = record {
+      size = R .size ∙ G .size;
+      part = λ i li k lk.
+          run-cases R few (e .le) i k lk
+          (λ x y z. rw x (part-fill h lh (in-line k y z) ev (G .part line ll k lk) (R .fill k z y)))
+          (λ x. rw x (G .part i li k lk));
+      did = below-more
+          (λ t. a ≤ t → (q : ℕ) → q < n → Linked edge (getD from (2 * t + 1) 0) (getD from (2 * t) 0) q →
+          along l′ (getD from (2 * t + 1) 0) q ≢ 0) p
+          (λ t lt at q lq z. run-grown R few (e .le) (getD from (2 * t + 1) 0) q lq (G .did t lt at q lq z))
+          (λ at q lq z. rw el (run-on q lq (rw (el, eh) at z)));
+      count = omega (arith, G .count, R .count);
+      same = λ z. R .same (omega arith) ∙ G .same (omega arith);
+      full = record {
+        joined = λ i li k q lk lq z t.
+            run-cases R few (e .le) i k lk
+            (λ x y w.
+            let r = linked-sym edge line k h (in-line k y w) in
+            rw x (run-on q lq (linked-trans edge line h k q r (rw x at z))))
+            (λ x. run-grown R few (e .le) i q lq (G .full .joined i li k q lk lq z (omega arith)));
+      };
+    }
+
+suc-on : (x : ℕ) → suc x ≢ 0
+suc-on x e = omega (arith, e)
+
+-- the whole queue is visited: a pass over all lines
+pub visited-all : {other edge from : List ℕ} {m n v a b : ℕ} {l₀ l : List ℕ} {c : ℕ} → Queued from a b n m other v →
+    Visited other edge from m n v a b l₀ l c → Pass other edge m n v l₀ l
+visited-all {other} {edge} {from} {m} {n} {v} {a} {b} {l₀} {l} Q G = record {
+  cell = λ i li k lk. cell i li k lk (along l₀ i k) (along l i k) (G .part i li k lk) refl;
+}
+  where
+    cell : (i : ℕ) → i < m → (k : ℕ) → k < n → (x y : ℕ) → Part other edge i n v k x y → y ≡ along l i k →
+        Cell other edge i n v k x y
+    cell i li k lk x y (got q lq z e) w = new q lq z e
+    cell i li k lk zero y stood w =
+        none (λ q lq z e.
+        let t = Q .whole q lq i li e in
+        G .did (t .0) (t .2) (t .1) k lk (rw (t .3, t .4) (linked-sym edge i k q z)) (rw (t .4) (sym w)))
+    cell i li k lk (suc x) y stood w = kept (suc-on x)
+
+-- What the runs add to the queue.
+added-none : (m n v : ℕ) (l t : List ℕ) (q : ℕ) → Added m n v l l t t q q
+added-none m n v l t q = record {
+  grew = omega arith;
+  size = refl;
+  old = λ i p. refl;
+  line-in = λ p a b. absurd (omega arith);
+  cross-in = λ p a b. absurd (omega arith);
+  sound = λ p a b. absurd (omega arith);
+  whole = λ i li k lk z y. absurd (y z);
+}
+
+module _ {m n v line lo hi : ℕ} {l₀ l l′ t₀ t t′ : List ℕ} {q₀ q q′ : ℕ} (few : n ≤ stride) (ll : line < m)
+    (le : hi ≤ n) (A : Added m n v l₀ l t₀ t q₀ q) (P : RunPushed line lo hi v l l′ t t′ q q′) where
+  added-run : Added m n v l₀ l′ t₀ t′ q₀ q′
+  added-run = record {
+    grew = let x = A .grew in let y = P .grew in omega arith;
+    size = P .size ∙ A .size;
+    old = λ i a. let x = A .grew in P .old i (omega arith) ∙ A .old i a;
+    line-in = λ p a b. in-line p a b (decLt p q);
+    cross-in = λ p a b. in-cross p a b (decLt p q);
+    sound = λ p a b. right p a b (decLt p q);
+    whole = λ i li k lk z y. all i li k lk z y (ℕ-discrete (along l i k) 0);
+  }
+    where
+      in-line : (p : ℕ) → p < q′ → q₀ ≤ p → Dec (p < q) → getD t′ (2 * p) 0 < m
+      in-line p a b (yes x) = omega (arith, P .old (2 * p) (omega arith), A .line-in p x b)
+      in-line p a b (no x) = omega (arith, P .lines p a (omega arith))
+
+      in-cross : (p : ℕ) → p < q′ → q₀ ≤ p → Dec (p < q) → getD t′ (2 * p + 1) 0 < n
+      in-cross p a b (yes x) = omega (arith, P .old (2 * p + 1) (omega arith), A .cross-in p x b)
+      in-cross p a b (no x) = omega (arith, P .below p a (omega arith))
+
+      right : (p : ℕ) → p < q′ → q₀ ≤ p → Dec (p < q) →
+          along l′ (getD t′ (2 * p) 0) (getD t′ (2 * p + 1) 0) ≡ v + 1
+      right p a b (yes x) =
+          let s = A .sound p x b in
+          rw (P .old (2 * p) (omega arith), P .old (2 * p + 1) (omega arith))
+          (run-held (P .run) few le (getD t (2 * p) 0) (getD t (2 * p + 1) 0) (A .cross-in p x b) (omega arith) ∙ s)
+      right p a b (no x) = rw (P .lines p a (omega arith)) (P .sound p a (omega arith))
+
+      all : (i : ℕ) → i < m → (k : ℕ) → k < n → along l₀ i k ≡ 0 → along l′ i k ≢ 0 → Dec (along l i k ≡ 0) →
+          (p : ℕ) × (q₀ ≤ p) × (p < q′) × (getD t′ (2 * p) 0 ≡ i) × (getD t′ (2 * p + 1) 0 ≡ k)
+      all i li k lk z y (no x) =
+          let w = A .whole i li k lk z x in
+          let g = P .grew in (
+            w .0,
+            w .1,
+            omega (arith, w .2),
+            P .old (2 * w .0) (omega (arith, w .2)) ∙ w .3,
+            P .old (2 * w .0 + 1) (omega (arith, w .2)) ∙ w .4,
+          )
+      all i li k lk z y (yes x) =
+          run-cases (P .run) few le i k lk
+          (λ f lk′ hk.
+          let w = P .whole k hk lk′ (rw f at x) in
+          let g = A .grew in
+          (w .0, omega (arith, w .1), w .2, P .lines (w .0) (w .2) (w .1) ∙ sym f, w .3))
+          (λ f. absurd (y (f ∙ x)))
+
+-- A pass, place after place of the queue.
+pub passing-none : (other edge from : List ℕ) (m n v a : ℕ) (l t : List ℕ) (q : ℕ) → Full edge l m n →
+    PassTo other edge from m n v a a l l t t q q
+passing-none other edge from m n v a l t q F = record {
+  visited = let e : 0 ≡ q - q = omega arith in
+      subst (λ (c : ℕ). Visited other edge from m n v a a l l c) e (visited-none other edge from m n v a l F);
+  added = added-none m n v l t q;
+}
+
+module _ {other edge from : List ℕ} {m n v a b p : ℕ} {l₀ l t₀ t : List ℕ} {q₀ q line h : ℕ} (few : n ≤ stride)
+    (ap : a ≤ p) (pb : p < b) (el : line ≡ getD from (2 * p + 1) 0) (eh : h ≡ getD from (2 * p) 0)
+    (Q : Queued from a b n m other v) (G : PassTo other edge from m n v a p l₀ l t₀ t q₀ q) where
+  ll : line < m
+  ll = rw el (Q .cross-in p ap pb)
+
+  lh : h < n
+  lh = rw eh (Q .line-in p ap pb)
+
+  pub passing-more : {l′ t′ : List ℕ} {q′ : ℕ} → Visit edge line n h v l l′ t t′ q q′ →
+      PassTo other edge from m n v a (p + 1) l₀ l′ t₀ t′ q₀ q′
+  passing-more (passed x) = record {
+    visited = visited-skip ll lh (sym el) (sym eh) (G .visited) x;
+    added = G .added;
+  }
+  passing-more {l′} {t′} {q′} (ran lo hi s e P) =
+      let o = G .added .grew in
+      let w = P .grew in
+      let c : (q - q₀) + (q′ - q) ≡ q′ - q₀ = omega arith in
+      record {
+        visited = subst (λ (k : ℕ). Visited other edge from m n v a (p + 1) l₀ l′ k) c
+            (visited-run ll lh (sym el) (sym eh) (G .visited) few (rw (el, eh) (Q .sound p ap pb)) s e (P .run));
+        added = added-run few ll (e .le) (G .added) P;
+      }
+
+pub passing-done : {other edge from : List ℕ} {m n v a p b : ℕ} {l₀ l t₀ t : List ℕ} {q₀ q : ℕ} → p ≡ b →
+    PassTo other edge from m n v a p l₀ l t₀ t q₀ q → PassTo other edge from m n v a b l₀ l t₀ t q₀ q
+passing-done e h = rw (← e) h
+
+-- there is still room for every crossing without a label
+pub passing-room : {other edge from : List ℕ} {m n v a p : ℕ} {l₀ l t₀ t : List ℕ} {q₀ q : ℕ} → Room l₀ t₀ q₀ →
+    PassTo other edge from m n v a p l₀ l t₀ t q₀ q → Room l t q
+passing-room r P = record {
+  labels = omega (arith, r .labels, P .visited .size);
+  places = omega (arith, r .places, P .added .size);
+  left = omega (arith, r .left, P .visited .count, P .added .grew);
+}

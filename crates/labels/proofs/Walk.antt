@@ -1,0 +1,65 @@
+-- Laws of the walk, step by step.
+use Prim.Native.Nat.{ℕ, _+_, _-_, _≤_, _<_}
+use native.Mathlib.Omega.{arith}
+use native.Mathlib.Decide.{decLt}
+use mathlib.Core.Path.{_≡_, refl, sym, ap, subst, _∙_}
+use mathlib.Core.Logic.{_≢_}
+use mathlib.Core.List.{List, [], _∷_}
+use lib.ListN.{getD}
+use Rattle.labels.specs.Line.{along, across, Linked, Stop}
+use Rattle.labels.specs.Walk.{Grounded, Trail, done, step, put, levelOut, uprightOut, LevelWalk, UprightWalk}
+
+-- from a label above 1 there is a next crossing
+pub grounded-next : {own other edge : List ℕ} {m n : ℕ} (line k v q : ℕ) → Grounded own other edge m n → line < m →
+    k < n → 1 ≤ v → v ≢ 1 → along own line k ≡ v → Stop other edge line n k (v - 1) q →
+    (q < n) × (across other line q ≡ v - 1)
+grounded-next {other = other} {edge = edge} {n = n} line k v q G ll lk p z e s =
+    let w = G .next line ll k lk (v - 1) (omega arith) (omega arith) in
+    let lq = below (w .0) (w .1) (w .2) (w .3) (decLt q n) in
+    (lq, s .found lq .1)
+  where
+    below : (r : ℕ) → r < n → Linked edge line k r → across other line r ≡ v - 1 → Dec (q < n) → q < n
+    below r lr h f (yes y) = y
+    below r lr h f (no y) = absurd (s .before r (omega arith) h f)
+
+trail-step : {own other edge edge′ : List ℕ} {m n line k : ℕ} (v : ℕ) {q : ℕ} {qs : List ℕ} → 1 ≤ v →
+    Stop other edge line n k (v - 1) q → q < n → Trail other own edge′ edge n m q line (v - 1) qs →
+    Trail own other edge edge′ m n line k v (q ∷ qs)
+trail-step {own} {other} {edge} {edge′} {m} {n} {line} {k} v {q} {qs} p s l t =
+    let e : v ≡ (v - 1) + 1 = omega arith in
+    subst (λ (w : ℕ). Trail own other edge edge′ m n line k w (q ∷ qs)) (sym e) (step s l t)
+
+module _ {l u el eu cols rows : List ℕ} {nc nr i j v at : ℕ} {out : List ℕ} where
+  -- the target is reached
+  pub level-done : v ≡ 1 → LevelWalk l u el eu cols rows nc nr i j v at out out at
+  unfolding levelOut
+  level-done e = record { crossings = []; trail = rw e done; wrote = refl; count = omega arith }
+
+  pub upright-done : v ≡ 1 → UprightWalk l u el eu cols rows nc nr i j v at out out at
+  unfolding uprightOut
+  upright-done e = record { crossings = []; trail = rw e done; wrote = refl; count = omega arith }
+
+  -- one segment, and the walk from its end
+  pub level-more : {q : ℕ} {mid out′ : List ℕ} {r : ℕ} → 1 ≤ v → Stop u el j nc i (v - 1) q → q < nc →
+      mid ≡ put out at (getD cols q 0) (getD rows j 0) →
+      UprightWalk l u el eu cols rows nc nr q j (v - 1) (at + 1) mid out′ r →
+      LevelWalk l u el eu cols rows nc nr i j v at out out′ r
+  unfolding levelOut
+  level-more {q} p s lq e w = record {
+    crossings = q ∷ w .crossings;
+    trail = trail-step v p s lq (w .trail);
+    wrote = w .wrote ∙ ap (λ (ks : List ℕ). uprightOut cols rows ks (at + 1) q j (w .crossings)) e;
+    count = let c = w .count in omega arith;
+  }
+
+  pub upright-more : {q : ℕ} {mid out′ : List ℕ} {r : ℕ} → 1 ≤ v → Stop l eu i nr j (v - 1) q → q < nr →
+      mid ≡ put out at (getD cols i 0) (getD rows q 0) →
+      LevelWalk l u el eu cols rows nc nr i q (v - 1) (at + 1) mid out′ r →
+      UprightWalk l u el eu cols rows nc nr i j v at out out′ r
+  unfolding uprightOut
+  upright-more {q} p s lq e w = record {
+    crossings = q ∷ w .crossings;
+    trail = trail-step v p s lq (w .trail);
+    wrote = w .wrote ∙ ap (λ (ks : List ℕ). levelOut cols rows ks (at + 1) i q (w .crossings)) e;
+    count = let c = w .count in omega arith;
+  }

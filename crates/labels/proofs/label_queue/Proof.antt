@@ -1,0 +1,113 @@
+-- Place after place of the other queue is visited.
+use Prim.Native.Nat.{_+_, _-_, _*_, _≤_}
+use native.Mathlib.Omega.{arith}
+use mathlib.Core.Path.{refl}
+use Rattle.labels.specs.Pass.{PassTo}
+use Rattle.labels.proofs.Pass.{passing-none, passing-room, passing-more, passing-done}
+use Rattle.labels.proofs.label_queue.Statement.{statement}
+use Rattle.labels.proofs.label_queue.Tie as tie
+
+abbrev Inv-loop : tie.InvT-loop
+Inv-loop labels₀ queue₀ other edge from a b m n v q end₀ p₀ labels queue end p =
+    (a ≤ p) × (p ≤ b) × PassTo other edge from m n v a p labels₀ labels queue₀ queue q end
+
+abbrev μ-loop : tie.MeasureT-loop
+μ-loop labels₀ queue₀ other edge from a b m n v q end₀ p₀ labels queue end p = b - p
+
+loop-holds : tie.Need-loop-holds Inv-loop μ-loop
+loop-holds c =
+    let pre = c .before .before .before .before .before .pre in
+    (omega arith, omega (arith, pre .0 .3), passing-none _ _ _ _ _ _ _ _ _ _ (pre .1 .1 .1))
+
+mul-k : tie.Need-mul-k Inv-loop μ-loop
+mul-k c = omega arith
+
+mul-k-2 : tie.Need-mul-k-2 Inv-loop μ-loop
+mul-k-2 c = omega arith
+
+shared-slice-read-k : tie.Need-shared-slice-read-k Inv-loop μ-loop
+shared-slice-read-k c = omega arith
+
+cast-k : tie.Need-cast-k Inv-loop μ-loop
+cast-k c = omega (arith, c .shared-slice-known4 .given (2 * c .before .before .loop .p))
+
+mul-line : tie.Need-mul-line Inv-loop μ-loop
+mul-line c = omega arith
+
+add-line : tie.Need-add-line Inv-loop μ-loop
+add-line c = omega arith
+
+mul-line-2 : tie.Need-mul-line-2 Inv-loop μ-loop
+mul-line-2 c = omega arith
+
+shared-slice-read-line : tie.Need-shared-slice-read-line Inv-loop μ-loop
+shared-slice-read-line c = omega arith
+
+cast-line : tie.Need-cast-line Inv-loop μ-loop
+cast-line c = omega (arith, c .shared-slice-known5 .given (2 * c .before .before .before .loop .p + 1))
+
+visit-requires : tie.Need-visit-requires Inv-loop μ-loop
+visit-requires c κs =
+    let at-loop = c .before .before .before .before .before in
+    let pre = at-loop .before .before .before .before .before .before .pre in
+    let p = at-loop .loop .p in
+    let queued = pre .1 .1 .0 in (
+      (
+        omega (arith, queued .cross-in p (at-loop .loop .inv .0) (omega arith), pre .0),
+        pre .0 .1,
+        queued .line-in p (at-loop .loop .inv .0) (omega arith),
+        pre .0 .2,
+        pre .1 .0 .0,
+      ),
+      passing-room (pre .1 .0 .2) (at-loop .loop .inv .2),
+    )
+
+add-p : tie.Need-add-p Inv-loop μ-loop
+add-p c = omega arith
+
+loop-less : tie.Need-loop-less Inv-loop μ-loop
+loop-less c = omega arith
+
+loop-again : tie.Need-loop-again Inv-loop μ-loop
+loop-again c =
+    let at-visit = c .before .before .before .before in
+    let at-loop = at-visit .before .before .before .before .before .before in
+    let pre = at-loop .before .before .before .before .before .before .pre in (
+      omega arith,
+      omega arith,
+      passing-more (pre .0 .1) (at-loop .loop .inv .0) (omega arith) refl refl (pre .1 .1 .0) (at-loop .loop .inv .2)
+          (at-visit .visit .ensures),
+    )
+
+same-length : tie.Need-same-length Inv-loop μ-loop
+same-length c = c .before .loop .inv .2 .visited .size
+
+same-length-2 : tie.Need-same-length-2 Inv-loop μ-loop
+same-length-2 c = c .before .loop .inv .2 .added .size
+
+returns : tie.Need-returns Inv-loop μ-loop
+returns c = passing-done (omega arith) (c .before .loop .inv .2)
+
+pub label-queue-spec : {M : Type 1} → statement M
+label-queue-spec =
+    tie.close
+    (tie.spec
+    Inv-loop
+    μ-loop
+    loop-holds
+    mul-k
+    mul-k-2
+    shared-slice-read-k
+    cast-k
+    mul-line
+    add-line
+    mul-line-2
+    shared-slice-read-line
+    cast-line
+    visit-requires
+    add-p
+    loop-less
+    loop-again
+    same-length
+    same-length-2
+    returns)

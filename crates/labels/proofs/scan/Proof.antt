@@ -1,0 +1,101 @@
+-- All crossings from lo up to k are joined, and none of them has the label.
+use Prim.Native.Nat.{ℕ, _-_, _≤_, _<_}
+use native.Mathlib.Omega.{arith}
+use mathlib.Core.Logic.{_≢_}
+use borrow.Author.Count.{below-more}
+use Rattle.labels.specs.Line.{across, Linked}
+use Rattle.labels.specs.Rounds.{found}
+use Rattle.labels.proofs.Line.{linked-refl, linked-up, blocked}
+use Rattle.labels.proofs.scan.Statement.{statement}
+use Rattle.labels.proofs.scan.Tie as tie
+
+abbrev Inv-loop : tie.InvT-loop
+Inv-loop other edge line n lo v k₀ k =
+    (lo ≤ k) × (k ≤ n) × Linked edge line lo k × ((j : ℕ) → j < k → lo ≤ j → across other line j ≢ v)
+
+abbrev μ-loop : tie.MeasureT-loop
+μ-loop other edge line n lo v k₀ k = n - k
+
+loop-holds : tie.Need-loop-holds Inv-loop μ-loop
+loop-holds c = (omega arith, omega arith, linked-refl _ _ _, λ j q p. absurd (omega arith))
+
+mul-if1 : tie.Need-mul-if1 Inv-loop μ-loop
+mul-if1 c = omega arith
+
+add-if1 : tie.Need-add-if1 Inv-loop μ-loop
+add-if1 c = omega arith
+
+mul-if1-2 : tie.Need-mul-if1-2 Inv-loop μ-loop
+mul-if1-2 c = omega arith
+
+shared-slice-read-if1 : tie.Need-shared-slice-read-if1 Inv-loop μ-loop
+shared-slice-read-if1 c = omega arith
+
+returns : tie.Need-returns Inv-loop μ-loop
+returns c =
+    let at-loop = c .before .before .before in
+    record {
+      le = omega arith;
+      before = λ j q p h. at-loop .loop .inv .3 j q p;
+      found = λ z. (omega arith, at-loop .loop .inv .2, c .if1 .taken);
+    }
+
+mul-if2 : tie.Need-mul-if2 Inv-loop μ-loop
+mul-if2 c = omega arith
+
+add-if2 : tie.Need-add-if2 Inv-loop μ-loop
+add-if2 c = omega arith
+
+shared-slice-read-if2 : tie.Need-shared-slice-read-if2 Inv-loop μ-loop
+shared-slice-read-if2 c = omega arith
+
+returns-2 : tie.Need-returns-2 Inv-loop μ-loop
+returns-2 c =
+    let at-loop = c .before .before .before .before .before in
+    blocked _ _ _ _ _ _ (at-loop .loop .k) (omega arith) (at-loop .loop .inv .3) (c .before .before .if1 .left)
+    (c .if2 .taken)
+
+add-k : tie.Need-add-k Inv-loop μ-loop
+add-k c = omega arith
+
+loop-less : tie.Need-loop-less Inv-loop μ-loop
+loop-less c = omega arith
+
+loop-again : tie.Need-loop-again Inv-loop μ-loop
+loop-again c =
+    let at-loop = c .before .before .before .before .before in (
+      omega arith,
+      omega arith,
+      linked-up _ _ _ _ (omega arith) (at-loop .loop .inv .2) (c .if2 .left),
+      below-more _ _ (at-loop .loop .inv .3) (λ p. c .before .before .if1 .left),
+    )
+
+returns-3 : tie.Need-returns-3 Inv-loop μ-loop
+returns-3 c =
+    let at-loop = c .before in
+    record {
+      le = omega arith;
+      before = λ j q p h. at-loop .loop .inv .3 j (omega arith) p;
+      found = λ z. absurd (omega arith);
+    }
+
+pub scan-spec : {M : Type 1} → statement M
+scan-spec =
+    tie.close
+    (tie.spec
+    Inv-loop
+    μ-loop
+    loop-holds
+    mul-if1
+    add-if1
+    mul-if1-2
+    shared-slice-read-if1
+    returns
+    mul-if2
+    add-if2
+    shared-slice-read-if2
+    returns-2
+    add-k
+    loop-less
+    loop-again
+    returns-3)

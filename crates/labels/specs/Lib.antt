@@ -1,0 +1,5 @@
+-- What the contracts of the labels' code say, of lists only.
+pub mod Line
+pub mod Pass
+pub mod Rounds
+pub mod Walk

@@ -1,0 +1,119 @@
+-- A pass over m lines with n crossings each: what is joined with a label v of the other direction gets the label v + 1.
+use Prim.Native.Nat.{ℕ, zero, suc, _+_, _-_, _*_, _≤_, _<_}
+use mathlib.Core.Path.{_≡_}
+use mathlib.Core.Logic.{_≢_}
+use mathlib.Core.List.{List, [], _∷_}
+use lib.ListN.{getD, set, length}
+use Rattle.grid.specs.Size.{stride, area}
+use Rattle.labels.specs.Line.{along, across, Linked, RunStart, RunEnd}
+
+-- the largest label that its place can hold
+abbrev pub labelTop : ℕ
+labelTop = 4294967295
+
+-- how many places have no label
+unfoldable pub zeros : List ℕ → ℕ
+zeros [] = 0
+zeros (zero ∷ l) = suc (zeros l)
+zeros (suc x ∷ l) = zeros l
+
+-- crossing k of a line before and after a pass
+pub data Cell (other edge : List ℕ) (line n v k : ℕ) : ℕ → ℕ → Type 0 where
+  kept : {a : ℕ} → a ≢ 0 → Cell other edge line n v k a a
+  none : ((q : ℕ) → q < n → Linked edge line k q → across other line q ≢ v) → Cell other edge line n v k 0 0
+  new : (q : ℕ) → q < n → Linked edge line k q → across other line q ≡ v → Cell other edge line n v k 0 (v + 1)
+
+-- the labels before and after a pass
+pub record Pass (other edge : List ℕ) (m n v : ℕ) (l₀ l : List ℕ) : Type 0 where
+  pub cell : (i : ℕ) → i < m → (k : ℕ) → k < n → Cell other edge i n v k (along l₀ i k) (along l i k)
+
+-- every label is at most v
+pub record Below (m n : ℕ) (lab : List ℕ) (v : ℕ) : Type 0 where
+  pub le : (i : ℕ) → i < m → (k : ℕ) → k < n → along lab i k ≤ v
+
+-- what is joined with a label above 1 has a label
+pub record Full (edge lab : List ℕ) (m n : ℕ) : Type 0 where
+  pub joined : (i : ℕ) → i < m → (k q : ℕ) → k < n → q < n → Linked edge i k q → 2 ≤ along lab i k → along lab i q ≢ 0
+
+-- the places a to b of a queue, two numbers each, are the lines and crossings with the label v
+pub record Queued (queue : List ℕ) (a b m n : ℕ) (lab : List ℕ) (v : ℕ) : Type 0 where
+  pub line-in : (p : ℕ) → a ≤ p → p < b → getD queue (2 * p) 0 < m
+  pub cross-in : (p : ℕ) → a ≤ p → p < b → getD queue (2 * p + 1) 0 < n
+  pub sound : (p : ℕ) → a ≤ p → p < b → along lab (getD queue (2 * p) 0) (getD queue (2 * p + 1) 0) ≡ v
+  pub whole : (i : ℕ) → i < m → (k : ℕ) → k < n → along lab i k ≡ v →
+      (p : ℕ) × (a ≤ p) × (p < b) × (getD queue (2 * p) 0 ≡ i) × (getD queue (2 * p + 1) 0 ≡ k)
+
+-- a queue that ends at q has room for every crossing without a label
+pub record Room (lab queue : List ℕ) (q : ℕ) : Type 0 where
+  pub labels : area ≤ length lab
+  pub places : 2 * area ≤ length queue
+  pub left : q + zeros lab ≤ area
+
+-- crossing k of a line is pushed: labels, queue and the queue's end before and after
+pub data Push (line k v : ℕ) : List ℕ → List ℕ → List ℕ → List ℕ → ℕ → ℕ → Type 0 where
+  stays : {l t : List ℕ} {q : ℕ} → along l line k ≢ 0 → Push line k v l l t t q q
+  puts : {l t : List ℕ} {q : ℕ} → along l line k ≡ 0 →
+      Push line k v l (set l (line * stride + k) (v + 1)) t (set (set t (2 * q) line) (2 * q + 1) k) q (q + 1)
+
+-- a crossing of a run before and after the run is pushed
+pub data Fill (v : ℕ) : ℕ → ℕ → Type 0 where
+  held : {a : ℕ} → a ≢ 0 → Fill v a a
+  fresh : Fill v 0 (v + 1)
+
+-- the crossings lo to k, k excluded, of a line are pushed: what it did to the labels, c of which are new
+pub record RunFilled (line lo k v : ℕ) (l₀ l : List ℕ) (c : ℕ) : Type 0 where
+  pub size : length l ≡ length l₀
+  pub fill : (j : ℕ) → j < k → lo ≤ j → Fill v (along l₀ line j) (along l line j)
+  pub low : (i : ℕ) → i < line * stride + lo → getD l i 0 ≡ getD l₀ i 0
+  pub high : (i : ℕ) → line * stride + k ≤ i → getD l i 0 ≡ getD l₀ i 0
+  pub count : zeros l + c ≡ zeros l₀
+  pub same : c ≡ 0 → l ≡ l₀
+
+-- and what it added to the queue
+pub record RunPushed (line lo k v : ℕ) (l₀ l t₀ t : List ℕ) (q₀ q : ℕ) : Type 0 where
+  pub run : RunFilled line lo k v l₀ l (q - q₀)
+  pub grew : q₀ ≤ q
+  pub size : length t ≡ length t₀
+  pub old : (i : ℕ) → i < 2 * q₀ → getD t i 0 ≡ getD t₀ i 0
+  pub lines : (p : ℕ) → p < q → q₀ ≤ p → getD t (2 * p) 0 ≡ line
+  pub below : (p : ℕ) → p < q → q₀ ≤ p → getD t (2 * p + 1) 0 < k
+  pub sound : (p : ℕ) → p < q → q₀ ≤ p → along l line (getD t (2 * p + 1) 0) ≡ v + 1
+  pub whole : (j : ℕ) → j < k → lo ≤ j → along l₀ line j ≡ 0 →
+      (p : ℕ) × (q₀ ≤ p) × (p < q) × (getD t (2 * p + 1) 0 ≡ j)
+
+-- a visit of crossing k of a line: its run is pushed, or its label says that this was done
+pub data Visit (edge : List ℕ) (line n k v : ℕ) : List ℕ → List ℕ → List ℕ → List ℕ → ℕ → ℕ → Type 0 where
+  passed : {l t : List ℕ} {q : ℕ} → 2 ≤ along l line k → Visit edge line n k v l l t t q q
+  ran : {l₀ l t₀ t : List ℕ} {q₀ q : ℕ} (lo hi : ℕ) → RunStart edge line k lo → RunEnd edge line n k hi →
+      RunPushed line lo hi v l₀ l t₀ t q₀ q → Visit edge line n k v l₀ l t₀ t q₀ q
+
+-- a crossing before and after a part of a pass
+pub data Part (other edge : List ℕ) (line n v k : ℕ) : ℕ → ℕ → Type 0 where
+  stood : {a : ℕ} → Part other edge line n v k a a
+  got : (q : ℕ) → q < n → Linked edge line k q → across other line q ≡ v → Part other edge line n v k 0 (v + 1)
+
+-- the places a to p of the other direction's queue are visited: what that did to the labels, c of which are new
+pub record Visited (other edge from : List ℕ) (m n v a p : ℕ) (l₀ l : List ℕ) (c : ℕ) : Type 0 where
+  pub size : length l ≡ length l₀
+  pub part : (i : ℕ) → i < m → (k : ℕ) → k < n → Part other edge i n v k (along l₀ i k) (along l i k)
+  pub did : (r : ℕ) → r < p → a ≤ r → (q : ℕ) → q < n →
+      Linked edge (getD from (2 * r + 1) 0) (getD from (2 * r) 0) q → along l (getD from (2 * r + 1) 0) q ≢ 0
+  pub count : zeros l + c ≡ zeros l₀
+  pub same : c ≡ 0 → l ≡ l₀
+  pub full : Full edge l m n
+
+-- and what it added to the queue of this direction
+pub record Added (m n v : ℕ) (l₀ l t₀ t : List ℕ) (q₀ q : ℕ) : Type 0 where
+  pub grew : q₀ ≤ q
+  pub size : length t ≡ length t₀
+  pub old : (i : ℕ) → i < 2 * q₀ → getD t i 0 ≡ getD t₀ i 0
+  pub line-in : (p : ℕ) → p < q → q₀ ≤ p → getD t (2 * p) 0 < m
+  pub cross-in : (p : ℕ) → p < q → q₀ ≤ p → getD t (2 * p + 1) 0 < n
+  pub sound : (p : ℕ) → p < q → q₀ ≤ p → along l (getD t (2 * p) 0) (getD t (2 * p + 1) 0) ≡ v + 1
+  pub whole : (i : ℕ) → i < m → (k : ℕ) → k < n → along l₀ i k ≡ 0 → along l i k ≢ 0 →
+      (p : ℕ) × (q₀ ≤ p) × (p < q) × (getD t (2 * p) 0 ≡ i) × (getD t (2 * p + 1) 0 ≡ k)
+
+-- a pass up to place p of that queue, where this queue ended at q₀ and ends at q then
+pub record PassTo (other edge from : List ℕ) (m n v a p : ℕ) (l₀ l t₀ t : List ℕ) (q₀ q : ℕ) : Type 0 where
+  pub visited : Visited other edge from m n v a p l₀ l (q - q₀)
+  pub added : Added m n v l₀ l t₀ t q₀ q

@@ -1,0 +1,316 @@
+// The labels of the escape grid's crossings, breadth first from the target, and the walk back along them.
+//
+// A label says how many segments, the first along the line, lead to the target, and one more. Level labels and edges
+// stand row after row, upright ones column after column, so that one function serves both directions: a line is a
+// row or a column, `labels` has the labels of its own direction, and `other` those of the other one. Where both
+// directions meet, `el` and `eu` are the level and the upright edges, and `ql` and `qu` the queues.
+use grid::STRIDE;
+ghost use mathlib.Core.Path.{_≡_};
+ghost use Prim.Native.Nat.{ℕ, _+_, _*_, _≤_, _<_};
+ghost use lib.ListN.{length};
+ghost use Rattle.grid.specs.Size.{stride, area};
+ghost use Rattle.labels.specs.Line.{along, RunStart, RunEnd, Scanned, Stop};
+ghost use Rattle.labels.specs.Pass.{labelTop, Full, Queued, Room, Push, RunPushed, Visit, PassTo};
+ghost use Rattle.labels.specs.Rounds.{Sized, Begun, Ended};
+ghost use Rattle.labels.specs.Walk.{put, Walkable, LevelWalk, UprightWalk};
+
+// The first crossing of a line that is joined with the crossing `at`.
+fn run_start(edge: &[u8], line: usize, at: usize) -> usize
+    requires { ⌜ (line < stride) × (at ≤ stride) × (area ≤ length (now edge)) ⌝ }
+    ensures { λ r. ⌜ RunStart (now (edge .entry)) line at r ⌝ }
+{
+    let mut lo = at;
+    while 0 < lo {
+        if edge[line * STRIDE + (lo - 1)] != 1 {
+            return lo;
+        }
+        lo -= 1;
+    }
+    lo
+}
+
+// The first crossing after the crossing `at`, of n on a line, that is not joined with it.
+fn run_end(edge: &[u8], line: usize, n: usize, at: usize) -> usize
+    requires { ⌜ (line < stride) × (n ≤ stride) × (at < n) × (area ≤ length (now edge)) ⌝ }
+    ensures { λ r. ⌜ RunEnd (now (edge .entry)) line n at r ⌝ }
+{
+    let mut hi = at + 1;
+    while hi < n {
+        if edge[line * STRIDE + (hi - 1)] != 1 {
+            return hi;
+        }
+        hi += 1;
+    }
+    hi
+}
+
+// The first crossing from lo on, and joined with it, whose label in the other direction is v, or n.
+fn scan(other: &[u32], edge: &[u8], line: usize, n: usize, lo: usize, v: u32) -> usize
+    requires { ⌜ (line < stride) × (n ≤ stride) × (lo ≤ n) ⌝ }
+    requires { ⌜ (area ≤ length (now edge)) × (area ≤ length (now other)) ⌝ }
+    ensures { λ r. ⌜ Scanned (now (other .entry)) (now (edge .entry)) line n lo v r ⌝ }
+{
+    let mut k = lo;
+    while k < n {
+        if other[k * STRIDE + line] == v {
+            return k;
+        }
+        if edge[line * STRIDE + k] != 1 {
+            return n;
+        }
+        k += 1;
+    }
+    n
+}
+
+// The first crossing joined with the crossing `at` whose label in the other direction is v, or n.
+pub fn next_stop(other: &[u32], edge: &[u8], line: usize, n: usize, at: usize, v: u32) -> usize
+    requires { ⌜ (line < stride) × (n ≤ stride) × (at < n) ⌝ }
+    requires { ⌜ (area ≤ length (now edge)) × (area ≤ length (now other)) ⌝ }
+    ensures { λ r. ⌜ Stop (now (other .entry)) (now (edge .entry)) line n at v r ⌝ }
+{
+    scan(other, edge, line, n, run_start(edge, line, at), v)
+}
+
+// Gives crossing k of a line the label v + 1 and puts it at the end q of the queue, if it has no label; the end then.
+fn push_cell(
+    labels: &mut [u32],
+    queue: &mut [u16],
+    line: usize,
+    k: usize,
+    v: u32,
+    q: usize,
+) -> usize
+    requires { ⌜ (line < stride) × (k < stride) × (v < labelTop) × Room (now labels) (now queue) q ⌝ }
+    ensures { λ r. ⌜ Push line k v (now (labels .entry)) (now (labels .exit))
+        (now (queue .entry)) (now (queue .exit)) q r ⌝ }
+{
+    if labels[line * STRIDE + k] != 0 {
+        return q;
+    }
+    labels[line * STRIDE + k] = v + 1;
+    queue[2 * q] = line as u16;
+    queue[2 * q + 1] = k as u16;
+    q + 1
+}
+
+// The same for the crossings lo to hi, hi excluded.
+fn push_run(
+    labels: &mut [u32],
+    queue: &mut [u16],
+    line: usize,
+    lo: usize,
+    hi: usize,
+    v: u32,
+    q: usize,
+) -> usize
+    requires { ⌜ (line < stride) × (hi ≤ stride) × (lo ≤ hi) × (v < labelTop) × Room (now labels) (now queue) q ⌝ }
+    ensures { λ r. ⌜ RunPushed line lo hi v (now (labels .entry)) (now (labels .exit))
+        (now (queue .entry)) (now (queue .exit)) q r ⌝ }
+{
+    let mut end = q;
+    let mut k = lo;
+    while k < hi {
+        end = push_cell(labels, queue, line, k, v, end);
+        k += 1;
+    }
+    end
+}
+
+// The same for the run of crossing k, unless a label above 1 there says that its run has labels already.
+fn visit(
+    labels: &mut [u32],
+    queue: &mut [u16],
+    edge: &[u8],
+    line: usize,
+    n: usize,
+    k: usize,
+    v: u32,
+    q: usize,
+) -> usize
+    requires { ⌜ (line < stride) × (n ≤ stride) × (k < n) × (v < labelTop) × (area ≤ length (now edge)) ⌝ }
+    requires { ⌜ Room (now labels) (now queue) q ⌝ }
+    ensures { λ r. ⌜ Visit (now (edge .entry)) line n k v (now (labels .entry)) (now (labels .exit))
+        (now (queue .entry)) (now (queue .exit)) q r ⌝ }
+{
+    if 1 < labels[line * STRIDE + k] {
+        return q;
+    }
+    let lo = run_start(edge, line, k);
+    let hi = run_end(edge, line, n, k);
+    push_run(labels, queue, line, lo, hi, v, q)
+}
+
+// A pass over m lines with n crossings each: labels v + 1 what is joined with a label v of the other direction. The
+// places a to b of the other queue, `from`, are the crossings with that label; the new ones are put into the queue.
+fn label_queue(
+    labels: &mut [u32],
+    queue: &mut [u16],
+    other: &[u32],
+    edge: &[u8],
+    from: &[u16],
+    a: usize,
+    b: usize,
+    m: usize,
+    n: usize,
+    v: u32,
+    q: usize,
+) -> usize
+    requires { ⌜ (m ≤ stride) × (n ≤ stride) × (v < labelTop) × (a ≤ b) × (b ≤ area) ⌝ }
+    requires { ⌜ (area ≤ length (now edge)) × (2 * area ≤ length (now from)) × Room (now labels) (now queue) q ⌝ }
+    requires { ⌜ Queued (now from) a b n m (now other) v × Full (now edge) (now labels) m n ⌝ }
+    ensures { λ r. ⌜ PassTo (now (other .entry)) (now (edge .entry)) (now (from .entry)) m n v a b
+        (now (labels .entry)) (now (labels .exit)) (now (queue .entry)) (now (queue .exit)) q r ⌝ }
+{
+    let mut end = q;
+    let mut p = a;
+    while p < b {
+        let k = from[2 * p] as usize;
+        let line = from[2 * p + 1] as usize;
+        end = visit(labels, queue, edge, line, n, k, v, end);
+        p += 1;
+    }
+    end
+}
+
+// Rounds of a level and an upright pass until the crossing of column i and row j has a label, or a round labels
+// nothing. Returns whether it has one. The queues begin with the target.
+pub fn rounds(
+    level: &mut [u32],
+    upright: &mut [u32],
+    ql: &mut [u16],
+    qu: &mut [u16],
+    el: &[u8],
+    eu: &[u8],
+    nc: usize,
+    nr: usize,
+    i: usize,
+    j: usize,
+) -> bool
+    requires { ⌜ Sized (now level) (now upright) (now el) (now eu) nc nr × (i < nc) × (j < nr) ⌝ }
+    requires { ⌜ Begun (now level) (now upright) (now ql) (now qu) nc nr ⌝ }
+    ensures { λ r. ⌜ Ended (now (el .entry)) (now (eu .entry)) nc nr i j (now (level .entry)) (now (upright .entry))
+        (now (level .exit)) (now (upright .exit)) r ⌝ }
+{
+    let mut v = 1u32;
+    let mut la = 0;
+    let mut lb = 1;
+    let mut ua = 0;
+    let mut ub = 1;
+    loop {
+        if level[j * STRIDE + i] != 0 {
+            return true;
+        }
+        if upright[i * STRIDE + j] != 0 {
+            return true;
+        }
+        let le = label_queue(level, ql, upright, el, qu, ua, ub, nr, nc, v, lb);
+        let ue = label_queue(upright, qu, level, eu, ql, la, lb, nc, nr, v, ub);
+        if le + ue == lb + ub {
+            return false;
+        }
+        la = lb;
+        lb = le;
+        ua = ub;
+        ub = ue;
+        v += 1;
+    }
+}
+
+// Puts corner `at` into a corner list.
+pub fn put_corner(out: &mut [u16], at: usize, x: u16, y: u16)
+    requires { ⌜ 2 * at + 2 ≤ length (now out) ⌝ }
+    ensures { λ _. ⌜ now (out .exit) ≡ put (now (out .entry)) at x y ⌝ }
+{
+    out[2 * at] = x;
+    out[2 * at + 1] = y;
+}
+
+// Puts the corners after the crossing of column i and row j, whose level label is v, from corner `at` on: a level
+// segment to the first crossing that has one less, and on from there. Returns the number of corners then.
+pub fn level_step(
+    out: &mut [u16],
+    level: &[u32],
+    upright: &[u32],
+    el: &[u8],
+    eu: &[u8],
+    cols: &[u16],
+    rows: &[u16],
+    nc: usize,
+    nr: usize,
+    i: usize,
+    j: usize,
+    v: u32,
+    at: usize,
+) -> usize
+    requires { ⌜ Walkable (now level) (now upright) (now el) (now eu) (now cols) (now rows) nc nr ⌝ }
+    requires { ⌜ (i < nc) × (j < nr) × (1 ≤ v) × (along (now level) j i ≡ v)
+        × (2 * at + 2 * v ≤ length (now out) + 2) ⌝ }
+    ensures { λ r. ⌜ LevelWalk (now (level .entry)) (now (upright .entry)) (now (el .entry)) (now (eu .entry))
+        (now (cols .entry)) (now (rows .entry)) nc nr i j v at (now (out .entry)) (now (out .exit)) r ⌝ }
+{
+    if v == 1 {
+        return at;
+    }
+    let k = next_stop(upright, el, j, nc, i, v - 1);
+    put_corner(out, at, cols[k], rows[j]);
+    upright_step(
+        out,
+        level,
+        upright,
+        el,
+        eu,
+        cols,
+        rows,
+        nc,
+        nr,
+        k,
+        j,
+        v - 1,
+        at + 1,
+    )
+}
+
+// The same for its upright label, and an upright segment.
+pub fn upright_step(
+    out: &mut [u16],
+    level: &[u32],
+    upright: &[u32],
+    el: &[u8],
+    eu: &[u8],
+    cols: &[u16],
+    rows: &[u16],
+    nc: usize,
+    nr: usize,
+    i: usize,
+    j: usize,
+    v: u32,
+    at: usize,
+) -> usize
+    requires { ⌜ Walkable (now level) (now upright) (now el) (now eu) (now cols) (now rows) nc nr ⌝ }
+    requires { ⌜ (i < nc) × (j < nr) × (1 ≤ v) × (along (now upright) i j ≡ v)
+        × (2 * at + 2 * v ≤ length (now out) + 2) ⌝ }
+    ensures { λ r. ⌜ UprightWalk (now (level .entry)) (now (upright .entry)) (now (el .entry)) (now (eu .entry))
+        (now (cols .entry)) (now (rows .entry)) nc nr i j v at (now (out .entry)) (now (out .exit)) r ⌝ }
+{
+    if v == 1 {
+        return at;
+    }
+    let k = next_stop(level, eu, i, nr, j, v - 1);
+    put_corner(out, at, cols[i], rows[k]);
+    level_step(
+        out,
+        level,
+        upright,
+        el,
+        eu,
+        cols,
+        rows,
+        nc,
+        nr,
+        i,
+        k,
+        v - 1,
+        at + 1,
+    )
+}

@@ -1,0 +1,99 @@
+-- The best path to the one target T is what `firstPath` gives.
+use Prim.Native.Nat.{ℕ, suc, _≤_, _<_}
+use native.Mathlib.Omega.{arith}
+use mathlib.Core.Path.{_≡_, refl, sym, ap, _∙_, subst}
+use mathlib.Core.Bool.{Bool, true}
+use mathlib.Core.List.{List, _∷_}
+use mathlib.Core.Option.{Option, none, some}
+use lib.ListN.{length}
+use Rattle.foil_spec.specs.Foil.{Point}
+use Rattle.foil_spec.specs.Paths.{either, leads, isPath, bends, firstPath}
+use Rattle.path_laws.proofs.Segments.{leads-either}
+use Rattle.path_laws.proofs.FirstPath.{of-path, to-path, same-bends}
+use Rattle.path_laws.proofs.Laws.{IsFirst, gives-first, gives-none, first-is, none-is}
+use Rattle.reach.specs.Best.{PathD, Best, corners, At}
+use Rattle.reach.proofs.Best.{Fewest}
+use Rattle.reach.proofs.Corners.{corners-length, heading, path-leads, either-path}
+use Rattle.reach.proofs.Corners.{NoLater, no-later-tail, lexd-before}
+
+module _ (f : ℕ → ℕ → Bool) (W H : ℕ) (inside : (x y : ℕ) → f x y ≡ true → (x < W) × (y < H)) (S T : Point) where
+  module _ (s-free : f (S .x) (S .y) ≡ true) (up : Bool) (cs : List ℕ) (B : Best up cs f (At T) (S .x) (S .y)) where
+    best-leads : leads f T either S (corners up cs (S .x) (S .y)) ≡ true
+    best-leads =
+        leads-either f T (heading up) S (corners up cs (S .x) (S .y)) (path-leads f T up cs (S .x) (S .y) (B .path))
+
+    module _ (ds : List Point) (p : isPath f S T ds ≡ true) where
+      fewest : length (corners up cs (S .x) (S .y)) ≤ length (of-path f S T ds p .rest)
+      fewest =
+          let r = of-path f S T ds p in
+          let k = either-path f T S (r .rest) (r .on) in
+          let l = B .fewest (k .0) (k .1) (k .2) in
+          let a = corners-length up cs (S .x) (S .y) in
+          let b = corners-length (k .0) (k .1) (S .x) (S .y) in
+          let c = ap length (k .3) in
+          omega arith
+
+      no-later : bends ds ≡ bends (S ∷ corners up cs (S .x) (S .y)) → NoLater (S ∷ corners up cs (S .x) (S .y)) ds
+      no-later e =
+          let r = of-path f S T ds p in
+          let k = either-path f T S (r .rest) (r .on) in
+          let n =
+          same-bends f S T (corners up cs (S .x) (S .y)) (r .rest) best-leads (r .on) fewest
+          (ap bends (sym (r .is)) ∙ e) in
+          let a = corners-length up cs (S .x) (S .y) in
+          let b = corners-length (k .0) (k .1) (S .x) (S .y) in
+          let c = ap length (k .3) in
+          let m : length cs ≡ length (k .1) = omega arith in
+          subst (λ (l : List Point). NoLater (S ∷ corners up cs (S .x) (S .y)) l)
+          (ap (λ (l : List Point). S ∷ l) (sym (k .3)) ∙ sym (r .is))
+          (no-later-tail S (corners up cs (S .x) (S .y)) (corners (k .0) (k .1) (S .x) (S .y))
+          (lexd-before up (k .0) cs (k .1) (S .x) (S .y) m (B .first (k .0) (k .1) (k .2) m)))
+
+    best-is-first : IsFirst f S T (S ∷ corners up cs (S .x) (S .y))
+    unfolding bends
+    best-is-first =
+        record {
+          path = to-path f S T (corners up cs (S .x) (S .y)) s-free best-leads;
+          fewest = λ ds p. let l = fewest ds p in let e = ap length (of-path f S T ds p .is) in omega arith;
+          first = no-later;
+        }
+
+    pub best-first : firstPath f W H S T ≡ some (S ∷ corners up cs (S .x) (S .y))
+    best-first = first-is f W H inside S T (S ∷ corners up cs (S .x) (S .y)) best-is-first
+
+  pub none-first : ((d : Bool) (ks : List ℕ) → PathD d ks f (At T) (S .x) (S .y) → ⊥) → firstPath f W H S T ≡ none
+  none-first h =
+      none-is f W H inside S T
+      (λ ds p.
+      let r = of-path f S T ds p in
+      let k = either-path f T S (r .rest) (r .on) in
+      h (k .0) (k .1) (k .2))
+
+  -- firstPath gives one corner more than a path of fewest segments has segments
+  pub fewest-first : f (S .x) (S .y) ≡ true → (n : ℕ) → Fewest f (At T) (S .x) (S .y) n
+      → (cs : List Point) × (firstPath f W H S T ≡ some cs) × (length cs ≡ suc n)
+  unfolding bends
+  fewest-first s-free n F = go (firstPath f W H S T) refl
+    where
+      ps : List Point
+      ps = corners (F .up) (F .cs) (S .x) (S .y)
+
+      leads-ps : leads f T either S ps ≡ true
+      leads-ps = leads-either f T (heading (F .up)) S ps (path-leads f T (F .up) (F .cs) (S .x) (S .y) (F .path))
+
+      go : (o : Option (List Point)) → firstPath f W H S T ≡ o
+          → (cs : List Point) × (o ≡ some cs) × (length cs ≡ suc n)
+      go none h = absurd (gives-none f W H inside S T h (S ∷ ps) (to-path f S T ps s-free leads-ps))
+      go (some cs) h =
+          let a = gives-first f W H inside S T cs h in
+          let b = a .fewest (S ∷ ps) (to-path f S T ps s-free leads-ps) in
+          let r = of-path f S T cs (a .path) in
+          let k = either-path f T S (r .rest) (r .on) in
+          let l = F .least (k .0) (k .1) (k .2) in
+          let e = F .many in
+          let m = corners-length (F .up) (F .cs) (S .x) (S .y) in
+          let o = corners-length (k .0) (k .1) (S .x) (S .y) in
+          let u = ap length (r .is) in
+          let v = ap length (k .3) in
+          let w = same-bends f S T ps (r .rest) leads-ps (r .on) (omega arith) (omega arith) in
+          (cs, refl, omega arith)

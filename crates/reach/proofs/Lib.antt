@@ -1,0 +1,7 @@
+-- Laws of reach by segments.
+pub mod Reach
+pub mod Snap
+pub mod Greedy
+pub mod Best
+pub mod Corners
+pub mod FirstPath

@@ -1,0 +1,49 @@
+-- Laws of spans and of reach.
+use Prim.Native.Nat.{ℕ, zero, suc, _≤_, min, max}
+use native.Mathlib.Omega.{arith}
+use native.Mathlib.Decide.{decLe}
+use mathlib.Core.Path.{_≡_, subst}
+use mathlib.Core.Bool.{Bool, true}
+use Rattle.reach.specs.Reach.{flip, Span, Reach, TargetFree}
+
+module _ (f : ℕ → ℕ → Bool) (y : ℕ) where
+  pub span-refl : (a : ℕ) → f a y ≡ true → Span f y a a
+  unfolding Span
+  span-refl a h x lo hi = subst (λ (k : ℕ). f k y ≡ true) (omega arith) h
+
+  pub span-sym : (a b : ℕ) → Span f y a b → Span f y b a
+  unfolding Span
+  span-sym a b h x lo hi = h x (omega arith) (omega arith)
+
+  pub span-trans : (a b c : ℕ) → Span f y a b → Span f y b c → Span f y a c
+  unfolding Span
+  span-trans a b c h k x lo hi = pick (decLe x (max a b)) (decLe (min a b) x)
+    where
+      pick : Dec (x ≤ max a b) → Dec (min a b ≤ x) → f x y ≡ true
+      pick (yes p) (yes q) = h x q p
+      pick (no p) (yes q) = k x (omega arith) (omega arith)
+      pick (yes p) (no q) = k x (omega arith) (omega arith)
+      pick (no p) (no q) = k x (omega arith) (omega arith)
+
+  pub span-start : (a b : ℕ) → Span f y a b → f a y ≡ true
+  unfolding Span
+  span-start a b h = h a (omega arith) (omega arith)
+
+  pub span-end : (a b : ℕ) → Span f y a b → f b y ≡ true
+  unfolding Span
+  span-end a b h = h b (omega arith) (omega arith)
+
+  pub span-part : (a b c d : ℕ) → min a b ≤ min c d → max c d ≤ max a b → Span f y a b → Span f y c d
+  unfolding Span
+  span-part a b c d p q h x lo hi = h x (omega arith) (omega arith)
+
+-- one segment more, of length zero, at the end
+pub reach-up : (n : ℕ) (f : ℕ → ℕ → Bool) (T : ℕ → ℕ → Type 0) → TargetFree f T
+    → (x y : ℕ) → Reach n f T x y → Reach (suc n) f T x y
+reach-up zero f T tf x y t = (x, span-refl f y x (tf x y t), t)
+reach-up (suc n) f T tf x y r = (r .0, r .1, reach-up n (flip f) (flip T) (λ a b t. tf b a t) y (r .0) (r .2))
+
+-- a level segment before a level one joins it
+pub reach-merge : (n : ℕ) (f : ℕ → ℕ → Bool) (T : ℕ → ℕ → Type 0) (x y c : ℕ) → Span f y x c
+    → Reach (suc n) f T c y → Reach (suc n) f T x y
+reach-merge n f T x y c s r = (r .0, span-trans f y x c (r .0) s (r .1), r .2)

@@ -1,0 +1,60 @@
+-- Reach by segments over any test f of free points (x first, then y) and any targets T. A level segment goes along
+-- a row; an upright one is a level one of the flipped board, so that each notion is defined for one direction only.
+use Prim.Native.Nat.{ℕ, zero, suc, _≤_, _<_, min, max}
+use mathlib.Core.Path.{_≡_}
+use mathlib.Core.Bool.{Bool, true, false}
+use mathlib.Core.Logic.{_≢_, _⊎_}
+use mathlib.Core.List.{List, [], _∷_}
+use lib.ListN.{length}
+
+-- the board with columns and rows exchanged
+abbrev pub flip {ℓ} : {A : Type ℓ} → (ℕ → ℕ → A) → ℕ → ℕ → A
+flip f = λ x y. f y x
+
+-- all points of row y from a to b, either way round, are free
+unfoldable pub Span : (ℕ → ℕ → Bool) → ℕ → ℕ → ℕ → Type 0
+Span f y a b = (x : ℕ) → min a b ≤ x → x ≤ max a b → f x y ≡ true
+
+-- from (x, y) to a target by n segments, level and upright by turns, the first level, zero-length ones allowed
+abbrev pub Reach : ℕ → (ℕ → ℕ → Bool) → (ℕ → ℕ → Type 0) → ℕ → ℕ → Type 0
+Reach zero f T x y = T x y
+Reach (suc n) f T x y = (c : ℕ) × Span f y x c × Reach n (flip f) (flip T) y c
+
+-- every target is free
+abbrev pub TargetFree : (ℕ → ℕ → Bool) → (ℕ → ℕ → Type 0) → Type 0
+TargetFree f T = (x y : ℕ) → T x y → f x y ≡ true
+
+-- snapping x to s x goes down and keeps the order, and where x is free, all points from s x to x are
+pub record Snap (f : ℕ → ℕ → Bool) (s : ℕ → ℕ) : Type 0 where
+  pub down : (x : ℕ) → s x ≤ x
+  pub mono : (a b : ℕ) → a ≤ b → s a ≤ s b
+  pub kept : (x y z : ℕ) → f x y ≡ true → s x ≤ z → z ≤ x → f z y ≡ true
+
+-- the largest marked number up to x, if 0 is marked
+unfoldable pub snapTo : (ℕ → Bool) → ℕ → ℕ
+snapTo m zero = zero
+snapTo m (suc x) = elim (m (suc x)) [ true ↦ suc x | false ↦ snapTo m x ]
+
+-- 0 is marked, and so is each x at which some row becomes free
+pub record Marks (f : ℕ → ℕ → Bool) (m : ℕ → Bool) : Type 0 where
+  pub first : m 0 ≡ true
+  pub step : (x y : ℕ) → m (suc x) ≡ false → f (suc x) y ≡ true → f x y ≡ true
+
+-- a path from (x, y) to a target, the first segment level, as the coordinate that each segment goes to: of a level
+-- one the x, of an upright one the y
+abbrev pub Path : List ℕ → (ℕ → ℕ → Bool) → (ℕ → ℕ → Type 0) → ℕ → ℕ → Type 0
+Path [] f T x y = T x y
+Path (c ∷ cs) f T x y = (c ≢ x) × Span f y x c × Path cs (flip f) (flip T) y c
+
+-- each coordinate is the first from which as many segments as are left lead on
+abbrev pub Greedy : List ℕ → (ℕ → ℕ → Bool) → (ℕ → ℕ → Type 0) → ℕ → ℕ → Type 0
+Greedy [] f T x y = T x y
+Greedy (c ∷ cs) f T x y =
+    Span f y x c × ((k : ℕ) → k < c → Span f y x k → Reach (length cs) (flip f) (flip T) y k → ⊥)
+    × Greedy cs (flip f) (flip T) y c
+
+-- the order of coordinates: where the lists first differ, that of the first list is smaller
+abbrev pub Lex : List ℕ → List ℕ → Type 0
+Lex [] ks = Unit {0}
+Lex (c ∷ cs) [] = ⊥
+Lex (c ∷ cs) (k ∷ ks) = (c < k) ⊎ ((c ≡ k) × Lex cs ks)

@@ -1,0 +1,1 @@
+// Reach by segments, over any free test: definitions in specs/, laws in proofs/, no code.

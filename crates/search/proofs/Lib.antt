@@ -1,0 +1,6 @@
+-- Laws of the search.
+pub mod Grid
+pub mod Seeds
+pub mod Choice
+pub mod Written
+pub mod Search

@@ -1,0 +1,246 @@
+-- The labels say how many corners the first path of fewest bends has, and a walk takes them; or there is no path.
+use Prim.Native.Nat.{ℕ, _+_, _-_, _≤_, _<_}
+use native.Mathlib.Omega.{arith}
+use mathlib.Core.Path.{_≡_, refl, sym, ap, _∙_, subst}
+use mathlib.Core.Bool.{Bool, true, false}
+use mathlib.Core.Logic.{_≢_, _⊎_}
+use mathlib.Core.List.{List, [], _∷_}
+use mathlib.Core.Option.{Option, none, some}
+use lib.ListN.{getD, length}
+use borrow.Author.Tests.{ne-eqb}
+use Rattle.foil_spec.specs.Foil.{Point, point, free}
+use Rattle.foil_spec.specs.Paths.{firstPath}
+use Rattle.foil_spec.specs.Ledger.{pathOf, noPath, cornersOf}
+use Rattle.foil_spec.specs.Lent.{layoutOf}
+use Rattle.list_laws.proofs.Tests.{clash}
+use Rattle.reach.specs.Reach.{Reach, flip, TargetFree}
+use Rattle.reach.specs.Best.{PathD, Best, corners, At}
+use Rattle.reach.proofs.Greedy.{path-reach}
+use Rattle.reach.proofs.Best.{Fewest}
+use Rattle.reach.proofs.FirstPath.{best-first, none-first, fewest-first}
+use Rattle.grid.specs.Size.{area}
+use Rattle.grid.specs.Lines.{Lines}
+use Rattle.grid.proofs.Board.{of-free-on}
+use Rattle.labels.specs.Line.{along}
+use Rattle.labels.specs.Pass.{Pass, Below}
+use Rattle.labels.specs.Rounds.{Rounds, Ended, found, stuck}
+use Rattle.labels.specs.Walk.{Grounded}
+use Rattle.labels.proofs.Faithful.{Faithful}
+use Rattle.labels.proofs.Meaning.{Labelled, rounds-pos, rounds-labels, rounds-below, rounds-grounded, rounds-stuck}
+use Rattle.labels.proofs.First.{coords}
+use Rattle.search.specs.Grid.{Posed, Grid}
+use Rattle.search.specs.Choice.{Choice, labelAt}
+use Rattle.search.specs.Search.{Labelling, Starts, nowhere, goes, Trails, turns, Searched}
+use Rattle.search.specs.declared.Start.{Start}
+use Rattle.search.proofs.Grid.{level-faithful, upright-faithful}
+use Rattle.search.proofs.Seeds.{seeded-labels, seeded-below}
+use Rattle.search.proofs.Choice.{choice-some, fewest-level, fewest-upright, walk-level, walk-upright}
+
+-- the coordinates of a walk's crossings
+abbrev coordinates : Bool → List ℕ → List ℕ → List ℕ → List ℕ
+coordinates false cols rows qs = coords cols rows qs
+coordinates true cols rows qs = coords rows cols qs
+
+turns-are : (up : Bool) (cols rows : List ℕ) (i j : ℕ) (qs : List ℕ)
+    → turns up cols rows i j qs ≡ corners up (coordinates up cols rows qs) (getD cols i 0) (getD rows j 0)
+unfolding turns
+turns-are false cols rows i j [] = refl
+turns-are true cols rows i j [] = refl
+turns-are false cols rows i j (q ∷ qs) =
+    ap (λ (ps : List Point). point (getD cols q 0) (getD rows j 0) ∷ ps) (turns-are true cols rows q j qs)
+turns-are true cols rows i j (q ∷ qs) =
+    ap (λ (ps : List Point). point (getD cols i 0) (getD rows q 0) ∷ ps) (turns-are false cols rows i q qs)
+
+module _ {t : List ℕ} {n d w h : ℕ} {S T : Point} (P : Posed t n d w h S T) {cols rows el eu : List ℕ} {nc nr : ℕ}
+    (G : Grid t n d w h S T cols rows el eu nc nr) {i j : ℕ} {b : Bool} {l u : List ℕ}
+    (B : Labelling cols rows el eu nc nr S T i j b l u) where
+  abbrev f : ℕ → ℕ → Bool
+  f = free (layoutOf w h d n t)
+
+  inside : (x y : ℕ) → f x y ≡ true → (x < w) × (y < h)
+  inside x y e = let r = of-free-on w h d n t false x y e in (r .0, r .1)
+
+  target-free : TargetFree f (At T)
+  target-free x y e = rw (e .0, e .1) (P .t-free)
+
+  -- the start's crossing is S
+  abbrev start : Point
+  start = point (getD cols i 0) (getD rows j 0)
+
+  start-is : start ≡ S
+  start-is k = point (B .i-at k) (B .j-at k)
+
+  start-free : f (start .x) (start .y) ≡ true
+  start-free = rw (B .i-at, B .j-at) (P .s-free)
+
+  path-is : (o : Option (List Point)) → firstPath f w h start T ≡ o → pathOf (layoutOf w h d n t) S T ≡ o
+  unfolding pathOf layoutOf
+  path-is o e = subst (λ (p : Point). firstPath f w h p T ≡ o) start-is e
+
+  corners-are : (cs : List Point) → firstPath f w h start T ≡ some cs → cornersOf (layoutOf w h d n t) S T ≡ cs
+  unfolding cornersOf
+  corners-are cs e = rw (path-is (some cs) e) refl
+
+  -- the lines of both axes, and the grid's faithfulness in both directions
+  C : Lines cols nc
+  C = G .column-axis .fits
+
+  R : Lines rows nr
+  R = G .row-axis .fits
+
+  L : Faithful f (At T) cols nc rows nr el
+  L = level-faithful G
+
+  U : Faithful (flip f) (flip (At T)) rows nr cols nc eu
+  U = upright-faithful G
+
+  -- the labels before the first round
+  seeds : Labelled f (At T) cols nc rows nr 0 (B .l₀) × Labelled (flip f) (flip (At T)) rows nr cols nc 0 (B .u₀)
+  seeds = (
+    seeded-labels C R (B .tj-in) (B .ti-in) (λ x y e. (e .0 ∙ sym (B .ti-at), e .1 ∙ sym (B .tj-at)))
+        (B .ti-at, B .tj-at) (B .level-seed),
+    seeded-labels R C (B .ti-in) (B .tj-in) (λ y x e. (e .1 ∙ sym (B .tj-at), e .0 ∙ sym (B .ti-at)))
+        (B .ti-at, B .tj-at) (B .upright-seed),
+  )
+
+  level-low : Below nr nc (B .l₀) 1
+  level-low = seeded-below (B .l₀) (B .ql) (B .tj) (B .ti) nr nc (B .level-seed) (R .few) (C .few)
+
+  upright-low : Below nc nr (B .u₀) 1
+  upright-low = seeded-below (B .u₀) (B .qu) (B .ti) (B .tj) nc nr (B .upright-seed) (C .few) (R .few)
+
+  -- a round that changes nothing: there is no path
+  no-path : {v : ℕ} → Rounds el eu nc nr (B .l₀) (B .u₀) v l u → along l j i ≡ 0 → along u i j ≡ 0
+      → Pass u el nr nc v l l → Pass l eu nc nr v u u
+      → (e : Bool) (ks : List ℕ) → PathD e ks f (At T) (start .x) (start .y) → ⊥
+  no-path r zl zu p q e ks path =
+      go e path (rounds-stuck target-free L U seeds level-low upright-low r p q (length ks))
+    where
+      go : (e : Bool) → PathD e ks f (At T) (start .x) (start .y)
+          → ((b : ℕ) → b < nr → (a : ℕ) → a < nc → along l b a ≡ 0
+          → Reach (length ks) f (At T) (getD cols a 0) (getD rows b 0) → ⊥)
+          × ((a : ℕ) → a < nc → (b : ℕ) → b < nr → along u a b ≡ 0
+          → Reach (length ks) (flip f) (flip (At T)) (getD rows b 0) (getD cols a 0) → ⊥) → ⊥
+      go false path out =
+          out .0 j (B .j-in) i (B .i-in) zl (path-reach ks f (At T) (start .x) (start .y) path)
+      go true path out =
+          out .1 i (B .i-in) j (B .j-in) zu (path-reach ks (flip f) (flip (At T)) (start .y) (start .x) path)
+
+  -- the start has a label, after rounds up to v
+  module _ {v : ℕ} (r : Rounds el eu nc nr (B .l₀) (B .u₀) v l u) where
+    labelled : Labelled f (At T) cols nc rows nr (v - 1) l × Labelled (flip f) (flip (At T)) rows nr cols nc (v - 1) u
+    labelled = rounds-labels target-free L U seeds r
+
+    grounded : Grounded l u el nr nc × Grounded u l eu nc nr
+    grounded = rounds-grounded level-low upright-low r
+
+    most : (along l j i ≤ (v - 1) + 1) × (along u i j ≤ (v - 1) + 1)
+    most =
+        let low = rounds-below level-low upright-low r in
+        let p = rounds-pos r in
+        let a = low .0 .le j (B .j-in) i (B .i-in) in
+        let c = low .1 .le i (B .i-in) j (B .j-in) in
+        (omega arith, omega arith)
+
+    fewest : (k : ℕ) (up : Bool) → Choice l u eu nr i j up → labelAt up l u i j ≡ k + 1
+        → Fewest f (At T) (start .x) (start .y) k
+    unfolding labelAt
+    fewest k false c e =
+        fewest-level target-free L U (R .rising) (labelled .0) (labelled .1) (grounded .1) (B .i-in) (B .j-in)
+        (most .0) (most .1) k c e
+    fewest k true c e =
+        fewest-upright target-free L U (R .rising) (labelled .0) (labelled .1) (grounded .1) (B .i-in) (B .j-in)
+        (most .0) (most .1) k c e
+
+    best : (k : ℕ) (qs : List ℕ) (up : Bool) → Choice l u eu nr i j up → labelAt up l u i j ≡ k + 1
+        → Trails up l u el eu nc nr i j (k + 1) qs
+        → Best up (coordinates up cols rows qs) f (At T) (start .x) (start .y)
+    unfolding labelAt Trails
+    best k qs false c e tr =
+        walk-level target-free L U (R .rising) (labelled .0) (labelled .1) (grounded .1) (B .i-in) (B .j-in)
+        (most .0) (most .1) k qs c e tr
+    best k qs true c e tr =
+        walk-upright target-free L U (R .rising) (labelled .0) (labelled .1) (grounded .1) (B .i-in) (B .j-in)
+        (most .0) (most .1) k qs c e tr
+
+    takes : (k : ℕ) (qs : List ℕ) (up : Bool) → Choice l u eu nr i j up → labelAt up l u i j ≡ k + 1
+        → Trails up l u el eu nc nr i j (k + 1) qs
+        → start ∷ turns up cols rows i j qs ≡ cornersOf (layoutOf w h d n t) S T
+    takes k qs up c e tr =
+        ap (λ (ps : List Point). start ∷ ps) (turns-are up cols rows i j qs)
+        ∙ sym
+        (corners-are (start ∷ corners up (coordinates up cols rows qs) (start .x) (start .y))
+        (best-first f w h inside start T start-free up (coordinates up cols rows qs) (best k qs up c e tr)))
+
+pub found-some : {el eu : List ℕ} {nc nr i j : ℕ} {l₀ u₀ l u : List ℕ} {b : Bool} → Ended el eu nc nr i j l₀ u₀ l u b
+    → b ≡ true → (along l j i ≢ 0) ⊎ (along u i j ≢ 0)
+found-some (found m r p) e = p
+found-some (stuck r zl zu p q) e = clash e refl
+
+-- What `labels` answers.
+module _ {t : List ℕ} {n d w h : ℕ} {S T : Point} (P : Posed t n d w h S T) {cols rows el eu : List ℕ} {nc nr : ℕ}
+    (G : Grid t n d w h S T cols rows el eu nc nr) {i j : ℕ} {l u : List ℕ}
+    (ll : area ≤ length l) (lu : area ≤ length u) (le : area ≤ length el) (ue : area ≤ length eu) where
+  searched-none : Labelling cols rows el eu nc nr S T i j false l u
+      → Searched (layoutOf w h d n t) S T cols rows el eu l u
+      (record { columns = nc; rows = nr; i = i; j = j; upright = false; corners = 0 })
+  unfolding cornersOf noPath
+  searched-none B = go (B .ended)
+    where
+      go : Ended el eu nc nr i j (B .l₀) (B .u₀) l u false
+          → Searched (layoutOf w h d n t) S T cols rows el eu l u
+          (record { columns = nc; rows = nr; i = i; j = j; upright = false; corners = 0 })
+      go (stuck r zl zu p q) =
+          let e = path-is P G B none
+          (none-first (f P G B) w h (inside P G B) (start P G B) T (no-path P G B r zl zu p q)) in
+          record {
+            count = rw e refl;
+            none = rw e refl;
+            ready = λ one. absurd (omega arith);
+          }
+
+  searched-some : Labelling cols rows el eu nc nr S T i j true l u → (up : Bool) → Choice l u eu nr i j up
+      → Searched (layoutOf w h d n t) S T cols rows el eu l u
+      (record { columns = nc; rows = nr; i = i; j = j; upright = up; corners = labelAt up l u i j })
+  unfolding noPath
+  searched-some B up c = go (B .ended)
+    where
+      go : Ended el eu nc nr i j (B .l₀) (B .u₀) l u true
+          → Searched (layoutOf w h d n t) S T cols rows el eu l u
+          (record { columns = nc; rows = nr; i = i; j = j; upright = up; corners = labelAt up l u i j })
+      go (found m r p) =
+          let one = choice-some up c in
+          let e : labelAt up l u i j ≡ (labelAt up l u i j - 1) + 1 = omega arith in
+          let F = fewest P G B r (labelAt up l u i j - 1) up c e in
+          let q = fewest-first (f P G B) w h (inside P G B) (start P G B) T (start-free P G B)
+          (labelAt up l u i j - 1) F in
+          record {
+            count = let k = ap length (corners-are P G B (q .0) (q .1)) in omega (arith, q .2);
+            none = rw (path-is P G B (some (q .0)) (q .1)) (sym (ne-eqb (labelAt up l u i j) 0 (omega arith)));
+            ready = λ s. record {
+              walkable = record {
+                few-cols = G .column-axis .fits .few;
+                few-rows = G .row-axis .fits .few;
+                level-size = ll;
+                upright-size = lu;
+                level-edges = le;
+                upright-edges = ue;
+                cols-size = G .column-axis .fits .fit;
+                rows-size = G .row-axis .fits .fit;
+                level = grounded P G B r .0;
+                upright = grounded P G B r .1;
+              };
+              i-in = B .i-in;
+              j-in = B .j-in;
+              some = one;
+              label = refl;
+              takes = λ qs tr.
+                  takes P G B r (labelAt up l u i j - 1) qs up c e
+                  (subst (λ (v : ℕ). Trails up l u el eu nc nr i j v qs) e tr);
+            };
+          }
+
+  pub searched : {b : Bool} {s : Start} → Labelling cols rows el eu nc nr S T i j b l u
+      → Starts l u eu nc nr i j b s → Searched (layoutOf w h d n t) S T cols rows el eu l u s
+  searched B nowhere = searched-none B
+  searched B (goes up c) = searched-some B up c

@@ -1,0 +1,122 @@
+-- The labels before the first round: what the code leaves, and what they mean.
+use Prim.Native.Nat.{ℕ, zero, suc, _+_, _*_, _≤_, _<_}
+use native.Mathlib.Omega.{arith}
+use native.Mathlib.Decide.{decLt, ℕ-discrete}
+use mathlib.Core.Path.{_≡_, ap, _∙_, subst}
+use mathlib.Core.Bool.{Bool}
+use mathlib.Core.List.{List}
+use lib.ListN.{getD, set, length, length-set}
+use lib.Seq.{getD-set-same, getD-set-other}
+use Rattle.reach.specs.Reach.{Reach}
+use Rattle.grid.specs.Size.{stride, area}
+use Rattle.grid.specs.Lines.{Rising, Lines}
+use Rattle.grid.specs.Edges.{Filled}
+use Rattle.labels.specs.Line.{along}
+use Rattle.labels.specs.Pass.{Below, Queued}
+use Rattle.labels.specs.Rounds.{Begun}
+use Rattle.labels.proofs.Runs.{zeros-set, zeros-le}
+use Rattle.labels.proofs.Meaning.{Says, Labelled}
+use Rattle.search.specs.Seeds.{Seeded}
+
+pub seeded : (lab₀ lab queue : List ℕ) (line k : ℕ) → line < stride → k < stride → area ≡ length lab
+    → 2 * area ≤ length queue → Filled 0 area 0 lab₀ lab
+    → Seeded (set lab (line * stride + k) 1) (set (set queue 0 line) 1 k) line k
+seeded lab₀ lab queue line k ll lk l lq F =
+    record {
+      one = getD-set-same lab (line * stride + k) 1 0 (omega arith);
+      rest = λ p lp n. getD-set-other lab (line * stride + k) p 1 0 n ∙ F .inside p lp (omega arith);
+      queue-line =
+          getD-set-other (set queue 0 line) 1 0 k 0 (omega arith) ∙ getD-set-same queue 0 line 0 (omega arith);
+      queue-crossing = getD-set-same (set queue 0 line) 1 k 0 (omega (arith, length-set queue 0 line));
+      room =
+          let z = zeros-le lab in
+          let i = F .inside (line * stride + k) (omega arith) (omega arith) in
+          let w = zeros-set lab (line * stride + k) 0 (omega arith) i in
+          omega arith;
+    }
+
+module _ (lab queue : List ℕ) (line k m n : ℕ) (S : Seeded lab queue line k) (fm : m ≤ stride) (fn : n ≤ stride) where
+  pub seeded-queue : line < m → k < n → Queued queue 0 1 m n lab 1
+  seeded-queue ll lk =
+      record {
+        line-in = λ p a b. let e : p ≡ 0 = omega arith in rw e (omega (arith, S .queue-line));
+        cross-in = λ p a b. let e : p ≡ 0 = omega arith in rw e (omega (arith, S .queue-crossing));
+        sound = λ p a b. let e : p ≡ 0 = omega arith in rw e (rw (S .queue-line, S .queue-crossing) (S .one));
+        whole = λ a la b lb e.
+            let w = place a b la lb e (ℕ-discrete (a * stride + b) (line * stride + k)) in
+            (0, omega arith, omega arith, S .queue-line ∙ w .0, S .queue-crossing ∙ w .1);
+      }
+    where
+      place : (a b : ℕ) → a < m → b < n → along lab a b ≡ 1 → Dec (a * stride + b ≡ line * stride + k)
+          → (line ≡ a) × (k ≡ b)
+      place a b la lb e (yes q) = (omega arith, omega arith)
+      place a b la lb e (no q) = absurd (let z = S .rest (a * stride + b) (omega arith) q in omega arith)
+
+  pub seeded-below : Below m n lab 1
+  seeded-below = record { le = λ a la b lb. pick a b la lb (ℕ-discrete (a * stride + b) (line * stride + k)) }
+    where
+      pick : (a b : ℕ) → a < m → b < n → Dec (a * stride + b ≡ line * stride + k) → along lab a b ≤ 1
+      pick a b la lb (yes e) = omega (arith, S .one, ap (λ (p : ℕ). getD lab p 0) e)
+      pick a b la lb (no e) = omega (arith, S .rest (a * stride + b) (omega arith) e)
+
+-- both lists are seeded at the crossing (i, j)
+pub begun : {l u ql qu : List ℕ} {nc nr i j : ℕ} → nc ≤ stride → nr ≤ stride → i < nc → j < nr
+    → area ≡ length l → area ≡ length u → 2 * area ≤ length ql → 2 * area ≤ length qu
+    → Seeded l ql j i → Seeded u qu i j → Begun l u ql qu nc nr
+begun {l} {u} {ql} {qu} {nc} {nr} {i} {j} fc fr li lj al au bl bu L U =
+    record {
+      level = seeded-queue l ql j i nr nc L fr fc lj li;
+      upright = seeded-queue u qu i j nc nr U fc fr li lj;
+      level-low = seeded-below l ql j i nr nc L fr fc;
+      upright-low = seeded-below u qu i j nc nr U fc fr;
+      level-room = record { labels = omega arith; places = bl; left = L .room };
+      upright-room = record { labels = omega arith; places = bu; left = U .room };
+    }
+
+rising-same : {lines : List ℕ} {n : ℕ} → Rising lines n → (a b : ℕ) → a < n → b < n
+    → getD lines a 0 ≡ getD lines b 0 → a ≡ b
+rising-same R a b la lb e = pick (decLt a b) (decLt b a)
+  where
+    pick : Dec (a < b) → Dec (b < a) → a ≡ b
+    pick (yes p) q = let s = R .up a b p lb in omega arith
+    pick (no p) (yes q) = let s = R .up b a q la in omega arith
+    pick (no p) (no q) = omega arith
+
+-- the labels of m lines, with n crossings each, mean zero segments where the one target is crossing k of a line
+module _ {f : ℕ → ℕ → Bool} {T : ℕ → ℕ → Type 0} {cross : List ℕ} {n : ℕ} {lines : List ℕ} {m : ℕ}
+    (C : Lines cross n) (L : Lines lines m) {line k : ℕ} (ll : line < m) (lk : k < n)
+    (only : (x y : ℕ) → T x y → (x ≡ getD cross k 0) × (y ≡ getD lines line 0))
+    (is : T (getD cross k 0) (getD lines line 0)) {lab queue : List ℕ} (S : Seeded lab queue line k) where
+  away : (b a : ℕ) → b < m → a < n → ((a ≡ k) × (b ≡ line) → ⊥)
+      → Says f T 0 (getD cross a 0) (getD lines b 0) (along lab b a)
+  away b a lb la other =
+      let few = C .few in
+      let none = S .rest (b * stride + a) (let r = L .few in omega arith) (λ e. other (omega arith)) in
+      record {
+        never = λ e k z r. reached k z r;
+        reach = λ k e. absurd (omega arith);
+        least = λ k e. absurd (omega arith);
+      }
+    where
+      reached : (r : ℕ) → r ≤ 0 → Reach r f T (getD cross a 0) (getD lines b 0) → ⊥
+      reached zero z t =
+          let o = only (getD cross a 0) (getD lines b 0) t in
+          other (rising-same (C .rising) a k la lk (o .0), rising-same (L .rising) b line lb ll (o .1))
+      reached (suc r) z t = omega arith
+
+  pub seeded-labels : Labelled f T cross n lines m 0 lab
+  seeded-labels = record { says = λ b lb a la. pick b a lb la (ℕ-discrete a k) (ℕ-discrete b line) }
+    where
+      pick : (b a : ℕ) → b < m → a < n → Dec (a ≡ k) → Dec (b ≡ line)
+          → Says f T 0 (getD cross a 0) (getD lines b 0) (along lab b a)
+      pick b a lb la (no p) q = away b a lb la (λ e. p (e .0))
+      pick b a lb la (yes p) (no q) = away b a lb la (λ e. q (e .1))
+      pick b a lb la (yes p) (yes q) =
+          let o : along lab b a ≡ 1 = rw (p, q) (S .one) in
+          record {
+            never = λ e. absurd (omega arith);
+            reach = λ r e.
+                let z : 0 ≡ r = omega arith in
+                subst (λ (r : ℕ). Reach r f T (getD cross a 0) (getD lines b 0)) z (rw (p, q) is);
+            least = λ r e s l t. omega arith;
+          }

@@ -1,0 +1,55 @@
+-- The lines are tried from the first on.
+use Prim.Native.Nat.{ℕ, _-_, _≤_, _<_}
+use native.Mathlib.Omega.{arith}
+use mathlib.Core.Logic.{_≢_}
+use lib.ListN.{getD}
+use borrow.Author.Count.{below-more}
+use Rattle.search.proofs.index_of.Statement.{statement}
+use Rattle.search.proofs.index_of.Tie as tie
+
+abbrev Inv-loop : tie.InvT-loop
+Inv-loop lines n x k₀ k = (k ≤ n) × ((i : ℕ) → i < k → getD lines i 0 ≢ x)
+
+abbrev μ-loop : tie.MeasureT-loop
+μ-loop lines n x k₀ k = n - k
+
+loop-holds : tie.Need-loop-holds Inv-loop μ-loop
+loop-holds c = (omega arith, λ i l. absurd (omega arith))
+
+mul-if1 : tie.Need-mul-if1 Inv-loop μ-loop
+mul-if1 c = omega arith
+
+shared-slice-read-if1 : tie.Need-shared-slice-read-if1 Inv-loop μ-loop
+shared-slice-read-if1 c = omega arith
+
+returns : tie.Need-returns Inv-loop μ-loop
+returns c = record { below = omega arith; at = c .if1 .taken }
+
+add-k : tie.Need-add-k Inv-loop μ-loop
+add-k c = omega arith
+
+loop-less : tie.Need-loop-less Inv-loop μ-loop
+loop-less c = omega arith
+
+loop-again : tie.Need-loop-again Inv-loop μ-loop
+loop-again c = (omega arith, below-more _ _ (c .before .before .before .loop .inv .1) (c .if1 .left))
+
+returns-2 : tie.Need-returns-2 Inv-loop μ-loop
+returns-2 c =
+    let has = c .before .before .pre .1 in
+    absurd (c .before .loop .inv .1 (has .0) (omega (arith, has .1)) (has .2))
+
+pub index-of-spec : {M : Type 1} → statement M
+index-of-spec =
+    tie.close
+    (tie.spec
+    Inv-loop
+    μ-loop
+    loop-holds
+    mul-if1
+    shared-slice-read-if1
+    returns
+    add-k
+    loop-less
+    loop-again
+    returns-2)

@@ -1,0 +1,129 @@
+-- The places of both points, the labels of the target, and the rounds.
+use native.Mathlib.Omega.{arith}
+use mathlib.Core.Path.{sym, _∙_}
+use borrow.Author.Needs.{needs}
+use Rattle.search.proofs.Seeds.{begun}
+use Rattle.search.proofs.label.Statement.{statement}
+use Rattle.search.proofs.label.Tie as tie
+
+index-of-requires : tie.Need-index-of-requires
+index-of-requires c κs = search needs
+
+index-of-requires-2 : tie.Need-index-of-requires-2
+index-of-requires-2 c κs = search needs
+
+index-of-requires-3 : tie.Need-index-of-requires-3
+index-of-requires-3 c κs = search needs
+
+index-of-requires-4 : tie.Need-index-of-requires-4
+index-of-requires-4 c κs = search needs
+
+seed-requires : tie.Need-seed-requires
+seed-requires c κs =
+    let at-tj = c .before .before in
+    let at-ti = at-tj .before in
+    let start = at-ti .before .before .before .before .before .before .before .before .before .before .before in (
+      omega (arith, at-tj .index-of4 .ensures .below, start .pre .0 .3 .few),
+      omega (arith, at-ti .index-of3 .ensures .below, start .pre .0 .2 .few),
+      start .pre .1 .0 .level,
+      start .pre .1 .0 .level-queue,
+    )
+
+seed-requires-2 : tie.Need-seed-requires-2
+seed-requires-2 c κs =
+    let at-tj = c .before .before .before .before .before .before .before .before .before in
+    let at-ti = at-tj .before in
+    let start = at-ti .before .before .before .before .before .before .before .before .before .before .before in (
+      omega (arith, at-ti .index-of3 .ensures .below, start .pre .0 .2 .few),
+      omega (arith, at-tj .index-of4 .ensures .below, start .pre .0 .3 .few),
+      start .pre .1 .0 .upright,
+      start .pre .1 .0 .upright-queue,
+    )
+
+rounds-requires : tie.Need-rounds-requires
+rounds-requires c κs =
+    let at-upright = c .before .before .before .before .before .before .before .before in
+    let at-level = at-upright .before .before .before .before .before .before .before in
+    let at-tj = at-level .before .before .before in
+    let at-ti = at-tj .before in
+    let at-j = at-ti .before in
+    let at-i = at-j .before in
+    let start = at-i .before .before .before .before .before .before .before .before .before in
+    let level = at-level .seed in
+    let upright = at-upright .seed2 in (
+      (
+        record {
+          few-cols = start .pre .0 .2 .few;
+          few-rows = start .pre .0 .3 .few;
+          level = omega (arith, start .pre .1 .0 .level, level .kept .0);
+          upright = omega (arith, start .pre .1 .0 .upright, upright .kept .0);
+          level-edges = start .pre .0 .0;
+          upright-edges = start .pre .0 .1;
+        },
+        at-i .index-of .ensures .below,
+        at-j .index-of2 .ensures .below,
+      ),
+      begun (start .pre .0 .2 .few) (start .pre .0 .3 .few) (at-ti .index-of3 .ensures .below)
+          (at-tj .index-of4 .ensures .below) (start .pre .1 .0 .level ∙ sym (level .kept .0))
+          (start .pre .1 .0 .upright ∙ sym (upright .kept .0))
+          (omega (arith, start .pre .1 .0 .level-queue, level .kept .1 .0))
+          (omega (arith, start .pre .1 .0 .upright-queue, upright .kept .1 .0)) (level .ensures) (upright .ensures),
+    )
+
+same-length : tie.Need-same-length
+same-length c = search needs
+
+same-length-2 : tie.Need-same-length-2
+same-length-2 c = search needs
+
+same-length-3 : tie.Need-same-length-3
+same-length-3 c = search needs
+
+same-length-4 : tie.Need-same-length-4
+same-length-4 c = search needs
+
+returns : tie.Need-returns
+returns c =
+    let at-rounds = c .before .before .before .before .before .before .before .before in
+    let at-upright = at-rounds .before .before .before .before .before .before .before .before .before in
+    let at-level = at-upright .before .before .before .before .before .before .before in
+    let at-tj = at-level .before .before .before in
+    let at-ti = at-tj .before in
+    let at-j = at-ti .before in
+    let at-i = at-j .before in
+    record {
+      ti = at-ti .index-of3 .result;
+      tj = at-tj .index-of4 .result;
+      l₀ = at-level .seed .last .0;
+      u₀ = at-upright .seed2 .last .0;
+      ql = at-level .seed .last .1 .0;
+      qu = at-upright .seed2 .last .1 .0;
+      i-in = at-i .index-of .ensures .below;
+      j-in = at-j .index-of2 .ensures .below;
+      i-at = at-i .index-of .ensures .at;
+      j-at = at-j .index-of2 .ensures .at;
+      ti-in = at-ti .index-of3 .ensures .below;
+      tj-in = at-tj .index-of4 .ensures .below;
+      ti-at = at-ti .index-of3 .ensures .at;
+      tj-at = at-tj .index-of4 .ensures .at;
+      level-seed = at-level .seed .ensures;
+      upright-seed = at-upright .seed2 .ensures;
+      ended = at-rounds .rounds .ensures;
+    }
+
+pub label-spec : {M : Type 1} → statement M
+label-spec =
+    tie.close
+    (tie.spec
+    index-of-requires
+    index-of-requires-2
+    index-of-requires-3
+    index-of-requires-4
+    seed-requires
+    seed-requires-2
+    rounds-requires
+    same-length
+    same-length-2
+    same-length-3
+    same-length-4
+    returns)

@@ -1,0 +1,134 @@
+-- The first corner, and then the steps by turns.
+use native.Mathlib.Omega.{arith}
+use mathlib.Core.Path.{refl}
+use borrow.Author.Needs.{needs}
+use Rattle.search.proofs.Written.{level-label, upright-label, level-written, upright-written}
+use Rattle.search.proofs.walk.Statement.{statement}
+use Rattle.search.proofs.walk.Tie as tie
+
+mul-put-corner : tie.Need-mul-put-corner
+mul-put-corner c = search needs
+
+shared-slice-read-put-corner : tie.Need-shared-slice-read-put-corner
+shared-slice-read-put-corner c = search needs
+
+mul-put-corner-2 : tie.Need-mul-put-corner-2
+mul-put-corner-2 c = search needs
+
+shared-slice-read-put-corner-2 : tie.Need-shared-slice-read-put-corner-2
+shared-slice-read-put-corner-2 c = search needs
+
+put-corner-requires : tie.Need-put-corner-requires
+put-corner-requires c κs = search needs
+
+mul-upright-step : tie.Need-mul-upright-step
+mul-upright-step c = search needs
+
+add-upright-step : tie.Need-add-upright-step
+add-upright-step c = search needs
+
+mul-upright-step-2 : tie.Need-mul-upright-step-2
+mul-upright-step-2 c = search needs
+
+shared-slice-read-upright-step : tie.Need-shared-slice-read-upright-step
+shared-slice-read-upright-step c = search needs
+
+upright-step-requires : tie.Need-upright-step-requires
+upright-step-requires c κs =
+    let at-if = c .before .before in
+    let at-first = at-if .before .before .before in
+    let start = at-first .before .before .before .before .before .before .before .before .before .before .before in
+    let ready = start .pre .0 .1 in
+    let label = upright-label ready (at-if .if1 .taken) in (
+      ready .walkable,
+      (
+        ready .i-in,
+        ready .j-in,
+        omega (arith, label, ready .some),
+        refl,
+        omega (arith, label, start .pre .1, at-first .put-corner .kept .0),
+      ),
+    )
+
+same-length : tie.Need-same-length
+same-length c = search needs
+
+returns : tie.Need-returns
+returns c =
+    let at-step = c .before .before in
+    let at-if = at-step .before .before .before in
+    let at-first = at-if .before .before .before in
+    let start = at-first .before .before .before .before .before .before .before .before .before .before .before in
+    record {
+      writes = λ cs ready.
+          upright-written cs _ _ _ _ _ _ _ ready _ _ (start .pre .1) (at-if .if1 .taken)
+          (upright-label ready (at-if .if1 .taken)) (at-first .put-corner .ensures) (at-step .upright-step .ensures);
+    }
+
+mul-level-step : tie.Need-mul-level-step
+mul-level-step c = search needs
+
+add-level-step : tie.Need-add-level-step
+add-level-step c = search needs
+
+mul-level-step-2 : tie.Need-mul-level-step-2
+mul-level-step-2 c = search needs
+
+shared-slice-read-level-step : tie.Need-shared-slice-read-level-step
+shared-slice-read-level-step c = search needs
+
+level-step-requires : tie.Need-level-step-requires
+level-step-requires c κs =
+    let at-if = c .before .before in
+    let at-first = at-if .before .before .before in
+    let start = at-first .before .before .before .before .before .before .before .before .before .before .before in
+    let ready = start .pre .0 .1 in
+    let label = level-label ready (at-if .if1 .left) in (
+      ready .walkable,
+      (
+        ready .i-in,
+        ready .j-in,
+        omega (arith, label, ready .some),
+        refl,
+        omega (arith, label, start .pre .1, at-first .put-corner .kept .0),
+      ),
+    )
+
+same-length-2 : tie.Need-same-length-2
+same-length-2 c = search needs
+
+returns-2 : tie.Need-returns-2
+returns-2 c =
+    let at-step = c .before .before in
+    let at-if = at-step .before .before .before in
+    let at-first = at-if .before .before .before in
+    let start = at-first .before .before .before .before .before .before .before .before .before .before .before in
+    record {
+      writes = λ cs ready.
+          level-written cs _ _ _ _ _ _ _ ready _ _ (start .pre .1) (at-if .if1 .left)
+          (level-label ready (at-if .if1 .left)) (at-first .put-corner .ensures) (at-step .level-step .ensures);
+    }
+
+pub walk-spec : {M : Type 1} → statement M
+walk-spec =
+    tie.close
+    (tie.spec
+    mul-put-corner
+    shared-slice-read-put-corner
+    mul-put-corner-2
+    shared-slice-read-put-corner-2
+    put-corner-requires
+    mul-upright-step
+    add-upright-step
+    mul-upright-step-2
+    shared-slice-read-upright-step
+    upright-step-requires
+    same-length
+    returns
+    mul-level-step
+    add-level-step
+    mul-level-step-2
+    shared-slice-read-level-step
+    level-step-requires
+    same-length-2
+    returns-2)

@@ -1,0 +1,109 @@
+use native.Mathlib.Omega.{arith}
+use Prim.Native.Nat.{_+_, _-_}
+use mathlib.Core.Path.{_≡_, refl}
+use lib.ListN.{length}
+use Rattle.tracks.proofs.Appending.{Going, going-none, going-more, going-all, single}
+use Rattle.tracks.proofs.append_legs.Statement.{statement}
+use Rattle.tracks.proofs.append_legs.Tie as tie
+use Rattle.tracks.proofs.append_legs.Reads as reads
+use Rattle.tracks.proofs.append_legs.Lts as lts
+use Rattle.tracks.proofs.append_leg.Reads as append-leg-reads
+
+abbrev Inv-loop : tie.InvT-loop
+Inv-loop rows₀ n net path k j₀ rows j = (length rows ≡ length rows₀) × Going rows₀ rows n net path k j
+
+abbrev μ-loop : tie.MeasureT-loop
+μ-loop rows₀ n net path k j₀ rows j = k - (j + 1)
+
+-- src/lib.rt:60:9
+append-leg-requires : tie.Need-append-leg-requires Inv-loop μ-loop
+append-leg-requires c κs =
+    ((omega arith, omega arith),
+    ((omega (arith, c .before .before .before .before .pre .1 .long), omega (arith, c .before .before .before .before .pre .1 .long)),
+    ((c .before .before .before .before .pre .1 .small-x 0 (omega arith), c .before .before .before .before .pre .1 .small-y 0 (omega arith)), (c .before .before .before .before .pre .1 .small-x 0 (omega arith), c .before .before .before .before .pre .1 .small-y 0 (omega arith)))))
+
+-- src/lib.rt:61:16
+add-result : tie.Need-add-result Inv-loop μ-loop
+add-result c = omega arith
+
+-- src/lib.rt:61:9
+same-length : tie.Need-same-length Inv-loop μ-loop
+same-length c = c .before .before .append-leg .kept .0
+
+-- src/lib.rt:61:9
+returns : tie.Need-returns Inv-loop μ-loop
+returns c =
+    single _ _ _ _ _ _ (c .before .before .before .before .if1 .taken) (omega arith) (c .before .before .append-leg .ensures)
+
+-- src/lib.rt:64:5
+loop-holds : tie.Need-loop-holds Inv-loop μ-loop
+loop-holds c = (refl, going-none _ _ _ _ _ (omega arith) (omega arith))
+
+-- src/lib.rt:64:11
+add-loop : tie.Need-add-loop Inv-loop μ-loop
+add-loop c = omega arith
+
+-- src/lib.rt:65:26
+add-append-leg : tie.Need-add-append-leg Inv-loop μ-loop
+add-append-leg c = omega arith
+
+-- src/lib.rt:65:47
+add-append-leg-2 : tie.Need-add-append-leg-2 Inv-loop μ-loop
+add-append-leg-2 c = omega arith
+
+-- src/lib.rt:65:9
+append-leg-requires-2 : tie.Need-append-leg-requires-2 Inv-loop μ-loop
+append-leg-requires-2 c κs =
+    ((omega arith, c .before .before .loop .inv .1 .long),
+    ((omega (arith, c .before .before .before .before .before .before .pre .1 .long), omega (arith, c .before .before .before .before .before .before .pre .1 .long)),
+    ((c .before .before .before .before .before .before .pre .1 .small-x _ (omega arith), c .before .before .before .before .before .before .pre .1 .small-y _ (omega arith)),
+    (c .before .before .before .before .before .before .pre .1 .small-x _ (omega arith), c .before .before .before .before .before .before .pre .1 .small-y _ (omega arith)))))
+
+-- src/lib.rt:66:9
+add-j : tie.Need-add-j Inv-loop μ-loop
+add-j c = omega arith
+
+-- src/lib.rt:64:5
+loop-less : tie.Need-loop-less Inv-loop μ-loop
+loop-less c = omega arith
+
+-- src/lib.rt:64:5
+loop-again : tie.Need-loop-again Inv-loop μ-loop
+loop-again c =
+    (omega (arith, c .before .before .append-leg2 .kept .0, c .before .before .before .before .before .loop .inv .0),
+    going-more _ _ _ _ _ _ _ _ (omega arith) (c .before .before .before .before .before .loop .inv .1) (c .before .before .append-leg2 .ensures))
+
+-- src/lib.rt:68:5
+add-result-2 : tie.Need-add-result-2 Inv-loop μ-loop
+add-result-2 c = omega arith
+
+-- src/lib.rt:54:1
+same-length-2 : tie.Need-same-length-2 Inv-loop μ-loop
+same-length-2 c = c .before .loop .inv .0
+
+-- src/lib.rt:54:1
+returns-2 : tie.Need-returns-2 Inv-loop μ-loop
+returns-2 c =
+    going-all _ _ _ _ _ _ _ (omega arith) (omega arith) (omega arith) (c .before .loop .inv .1)
+
+pub append-legs-spec : {M : Type 1} → statement M
+append-legs-spec =
+    tie.close
+    (tie.spec
+    Inv-loop
+    μ-loop
+    append-leg-requires
+    add-result
+    same-length
+    returns
+    loop-holds
+    add-loop
+    add-append-leg
+    add-append-leg-2
+    append-leg-requires-2
+    add-j
+    loop-less
+    loop-again
+    add-result-2
+    same-length-2
+    returns-2)

@@ -1,0 +1,2 @@
+-- What the contracts of the tracks cite.
+pub mod Legs
