@@ -60,7 +60,7 @@ part-fill : {other edge : List ℕ} {line n v k a b c : ℕ} (h : ℕ) → h < n
 part-fill h l r e x (held y) = x
 part-fill h l r e x fresh = part-fresh h l r e x refl
 
-pub visited-none : (other edge from : List ℕ) (m n v a : ℕ) (l : List ℕ) → Full edge l m n →
+visited-none : (other edge from : List ℕ) (m n v a : ℕ) (l : List ℕ) → Full edge l m n →
     Visited other edge from m n v a a l l 0
 visited-none other edge from m n v a l F = record {
   size = refl;

@@ -219,12 +219,14 @@ module _ {t : List ℕ} {n d w h : ℕ} {S T : Point} (P : Posed t n d w h S T) 
             none = rw (path-is P G B (some (q .0)) (q .1)) (sym (ne-eqb (labelAt up l u i j) 0 (omega arith)));
             ready = λ s. record {
               walkable = record {
-                few-cols = G .column-axis .fits .few;
-                few-rows = G .row-axis .fits .few;
-                level-size = ll;
-                upright-size = lu;
-                level-edges = le;
-                upright-edges = ue;
+                sized = record {
+                  few-cols = G .column-axis .fits .few;
+                  few-rows = G .row-axis .fits .few;
+                  level = ll;
+                  upright = lu;
+                  level-edges = le;
+                  upright-edges = ue;
+                };
                 cols-size = G .column-axis .fits .fit;
                 rows-size = G .row-axis .fits .fit;
                 level = grounded P G B r .0;

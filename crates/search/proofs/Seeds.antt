@@ -18,6 +18,7 @@ use Rattle.labels.proofs.Runs.{zeros-set, zeros-le}
 use Rattle.labels.proofs.Meaning.{Says, Labelled}
 use Rattle.search.specs.Seeds.{Seeded}
 
+-- what `seed` leaves
 pub seeded : (lab₀ lab queue : List ℕ) (line k : ℕ) → line < stride → k < stride → area ≡ length lab
     → 2 * area ≤ length queue → Filled 0 area 0 lab₀ lab
     → Seeded (set lab (line * stride + k) 1) (set (set queue 0 line) 1 k) line k
@@ -35,8 +36,9 @@ seeded lab₀ lab queue line k ll lk l lq F =
           omega arith;
     }
 
+-- what `rounds` asks of it, for m lines with n crossings each
 module _ (lab queue : List ℕ) (line k m n : ℕ) (S : Seeded lab queue line k) (fm : m ≤ stride) (fn : n ≤ stride) where
-  pub seeded-queue : line < m → k < n → Queued queue 0 1 m n lab 1
+  seeded-queue : line < m → k < n → Queued queue 0 1 m n lab 1
   seeded-queue ll lk =
       record {
         line-in = λ p a b. let e : p ≡ 0 = omega arith in rw e (omega (arith, S .queue-line));

@@ -17,6 +17,7 @@ use Rattle.search.specs.Choice.{labelAt}
 use Rattle.search.specs.Search.{Trails, turns, Ready, Written}
 use Rattle.search.specs.declared.Start.{Start}
 
+-- the numbers that corners are written as
 abbrev numbers : List Point → List ℕ
 numbers cs = each pointNumbers cs
 
@@ -25,6 +26,7 @@ unfolding pointNumbers
 numbers-length [] = refl
 numbers-length (p ∷ cs) = let e = numbers-length cs in omega arith
 
+-- one corner, and then the others
 put-more : (out : List ℕ) (at x y : ℕ) (cs : List Point)
     → sets (put out at x y) (2 * (at + 1)) (numbers cs) ≡ sets out (2 * at) (numbers (point x y ∷ cs))
 unfolding pointNumbers
@@ -34,6 +36,7 @@ put-more out at x y cs =
     rw (e, d) refl
 
 module _ (cols rows : List ℕ) where
+  -- what the steps of a walk put
   mutual
     unfolding levelOut uprightOut turns
 

@@ -15,7 +15,7 @@ use Rattle.grid.specs.Edges.{Painted}
 pub record Posed (t : List ℕ) (n d w h : ℕ) (S T : Point) : Type 0 where
   pub table : n * 5 ≤ length t
   pub few : n ≤ 128
-  pub near : d ≤ 15
+  pub clearance : d ≤ 15
   pub wide : w ≤ 4096
   pub high : h ≤ 4096
   pub boxes : Boxes n t

@@ -23,7 +23,7 @@ pub record LabelRoom (l u ql qu : List ℕ) : Type 0 where
   pub level-queue : 2 * area ≤ length ql
   pub upright-queue : 2 * area ≤ length qu
 
--- the crossing (i, j) of S and that of T, the labels before the first round, and the rounds
+-- the crossing (i, j) of S and (ti, tj) of T, the labels l₀ and u₀ before the first round, and the rounds
 pub record Labelling (cols rows el eu : List ℕ) (nc nr : ℕ) (S T : Point) (i j : ℕ) (found : Bool) (l u : List ℕ)
     : Type 0 where
   pub ti : ℕ
@@ -44,7 +44,7 @@ pub record Labelling (cols rows el eu : List ℕ) (nc nr : ℕ) (S T : Point) (i
   pub upright-seed : Seeded u₀ qu ti tj
   pub ended : Ended el eu nc nr i j l₀ u₀ l u found
 
--- where a walk starts, if the crossing (i, j) has a label
+-- where a walk starts, if the crossing (i, j) was found to have a label
 pub data Starts (l u eu : List ℕ) (nc nr i j : ℕ) : Bool → Start → Type 0 where
   nowhere : Starts l u eu nc nr i j false
       (record { columns = nc; rows = nr; i = i; j = j; upright = false; corners = 0 })
@@ -57,7 +57,7 @@ unfoldable pub Trails : Bool → (l u el eu : List ℕ) (nc nr i j v : ℕ) → 
 Trails false l u el eu nc nr i j v qs = Trail l u el eu nr nc j i v qs
 Trails true l u el eu nc nr i j v qs = Trail u l eu el nc nr i j v qs
 
--- its corners
+-- its corners after the first
 unfoldable pub turns : Bool → (cols rows : List ℕ) (i j : ℕ) → List ℕ → List Point
 turns up cols rows i j [] = []
 turns false cols rows i j (q ∷ qs) = point (getD cols q 0) (getD rows j 0) ∷ turns true cols rows q j qs

@@ -2,7 +2,6 @@
 use Prim.Native.Nat.{_-_}
 use borrow.Author.Needs.{needs}
 use Rattle.labels.proofs.Line.{stop-of}
-use borrow.Author.Needs.{needs}
 use Rattle.labels.proofs.next_stop.Statement.{statement}
 use Rattle.labels.proofs.next_stop.Tie as tie
 

@@ -6,48 +6,47 @@ use borrow.Author.Needs.{needs}
 use Rattle.grid.specs.Size.{stride}
 use Rattle.labels.specs.Pass.{Push}
 use Rattle.labels.proofs.Runs.{zeros-some}
-use borrow.Author.Needs.{needs}
 use Rattle.labels.proofs.push_cell.Statement.{statement}
 use Rattle.labels.proofs.push_cell.Tie as tie
 
 mul-if1 : tie.Need-mul-if1
-mul-if1 c = search needs
+mul-if1 c = omega arith
 
 add-if1 : tie.Need-add-if1
-add-if1 c = search needs
+add-if1 c = omega arith
 
 mul-if1-2 : tie.Need-mul-if1-2
-mul-if1-2 c = search needs
+mul-if1-2 c = omega arith
 
 slice-read-if1 : tie.Need-slice-read-if1
-slice-read-if1 c = search needs
+slice-read-if1 c = omega arith
 
 returns : tie.Need-returns
 returns c = Push.stays (c .if1 .taken)
 
 add-labels : tie.Need-add-labels
-add-labels c = search needs
+add-labels c = omega arith
 
 mul-labels : tie.Need-mul-labels
-mul-labels c = search needs
+mul-labels c = omega arith
 
 add-labels-2 : tie.Need-add-labels-2
-add-labels-2 c = search needs
+add-labels-2 c = omega arith
 
 mul-labels-2 : tie.Need-mul-labels-2
-mul-labels-2 c = search needs
+mul-labels-2 c = omega arith
 
 slice-write-labels : tie.Need-slice-write-labels
-slice-write-labels c = search needs
+slice-write-labels c = omega arith
 
 cast-queue : tie.Need-cast-queue
-cast-queue c = search needs
+cast-queue c = omega arith
 
 mul-queue : tie.Need-mul-queue
-mul-queue c = search needs
+mul-queue c = omega arith
 
 mul-queue-2 : tie.Need-mul-queue-2
-mul-queue-2 c = search needs
+mul-queue-2 c = omega arith
 
 slice-write-queue : tie.Need-slice-write-queue
 slice-write-queue c =
@@ -56,16 +55,16 @@ slice-write-queue c =
     omega (arith, zeros-some (args .labels .now) at (omega arith) (c .if1 .left))
 
 cast-queue-2 : tie.Need-cast-queue-2
-cast-queue-2 c = search needs
+cast-queue-2 c = omega arith
 
 mul-queue-3 : tie.Need-mul-queue-3
-mul-queue-3 c = search needs
+mul-queue-3 c = omega arith
 
 add-queue : tie.Need-add-queue
-add-queue c = search needs
+add-queue c = omega arith
 
 mul-queue-4 : tie.Need-mul-queue-4
-mul-queue-4 c = search needs
+mul-queue-4 c = omega arith
 
 slice-write-queue-2 : tie.Need-slice-write-queue-2
 slice-write-queue-2 c =
@@ -74,7 +73,7 @@ slice-write-queue-2 c =
     simp length-set (omega (arith, zeros-some (args .labels .now) at (omega arith) (c .if1 .left)))
 
 add-result : tie.Need-add-result
-add-result c = search needs
+add-result c = omega arith
 
 same-length : tie.Need-same-length
 same-length c = search needs

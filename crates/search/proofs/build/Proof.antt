@@ -9,7 +9,7 @@ axis-requires : tie.Need-axis-requires
 axis-requires c κs =
     let start = c .before .before .before .before .before .before .before .before in
     let on = posed-on (start .pre .0) in (
-      (omega arith, start .pre .0 .few, start .pre .0 .near, omega arith, omega arith),
+      (omega arith, start .pre .0 .few, start .pre .0 .clearance, omega arith, omega arith),
       (start .pre .0 .wide, omega arith, omega arith),
     )
 
@@ -18,7 +18,7 @@ axis-requires-2 c κs =
     let at-axis = c .before .before .before .before .before .before in
     let start = at-axis .before .before .before .before .before .before .before .before .before in
     let on = posed-on (start .pre .0) in (
-      (omega arith, start .pre .0 .few, start .pre .0 .near, omega arith, omega arith),
+      (omega arith, start .pre .0 .few, start .pre .0 .clearance, omega arith, omega arith),
       (start .pre .0 .high, omega (arith, at-axis .axis .kept .1 .0), omega arith),
     )
 
@@ -29,7 +29,7 @@ edges-requires c κs =
     let start = at-columns .before .before .before .before .before .before .before .before .before in
     let cols = at-columns .axis .ensures .fits in
     let rows = at-rows .axis2 .ensures .fits in (
-      (omega arith, start .pre .0 .near, start .pre .0 .boxes),
+      (omega arith, start .pre .0 .clearance, start .pre .0 .boxes),
       record { along = rows; across = cols; room = omega arith },
     )
 
@@ -41,7 +41,7 @@ edges-requires-2 c κs =
     let start = at-columns .before .before .before .before .before .before .before .before .before in
     let cols = at-columns .axis .ensures .fits in
     let rows = at-rows .axis2 .ensures .fits in (
-      (omega arith, start .pre .0 .near, start .pre .0 .boxes),
+      (omega arith, start .pre .0 .clearance, start .pre .0 .boxes),
       record { along = cols; across = rows; room = omega arith },
     )
 
