@@ -42,7 +42,13 @@ module _ (net x0 y0 x1 y1 : ℕ) where
       let z : k ≡ length xs + 0 = omega arith in
       let s : (j : ℕ) → k + j ≡ length xs + j = λ j. omega arith in
       rw (s 1, s 2, s 3, s 4, z)
-      (rw (set-later xs ys 0 net, set-later xs _ 1 x0, set-later xs _ 2 y0, set-later xs _ 3 x1, set-later xs _ 4 y1) refl)
+      (rw (
+        set-later xs ys 0 net,
+        set-later xs _ 1 x0,
+        set-later xs _ 2 y0,
+        set-later xs _ 3 x1,
+        set-later xs _ 4 y1,
+      ) refl)
 
   grown : (es : List Entry) (k : ℕ) → length es < 128 → length es * 5 ≡ k
       → stored (rowsOf es) k ≡ rowsOf (es ++ entry net x0 y0 x1 y1 ∷ [])

@@ -73,7 +73,8 @@ module _ (b : Board) (t s : List ℕ) (w h d : ℕ) where
             unfolding layoutOf next says first
             begun r t′ s′ (fits k q) =
                 accepted-done c m r t′ s′
-                (from-1 ∙ rw (sym u-is ∙ not-false u wide, sym v-is ∙ not-false v high, sym o-is ∙ not-false o clear) refl)
+                (from-1
+                ∙ rw (sym u-is ∙ not-false u wide, sym v-is ∙ not-false v high, sym o-is ∙ not-false o clear) refl)
                 refl q k
             begun r t′ s′ (over k q e) =
                 clash (k .many) (new-fine w h d (sym u-is ∙ not-false u wide) (sym v-is ∙ not-false v high))

@@ -46,7 +46,8 @@ module _ (b : Board) (t s : List ℕ) (net : ℕ) where
       unfolding first
       no-net n r q = refused-done c m 4 r q (from-4 ∙ rw (sym o-is ∙ not-true o n) refl)
 
-      module _ (allowed : not o ≡ false) (u : Bool) (u-is : u ≡ inUse net (map (entryAt t) (range 0 (b .entries)))) where
+      module _
+          (allowed : not o ≡ false) (u : Bool) (u-is : u ≡ inUse net (map (entryAt t) (range 0 (b .entries)))) where
         pub not-there : not u ≡ true → (r : Done) → r ≡ refusedBy 6 b → StepDone c m r t s []
         unfolding first
         not-there n r q =

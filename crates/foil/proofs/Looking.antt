@@ -34,7 +34,10 @@ looked-found : (p : Point) (m : Lent) → Sound m → refusal (lookUp p) m ≡ n
     → Looked p m (Found (placeOf p (stripsOf (held m))))
 unfolding stepOn finish answerOf says next cornersAfter
 looked-found p m k e =
-    record { answer = rw e refl; state = rw e (ap (λ (n : Lent). withCorners n (m .corners)) (sym (sound-store-is m k))) }
+    record {
+      answer = rw e refl;
+      state = rw e (ap (λ (n : Lent). withCorners n (m .corners)) (sym (sound-store-is m k)));
+    }
 
 module _ (b : Board) (t s : List ℕ) (p : Point) where
   abbrev m : Lent

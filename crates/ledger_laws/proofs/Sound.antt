@@ -88,7 +88,8 @@ module _ (n : ℕ) (ns l : List ℕ) (fits : length ns ≤ n) where
   pub is-written : take n l ≡ ns ++ replicate (n - length ns) 0 → l ≡ written n ns l
   unfolding written
   is-written e =
-      sym (take-append-drop n l) ∙ ap (λ (x : List ℕ). x ++ drop n l) e ∙ append-assoc ns (replicate (n - length ns) 0) (drop n l)
+      sym (take-append-drop n l) ∙ ap (λ (x : List ℕ). x ++ drop n l) e
+      ∙ append-assoc ns (replicate (n - length ns) 0) (drop n l)
 
 module _ (a n : ℕ) (l : List ℕ) (le : a ≤ n) (long : n ≤ length l) where
   middle : ((k : ℕ) → a ≤ k → k < n → getD l k 0 ≡ 0) → take (n - a) (drop a l) ≡ replicate (n - a) 0

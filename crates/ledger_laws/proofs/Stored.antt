@@ -69,7 +69,8 @@ entry-here : (e : Entry) (t : List ℕ) → entryAt (entryNumbers e ++ t) 0 ≡ 
 unfolding entryAt entryNumbers
 entry-here e t = refl
 
-pub read-back : (es : List Entry) (rest : List ℕ) → map (entryAt (each entryNumbers es ++ rest)) (range 0 (length es)) ≡ es
+pub read-back : (es : List Entry) (rest : List ℕ)
+    → map (entryAt (each entryNumbers es ++ rest)) (range 0 (length es)) ≡ es
 read-back [] rest = refl
 read-back (e ∷ es) rest =
     let t : List ℕ = each entryNumbers es ++ rest in

@@ -14,7 +14,10 @@ module _ (l : List ℕ) (a : ℕ) where
 
   pub zeros-more : (i : ℕ) → getD l i 0 ≡ 0 → Zeros l a i → Zeros l a (i + 1)
   zeros-more i e z =
-      record { zero-at = λ k p q. below-more (λ (j : ℕ). a ≤ j → getD l j 0 ≡ 0) i (λ j u v. z .zero-at j v u) (λ v. e) k q p }
+      record {
+        zero-at = λ k p q.
+            below-more (λ (j : ℕ). a ≤ j → getD l j 0 ≡ 0) i (λ j u v. z .zero-at j v u) (λ v. e) k q p;
+      }
 
   pub zeros-all : (i b : ℕ) → b ≤ i → Zeros l a i → Zeros l a b
   zeros-all i b le z = record { zero-at = λ k p q. z .zero-at k p (omega arith) }

@@ -11,8 +11,7 @@ use Rattle.foil_spec.specs.Foil.{Point, Entry, entry}
 use Rattle.foil_spec.specs.Ledger.{leg, legsFrom, legs}
 use Rattle.list_laws.proofs.Members.{map-last, length-range}
 use Rattle.booking.specs.Rows.{rowsOf, Appended}
-use Rattle.booking.proofs.Filling.{length-rows}
-use Rattle.tracks.specs.Legs.{pointAt, Corners, Legs}
+use Rattle.tracks.specs.Legs.{pointAt, Legs}
 
 -- the legs between neighbouring corners, g being the corner at a place
 module _ (net : ℕ) (g : ℕ → Point) where
@@ -56,7 +55,7 @@ module _ (old : List ℕ) (n net : ℕ) (p : List ℕ) (k : ℕ) where
         rows = λ es c e.
             let ds : List Entry = map step (range 0 j) in
             let q : length (es ++ ds) ≡ n + j =
-                length-append es ds ∙ omega (arith, c, length-map (range 0 j) step, length-range 0 j) in
+            length-append es ds ∙ omega (arith, c, length-map (range 0 j) step, length-range 0 j) in
             a .rows (es ++ ds) q (g .rows es c e)
             ∙ ap rowsOf
             (append-assoc es ds (leg net (pointAt p j) (pointAt p (j + 1)) ∷ [])
@@ -76,11 +75,12 @@ module _ (old : List ℕ) (n net : ℕ) (p : List ℕ) (k : ℕ) where
       done (suc i) a b h =
           let e : suc (suc i) ≡ k = omega arith in
           let is : legs net (map (pointAt p) (range 0 k)) ≡ map step (range 0 (suc i)) =
-              ap (λ (x : ℕ). legs net (map (pointAt p) (range 0 x))) (sym e) ∙ legs-are net (pointAt p) i in
+          ap (λ (x : ℕ). legs net (map (pointAt p) (range 0 x))) (sym e) ∙ legs-are net (pointAt p) i in
           record {
             rows = λ es c q. h .rows es c q ∙ ap (λ (x : List Entry). rowsOf (es ++ x)) (sym is);
             counted =
-                omega (arith, ap (λ (x : List Entry). length x) is, length-map (range 0 (suc i)) step, length-range 0 (suc i));
+                let a = length-map (range 0 (suc i)) step in
+                omega (arith, ap (λ (x : List Entry). length x) is, a, length-range 0 (suc i));
             few = omega arith;
           }
 

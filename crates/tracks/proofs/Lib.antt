@@ -1,2 +1,3 @@
 -- Laws that the proofs of the tracks use.
 pub mod Appending
+pub mod Finding

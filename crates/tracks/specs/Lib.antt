@@ -1,2 +1,3 @@
 -- What the contracts of the tracks cite.
 pub mod Legs
+pub mod Found

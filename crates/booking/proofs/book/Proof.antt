@@ -28,12 +28,19 @@ enum-told c = search needs
 -- src/lib.rt:39:9
 returns : tie.Need-returns
 returns c =
-    refused _ _ _ _ _ _ _ _ _ ((rw (c .enum-told .given .1) at (c .before .before .before .rebuild .ensures)) .0) refl refl
+    refused _ _ _ _ _ _ _ _ _ ((rw (c .enum-told .given .1) at
+    (c .before .before .before .rebuild .ensures)) .0) refl refl
 
 -- src/lib.rt:41:5
 copy-front-requires : tie.Need-copy-front-requires
-copy-front-requires c κs =
-    (omega arith, rows-long (c .before .before .before .before .before .before .before .before .before .before .args .n) (c .before .before .before .before .before .before .before .before .before .before .args .rows .now) (c .before .before .before .before .before .before .before .before .before .before .pre .0 .few) (c .before .before .before .before .before .before .before .before .before .before .pre .1 .0))
+copy-front-requires c κs = (
+  omega arith,
+  rows-long
+      (c .before .before .before .before .before .before .before .before .before .before .args .n)
+      (c .before .before .before .before .before .before .before .before .before .before .args .rows .now)
+      (c .before .before .before .before .before .before .before .before .before .before .pre .0 .few)
+      (c .before .before .before .before .before .before .before .before .before .before .pre .1 .0),
+)
 
 -- src/lib.rt:42:24
 slice-aggregate-copy-front : tie.Need-slice-aggregate-copy-front
@@ -54,9 +61,16 @@ same-length-2 c = search needs
 -- src/lib.rt:29:1
 returns-2 : tie.Need-returns-2
 returns-2 c =
-    let q = rw (c .before .before .before .before .before .before .before .before .before .before .built .given .1) at (c .before .before .before .before .before .before .before .before .before .before .before .before .before .rebuild .ensures) in
-    taken _ _ _ _ _ _ _ _ _ _ _ _ (c .before .before .before .before .before .before .before .before .before .before .before .before .before .before .before .before .before .before .pre .0 .few) (c .before .before .before .before .before .before .before .before .before .before .before .before .before .before .before .before .before .before .pre .1 .0) (q .0) (q .1) (q .2)
-    (c .before .before .before .before .before .before .before .copy-front .ensures) (c .before .before .copy-front2 .ensures)
+    let q = rw (c .before .before .before .before .before .before .before .before .before .before .built .given .1) at
+    (c .before .before .before .before .before .before .before .before .before .before .before .before
+    .before .rebuild .ensures) in
+    taken _ _ _ _ _ _ _ _ _ _ _ _
+    (c .before .before .before .before .before .before .before .before .before .before .before .before .before
+    .before .before .before .before .before .pre .0 .few)
+    (c .before .before .before .before .before .before .before .before .before .before .before .before .before
+    .before .before .before .before .before .pre .1 .0) (q .0) (q .1) (q .2)
+    (c .before .before .before .before .before .before .before .copy-front .ensures)
+    (c .before .before .copy-front2 .ensures)
 
 pub book-spec : {M : Type 1} → statement M
 book-spec =

@@ -54,7 +54,8 @@ same-length-4 c = search needs
 -- src/lib.rt:81:9
 returns-2 : tie.Need-returns-2
 returns-2 c =
-    broken-done _ _ _ _ (c .before .before .before .before .before .before .lists-short .ensures) (c .before .before .before .before .before .if1 .left) _
+    broken-done _ _ _ _ (c .before .before .before .before .before .before .lists-short .ensures)
+    (c .before .before .before .before .before .if1 .left) _
     (c .before .before .is-sound .ensures) _ tt (c .before .if2 .taken) _ (c .refuse2 .ensures)
 
 -- src/lib.rt:83:9
@@ -77,7 +78,9 @@ same-length-6 c = search needs
 returns-3 : tie.Need-returns-3
 returns-3 c =
     no-patch _ _ _ _ _ _ _
-    (ready _ _ _ _ (c .before .before .before .before .before .before .before .before .lists-short .ensures) (c .before .before .before .before .before .before .before .if1 .left) _ (c .before .before .before .before .is-sound .ensures) (c .before .before .before .if2 .left)) _
+    (ready _ _ _ _ (c .before .before .before .before .before .before .before .before .lists-short .ensures)
+    (c .before .before .before .before .before .before .before .if1 .left) _
+    (c .before .before .before .before .is-sound .ensures) (c .before .before .before .if2 .left)) _
     (c .before .before .box-ok .ensures) (c .before .if3 .taken) _ (c .refuse3 .ensures)
 
 -- src/lib.rt:88:9
@@ -96,8 +99,11 @@ same-length-8 c = search needs
 returns-4 : tie.Need-returns-4
 returns-4 c =
     table-full _ _ _ _ _ _ _
-    (ready _ _ _ _ (c .before .before .before .before .before .before .before .before .before .lists-short .ensures) (c .before .before .before .before .before .before .before .before .if1 .left) _ (c .before .before .before .before .before .is-sound .ensures) (c .before .before .before .before .if2 .left)) _
-    (c .before .before .before .box-ok .ensures) (c .before .before .if3 .left) (c .before .if4 .taken) _ (c .refuse4 .ensures)
+    (ready _ _ _ _ (c .before .before .before .before .before .before .before .before .before .lists-short .ensures)
+    (c .before .before .before .before .before .before .before .before .if1 .left) _
+    (c .before .before .before .before .before .is-sound .ensures) (c .before .before .before .before .if2 .left)) _
+    (c .before .before .before .box-ok .ensures) (c .before .before .if3 .left) (c .before .if4 .taken) _
+    (c .refuse4 .ensures)
 
 -- src/lib.rt:91:16
 slice-aggregate-copy-front : tie.Need-slice-aggregate-copy-front
@@ -105,8 +111,14 @@ slice-aggregate-copy-front c = search needs
 
 -- src/lib.rt:91:5
 copy-front-requires : tie.Need-copy-front-requires
-copy-front-requires c κs =
-    (omega arith, (long-enough _ _ (c .before .before .before .before .before .before .before .before .before .before .before .before .before .before .before .args .board) _ (c .before .before .before .before .before .before .before .before .before .before .lists-short .ensures) (c .before .before .before .before .before .before .before .before .before .if1 .left)) .table)
+copy-front-requires c κs = (
+  omega arith,
+  (long-enough _ _
+      (c .before .before .before .before .before .before .before .before .before .before .before .before .before
+      .before .before .args .board) _
+      (c .before .before .before .before .before .before .before .before .before .before .lists-short .ensures)
+      (c .before .before .before .before .before .before .before .before .before .if1 .left)) .table,
+)
 
 -- src/lib.rt:92:12
 slice-aggregate-append : tie.Need-slice-aggregate-append
@@ -128,15 +140,54 @@ add-settle c = search needs
 settle-requires : tie.Need-settle-requires
 settle-requires c κs = (
   drawn-table _ _ _ _ _ _ _
-      (ready _ _ _ _ (c .before .before .before .before .before .before .before .before .before .before .before .before .before .before .before .before .before .before .lists-short .ensures) (c .before .before .before .before .before .before .before .before .before .before .before .before .before .before .before .before .before .if1 .left) _ (c .before .before .before .before .before .before .before .before .before .before .before .before .before .before .is-sound .ensures) (c .before .before .before .before .before .before .before .before .before .before .before .before .before .if2 .left)) _
-      (c .before .before .before .before .before .before .before .before .before .before .before .before .box-ok .ensures) (c .before .before .before .before .before .before .before .before .before .before .before .if3 .left) (c .before .before .before .before .before .before .before .before .before .before .if4 .left) _ _
-      (c .before .before .before .before .before .before .before .copy-front .ensures) (c .before .before .before .before .append .ensures),
+      (ready _ _ _ _
+      (c .before .before .before .before .before .before .before .before .before .before .before .before .before
+      .before .before .before .before .before .lists-short .ensures)
+      (c .before .before .before .before .before .before .before .before .before .before .before .before .before
+      .before .before .before .before .if1 .left) _
+      (c .before .before .before .before .before .before .before .before .before .before .before .before .before
+      .before .is-sound .ensures)
+      (c .before .before .before .before .before .before .before .before .before .before .before .before
+      .before .if2 .left)) _
+      (c .before .before .before .before .before .before .before .before .before .before .before
+      .before .box-ok .ensures)
+      (c .before .before .before .before .before .before .before .before .before .before .before .if3 .left)
+      (c .before .before .before .before .before .before .before .before .before .before .if4 .left) _ _
+      (c .before .before .before .before .before .before .before .copy-front .ensures)
+      (c .before .before .before .before .append .ensures),
   (
     drawn-again _ _ _ _ _ _ _
-        (ready _ _ _ _ (c .before .before .before .before .before .before .before .before .before .before .before .before .before .before .before .before .before .before .lists-short .ensures) (c .before .before .before .before .before .before .before .before .before .before .before .before .before .before .before .before .before .if1 .left) _ (c .before .before .before .before .before .before .before .before .before .before .before .before .before .before .is-sound .ensures) (c .before .before .before .before .before .before .before .before .before .before .before .before .before .if2 .left)) _
-        (c .before .before .before .before .before .before .before .before .before .before .before .before .box-ok .ensures) (c .before .before .before .before .before .before .before .before .before .before .before .if3 .left) (c .before .before .before .before .before .before .before .before .before .before .if4 .left) _ _
-        (c .before .before .before .before .before .before .before .copy-front .ensures) (c .before .before .before .before .append .ensures),
-    ((long-enough _ _ (c .before .before .before .before .before .before .before .before .before .before .before .before .before .before .before .before .before .before .before .before .before .before .before .args .board) _ (c .before .before .before .before .before .before .before .before .before .before .before .before .before .before .before .before .before .before .lists-short .ensures) (c .before .before .before .before .before .before .before .before .before .before .before .before .before .before .before .before .before .if1 .left)) .table, (long-enough _ _ (c .before .before .before .before .before .before .before .before .before .before .before .before .before .before .before .before .before .before .before .before .before .before .before .args .board) _ (c .before .before .before .before .before .before .before .before .before .before .before .before .before .before .before .before .before .before .lists-short .ensures) (c .before .before .before .before .before .before .before .before .before .before .before .before .before .before .before .before .before .if1 .left)) .strips),
+        (ready _ _ _ _
+        (c .before .before .before .before .before .before .before .before .before .before .before .before
+        .before .before .before .before .before .before .lists-short .ensures)
+        (c .before .before .before .before .before .before .before .before .before .before .before .before
+        .before .before .before .before .before .if1 .left) _
+        (c .before .before .before .before .before .before .before .before .before .before .before .before
+        .before .before .is-sound .ensures)
+        (c .before .before .before .before .before .before .before .before .before .before .before .before
+        .before .if2 .left)) _
+        (c .before .before .before .before .before .before .before .before .before .before .before
+        .before .box-ok .ensures)
+        (c .before .before .before .before .before .before .before .before .before .before .before .if3 .left)
+        (c .before .before .before .before .before .before .before .before .before .before .if4 .left) _ _
+        (c .before .before .before .before .before .before .before .copy-front .ensures)
+        (c .before .before .before .before .append .ensures),
+    (
+      (long-enough _ _
+          (c .before .before .before .before .before .before .before .before .before .before .before .before
+          .before .before .before .before .before .before .before .before .before .before .before .args .board) _
+          (c .before .before .before .before .before .before .before .before .before .before .before .before
+          .before .before .before .before .before .before .lists-short .ensures)
+          (c .before .before .before .before .before .before .before .before .before .before .before .before
+          .before .before .before .before .before .if1 .left)) .table,
+      (long-enough _ _
+          (c .before .before .before .before .before .before .before .before .before .before .before .before .before
+          .before .before .before .before .before .before .before .before .before .before .args .board) _
+          (c .before .before .before .before .before .before .before .before .before .before .before .before .before
+          .before .before .before .before .before .lists-short .ensures)
+          (c .before .before .before .before .before .before .before .before .before .before .before .before .before
+          .before .before .before .before .if1 .left)) .strips,
+    ),
   ),
 )
 
@@ -152,9 +203,25 @@ same-length-10 c = search needs
 returns-5 : tie.Need-returns-5
 returns-5 c =
     drawn _ _ _ _ _ _ _
-    (ready _ _ _ _ (c .before .before .before .before .before .before .before .before .before .before .before .before .before .before .before .before .before .before .before .before .before .before .before .lists-short .ensures) (c .before .before .before .before .before .before .before .before .before .before .before .before .before .before .before .before .before .before .before .before .before .before .if1 .left) _ (c .before .before .before .before .before .before .before .before .before .before .before .before .before .before .before .before .before .before .before .is-sound .ensures) (c .before .before .before .before .before .before .before .before .before .before .before .before .before .before .before .before .before .before .if2 .left)) _
-    (c .before .before .before .before .before .before .before .before .before .before .before .before .before .before .before .before .before .box-ok .ensures) (c .before .before .before .before .before .before .before .before .before .before .before .before .before .before .before .before .if3 .left) (c .before .before .before .before .before .before .before .before .before .before .before .before .before .before .before .if4 .left) _ _
-    (c .before .before .before .before .before .before .before .before .before .before .before .before .copy-front .ensures) (c .before .before .before .before .before .before .before .before .before .append .ensures) _ _ _ (c .before .before .before .before .settle .ensures)
+    (ready _ _ _ _
+    (c .before .before .before .before .before .before .before .before .before .before .before .before .before
+    .before .before .before .before .before .before .before .before .before .before .lists-short .ensures)
+    (c .before .before .before .before .before .before .before .before .before .before .before .before .before
+    .before .before .before .before .before .before .before .before .before .if1 .left) _
+    (c .before .before .before .before .before .before .before .before .before .before .before .before .before
+    .before .before .before .before .before .before .is-sound .ensures)
+    (c .before .before .before .before .before .before .before .before .before .before .before .before .before
+    .before .before .before .before .before .if2 .left)) _
+    (c .before .before .before .before .before .before .before .before .before .before .before .before .before
+    .before .before .before .before .box-ok .ensures)
+    (c .before .before .before .before .before .before .before .before .before .before .before .before .before
+    .before .before .before .if3 .left)
+    (c .before .before .before .before .before .before .before .before .before .before .before .before .before
+    .before .before .if4 .left) _ _
+    (c .before .before .before .before .before .before .before .before .before .before .before
+    .before .copy-front .ensures)
+    (c .before .before .before .before .before .before .before .before .before .append .ensures) _ _ _
+    (c .before .before .before .before .settle .ensures)
 
 pub draw-spec : {M : Type 1} → statement M
 draw-spec =

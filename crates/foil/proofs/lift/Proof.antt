@@ -57,7 +57,8 @@ same-length-4 c = search needs
 -- src/lib.rt:105:9
 returns-2 : tie.Need-returns-2
 returns-2 c =
-    broken-done _ _ _ _ (c .before .before .before .before .before .before .lists-short .ensures) (c .before .before .before .before .before .if1 .left) _
+    broken-done _ _ _ _ (c .before .before .before .before .before .before .lists-short .ensures)
+    (c .before .before .before .before .before .if1 .left) _
     (c .before .before .is-sound .ensures) _ tt (c .before .if2 .taken) _ (c .refuse2 .ensures)
 
 -- src/lib.rt:107:9
@@ -80,7 +81,9 @@ same-length-6 c = search needs
 returns-3 : tie.Need-returns-3
 returns-3 c =
     no-net _ _ _ _
-    (ready _ _ _ _ (c .before .before .before .before .before .before .before .before .lists-short .ensures) (c .before .before .before .before .before .before .before .if1 .left) _ (c .before .before .before .before .is-sound .ensures) (c .before .before .before .if2 .left)) _
+    (ready _ _ _ _ (c .before .before .before .before .before .before .before .before .lists-short .ensures)
+    (c .before .before .before .before .before .before .before .if1 .left) _
+    (c .before .before .before .before .is-sound .ensures) (c .before .before .before .if2 .left)) _
     (c .before .before .net-ok .ensures) (c .before .if3 .taken) _ (c .refuse3 .ensures)
 
 -- src/lib.rt:111:9
@@ -88,8 +91,15 @@ in-use-requires : tie.Need-in-use-requires
 in-use-requires c κs =
     omega (
       arith,
-      (long-enough _ _ (c .before .before .before .before .before .before .before .before .before .before .before .before .before .args .board) _ (c .before .before .before .before .before .before .before .before .lists-short .ensures) (c .before .before .before .before .before .before .before .if1 .left)) .table,
-      (held-limits _ _ _ (of-sound _ ((ready _ _ _ _ (c .before .before .before .before .before .before .before .before .lists-short .ensures) (c .before .before .before .before .before .before .before .if1 .left) _ (c .before .before .before .before .is-sound .ensures) (c .before .before .before .if2 .left)) .fine))) .few,
+      (long-enough _ _
+          (c .before .before .before .before .before .before .before .before .before .before .before .before
+          .before .args .board) _
+          (c .before .before .before .before .before .before .before .before .lists-short .ensures)
+          (c .before .before .before .before .before .before .before .if1 .left)) .table,
+      (held-limits _ _ _ (of-sound _ ((ready _ _ _ _
+          (c .before .before .before .before .before .before .before .before .lists-short .ensures)
+          (c .before .before .before .before .before .before .before .if1 .left) _
+          (c .before .before .before .before .is-sound .ensures) (c .before .before .before .if2 .left)) .fine))) .few,
     )
 
 -- src/lib.rt:112:9
@@ -108,7 +118,11 @@ same-length-8 c = search needs
 returns-4 : tie.Need-returns-4
 returns-4 c =
     not-there _ _ _ _
-    (ready _ _ _ _ (c .before .before .before .before .before .before .before .before .before .before .before .lists-short .ensures) (c .before .before .before .before .before .before .before .before .before .before .if1 .left) _ (c .before .before .before .before .before .before .before .is-sound .ensures) (c .before .before .before .before .before .before .if2 .left)) _
+    (ready _ _ _ _
+    (c .before .before .before .before .before .before .before .before .before .before .before .lists-short .ensures)
+    (c .before .before .before .before .before .before .before .before .before .before .if1 .left) _
+    (c .before .before .before .before .before .before .before .is-sound .ensures)
+    (c .before .before .before .before .before .before .if2 .left)) _
     (c .before .before .before .before .before .net-ok .ensures) (c .before .before .before .before .if3 .left) _
     (c .before .before .in-use .ensures) (c .before .if4 .taken) _ (c .refuse4 .ensures)
 
@@ -119,8 +133,27 @@ slice-aggregate-without c = search needs
 -- src/lib.rt:115:9
 without-requires : tie.Need-without-requires
 without-requires c κs = (
-  (held-limits _ _ _ (of-sound _ ((ready _ _ _ _ (c .before .before .before .before .before .before .before .before .before .before .before .before .lists-short .ensures) (c .before .before .before .before .before .before .before .before .before .before .before .if1 .left) _ (c .before .before .before .before .before .before .before .before .is-sound .ensures) (c .before .before .before .before .before .before .before .if2 .left)) .fine))) .few,
-  omega (arith, (long-enough _ _ (c .before .before .before .before .before .before .before .before .before .before .before .before .before .before .before .before .before .args .board) _ (c .before .before .before .before .before .before .before .before .before .before .before .before .lists-short .ensures) (c .before .before .before .before .before .before .before .before .before .before .before .if1 .left)) .table, (held-limits _ _ _ (of-sound _ ((ready _ _ _ _ (c .before .before .before .before .before .before .before .before .before .before .before .before .lists-short .ensures) (c .before .before .before .before .before .before .before .before .before .before .before .if1 .left) _ (c .before .before .before .before .before .before .before .before .is-sound .ensures) (c .before .before .before .before .before .before .before .if2 .left)) .fine))) .few),
+  (held-limits _ _ _ (of-sound _ ((ready _ _ _ _
+      (c .before .before .before .before .before .before .before .before .before .before .before
+      .before .lists-short .ensures)
+      (c .before .before .before .before .before .before .before .before .before .before .before .if1 .left) _
+      (c .before .before .before .before .before .before .before .before .is-sound .ensures)
+      (c .before .before .before .before .before .before .before .if2 .left)) .fine))) .few,
+  omega (
+    arith,
+    (long-enough _ _
+        (c .before .before .before .before .before .before .before .before .before .before .before .before
+        .before .before .before .before .before .args .board) _
+        (c .before .before .before .before .before .before .before .before .before .before .before
+        .before .lists-short .ensures)
+        (c .before .before .before .before .before .before .before .before .before .before .before .if1 .left)) .table,
+    (held-limits _ _ _ (of-sound _ ((ready _ _ _ _
+        (c .before .before .before .before .before .before .before .before .before .before .before
+        .before .lists-short .ensures)
+        (c .before .before .before .before .before .before .before .before .before .before .before .if1 .left) _
+        (c .before .before .before .before .before .before .before .before .is-sound .ensures)
+        (c .before .before .before .before .before .before .before .if2 .left)) .fine))) .few,
+  ),
   no-rows,
 )
 
@@ -132,15 +165,51 @@ slice-aggregate-settle c = search needs
 settle-requires : tie.Need-settle-requires
 settle-requires c κs = (
   lifted-table _ _ _ _
-      (ready _ _ _ _ (c .before .before .before .before .before .before .before .before .before .before .before .before .before .before .before .before .before .lists-short .ensures) (c .before .before .before .before .before .before .before .before .before .before .before .before .before .before .before .before .if1 .left) _ (c .before .before .before .before .before .before .before .before .before .before .before .before .before .is-sound .ensures) (c .before .before .before .before .before .before .before .before .before .before .before .before .if2 .left)) _
-      (c .before .before .before .before .before .before .before .before .before .before .before .net-ok .ensures) (c .before .before .before .before .before .before .before .before .before .before .if3 .left) _
-      (c .before .before .before .before .before .before .before .before .in-use .ensures) (c .before .before .before .before .before .before .before .if4 .left) _ _ (c .before .before .before .before .without .ensures),
+      (ready _ _ _ _
+      (c .before .before .before .before .before .before .before .before .before .before .before .before .before
+      .before .before .before .before .lists-short .ensures)
+      (c .before .before .before .before .before .before .before .before .before .before .before .before .before
+      .before .before .before .if1 .left) _
+      (c .before .before .before .before .before .before .before .before .before .before .before .before
+      .before .is-sound .ensures)
+      (c .before .before .before .before .before .before .before .before .before .before .before .before .if2 .left)) _
+      (c .before .before .before .before .before .before .before .before .before .before .before .net-ok .ensures)
+      (c .before .before .before .before .before .before .before .before .before .before .if3 .left) _
+      (c .before .before .before .before .before .before .before .before .in-use .ensures)
+      (c .before .before .before .before .before .before .before .if4 .left) _ _
+      (c .before .before .before .before .without .ensures),
   (
     lifted-again _ _ _ _
-        (ready _ _ _ _ (c .before .before .before .before .before .before .before .before .before .before .before .before .before .before .before .before .before .lists-short .ensures) (c .before .before .before .before .before .before .before .before .before .before .before .before .before .before .before .before .if1 .left) _ (c .before .before .before .before .before .before .before .before .before .before .before .before .before .is-sound .ensures) (c .before .before .before .before .before .before .before .before .before .before .before .before .if2 .left)) _
-        (c .before .before .before .before .before .before .before .before .before .before .before .net-ok .ensures) (c .before .before .before .before .before .before .before .before .before .before .if3 .left) _
-        (c .before .before .before .before .before .before .before .before .in-use .ensures) (c .before .before .before .before .before .before .before .if4 .left) _ _ (c .before .before .before .before .without .ensures),
-    ((long-enough _ _ (c .before .before .before .before .before .before .before .before .before .before .before .before .before .before .before .before .before .before .before .before .before .before .args .board) _ (c .before .before .before .before .before .before .before .before .before .before .before .before .before .before .before .before .before .lists-short .ensures) (c .before .before .before .before .before .before .before .before .before .before .before .before .before .before .before .before .if1 .left)) .table, (long-enough _ _ (c .before .before .before .before .before .before .before .before .before .before .before .before .before .before .before .before .before .before .before .before .before .before .args .board) _ (c .before .before .before .before .before .before .before .before .before .before .before .before .before .before .before .before .before .lists-short .ensures) (c .before .before .before .before .before .before .before .before .before .before .before .before .before .before .before .before .if1 .left)) .strips),
+        (ready _ _ _ _
+        (c .before .before .before .before .before .before .before .before .before .before .before .before
+        .before .before .before .before .before .lists-short .ensures)
+        (c .before .before .before .before .before .before .before .before .before .before .before .before
+        .before .before .before .before .if1 .left) _
+        (c .before .before .before .before .before .before .before .before .before .before .before .before
+        .before .is-sound .ensures)
+        (c .before .before .before .before .before .before .before .before .before .before .before
+        .before .if2 .left)) _
+        (c .before .before .before .before .before .before .before .before .before .before .before .net-ok .ensures)
+        (c .before .before .before .before .before .before .before .before .before .before .if3 .left) _
+        (c .before .before .before .before .before .before .before .before .in-use .ensures)
+        (c .before .before .before .before .before .before .before .if4 .left) _ _
+        (c .before .before .before .before .without .ensures),
+    (
+      (long-enough _ _
+          (c .before .before .before .before .before .before .before .before .before .before .before .before
+          .before .before .before .before .before .before .before .before .before .before .args .board) _
+          (c .before .before .before .before .before .before .before .before .before .before .before .before
+          .before .before .before .before .before .lists-short .ensures)
+          (c .before .before .before .before .before .before .before .before .before .before .before .before
+          .before .before .before .before .if1 .left)) .table,
+      (long-enough _ _
+          (c .before .before .before .before .before .before .before .before .before .before .before .before .before
+          .before .before .before .before .before .before .before .before .before .args .board) _
+          (c .before .before .before .before .before .before .before .before .before .before .before .before .before
+          .before .before .before .before .lists-short .ensures)
+          (c .before .before .before .before .before .before .before .before .before .before .before .before .before
+          .before .before .before .if1 .left)) .strips,
+    ),
   ),
 )
 
@@ -156,9 +225,23 @@ same-length-10 c = search needs
 returns-5 : tie.Need-returns-5
 returns-5 c =
     lifted _ _ _ _
-    (ready _ _ _ _ (c .before .before .before .before .before .before .before .before .before .before .before .before .before .before .before .before .before .before .before .before .before .before .lists-short .ensures) (c .before .before .before .before .before .before .before .before .before .before .before .before .before .before .before .before .before .before .before .before .before .if1 .left) _ (c .before .before .before .before .before .before .before .before .before .before .before .before .before .before .before .before .before .before .is-sound .ensures) (c .before .before .before .before .before .before .before .before .before .before .before .before .before .before .before .before .before .if2 .left)) _
-    (c .before .before .before .before .before .before .before .before .before .before .before .before .before .before .before .before .net-ok .ensures) (c .before .before .before .before .before .before .before .before .before .before .before .before .before .before .before .if3 .left) _
-    (c .before .before .before .before .before .before .before .before .before .before .before .before .before .in-use .ensures) (c .before .before .before .before .before .before .before .before .before .before .before .before .if4 .left) _ _ (c .before .before .before .before .before .before .before .before .before .without .ensures)
+    (ready _ _ _ _
+    (c .before .before .before .before .before .before .before .before .before .before .before .before .before
+    .before .before .before .before .before .before .before .before .before .lists-short .ensures)
+    (c .before .before .before .before .before .before .before .before .before .before .before .before .before
+    .before .before .before .before .before .before .before .before .if1 .left) _
+    (c .before .before .before .before .before .before .before .before .before .before .before .before .before
+    .before .before .before .before .before .is-sound .ensures)
+    (c .before .before .before .before .before .before .before .before .before .before .before .before .before
+    .before .before .before .before .if2 .left)) _
+    (c .before .before .before .before .before .before .before .before .before .before .before .before .before
+    .before .before .before .net-ok .ensures)
+    (c .before .before .before .before .before .before .before .before .before .before .before .before .before
+    .before .before .if3 .left) _
+    (c .before .before .before .before .before .before .before .before .before .before .before .before
+    .before .in-use .ensures)
+    (c .before .before .before .before .before .before .before .before .before .before .before .before .if4 .left) _ _
+    (c .before .before .before .before .before .before .before .before .before .without .ensures)
     _ _ _ (c .before .before .before .before .settle .ensures)
 
 pub lift-spec : {M : Type 1} → statement M

@@ -33,21 +33,29 @@ returns-2 c =
 returns-3 : tie.Need-returns-3
 returns-3 c =
     off-right _ _ _ _
-    (ready _ _ _ _ (c .before .before .before .before .before .lists-short .ensures) (c .before .before .before .before .if1 .left) _ (c .before .before .before .is-sound .ensures) (c .before .before .if2 .left))
+    (ready _ _ _ _ (c .before .before .before .before .before .lists-short .ensures)
+    (c .before .before .before .before .if1 .left) _ (c .before .before .before .is-sound .ensures)
+    (c .before .before .if2 .left))
     (c .if3 .taken)
 
 -- src/lib.rt:133:9
 returns-4 : tie.Need-returns-4
 returns-4 c =
     off-below _ _ _ _
-    (ready _ _ _ _ (c .before .before .before .before .before .before .before .lists-short .ensures) (c .before .before .before .before .before .before .if1 .left) _ (c .before .before .before .before .before .is-sound .ensures) (c .before .before .before .before .if2 .left))
+    (ready _ _ _ _ (c .before .before .before .before .before .before .before .lists-short .ensures)
+    (c .before .before .before .before .before .before .if1 .left) _
+    (c .before .before .before .before .before .is-sound .ensures) (c .before .before .before .before .if2 .left))
     (c .if4 .taken)
 
 -- src/lib.rt:135:9
 locate-requires : tie.Need-locate-requires
 locate-requires c κs =
-    strips-long _ _ _ (point (c .before .before .before .before .before .before .before .before .before .before .args .x) (c .before .before .before .before .before .before .before .before .before .before .args .y))
-    (ready _ _ _ _ (c .before .before .before .before .before .before .before .lists-short .ensures) (c .before .before .before .before .before .before .if1 .left) _ (c .before .before .before .before .before .is-sound .ensures) (c .before .before .before .before .if2 .left))
+    strips-long _ _ _ (point
+    (c .before .before .before .before .before .before .before .before .before .before .args .x)
+    (c .before .before .before .before .before .before .before .before .before .before .args .y))
+    (ready _ _ _ _ (c .before .before .before .before .before .before .before .lists-short .ensures)
+    (c .before .before .before .before .before .before .if1 .left) _
+    (c .before .before .before .before .before .is-sound .ensures) (c .before .before .before .before .if2 .left))
 
 -- src/lib.rt:136:19
 enum-known-place : tie.Need-enum-known-place
@@ -61,15 +69,25 @@ enum-told c = search needs
 returns-5 : tie.Need-returns-5
 returns-5 c =
     nowhere _ _ _ _
-    (ready _ _ _ _ (c .before .before .before .before .before .before .before .before .before .before .lists-short .ensures) (c .before .before .before .before .before .before .before .before .before .if1 .left) _ (c .before .before .before .before .before .before .before .before .is-sound .ensures) (c .before .before .before .before .before .before .before .if2 .left))
-    (c .before .before .before .before .before .if3 .left) (c .before .before .before .if4 .left) (sym (c .before .before .locate .ensures) ∙ c .enum-told .given .1)
+    (ready _ _ _ _
+    (c .before .before .before .before .before .before .before .before .before .before .lists-short .ensures)
+    (c .before .before .before .before .before .before .before .before .before .if1 .left) _
+    (c .before .before .before .before .before .before .before .before .is-sound .ensures)
+    (c .before .before .before .before .before .before .before .if2 .left))
+    (c .before .before .before .before .before .if3 .left) (c .before .before .before .if4 .left) (sym
+    (c .before .before .locate .ensures) ∙ c .enum-told .given .1)
 
 -- src/lib.rt:120:1
 returns-6 : tie.Need-returns-6
 returns-6 c =
     somewhere _ _ _ _
-    (ready _ _ _ _ (c .before .before .before .before .before .before .before .before .before .before .before .lists-short .ensures) (c .before .before .before .before .before .before .before .before .before .before .if1 .left) _ (c .before .before .before .before .before .before .before .before .before .is-sound .ensures) (c .before .before .before .before .before .before .before .before .if2 .left))
-    (c .before .before .before .before .before .before .if3 .left) (c .before .before .before .before .if4 .left) _ (sym (c .before .before .before .locate .ensures) ∙ c .before .place .given .1)
+    (ready _ _ _ _
+    (c .before .before .before .before .before .before .before .before .before .before .before .lists-short .ensures)
+    (c .before .before .before .before .before .before .before .before .before .before .if1 .left) _
+    (c .before .before .before .before .before .before .before .before .before .is-sound .ensures)
+    (c .before .before .before .before .before .before .before .before .if2 .left))
+    (c .before .before .before .before .before .before .if3 .left) (c .before .before .before .before .if4 .left) _
+    (sym (c .before .before .before .locate .ensures) ∙ c .before .place .given .1)
 
 pub look-up-spec : {M : Type 1} → statement M
 look-up-spec =

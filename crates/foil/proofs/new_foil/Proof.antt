@@ -53,7 +53,8 @@ same-length-4 c = search needs
 -- src/lib.rt:53:9
 returns-2 : tie.Need-returns-2
 returns-2 c =
-    no-width _ _ _ _ _ _ _ (c .before .before .before .before .lists-short .ensures) (c .before .before .before .if1 .left) _
+    no-width _ _ _ _ _ _ _ (c .before .before .before .before .lists-short .ensures)
+    (c .before .before .before .if1 .left) _
     (c .before .before .size-ok .ensures) (c .before .if2 .taken) _ (c .refuse2 .ensures)
 
 -- src/lib.rt:55:9
@@ -75,8 +76,10 @@ same-length-6 c = search needs
 -- src/lib.rt:56:9
 returns-3 : tie.Need-returns-3
 returns-3 c =
-    no-height _ _ _ _ _ _ _ (c .before .before .before .before .before .before .lists-short .ensures) (c .before .before .before .before .before .if1 .left) _
-    (c .before .before .before .before .size-ok .ensures) (c .before .before .before .if2 .left) _ (c .before .before .size-ok2 .ensures) (c .before .if3 .taken) _ (c .refuse3 .ensures)
+    no-height _ _ _ _ _ _ _ (c .before .before .before .before .before .before .lists-short .ensures)
+    (c .before .before .before .before .before .if1 .left) _
+    (c .before .before .before .before .size-ok .ensures) (c .before .before .before .if2 .left) _
+    (c .before .before .size-ok2 .ensures) (c .before .if3 .taken) _ (c .refuse3 .ensures)
 
 -- src/lib.rt:58:9
 clearance-ok-requires : tie.Need-clearance-ok-requires
@@ -97,9 +100,13 @@ same-length-8 c = search needs
 -- src/lib.rt:59:9
 returns-4 : tie.Need-returns-4
 returns-4 c =
-    no-clearance _ _ _ _ _ _ _ (c .before .before .before .before .before .before .before .before .lists-short .ensures) (c .before .before .before .before .before .before .before .if1 .left) _
-    (c .before .before .before .before .before .before .size-ok .ensures) (c .before .before .before .before .before .if2 .left) _ (c .before .before .before .before .size-ok2 .ensures)
-    (c .before .before .before .if3 .left) _ (c .before .before .clearance-ok .ensures) (c .before .if4 .taken) _ (c .refuse4 .ensures)
+    no-clearance _ _ _ _ _ _ _
+    (c .before .before .before .before .before .before .before .before .lists-short .ensures)
+    (c .before .before .before .before .before .before .before .if1 .left) _
+    (c .before .before .before .before .before .before .size-ok .ensures)
+    (c .before .before .before .before .before .if2 .left) _ (c .before .before .before .before .size-ok2 .ensures)
+    (c .before .before .before .if3 .left) _ (c .before .before .clearance-ok .ensures) (c .before .if4 .taken) _
+    (c .refuse4 .ensures)
 
 -- src/lib.rt:69:27
 slice-aggregate-settle : tie.Need-slice-aggregate-settle
@@ -108,14 +115,26 @@ slice-aggregate-settle c = search needs
 -- src/lib.rt:69:5
 settle-requires : tie.Need-settle-requires
 settle-requires c κs = (
-  bare-table _ _ _ (sym (c .before .before .before .before .before .before .before .before .size-ok .ensures) ∙ not-false _ (c .before .before .before .before .before .before .before .if2 .left))
-      (sym (c .before .before .before .before .before .before .size-ok2 .ensures) ∙ not-false _ (c .before .before .before .before .before .if3 .left))
-      (sym (c .before .before .before .before .clearance-ok .ensures) ∙ not-false _ (c .before .before .before .if4 .left)),
+  bare-table _ _ _ (sym
+      (c .before .before .before .before .before .before .before .before .size-ok .ensures) ∙ not-false _
+      (c .before .before .before .before .before .before .before .if2 .left))
+      (sym (c .before .before .before .before .before .before .size-ok2 .ensures) ∙ not-false _
+      (c .before .before .before .before .before .if3 .left))
+      (sym (c .before .before .before .before .clearance-ok .ensures) ∙ not-false _
+      (c .before .before .before .if4 .left)),
   (
     no-rows,
     (
-      (long-enough _ _ (c .before .before .before .before .before .before .before .before .before .before .before .before .before .before .before .args .board) _ (c .before .before .before .before .before .before .before .before .before .before .lists-short .ensures) (c .before .before .before .before .before .before .before .before .before .if1 .left)) .table,
-      (long-enough _ _ (c .before .before .before .before .before .before .before .before .before .before .before .before .before .before .before .args .board) _ (c .before .before .before .before .before .before .before .before .before .before .lists-short .ensures) (c .before .before .before .before .before .before .before .before .before .if1 .left)) .strips,
+      (long-enough _ _
+          (c .before .before .before .before .before .before .before .before .before .before .before .before
+          .before .before .before .args .board) _
+          (c .before .before .before .before .before .before .before .before .before .before .lists-short .ensures)
+          (c .before .before .before .before .before .before .before .before .before .if1 .left)) .table,
+      (long-enough _ _
+          (c .before .before .before .before .before .before .before .before .before .before .before .before
+          .before .before .before .args .board) _
+          (c .before .before .before .before .before .before .before .before .before .before .lists-short .ensures)
+          (c .before .before .before .before .before .before .before .before .before .if1 .left)) .strips,
     ),
   ),
 )
@@ -131,9 +150,18 @@ same-length-10 c = search needs
 -- src/lib.rt:45:1
 returns-5 : tie.Need-returns-5
 returns-5 c =
-    begun _ _ _ _ _ _ _ (c .before .before .before .before .before .before .before .before .before .before .before .before .before .before .before .lists-short .ensures) (c .before .before .before .before .before .before .before .before .before .before .before .before .before .before .if1 .left) _
-    (c .before .before .before .before .before .before .before .before .before .before .before .before .before .size-ok .ensures) (c .before .before .before .before .before .before .before .before .before .before .before .before .if2 .left) _ (c .before .before .before .before .before .before .before .before .before .before .before .size-ok2 .ensures)
-    (c .before .before .before .before .before .before .before .before .before .before .if3 .left) _ (c .before .before .before .before .before .before .before .before .before .clearance-ok .ensures) (c .before .before .before .before .before .before .before .before .if4 .left)
+    begun _ _ _ _ _ _ _
+    (c .before .before .before .before .before .before .before .before .before .before .before .before .before
+    .before .before .lists-short .ensures)
+    (c .before .before .before .before .before .before .before .before .before .before .before .before .before
+    .before .if1 .left) _
+    (c .before .before .before .before .before .before .before .before .before .before .before .before
+    .before .size-ok .ensures)
+    (c .before .before .before .before .before .before .before .before .before .before .before .before .if2 .left) _
+    (c .before .before .before .before .before .before .before .before .before .before .before .size-ok2 .ensures)
+    (c .before .before .before .before .before .before .before .before .before .before .if3 .left) _
+    (c .before .before .before .before .before .before .before .before .before .clearance-ok .ensures)
+    (c .before .before .before .before .before .before .before .before .if4 .left)
     _ _ _ (c .before .before .before .before .settle .ensures)
 
 pub new-foil-spec : {M : Type 1} → statement M

@@ -36,7 +36,8 @@ same-length-2 c = search needs
 -- src/lib.rt:172:9
 returns : tie.Need-returns
 returns c =
-    over (rw (c .before .enum-told .given .1) at (c .before .before .before .before .before .before .before .book .ensures))
+    over (rw (c .before .enum-told .given .1) at
+    (c .before .before .before .before .before .before .before .book .ensures))
     (ap (λ (x : Done). x .answer) (c .refuse .ensures)) (ap (λ (x : Done). x .board) (c .refuse .ensures))
 
 -- src/lib.rt:163:1
@@ -50,7 +51,8 @@ same-length-4 c = search needs
 -- src/lib.rt:163:1
 returns-2 : tie.Need-returns-2
 returns-2 c =
-    fits (rw (c .before .booked .given .1) at (c .before .before .before .before .before .before .before .book .ensures)) refl
+    fits (rw (c .before .booked .given .1) at
+    (c .before .before .before .before .before .before .before .book .ensures)) refl
 
 pub settle-spec : {M : Type 1} → statement M
 settle-spec =

@@ -40,7 +40,8 @@ returns-3 : tie.Need-returns-3
 unfolding boardOk
 returns-3 c =
     simp (
-      sym (c .before .before .before .before .before .size-ok .ensures) ∙ not-false _ (c .before .before .before .before .if1 .left),
+      sym (c .before .before .before .before .before .size-ok .ensures) ∙ not-false _
+          (c .before .before .before .before .if1 .left),
       sym (c .before .before .before .size-ok2 .ensures) ∙ not-false _ (c .before .before .if2 .left),
       sym (c .before .clearance-ok .ensures) ∙ not-true _ (c .if3 .taken),
     )
@@ -50,7 +51,8 @@ returns-4 : tie.Need-returns-4
 unfolding boardOk
 returns-4 c =
     simp (
-      sym (c .before .before .before .before .before .before .size-ok .ensures) ∙ not-false _ (c .before .before .before .before .before .if1 .left),
+      sym (c .before .before .before .before .before .before .size-ok .ensures) ∙ not-false _
+          (c .before .before .before .before .before .if1 .left),
       sym (c .before .before .before .before .size-ok2 .ensures) ∙ not-false _ (c .before .before .before .if2 .left),
       sym (c .before .before .clearance-ok .ensures) ∙ not-false _ (c .before .if3 .left),
     )

@@ -24,7 +24,9 @@ entry-ok-requires c κs = omega arith
 -- src/lib.rt:40:13
 returns : tie.Need-returns Inv-loop μ-loop
 returns c =
-    passed-not (c .before .before .before .before .before .args .table .now) (c .before .before .before .before .before .args .n) (c .before .before .before .before .before .args .w) (c .before .before .before .before .before .args .h) _ (omega arith) _
+    passed-not (c .before .before .before .before .before .args .table .now)
+    (c .before .before .before .before .before .args .n) (c .before .before .before .before .before .args .w)
+    (c .before .before .before .before .before .args .h) _ (omega arith) _
     (c .before .entry-ok .ensures) (c .if1 .taken)
 
 -- src/lib.rt:42:9
@@ -37,7 +39,8 @@ loop-less c = omega arith
 
 -- src/lib.rt:38:5
 loop-again : tie.Need-loop-again Inv-loop μ-loop
-loop-again c = passed-more _ _ _ _ _ (omega arith) _ (c .before .entry-ok .ensures) (c .if1 .left) (c .before .before .before .loop .inv)
+loop-again c = passed-more _ _ _ _ _ (omega arith) _ (c .before .entry-ok .ensures) (c .if1 .left)
+    (c .before .before .before .loop .inv)
 
 -- src/lib.rt:33:1
 returns-2 : tie.Need-returns-2 Inv-loop μ-loop

@@ -94,11 +94,13 @@ shared-slice-read-shape-ok c = search needs
 -- src/lib.rt:29:5
 shape-ok-requires : tie.Need-shape-ok-requires
 shape-ok-requires c κs = not-empty (c .before .before .before .before .before .before .before .before .args .table .now)
-    (c .before .before .before .before .before .before .before .before .args .k) _ _ _ (c .before .before .box-ok .ensures) (c .before .if1 .left)
+    (c .before .before .before .before .before .before .before .before .args .k) _ _ _
+    (c .before .before .box-ok .ensures) (c .before .if1 .left)
 
 -- src/lib.rt:18:1
 returns-2 : tie.Need-returns-2
-returns-2 c = shaped _ _ _ _ _ (c .before .before .before .box-ok .ensures) _ (c .shape-ok .ensures) (c .before .before .if1 .left)
+returns-2 c = shaped _ _ _ _ _ (c .before .before .before .box-ok .ensures) _ (c .shape-ok .ensures)
+    (c .before .before .if1 .left)
 
 pub entry-ok-spec : {M : Type 1} → statement M
 entry-ok-spec =

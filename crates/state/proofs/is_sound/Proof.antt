@@ -33,7 +33,9 @@ returns-3 c = bad-board _ _ _ _ (c .before .board-ok .ensures) (c .if3 .taken)
 -- src/lib.rt:35:9
 entries-ok-requires : tie.Need-entries-ok-requires
 entries-ok-requires c κs =
-    let b = board-fits _ (c .before .before .before .before .before .before .args .table .now) (c .before .before .before .before .before .before .args .strips .now) _ (c .before .board-ok .ensures) (c .if3 .left) in omega (arith, b .few)
+    let b = board-fits _ (c .before .before .before .before .before .before .args .table .now)
+    (c .before .before .before .before .before .before .args .strips .now) _ (c .before .board-ok .ensures)
+    (c .if3 .left) in omega (arith, b .few)
 
 -- src/lib.rt:36:9
 returns-4 : tie.Need-returns-4
@@ -42,13 +44,17 @@ returns-4 c = bad-entries _ _ _ _ (c .before .entries-ok .ensures) (c .if4 .take
 -- src/lib.rt:38:22
 mul-zeros : tie.Need-mul-zeros
 mul-zeros c =
-    let b = board-fits _ (c .before .before .before .before .before .before .before .before .args .table .now) (c .before .before .before .before .before .before .before .before .args .strips .now) _ (c .before .before .before .board-ok .ensures) (c .before .before .if3 .left) in
+    let b = board-fits _ (c .before .before .before .before .before .before .before .before .args .table .now)
+    (c .before .before .before .before .before .before .before .before .args .strips .now) _
+    (c .before .before .before .board-ok .ensures) (c .before .before .if3 .left) in
     omega (arith, b .few)
 
 -- src/lib.rt:38:9
 zeros-requires : tie.Need-zeros-requires
 zeros-requires c κs =
-    let b = board-fits _ (c .before .before .before .before .before .before .before .before .args .table .now) (c .before .before .before .before .before .before .before .before .args .strips .now) _ (c .before .before .before .board-ok .ensures) (c .before .before .if3 .left) in
+    let b = board-fits _ (c .before .before .before .before .before .before .before .before .args .table .now)
+    (c .before .before .before .before .before .before .before .before .args .strips .now) _
+    (c .before .before .before .board-ok .ensures) (c .before .before .if3 .left) in
     omega (arith, b .few)
 
 -- src/lib.rt:39:9
@@ -58,7 +64,10 @@ returns-5 c = bad-rest _ _ _ (c .before .zeros .result) (c .before .zeros .ensur
 -- src/lib.rt:41:5
 strips-ok-requires : tie.Need-strips-ok-requires
 strips-ok-requires c κs =
-    let b = board-fits _ (c .before .before .before .before .before .before .before .before .before .before .args .table .now) (c .before .before .before .before .before .before .before .before .before .before .args .strips .now) _ (c .before .before .before .before .before .board-ok .ensures) (c .before .before .before .before .if3 .left) in (
+    let b = board-fits _
+    (c .before .before .before .before .before .before .before .before .before .before .args .table .now)
+    (c .before .before .before .before .before .before .before .before .before .before .args .strips .now) _
+    (c .before .before .before .before .before .board-ok .ensures) (c .before .before .before .before .if3 .left) in (
       table-of _ _ _ _ _ (b .few) (omega (arith, b .few)) (b .small) (b .wide) (b .high)
           (sym (c .before .before .before .entries-ok .ensures) ∙ not-false _ (c .before .before .if4 .left)),
       omega arith,
@@ -68,7 +77,11 @@ strips-ok-requires c κs =
 returns-6 : tie.Need-returns-6
 returns-6 c =
     all-right _ _ _ (c .strips-ok .result)
-    (shown _ _ _ (omega arith) (board-fits _ (c .before .before .before .before .before .before .before .before .before .before .before .args .table .now) (c .before .before .before .before .before .before .before .before .before .before .before .args .strips .now) _ (c .before .before .before .before .before .before .board-ok .ensures) (c .before .before .before .before .before .if3 .left))
+    (shown _ _ _ (omega arith) (board-fits _
+    (c .before .before .before .before .before .before .before .before .before .before .before .args .table .now)
+    (c .before .before .before .before .before .before .before .before .before .before .before .args .strips .now) _
+    (c .before .before .before .before .before .before .board-ok .ensures)
+    (c .before .before .before .before .before .if3 .left))
     _ (c .before .before .before .before .entries-ok .ensures) (c .before .before .before .if4 .left)
     (c .before .before .zeros .result) (c .before .before .zeros .ensures) (c .before .if5 .left))
     (c .strips-ok .ensures)

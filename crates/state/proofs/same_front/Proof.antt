@@ -35,7 +35,8 @@ shared-slice-read-if1-2 c = omega arith
 -- src/lib.rt:70:13
 returns : tie.Need-returns Inv-loop μ-loop
 returns c =
-    agree-not (c .before .before .before .before .before .args .a .now) (c .before .before .before .before .before .args .b .now) (c .before .before .before .before .before .args .n)
+    agree-not (c .before .before .before .before .before .args .a .now)
+    (c .before .before .before .before .before .args .b .now) (c .before .before .before .before .before .args .n)
     (omega arith) (omega arith) _ (omega arith) (c .if1 .taken)
 
 -- src/lib.rt:72:9
@@ -53,7 +54,8 @@ loop-again c = (omega arith, agree-more _ _ _ (c .if1 .left) (c .before .before 
 -- src/lib.rt:63:1
 returns-2 : tie.Need-returns-2 Inv-loop μ-loop
 returns-2 c =
-    agree-all (c .before .before .args .a .now) (c .before .before .args .b .now) (c .before .before .args .n) (omega arith) (omega arith) _ (omega arith) (c .before .loop .inv .1)
+    agree-all (c .before .before .args .a .now) (c .before .before .args .b .now) (c .before .before .args .n)
+    (omega arith) (omega arith) _ (omega arith) (c .before .loop .inv .1)
 
 pub same-front-spec : {M : Type 1} → statement M
 same-front-spec =

@@ -31,7 +31,8 @@ returns c =
 -- src/lib.rt:73:9
 returns-2 : tie.Need-returns-2
 returns-2 c =
-    let q = rw (c .before .before .before .built .given .1) at (c .before .before .before .before .before .before .rebuild .ensures) in
+    let q = rw (c .before .before .before .built .given .1) at
+    (c .before .before .before .before .before .before .rebuild .ensures) in
     miscounted _ _ _ _ (q .0) (c .if1 .taken)
 
 -- src/lib.rt:75:16
@@ -45,8 +46,11 @@ same-front-requires c κs = search needs
 -- src/lib.rt:61:1
 returns-3 : tie.Need-returns-3
 returns-3 c =
-    let q = rw (c .before .before .before .before .before .built .given .1) at (c .before .before .before .before .before .before .before .before .rebuild .ensures) in
-    compared _ _ (c .before .before .before .before .before .before .before .before .before .before .before .before .args .strips .now) _ _ _ (c .same-front .result) (q .0) (q .1) (q .2)
+    let q = rw (c .before .before .before .before .before .built .given .1) at
+    (c .before .before .before .before .before .before .before .before .rebuild .ensures) in
+    compared _ _
+    (c .before .before .before .before .before .before .before .before .before .before .before
+    .before .args .strips .now) _ _ _ (c .same-front .result) (q .0) (q .1) (q .2)
     (c .before .before .if1 .left) (c .same-front .ensures)
 
 pub strips-ok-spec : {M : Type 1} → statement M

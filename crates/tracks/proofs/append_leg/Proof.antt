@@ -82,7 +82,14 @@ more-requires c κs = search needs
 add-append : tie.Need-add-append
 unfolding pointAt
 add-append c =
-    omega (arith, c .more .ensures, c .before .before .before .before .before .before .before .before .before .before .pre .1 .1 .0 .0, c .before .before .before .before .before .before .before .before .before .before .pre .1 .1 .1 .0)
+    omega (
+      arith,
+      c .more .ensures,
+      c .before .before .before .before .before .before .before .before .before
+          .before .pre .1 .1 .0 .0,
+      c .before .before .before .before .before .before .before .before .before
+          .before .pre .1 .1 .1 .0,
+    )
 
 -- src/lib.rt:48:9
 more-requires-2 : tie.Need-more-requires-2
@@ -92,7 +99,14 @@ more-requires-2 c κs = search needs
 add-append-2 : tie.Need-add-append-2
 unfolding pointAt
 add-append-2 c =
-    omega (arith, c .more2 .ensures, c .before .before .before .before .before .before .before .before .before .before .before .pre .1 .1 .0 .1, c .before .before .before .before .before .before .before .before .before .before .before .pre .1 .1 .1 .1)
+    omega (
+      arith,
+      c .more2 .ensures,
+      c .before .before .before .before .before .before .before .before .before
+          .before .before .pre .1 .1 .0 .1,
+      c .before .before .before .before .before .before .before .before .before
+          .before .before .pre .1 .1 .1 .1,
+    )
 
 -- src/lib.rt:41:5
 append-requires : tie.Need-append-requires
@@ -106,7 +120,13 @@ same-length c = search needs
 returns : tie.Need-returns
 unfolding pointAt
 returns c =
-    leg-appended _ _ _ _ (c .before .before .before .before .before .before .before .before .before .before .before .before .before .before .args .path .now) (c .before .before .before .before .before .before .before .before .before .before .before .before .before .before .args .i) (c .before .before .before .before .before .before .before .before .before .before .before .before .before .before .args .j) _ _ _ _
+    leg-appended _ _ _ _
+    (c .before .before .before .before .before .before .before .before .before .before .before .before .before
+    .before .args .path .now)
+    (c .before .before .before .before .before .before .before .before .before .before .before .before .before
+    .before .args .i)
+    (c .before .before .before .before .before .before .before .before .before .before .before .before .before
+    .before .args .j) _ _ _ _
     (c .before .before .before .before .before .before .less .ensures)
     (c .before .before .before .before .before .less2 .ensures) (c .before .before .before .before .more .ensures)
     (c .before .before .before .more2 .ensures) (c .before .before .append .ensures)

@@ -17,10 +17,28 @@ abbrev μ-loop : tie.MeasureT-loop
 
 -- src/lib.rt:60:9
 append-leg-requires : tie.Need-append-leg-requires Inv-loop μ-loop
-append-leg-requires c κs =
-    ((omega arith, omega arith),
-    ((omega (arith, c .before .before .before .before .pre .1 .long), omega (arith, c .before .before .before .before .pre .1 .long)),
-    ((c .before .before .before .before .pre .1 .small-x 0 (omega arith), c .before .before .before .before .pre .1 .small-y 0 (omega arith)), (c .before .before .before .before .pre .1 .small-x 0 (omega arith), c .before .before .before .before .pre .1 .small-y 0 (omega arith)))))
+append-leg-requires c κs = (
+  (omega arith, omega arith),
+  (
+    (
+      omega (arith, c .before .before .before .before .pre .1 .long),
+      omega
+          (arith, c .before .before .before .before .pre .1 .long),
+    ),
+    (
+      (
+        c .before .before .before .before .pre .1 .small-x 0
+            (omega arith),
+        c .before .before .before .before .pre .1 .small-y 0 (omega arith),
+      ),
+      (
+        c .before .before .before .before .pre .1 .small-x 0
+            (omega arith),
+        c .before .before .before .before .pre .1 .small-y 0 (omega arith),
+      ),
+    ),
+  ),
+)
 
 -- src/lib.rt:61:16
 add-result : tie.Need-add-result Inv-loop μ-loop
@@ -33,7 +51,8 @@ same-length c = c .before .before .append-leg .kept .0
 -- src/lib.rt:61:9
 returns : tie.Need-returns Inv-loop μ-loop
 returns c =
-    single _ _ _ _ _ _ (c .before .before .before .before .if1 .taken) (omega arith) (c .before .before .append-leg .ensures)
+    single _ _ _ _ _ _ (c .before .before .before .before .if1 .taken) (omega arith)
+    (c .before .before .append-leg .ensures)
 
 -- src/lib.rt:64:5
 loop-holds : tie.Need-loop-holds Inv-loop μ-loop
@@ -53,11 +72,28 @@ add-append-leg-2 c = omega arith
 
 -- src/lib.rt:65:9
 append-leg-requires-2 : tie.Need-append-leg-requires-2 Inv-loop μ-loop
-append-leg-requires-2 c κs =
-    ((omega arith, c .before .before .loop .inv .1 .long),
-    ((omega (arith, c .before .before .before .before .before .before .pre .1 .long), omega (arith, c .before .before .before .before .before .before .pre .1 .long)),
-    ((c .before .before .before .before .before .before .pre .1 .small-x _ (omega arith), c .before .before .before .before .before .before .pre .1 .small-y _ (omega arith)),
-    (c .before .before .before .before .before .before .pre .1 .small-x _ (omega arith), c .before .before .before .before .before .before .pre .1 .small-y _ (omega arith)))))
+append-leg-requires-2 c κs = (
+  (omega arith, c .before .before .loop .inv .1 .long),
+  (
+    (
+      omega (arith, c .before .before .before .before .before .before .pre .1 .long),
+      omega
+          (arith, c .before .before .before .before .before .before .pre .1 .long),
+    ),
+    (
+      (
+        c .before .before .before .before .before .before .pre .1 .small-x _
+            (omega arith),
+        c .before .before .before .before .before .before .pre .1 .small-y _ (omega arith),
+      ),
+      (
+        c .before .before .before .before .before .before .pre .1 .small-x _
+            (omega arith),
+        c .before .before .before .before .before .before .pre .1 .small-y _ (omega arith),
+      ),
+    ),
+  ),
+)
 
 -- src/lib.rt:66:9
 add-j : tie.Need-add-j Inv-loop μ-loop
@@ -69,9 +105,11 @@ loop-less c = omega arith
 
 -- src/lib.rt:64:5
 loop-again : tie.Need-loop-again Inv-loop μ-loop
-loop-again c =
-    (omega (arith, c .before .before .append-leg2 .kept .0, c .before .before .before .before .before .loop .inv .0),
-    going-more _ _ _ _ _ _ _ _ (omega arith) (c .before .before .before .before .before .loop .inv .1) (c .before .before .append-leg2 .ensures))
+loop-again c = (
+  omega (arith, c .before .before .append-leg2 .kept .0, c .before .before .before .before .before .loop .inv .0),
+  going-more _ _ _ _ _ _ _ _ (omega arith) (c .before .before .before .before .before .loop .inv .1)
+      (c .before .before .append-leg2 .ensures),
+)
 
 -- src/lib.rt:68:5
 add-result-2 : tie.Need-add-result-2 Inv-loop μ-loop

@@ -30,7 +30,9 @@ shared-slice-read-if1 c = omega arith
 
 -- src/rows.rt:45:13
 returns : tie.Need-returns Inv-loop μ-loop
-returns c = used-here (c .before .before .before .before .args .table .now) (c .before .before .before .before .args .n) (c .before .before .before .before .args .net) _ (omega arith) (c .if1 .taken)
+returns c = used-here (c .before .before .before .before .args .table .now)
+    (c .before .before .before .before .args .n) (c .before .before .before .before .args .net) _ (omega arith)
+    (c .if1 .taken)
 
 -- src/rows.rt:47:9
 add-k : tie.Need-add-k Inv-loop μ-loop

@@ -102,8 +102,15 @@ shared-slice-read-append-5 c = search needs
 
 -- src/rows.rt:75:5
 append-requires : tie.Need-append-requires
-append-requires c κs =
-    (omega (arith, c .before .before .before .before .before .before .before .before .before .before .pre .2 .few), kept-long _ _ _ _ _ (omega arith) (c .before .before .before .before .before .before .before .before .before .before .pre .2))
+append-requires c κs = (
+  omega (
+    arith,
+    c .before .before .before .before .before .before .before .before .before
+        .before .pre .2 .few,
+  ),
+  kept-long _ _ _ _ _ (omega arith)
+      (c .before .before .before .before .before .before .before .before .before .before .pre .2),
+)
 
 -- src/rows.rt:84:5
 add-result : tie.Need-add-result
@@ -117,8 +124,11 @@ same-length c = search needs
 returns-2 : tie.Need-returns-2
 unfolding entryAt
 returns-2 c =
-    kept-more _ _ _ _ _ (c .before .before .before .before .before .before .before .before .before .before .before .before .before .pre .2) _
-    (c .before .before .before .before .before .before .before .before .before .if1 .left) (c .before .before .append .ensures)
+    kept-more _ _ _ _ _
+    (c .before .before .before .before .before .before .before .before .before .before .before .before
+    .before .pre .2) _
+    (c .before .before .before .before .before .before .before .before .before .if1 .left)
+    (c .before .before .append .ensures)
 
 pub keep-other-spec : {M : Type 1} → statement M
 keep-other-spec =

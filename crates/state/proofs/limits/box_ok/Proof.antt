@@ -18,12 +18,22 @@ returns-2 c = simp (lt-ltb _ _ (c .before .if1 .left), lt-leb _ _ (c .if2 .taken
 -- src/limits.rt:44:9
 returns-3 : tie.Need-returns-3
 unfolding boxOk
-returns-3 c = simp (lt-ltb _ _ (c .before .before .if1 .left), le-leb _ _ (c .before .if2 .left), le-ltb _ _ (c .if3 .taken))
+returns-3 c = simp (
+  lt-ltb _ _ (c .before .before .if1 .left),
+  le-leb _ _ (c .before .if2 .left),
+  le-ltb _ _
+      (c .if3 .taken),
+)
 
 -- src/limits.rt:34:1
 returns-4 : tie.Need-returns-4
 unfolding boxOk
-returns-4 c = simp (lt-ltb _ _ (c .before .before .if1 .left), le-leb _ _ (c .before .if2 .left), lt-ltb _ _ (c .if3 .left))
+returns-4 c = simp (
+  lt-ltb _ _ (c .before .before .if1 .left),
+  le-leb _ _ (c .before .if2 .left),
+  lt-ltb _ _
+      (c .if3 .left),
+)
 
 pub box-ok-spec : {M : Type 1} → statement M
 box-ok-spec = tie.close (tie.spec returns returns-2 returns-3 returns-4)

@@ -25,7 +25,8 @@ sub-if3 c = search needs
 
 -- src/limits.rt:62:9
 returns-3 : tie.Need-returns-3
-returns-3 c = narrow-leg _ _ _ _ _ _ (c .before .before .net-ok .ensures) (c .before .before .before .if1 .left) (c .before .if2 .left)
+returns-3 c = narrow-leg _ _ _ _ _ _ (c .before .before .net-ok .ensures) (c .before .before .before .if1 .left)
+    (c .before .if2 .left)
     (omega arith) (c .if3 .taken)
 
 -- src/limits.rt:64:5
@@ -34,7 +35,8 @@ sub-result c = search needs
 
 -- src/limits.rt:51:1
 returns-4 : tie.Need-returns-4
-returns-4 c = flat-leg _ _ _ _ _ _ (c .before .before .net-ok .ensures) (c .before .before .before .if1 .left) (c .before .if2 .left)
+returns-4 c = flat-leg _ _ _ _ _ _ (c .before .before .net-ok .ensures) (c .before .before .before .if1 .left)
+    (c .before .if2 .left)
     (omega arith) (omega arith) (c .if3 .left)
 
 pub shape-ok-spec : {M : Type 1} → statement M

@@ -1,0 +1,5 @@
+-- What is proved of the lines.
+pub mod JobOutput
+pub mod Decimals
+pub mod Putting
+pub mod Corners

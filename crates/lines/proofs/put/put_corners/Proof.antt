@@ -1,0 +1,86 @@
+-- `lines::put::put_corners` meets its contract: the loop has put the first k corners.
+use Prim.Native.Nat.{_+_, _-_, _*_, _≤_}
+use native.Mathlib.Omega.{arith}
+use Rattle.foil_spec.specs.Lists.{each}
+use Rattle.lines.specs.Lines.{cornerItem, cornerAt, cornersIn}
+use Rattle.lines.specs.Put.{Put}
+use Rattle.lines.proofs.Putting.{put-length}
+use Rattle.lines.proofs.Corners.{corners-none, corners-more, corners-all}
+use Rattle.lines.proofs.put.put_corners.Statement.{statement}
+use Rattle.lines.proofs.put.put_corners.Tie as tie
+
+abbrev Inv-loop : tie.InvT-loop
+Inv-loop out₀ at corners count a₀ k₀ out a k =
+    (k ≤ count) × Put out₀ at (each cornerItem (cornersIn corners k)) out a × (a ≤ at + 12 * k)
+
+abbrev μ-loop : tie.MeasureT-loop
+μ-loop out₀ at corners count a₀ k₀ out a k = count - k
+
+loop-holds : tie.Need-loop-holds Inv-loop μ-loop
+loop-holds c = (omega arith, corners-none _ _ _ (omega arith), omega arith)
+
+mul-put-corner : tie.Need-mul-put-corner Inv-loop μ-loop
+mul-put-corner c = omega arith
+
+mul-put-corner-2 : tie.Need-mul-put-corner-2 Inv-loop μ-loop
+mul-put-corner-2 c = omega arith
+
+shared-slice-read-put-corner : tie.Need-shared-slice-read-put-corner Inv-loop μ-loop
+shared-slice-read-put-corner c = omega arith
+
+mul-put-corner-3 : tie.Need-mul-put-corner-3 Inv-loop μ-loop
+mul-put-corner-3 c = omega arith
+
+add-put-corner : tie.Need-add-put-corner Inv-loop μ-loop
+add-put-corner c = omega arith
+
+mul-put-corner-4 : tie.Need-mul-put-corner-4 Inv-loop μ-loop
+mul-put-corner-4 c = omega arith
+
+shared-slice-read-put-corner-2 : tie.Need-shared-slice-read-put-corner-2 Inv-loop μ-loop
+shared-slice-read-put-corner-2 c = omega arith
+
+put-corner-requires : tie.Need-put-corner-requires Inv-loop μ-loop
+put-corner-requires c κs = omega (arith, put-length (c .before .before .before .before .loop .inv .1))
+
+add-k : tie.Need-add-k Inv-loop μ-loop
+add-k c = omega arith
+
+loop-less : tie.Need-loop-less Inv-loop μ-loop
+loop-less c = omega arith
+
+loop-again : tie.Need-loop-again Inv-loop μ-loop
+unfolding cornerAt
+loop-again c = (
+  omega arith,
+  corners-more _ _ (c .before .before .before .before .before .before .before .loop .inv .1)
+      (c .before .before .put-corner .ensures .0),
+  omega arith,
+)
+
+same-length : tie.Need-same-length Inv-loop μ-loop
+same-length c = put-length (c .before .loop .inv .1)
+
+returns : tie.Need-returns Inv-loop μ-loop
+returns c = (corners-all _ _ _ (omega arith) (omega arith) (c .before .loop .inv .1), omega arith)
+
+pub put-corners-spec : {M : Type 1} → statement M
+put-corners-spec =
+    tie.close
+    (tie.spec
+    Inv-loop
+    μ-loop
+    loop-holds
+    mul-put-corner
+    mul-put-corner-2
+    shared-slice-read-put-corner
+    mul-put-corner-3
+    add-put-corner
+    mul-put-corner-4
+    shared-slice-read-put-corner-2
+    put-corner-requires
+    add-k
+    loop-less
+    loop-again
+    same-length
+    returns)

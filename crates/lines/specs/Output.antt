@@ -1,0 +1,69 @@
+-- What the job program writes for the bytes of a file, over the ledger.
+use Prim.Native.Nat.{ℕ, zero, suc}
+use mathlib.Core.List.{List, [], _∷_, _++_}
+use mathlib.Core.Option.{none, some}
+use lib.ListN.{length}
+use Rattle.foil_spec.specs.Lists.{each}
+use Rattle.foil_spec.specs.Foil.{Layout}
+use Rattle.foil_spec.specs.Ledger.{Step, newFoil, draw, lay, lift, lookUp, stripsOf}
+use Rattle.foil_spec.specs.Ledger.{Answer, refused, accepted, laid, found, Room}
+use Rattle.foil_spec.specs.Job.{steps}
+use Rattle.foil_spec.specs.Calls.{runRecord, Reply, answered, ran, atEnd, ledgerCall}
+use Rattle.lines.specs.Lines.{boardLine, patchLine, trackRefused, trackLaid, liftLine, stripLine, fileLine}
+
+-- the refusal number, 0 if accepted
+unfoldable pub numberOf : Answer → ℕ
+numberOf (refused n) = n
+numberOf accepted = 0
+numberOf (laid cs n) = 0
+numberOf (found n) = 0
+
+-- the line of a lay, which is refused or lays a track
+unfoldable pub trackLine : ℕ → Answer → List ℕ
+trackLine net (refused n) = trackRefused net n
+trackLine net accepted = []
+trackLine net (laid cs n) = trackLaid net n cs
+trackLine net (found n) = []
+
+-- the line of a step; no record holds a look up
+unfoldable pub stepLine : Step → Answer → List ℕ
+stepLine (newFoil W H d) a = boardLine (numberOf a)
+stepLine (draw x0 y0 x1 y1) a = patchLine (numberOf a)
+stepLine (lay net S T) a = trackLine net a
+stepLine (lift net) a = liftLine net (numberOf a)
+stepLine (lookUp p) a = []
+
+-- the lines of the steps that were answered
+unfoldable pub stepLines : List Step → List Answer → List ℕ
+stepLines ss [] = []
+stepLines [] (a ∷ given) = []
+stepLines (s ∷ ss) (a ∷ given) = stepLine s a ++ stepLines ss given
+
+-- the job program lends whole lists and 8,192 corner places
+unfoldable pub jobRoom : Room
+jobRoom = record { table = 128; strips = 4096; corners = 8192 }
+
+-- no foil is begun yet
+unfoldable pub noFoil : Layout
+noFoil = record { width = 0; height = 0; clearance = 0; entries = [] }
+
+-- the lines of a record with these steps, its reply and what it left; `rest` gives those from the next place on
+unfoldable pub replyLines : List Step → Reply → Layout → (ℕ → List ℕ) → List ℕ
+replyLines ss (answered a) l rest = fileLine (numberOf a)
+replyLines ss (ran given none) l rest = stepLines ss given
+replyLines ss (ran given (some n)) l rest = stepLines ss given ++ rest n
+replyLines ss atEnd l rest = each stripLine (stripsOf l)
+
+-- the lines from the record at a place on, of at most so many records
+unfoldable pub outputFrom : ℕ → List ℕ → ℕ → Layout → List ℕ
+outputFrom zero bs at l = []
+outputFrom (suc most) bs at l =
+    replyLines
+    (steps bs at)
+    (ledgerCall jobRoom (runRecord bs at) l .answer)
+    (ledgerCall jobRoom (runRecord bs at) l .state)
+    (λ (n : ℕ). outputFrom most bs n (ledgerCall jobRoom (runRecord bs at) l .state))
+
+-- what the job program writes for the bytes of a file, which has no more records than bytes
+unfoldable pub output : List ℕ → List ℕ
+output bs = outputFrom (suc (length bs)) bs 0 noFoil

@@ -1,0 +1,69 @@
+// Bytes, numbers and corners written at a place of a lent list. Each function answers the place after them.
+ghost use Prim.Native.Nat.{_+_, _*_, _≤_};
+ghost use lib.ListN.{length};
+ghost use Rattle.foil_spec.specs.Lists.{each};
+ghost use Rattle.foil_spec.specs.Foil.{point};
+ghost use Rattle.lines.specs.Lines.{decimal, item, cornerItem, cornersIn};
+ghost use Rattle.lines.specs.Put.{Put};
+
+// Puts the bytes there.
+pub fn put_bytes(out: &mut [u8], at: usize, bytes: &[u8]) -> usize
+    requires { ⌜ at + length (now bytes) ≤ length (now out) ⌝ }
+    ensures { λ r. ⌜ Put (now (out .entry)) at (now (bytes .entry)) (now (out .exit)) r ⌝ }
+{
+    let mut i = 0;
+    while i < bytes.len() {
+        out[at + i] = bytes[i];
+        i += 1;
+    }
+    at + i
+}
+
+// Puts a number in decimal, which has 20 digits at most.
+pub fn put_number(out: &mut [u8], at: usize, n: u64) -> usize
+    requires { ⌜ at + 20 ≤ length (now out) ⌝ }
+    ensures { λ r. ⌜ Put (now (out .entry)) at (decimal n) (now (out .exit)) r ⌝ }
+    ensures { λ r. ⌜ r ≤ at + 20 ⌝ }
+{
+    let mut text = [0u8; 20];
+    let k = io::decimal(n, &mut text);
+    put_bytes(out, at, &text[..k])
+}
+
+// Puts a blank and a number of 16 bits, which are 6 bytes at most.
+pub fn put_item(out: &mut [u8], at: usize, n: u16) -> usize
+    requires { ⌜ at + 21 ≤ length (now out) ⌝ }
+    ensures { λ r. ⌜ Put (now (out .entry)) at (item n) (now (out .exit)) r ⌝ }
+    ensures { λ r. ⌜ r ≤ at + 6 ⌝ }
+{
+    let a = put_bytes(out, at, b" ");
+    put_number(out, a, n as u64)
+}
+
+// Puts a blank and a corner as x,y, which are 12 bytes at most.
+pub fn put_corner(out: &mut [u8], at: usize, x: u16, y: u16) -> usize
+    requires { ⌜ at + 27 ≤ length (now out) ⌝ }
+    ensures { λ r. ⌜ Put (now (out .entry)) at (cornerItem (point x y)) (now (out .exit)) r ⌝ }
+    ensures { λ r. ⌜ r ≤ at + 12 ⌝ }
+{
+    let a = put_item(out, at, x);
+    let b = put_bytes(out, a, b",");
+    put_number(out, b, y as u64)
+}
+
+// Puts the first `count` corners of the list.
+pub fn put_corners(out: &mut [u8], at: usize, corners: &[u16], count: usize) -> usize
+    requires { ⌜ at + 15 + 12 * count ≤ length (now out) ⌝ }
+    requires { ⌜ 2 * count ≤ length (now corners) ⌝ }
+    ensures { λ r. ⌜ Put (now (out .entry)) at
+        (each cornerItem (cornersIn (now (corners .entry)) count)) (now (out .exit)) r ⌝ }
+    ensures { λ r. ⌜ r ≤ at + 12 * count ⌝ }
+{
+    let mut a = at;
+    let mut k = 0;
+    while k < count {
+        a = put_corner(out, a, corners[k * 2], corners[k * 2 + 1]);
+        k += 1;
+    }
+    a
+}

@@ -1,0 +1,31 @@
+-- What the search answers, return by return.
+use Prim.Native.Nat.{ℕ, _<_}
+use native.Mathlib.Omega.{arith}
+use mathlib.Core.Path.{_≡_, sym, ap, _∙_}
+use mathlib.Core.List.{List}
+use lib.Dec.{eqb}
+use Rattle.foil_spec.specs.Foil.{Point, Layout}
+use Rattle.foil_spec.specs.Ledger.{cornersOf}
+use Rattle.search.specs.Search.{Ready, Searched, Walked}
+use Rattle.search.specs.declared.Start.{Start}
+use Rattle.tracks.specs.Found.{Found}
+
+module _ (l : Layout) (S T : Point) (cols rows el eu lv up : List ℕ) (s : Start)
+    (k : Searched l S T cols rows el eu lv up s) (out : List ℕ) where
+  pub found-none : s .corners ≡ 0 → Found l S T out out 0
+  found-none e =
+      record {
+        none = k .none ∙ ap (λ (n : ℕ). eqb n 0) e;
+        count = sym e ∙ k .count;
+        corners = λ a b. absurd (omega arith);
+      }
+
+  pub found-many : 129 < s .corners → Found l S T out out (s .corners)
+  found-many h = record { none = k .none; count = k .count; corners = λ a b. absurd (omega arith) }
+
+  pub walk-ready : (s .corners ≡ 0 → ⊥) → (cs : List Point) × Ready cs cols rows el eu lv up s
+  walk-ready n = (cornersOf l S T, k .ready (omega arith))
+
+  pub found-some : (out′ : List ℕ) → Walked cols rows el eu lv up s out out′ → Found l S T out out′ (s .corners)
+  found-some out′ w =
+      record { none = k .none; count = k .count; corners = λ a b. w .writes (cornersOf l S T) (k .ready a) }
