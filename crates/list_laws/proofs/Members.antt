@@ -81,6 +81,10 @@ module _ {A : Type 0} where
   not-any p x (y ∷ ys) t (inl e) = ap p e ∙ or-l (p y) (any p ys) t
   not-any p x (y ∷ ys) t (inr h) = not-any p x ys (or-r (p y) (any p ys) t) h
 
+  pub none-of : (p : A → Bool) (xs : List A) → ((x : A) → In x xs → p x ≡ false) → any p xs ≡ false
+  none-of p [] h = refl
+  none-of p (x ∷ xs) h = rw (h x (inl refl)) (none-of p xs (λ y k. h y (inr k)))
+
   -- a list in order: each element comes before all that follow
   abbrev pub Sorted : (A → A → Bool) → List A → Type 0
   Sorted r [] = Unit {0}
@@ -185,13 +189,11 @@ module _ {A : Type 0} (p : A → Bool) (g : ℕ → A) (n : ℕ) where
 
   pub no-place : ((k : ℕ) → k < n → p (g k) ≡ false) → any p (map g (range 0 n)) ≡ false
   no-place h =
-      both (any p (map g (range 0 n)))
-      (λ t.
-      let a = of-any p (map g (range 0 n)) t in
-      let k = of-map g (a .0) (range 0 n) (a .1) in
+      none-of p (map g (range 0 n))
+      (λ x i.
+      let k = of-map g x (range 0 n) i in
       let l = of-range (k .0) 0 n (k .1) in
-      clash (sym (ap p (k .2)) ∙ a .2) (h (k .0) (omega arith)))
-      (λ t. t)
+      ap p (k .2) ∙ h (k .0) (omega arith))
 
 -- ---- one place more
 

@@ -19,7 +19,8 @@ use Rattle.ledger_laws.proofs.Stored.{length-entries, length-strips}
 use Rattle.ledger_laws.proofs.Kept.{of-ok, to-ok}
 use Rattle.ledger_laws.proofs.Sound.{Sound, of-sound, to-sound, length-read, read-numbers, front-written}
 use Rattle.ledger_laws.proofs.Sound.{is-written, zeros-written}
-use Rattle.state.specs.Tests.{Answers, Zeros, boardOk, StripsRight}
+use Rattle.strips.specs.Told.{Told}
+use Rattle.state.specs.Tests.{Zeros, boardOk, StripsRight}
 
 length-at-least : (n : ℕ) (ns old : List ℕ) → n ≤ length (written n ns old)
 unfolding written
@@ -41,7 +42,7 @@ module _ (l : Layout) (count : ℕ) (s : List ℕ) where
   -- the list built anew has the same front, or not
   pub compared : (out o : List ℕ) (c : ℕ) (r : Bool) → c ≡ length (stripsOf l) → c ≤ 4096
       → out ≡ written 16384 (each stripNumbers (stripsOf l)) o → c ≡ count
-      → Answers (take 16384 out ≡ take 16384 s) r → Answers (StripsRight l count s) r
+      → Told (take 16384 out ≡ take 16384 s) r → Told (StripsRight l count s) r
   compared out o c true n few e k h =
       let ns : List ℕ = each stripNumbers (stripsOf l) in
       let fits : length ns ≤ 16384 = omega (arith, length-strips (stripsOf l)) in
@@ -109,7 +110,7 @@ module _ (b : Board) (t s : List ℕ) where
             ∙ written-zero 640 ns t (omega (arith, k .few)) (i - length ns) (omega arith);
       }
 
-  pub bad-rest : (r : Bool) → Answers (Zeros t (b .entries * 5) 640) r → not r ≡ true → false ≡ sound m
+  pub bad-rest : (r : Bool) → Told (Zeros t (b .entries * 5) 640) r → not r ≡ true → false ≡ sound m
   bad-rest true h n = clash n refl
   bad-rest false h n = not-sound (λ k. h (zeros-after k))
 
@@ -171,11 +172,11 @@ module _ (b : Board) (t s : List ℕ) where
 
   pub shown : 640 ≤ length t → BoardFits
       → (r : Bool) → r ≡ all (entryOk (b .width) (b .height)) (map (entryAt t) (range 0 (b .entries))) → not r ≡ false
-      → (q : Bool) → Answers (Zeros t (b .entries * 5) 640) q → not q ≡ false → Shown
+      → (q : Bool) → Told (Zeros t (b .entries * 5) 640) q → not q ≡ false → Shown
   shown len fits r e n true z k = record { long = len; board = fits; entries = sym e ∙ not-false r n; rest = z }
   shown len fits r e n false z k = clash refl k
 
-  pub all-right : (r : Bool) → Shown → Answers (StripsRight l (b .strips) s) r → r ≡ sound m
+  pub all-right : (r : Bool) → Shown → Told (StripsRight l (b .strips) s) r → r ≡ sound m
   unfolding held store layoutOf
   all-right true h k = sym (to-sound m (all-kept h (k .few)) (k .counted) (table-right h) (k .listed))
   all-right false h k =

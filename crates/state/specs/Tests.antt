@@ -1,7 +1,7 @@
 -- What the tests of the state check say.
 use Prim.Native.Nat.{ℕ, _≤_, _<_}
 use mathlib.Core.Path.{_≡_}
-use mathlib.Core.Bool.{Bool, true, false, _&&_}
+use mathlib.Core.Bool.{Bool, _&&_}
 use mathlib.Core.List.{List}
 use lib.Dec.{leb}
 use lib.ListN.{length, getD}
@@ -10,11 +10,6 @@ use Rattle.foil_spec.specs.Foil.{Layout, sizeOk, clearanceOk}
 use Rattle.foil_spec.specs.Ledger.{stripsOf}
 use Rattle.foil_spec.specs.Lent.{stripNumbers, written}
 use Rattle.foil_spec.specs.declared.Board.{Board}
-
--- the answer says whether P holds
-abbrev pub Answers : Type 0 → Bool → Type 0
-Answers P true = P
-Answers P false = P → ⊥
 
 -- the numbers from place a up to place b are zero
 pub record Zeros (l : List ℕ) (a b : ℕ) : Type 0 where

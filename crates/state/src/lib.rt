@@ -16,7 +16,8 @@ ghost use Rattle.foil_spec.specs.Lists.{range, all};
 ghost use Rattle.foil_spec.specs.Foil.{entryOk};
 ghost use Rattle.foil_spec.specs.Lent.{lent, entryAt, layoutOf, sound};
 ghost use Rattle.strips.specs.Table.{Table};
-ghost use Rattle.state.specs.Tests.{Answers, Zeros, boardOk, StripsRight};
+ghost use Rattle.strips.specs.Told.{Told};
+ghost use Rattle.state.specs.Tests.{Zeros, boardOk, StripsRight};
 
 // Whether the record, the table and the strips keep document 01's rules, whatever they hold.
 pub fn is_sound(table: &[u16], strips: &[u16], board: Board) -> bool
@@ -61,7 +62,7 @@ fn board_ok(board: Board) -> bool
 fn strips_ok(table: &[u16], strips: &[u16], board: Board) -> bool
     requires { ⌜ Table (now table) (board .entries) (board .clearance) (board .width) (board .height) ⌝ }
     requires { ⌜ 16384 ≤ length (now strips) ⌝ }
-    ensures { λ r. ⌜ Answers (StripsRight (layoutOf (board .width) (board .height) (board .clearance)
+    ensures { λ r. ⌜ Told (StripsRight (layoutOf (board .width) (board .height) (board .clearance)
         (board .entries) (now (table .entry))) (board .strips) (now (strips .entry))) r ⌝ }
 {
     let mut out = [0u16; 16384];
@@ -115,7 +116,7 @@ fn entries_ok(table: &[u16], n: usize, w: u16, h: u16) -> bool
 // Whether the numbers from place a up to place b are zero.
 fn zeros(list: &[u16], a: usize, b: usize) -> bool
     requires { ⌜ (a ≤ b) × (b ≤ length (now list)) ⌝ }
-    ensures { λ r. ⌜ Answers (Zeros (now (list .entry)) a b) r ⌝ }
+    ensures { λ r. ⌜ Told (Zeros (now (list .entry)) a b) r ⌝ }
 {
     let mut i = a;
     while i < b {
@@ -130,7 +131,7 @@ fn zeros(list: &[u16], a: usize, b: usize) -> bool
 // Whether the first n numbers of the lists are the same.
 fn same_front(a: &[u16], b: &[u16], n: usize) -> bool
     requires { ⌜ (n ≤ length (now a)) × (n ≤ length (now b)) ⌝ }
-    ensures { λ r. ⌜ Answers (take n (now (a .entry)) ≡ take n (now (b .entry))) r ⌝ }
+    ensures { λ r. ⌜ Told (take n (now (a .entry)) ≡ take n (now (b .entry))) r ⌝ }
 {
     let mut i = 0;
     while i < n {

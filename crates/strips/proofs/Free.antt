@@ -1,6 +1,5 @@
 -- Which points the first n entries of a table leave free.
 use Prim.Native.Nat.{ℕ, _+_, _≤_, _<_}
-use native.Mathlib.Omega.{arith}
 use mathlib.Core.Path.{_≡_, sym, ap, _∙_}
 use mathlib.Core.Bool.{Bool, true, false, not, _&&_}
 use mathlib.Core.List.{List, map}
@@ -10,7 +9,7 @@ use Rattle.foil_spec.specs.Lists.{range, all}
 use Rattle.foil_spec.specs.Foil.{Entry, within, blocks, free}
 use Rattle.foil_spec.specs.Lent.{entryAt, layoutOf}
 use Rattle.list_laws.proofs.Tests.{both, clash, parts, and-no-r, not-f, not-t}
-use Rattle.list_laws.proofs.Members.{in-map, of-map, in-range, of-range, of-all, to-all}
+use Rattle.list_laws.proofs.Members.{all-places, at-place}
 use Rattle.strips.specs.Table.{onRow}
 
 module _ (lo hi d v : ℕ) where
@@ -54,11 +53,7 @@ module _ (w h d n : ℕ) (t : List ℕ) (x y : ℕ) where
       simp (
         lt-ltb x w lx,
         lt-ltb y h ly,
-        to-all (λ (e : Entry). not (blocks d e x y)) (map (entryAt t) (range 0 n))
-            (λ e i.
-            let k = of-map (entryAt t) e (range 0 n) i in
-            let l = of-range (k .0) 0 n (k .1) in
-            not-f (ap (λ (z : Entry). blocks d z x y) (k .2) ∙ none (k .0) (omega arith))),
+        all-places (λ (e : Entry). not (blocks d e x y)) (entryAt t) n (λ k l. not-f (none k l)),
       )
 
   -- and no others
@@ -73,8 +68,7 @@ module _ (w h d n : ℕ) (t : List ℕ) (x y : ℕ) where
         ltb-true y h b,
         λ k l.
             not-t (blocks d (entryAt t k) x y)
-            (of-all (λ (e : Entry). not (blocks d e x y)) (entryAt t k) (map (entryAt t) (range 0 n)) c
-            (in-map (entryAt t) k (range 0 n) (in-range k 0 n (omega arith) (omega arith)))),
+            (at-place (λ (e : Entry). not (blocks d e x y)) (entryAt t) n c k l),
       )
 
   pub blocked-at : Blocked t n d x y → free (layoutOf w h d n t) x y ≡ false

@@ -4,7 +4,6 @@ use native.Mathlib.Omega.{arith}
 use mathlib.Core.Path.{_≡_, refl, sym, ap, ap₂, _∙_}
 use mathlib.Core.Bool.{Bool, true, false}
 use mathlib.Core.List.{List, [], _∷_, _++_, map}
-use mathlib.Core.Logic.{inl, inr}
 use lib.Dec.{leb, ltb}
 use lib.ListN.{length, drop, replicate}
 use borrow.Author.Tests.{lt-leb, le-ltb}
@@ -12,8 +11,8 @@ use Rattle.foil_spec.specs.Lists.{range, any, each}
 use Rattle.foil_spec.specs.Foil.{Point}
 use Rattle.foil_spec.specs.Strips.{Strip, strips, holds, placeOf}
 use Rattle.foil_spec.specs.Lent.{stripNumbers, written}
-use Rattle.list_laws.proofs.Tests.{both, clash, and-no-r, or-il, or-ir}
-use Rattle.list_laws.proofs.Members.{In}
+use Rattle.list_laws.proofs.Tests.{both, clash, and-no-r}
+use Rattle.list_laws.proofs.Members.{in-any, none-of}
 use Rattle.strip_laws.proofs.Laws.{in-a-strip, only-free}
 use Rattle.strips.specs.Join.{at}
 use Rattle.strips.specs.Places.{listedStrip, listedStrips, placeIn}
@@ -115,23 +114,13 @@ unfolding written
 listed-written n ss old =
     listed-strips ss (replicate (n - length (each stripNumbers ss)) 0 ++ drop n old)
 
-module _ {A : Type 0} (q : A → Bool) where
-  any-of : (x : A) (xs : List A) → In x xs → q x ≡ true → any q xs ≡ true
-  any-of x [] i e = absurd i
-  any-of x (y ∷ ys) (inl k) e = or-il (any q ys) (sym (ap q k) ∙ e)
-  any-of x (y ∷ ys) (inr k) e = or-ir (q y) (any-of x ys k e)
-
-  none-of : (xs : List A) → ((x : A) → In x xs → q x ≡ false) → any q xs ≡ false
-  none-of [] h = refl
-  none-of (x ∷ xs) h = rw (h x (inl refl)) (none-of xs (λ y k. h y (inr k)))
-
 -- on a board a free point has a place, and no other point has
 module _ (f : ℕ → ℕ → Bool) (W H : ℕ) (p : Point) where
   pub place-free : p .x < W → p .y < H → f (p .x) (p .y) ≡ true
       → placeIn p (strips f W H) ≡ At (placeOf p (strips f W H))
   place-free lx ly e =
       let s = in-a-strip f W H p lx ly e in
-      place-yes p (strips f W H) (any-of (holds p) (s .0) (strips f W H) (s .1) (s .2))
+      place-yes p (strips f W H) (in-any (holds p) (s .0) (strips f W H) (s .1) (s .2))
 
   pub place-blocked : f (p .x) (p .y) ≡ false → placeIn p (strips f W H) ≡ Nowhere
   place-blocked e =

@@ -11,7 +11,7 @@ use Rattle.foil_spec.specs.Lists.{range, all}
 use Rattle.foil_spec.specs.Foil.{Entry, boxOk, entryOk}
 use Rattle.foil_spec.specs.Lent.{entryAt}
 use Rattle.list_laws.proofs.Tests.{parts}
-use Rattle.list_laws.proofs.Members.{in-map, in-range, of-all}
+use Rattle.list_laws.proofs.Members.{at-place}
 use Rattle.strips.specs.Table.{Table}
 
 -- an entry that the rules allow is on the board
@@ -46,6 +46,4 @@ table-of t n d w h few len small wide high ok =
   where
     at : (k : ℕ) → k < n → OnBoard w h (entryAt t k)
     at k l =
-        on-board w h (entryAt t k)
-        (of-all (entryOk w h) (entryAt t k) (map (entryAt t) (range 0 n)) ok
-        (in-map (entryAt t) k (range 0 n) (in-range k 0 n (omega arith) (omega arith))))
+        on-board w h (entryAt t k) (at-place (entryOk w h) (entryAt t) n ok k l)

@@ -74,8 +74,3 @@ pub record Opened (out : List ℕ) (k count a b y : ℕ) : Type 0 where
   pub is-x0 : getD out (k * 4) 0 ≡ a
   pub is-x1 : getD out (k * 4 + 2) 0 ≡ b
   pub is-y1 : getD out (k * 4 + 3) 0 ≡ y
-
--- the answer says whether P
-abbrev pub Told : Type 0 → Bool → Type 0
-Told P true = P
-Told P false = P → ⊥
