@@ -29,12 +29,13 @@ corners-last ks k =
     ∙ each-last cornerItem (map (cornerAt ks) (range 0 k)) (cornerAt ks (0 + k))
     ∙ ap (λ (j : ℕ). each cornerItem (map (cornerAt ks) (range 0 k)) ++ cornerItem (cornerAt ks j)) (zero-add k)
 
--- no corner, and one corner more
+-- no corner is put, one corner more is, all are
 pub corners-none : (ks o : List ℕ) (at : ℕ) → at ≤ length o → Put o at (each cornerItem (cornersIn ks 0)) o at
 unfolding cornersIn
 corners-none ks o at l = put-none o at l
 
-pub corners-more : {o o₁ o₂ : List ℕ} {at a r : ℕ} (ks : List ℕ) (k : ℕ) → Put o at (each cornerItem (cornersIn ks k)) o₁ a
+pub corners-more : {o o₁ o₂ : List ℕ} {at a r : ℕ} (ks : List ℕ) (k : ℕ)
+    → Put o at (each cornerItem (cornersIn ks k)) o₁ a
     → Put o₁ a (cornerItem (cornerAt ks k)) o₂ r → Put o at (each cornerItem (cornersIn ks (k + 1))) o₂ r
 corners-more ks k p q = rw (corners-last ks k) (put-then p q)
 
@@ -44,7 +45,7 @@ corners-all ks k n h l p =
     let e : k ≡ n = omega arith in
     rw (← e) p
 
--- the corners of a path that stand in a list, read from it again
+-- the corner whose numbers stand at its place
 corner-read : (front l : List ℕ) (a x y : ℕ) → length front ≡ a * 2 → cornerAt (front ++ (x ∷ y ∷ l)) a ≡ point x y
 unfolding cornerAt
 corner-read front l a x y e =
@@ -65,6 +66,7 @@ corners-after front rest a (p ∷ cs) e =
     (sym (append-assoc front (pointNumbers p) (each pointNumbers cs ++ rest)))
     ∙ corners-after (front ++ pointNumbers p) rest (suc a) cs later)
 
+-- the corners of a track, written at the front of a corner list, are the first ones in it
 pub corners-read : (cs : List Point) (rest : List ℕ) → cornersIn (each pointNumbers cs ++ rest) (length cs) ≡ cs
 unfolding cornersIn
 corners-read cs rest = corners-after [] rest 0 cs refl

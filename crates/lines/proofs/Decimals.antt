@@ -2,10 +2,9 @@
 use Prim.Native.Nat.{ℕ, zero, suc, _+_, _-_, _*_, _/_, _%_, _^_, _≤_, _<_}
 use native.Mathlib.Omega.{arith}
 use native.Mathlib.Nat.{mod-eq-of-lt, pow-suc, pow-le-pow-right, one-le-pow}
-use mathlib.Core.Path.{_≡_, refl, sym, ap, ap₂, _∙_, subst}
+use mathlib.Core.Path.{_≡_, sym, ap, ap₂, _∙_, subst}
 use mathlib.Core.List.{List, [], _∷_, _++_}
-use mathlib.Core.Logic.{_⊎_, ⊎-elim}
-use lib.Dec.{ltb}
+use mathlib.Core.Logic.{⊎-elim}
 use lib.ListN.{length, length-append}
 use borrow.Author.Tests.{lt-ltb, le-ltb}
 use Rattle.io.specs.Digits.{glyph, digits, Fewest}
@@ -48,9 +47,10 @@ fewest-digits (suc (suc k)) zero n l f = absurd (omega arith)
 fewest-digits (suc (suc k)) (suc most) n l f =
     let less = fewest-less k n f in
     let h : 10 ≤ n = less .0 in
-    let front : digits 10 (suc k) (n / 10) ≡ digitsIn most (n / 10) =
-    fewest-digits (suc k) most (n / 10) (omega arith) (less .1) in
-    ap₂ (λ (ds : List ℕ) (d : ℕ). ds ++ (d ∷ [])) front (glyph-digit (n % 10) (omega arith)) ∙ sym (digits-more most n h)
+    ap₂ (λ (ds : List ℕ) (d : ℕ). ds ++ (d ∷ []))
+    (fewest-digits (suc k) most (n / 10) (omega arith) (less .1))
+    (glyph-digit (n % 10) (omega arith))
+    ∙ sym (digits-more most n h)
 
 -- the fewest digits are the number in decimal
 decimal-is : (k n : ℕ) → Fewest 10 1 n k → digits 10 k n ≡ decimal n
@@ -68,10 +68,12 @@ fewest-short k n l f = ⊎-elim (λ (h : 20 < k). absurd (long h)) (λ (h : k �
         let p : 10 ^ 20 ≤ 10 ^ (k - 1) = pow-le-pow-right {n = 10} (omega arith) more in
         omega arith
 
+-- digits that were put are the number in decimal
 pub number-put : {o bs o′ : List ℕ} {at r : ℕ} (k n : ℕ) → Fewest 10 1 n k → bs ≡ digits 10 k n → Put o at bs o′ r
     → Put o at (decimal n) o′ r
 number-put {o} {bs} {o′} {at} {r} k n f e p = subst (λ (ds : List ℕ). Put o at ds o′ r) (e ∙ decimal-is k n f) p
 
+-- how long it is
 one-short : (k most n : ℕ) → n < 10 → length (digitsIn (suc most) n) ≤ suc k
 one-short k most n h = rw (digits-one most n h) (omega arith)
 

@@ -13,7 +13,8 @@ use Rattle.foil_spec.specs.Ledger.{ledgerStep}
 use Rattle.foil_spec.specs.Job.{number, fieldCount, mapByte, has, fieldsAt, recordEnd, field, steps, isEnd}
 use Rattle.foil_spec.specs.Job.{recordChecks}
 use Rattle.foil_spec.specs.Calls.{endsJob, andThen, actAll, actRecord, tooLarge, ledgerCall}
-use Rattle.lines.specs.Lines.{ascii, digitsIn, decimal, item, cornerItem, boardLine, patchLine, trackLaid, stripLine}
+use Rattle.lines.specs.Lines.{ascii, digitsIn, decimal, item, cornerItem}
+use Rattle.lines.specs.Lines.{boardLine, patchLine, trackLaid, stripLine}
 use Rattle.lines.specs.Output.{numberOf, trackLine, stepLine, stepLines, jobRoom, noFoil, replyLines}
 use Rattle.lines.specs.Output.{outputFrom, output}
 

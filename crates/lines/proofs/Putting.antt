@@ -6,7 +6,8 @@ use native.Mathlib.Numerals.{add-one}
 use mathlib.Core.Path.{_≡_, refl, sym, ap, _∙_}
 use mathlib.Core.List.{List, [], _∷_, _++_, append-assoc}
 use lib.ListN.{length, getD, take, drop, set, length-append, length-take, length-drop}
-use lib.Seq.{paste-zero, set-split, append-snoc, take-suc, take-all, length-take-le, take-at, drop-append-add, drop-drop}
+use lib.Seq.{paste-zero, set-split, append-snoc, take-suc, take-all, length-take-le, take-at}
+use lib.Seq.{drop-append-add, drop-drop}
 use Rattle.lines.specs.Put.{Put}
 
 -- no bytes
@@ -31,29 +32,46 @@ put-length p =
     let room = p .fits in
     omega (arith, simp (length-append, length-take, length-drop) at (ap length (p .is)))
 
+module _ (o a : List ℕ) (at : ℕ) where
+  -- where the bytes a end
+  put-seam : at ≤ length o → length (take at o ++ a) ≡ at + length a
+  put-seam l = length-append (take at o) a ∙ ap (λ (k : ℕ). k + length a) (length-take-le at o l)
+
+  -- what stands after the bytes b that follow them
+  put-past : at ≤ length o → (b : List ℕ)
+      → drop (at + length a + length b) (take at o ++ a ++ drop (at + length a) o) ≡ drop (at + length (a ++ b)) o
+  put-past l b =
+      let rest : List ℕ = drop (at + length a) o in
+      let both : at + length a + length b ≡ at + length (a ++ b) = simp length-append (omega arith) in
+      ap (λ (k : ℕ). drop (k + length b) (take at o ++ a ++ rest)) (sym (put-seam l))
+      ∙ drop-append-add (take at o ++ a) rest (length b)
+      ∙ drop-drop (length b) (at + length a) o
+      ∙ ap (λ (k : ℕ). drop k o) both
+
+  -- the bytes b after them
+  put-next : at ≤ length o → (b : List ℕ) (o₁ : List ℕ) → o₁ ≡ take at o ++ a ++ drop (at + length a) o
+      → take (at + length a) o₁ ++ b ++ drop (at + length a + length b) o₁
+      ≡ take at o ++ (a ++ b) ++ drop (at + length (a ++ b)) o
+  put-next l b o₁ e =
+      let rest : List ℕ = drop (at + length a) o in
+      ap (λ (x : List ℕ). take (at + length a) x ++ b ++ drop (at + length a + length b) x) e
+      ∙ ap (λ (x : List ℕ). x ++ b ++ drop (at + length a + length b) (take at o ++ a ++ rest))
+      (take-at (take at o ++ a) rest (at + length a) (put-seam l))
+      ∙ ap (λ (x : List ℕ). take at o ++ a ++ b ++ x) (put-past l b)
+      ∙ ap (λ (x : List ℕ). x ++ drop (at + length (a ++ b)) o) (append-assoc (take at o) a b)
+
 -- other bytes after some
 pub put-then : {o o₁ o₂ a b : List ℕ} {at m r : ℕ} → Put o at a o₁ m → Put o₁ m b o₂ r → Put o at (a ++ b) o₂ r
-put-then {o} {o₁} {o₂} {a} {b} {at} {m} {r} p q =
-    let room : at + length a ≤ length o = p .fits in
-    let front : List ℕ = take at o ++ a in
-    let rest : List ℕ = drop (at + length a) o in
-    let both : length (a ++ b) ≡ length a + length b = length-append a b in
-    let seam : length front ≡ m =
-    length-append (take at o) a ∙ ap (λ (k : ℕ). k + length a) (length-take-le at o (omega arith)) ∙ sym (p .next) in
-    let whole : length o₁ ≡ length o = put-length p in
-    let after : drop (m + length b) (front ++ rest) ≡ drop (at + length (a ++ b)) o =
-    ap (λ (k : ℕ). drop (k + length b) (front ++ rest)) (sym seam)
-    ∙ drop-append-add front rest (length b)
-    ∙ drop-drop (length b) (at + length a) o
-    ∙ ap (λ (k : ℕ). drop k o) (let e : at + length a + length b ≡ at + length (a ++ b) = omega arith in e) in
+put-then {o} {o₁} {o₂} {a} {b} {at} p q =
+    let room = p .fits in
+    let same = put-length p in
+    let both = length-append a b in
     record {
       fits = omega (arith, p .next, q .fits);
       is =
           q .is
-          ∙ ap (λ (x : List ℕ). take m x ++ b ++ drop (m + length b) x) (p .is)
-          ∙ ap (λ (x : List ℕ). x ++ b ++ drop (m + length b) (front ++ rest)) (take-at front rest m seam)
-          ∙ ap (λ (x : List ℕ). front ++ b ++ x) after
-          ∙ ap (λ (x : List ℕ). x ++ drop (at + length (a ++ b)) o) (append-assoc (take at o) a b);
+          ∙ ap (λ (k : ℕ). take k o₁ ++ b ++ drop (k + length b) o₁) (p .next)
+          ∙ put-next o a at (omega arith) b o₁ (p .is);
       next = omega (arith, p .next, q .next);
     }
 

@@ -1,4 +1,4 @@
--- `lines::track_laid` meets its contract: the word, the net, 0, the bends, the corners and the line feed, one after the other.
+-- `lines::track_laid` meets its contract: the word, its items and the line feed, one after the other.
 use native.Mathlib.Omega.{arith}
 use borrow.Author.Needs.{needs}
 use Rattle.lines.specs.Lines.{trackLaid, item}

@@ -1,0 +1,66 @@
+-- `plain::is_free` meets its contract: none of the entries up to i blocks the point.
+use Prim.Native.Nat.{ℕ, _<_, _≤_, _-_}
+use native.Mathlib.Omega.{arith}
+use mathlib.Core.Path.{_≡_, sym, _∙_}
+use mathlib.Core.Bool.{false, true≢false}
+use borrow.Author.Needs.{needs}
+use borrow.Author.Count.{below-more}
+use Rattle.foil_spec.specs.Foil.{blocks}
+use Rattle.foil_spec.specs.Lent.{entryAt}
+use Rattle.plain.proofs.is_free.Statement.{statement}
+use Rattle.plain.proofs.is_free.Tie as tie
+
+abbrev Inv-loop : tie.InvT-loop
+Inv-loop table n d w h x y i₀ i = (i ≤ n) × ((k : ℕ) → k < i → blocks d (entryAt table k) x y ≡ false)
+
+abbrev μ-loop : tie.MeasureT-loop
+μ-loop table n d w h x y i₀ i = n - i
+
+returns : tie.Need-returns Inv-loop μ-loop
+returns c = λ e. absurd (true≢false (sym e))
+
+returns-2 : tie.Need-returns-2 Inv-loop μ-loop
+returns-2 c = λ e. absurd (true≢false (sym e))
+
+loop-holds : tie.Need-loop-holds Inv-loop μ-loop
+loop-holds c = (omega arith, λ k l. absurd (omega arith))
+
+blocks-at-requires : tie.Need-blocks-at-requires Inv-loop μ-loop
+blocks-at-requires c κs = search needs
+
+returns-3 : tie.Need-returns-3 Inv-loop μ-loop
+returns-3 c = λ e. absurd (true≢false (sym e))
+
+add-i : tie.Need-add-i Inv-loop μ-loop
+add-i c = search needs
+
+loop-less : tie.Need-loop-less Inv-loop μ-loop
+loop-less c = search needs
+
+loop-again : tie.Need-loop-again Inv-loop μ-loop
+loop-again c = (omega arith, below-more _ _ (c .before .before .before .loop .inv .1)
+    (sym (c .before .blocks-at .ensures) ∙ c .if3 .left))
+
+returns-4 : tie.Need-returns-4 Inv-loop μ-loop
+returns-4 c e =
+    record {
+      x-on = omega arith;
+      y-on = omega arith;
+      none = λ k l. c .before .loop .inv .1 k (omega arith);
+    }
+
+pub is-free-spec : {M : Type 1} → statement M
+is-free-spec =
+    tie.close
+    (tie.spec
+    Inv-loop
+    μ-loop
+    returns
+    returns-2
+    loop-holds
+    blocks-at-requires
+    returns-3
+    add-i
+    loop-less
+    loop-again
+    returns-4)

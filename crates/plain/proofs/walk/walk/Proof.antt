@@ -1,0 +1,62 @@
+-- `plain::walk::walk` is safe and ends: the segments left fall, and p is a point.
+use Prim.Native.Nat.{_+_, _≤_, _<_}
+use borrow.Author.Needs.{needs}
+use Rattle.plain.proofs.walk.walk.Statement.{statement}
+use Rattle.plain.proofs.walk.walk.Tie as tie
+
+abbrev Inv-loop : tie.InvT-loop
+Inv-loop out₀ level upright map s t segments heading₀ p₀ count₀ left₀ out heading p count left = (p < 4096) × (count + left ≤ 65536)
+
+abbrev μ-loop : tie.MeasureT-loop
+μ-loop out₀ level upright map s t segments heading₀ p₀ count₀ left₀ out heading p count left = left
+
+put-requires : tie.Need-put-requires Inv-loop μ-loop
+put-requires c κs = search needs
+
+loop-holds : tie.Need-loop-holds Inv-loop μ-loop
+loop-holds c = search needs
+
+sub-left : tie.Need-sub-left Inv-loop μ-loop
+sub-left c = search needs
+
+next-corner-requires : tie.Need-next-corner-requires Inv-loop μ-loop
+next-corner-requires c κs = search needs
+
+returns : tie.Need-returns Inv-loop μ-loop
+returns c = search needs
+
+put-requires-2 : tie.Need-put-requires-2 Inv-loop μ-loop
+put-requires-2 c κs = search needs
+
+after-requires : tie.Need-after-requires Inv-loop μ-loop
+after-requires c κs = search needs
+
+add-count : tie.Need-add-count Inv-loop μ-loop
+add-count c = search needs
+
+loop-less : tie.Need-loop-less Inv-loop μ-loop
+loop-less c = search needs
+
+loop-again : tie.Need-loop-again Inv-loop μ-loop
+loop-again c = search needs
+
+returns-2 : tie.Need-returns-2 Inv-loop μ-loop
+returns-2 c = search needs
+
+pub walk-spec : {M : Type 1} → statement M
+walk-spec =
+    tie.close
+    (tie.spec
+    Inv-loop
+    μ-loop
+    put-requires
+    loop-holds
+    sub-left
+    next-corner-requires
+    returns
+    put-requires-2
+    after-requires
+    add-count
+    loop-less
+    loop-again
+    returns-2)

@@ -1,0 +1,2 @@
+-- What the contracts of the plain search say.
+pub mod Free

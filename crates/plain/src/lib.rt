@@ -1,0 +1,130 @@
+// The first path of fewest bends on a small board, by a plain breadth-first search over all its points.
+// It follows document 01's words point by point, and is there for another search to be compared with.
+//
+// A board is at most 64 by 64. A list of points has 4,096 places, and the point (x, y) stands at
+// y * 64 + x: the order of the places is the order of corners, smaller y first, then smaller x.
+mod labels;
+mod walk;
+
+ghost use mathlib.Core.Path.{_≡_};
+ghost use mathlib.Core.Bool.{true};
+ghost use Prim.Native.Nat.{_≤_, _<_};
+ghost use Rattle.foil_spec.specs.Foil.{within, blocks};
+ghost use Rattle.foil_spec.specs.Lent.{entryAt};
+ghost use Rattle.plain.specs.Free.{Unblocked};
+
+// How many points are in a row of the lists, and how many in all.
+const SIDE: usize = 64;
+
+const POINTS: usize = 4096;
+
+// Says of each place whether its point is on the board of w by h, and none of the first n entries of
+// the table blocks it at clearance d.
+pub fn free_points(map: &mut [bool; 4096], table: &[u16; 640], n: usize, d: u16, w: u16, h: u16)
+    requires { ⌜ n ≤ 128 ⌝ }
+{
+    for p in 0..POINTS {
+        let x = (p % SIDE) as u16;
+        let y = (p / SIDE) as u16;
+        map[p] = is_free(table, n, d, w, h, x, y);
+    }
+}
+
+// Whether the point (x, y) is on the board, and no entry blocks it.
+pub fn is_free(table: &[u16; 640], n: usize, d: u16, w: u16, h: u16, x: u16, y: u16) -> bool
+    requires { ⌜ n ≤ 128 ⌝ }
+    ensures { λ r. ⌜ (r ≡ true → Unblocked (now (table .entry)) n d w h x y) ⌝ }
+{
+    if w <= x {
+        return false;
+    }
+    if h <= y {
+        return false;
+    }
+    for i in 0..n {
+        if blocks_at(table, i, d, x, y) {
+            return false;
+        }
+    }
+    true
+}
+
+// Whether entry i of the table blocks the point (x, y).
+fn blocks_at(table: &[u16; 640], i: usize, d: u16, x: u16, y: u16) -> bool
+    requires { ⌜ i < 128 ⌝ }
+    ensures { λ r. ⌜ r ≡ blocks d (entryAt (now (table .entry)) i) x y ⌝ }
+{
+    if !within(table[i * 5 + 1], table[i * 5 + 3], d, x) {
+        return false;
+    }
+    within(table[i * 5 + 2], table[i * 5 + 4], d, y)
+}
+
+// Whether lo - d <= v < hi + d.
+fn within(lo: u16, hi: u16, d: u16, v: u16) -> bool
+    ensures { λ r. ⌜ r ≡ within lo hi d v ⌝ }
+{
+    if (v as u32) + (d as u32) < (lo as u32) {
+        return false;
+    }
+    (v as u32) < (hi as u32) + (d as u32)
+}
+
+// Writes the corners of the first path of fewest bends from (sx, sy) to (tx, ty) to the front of
+// `out`, x before y, and answers how many they are: 0 where there is no path.
+pub fn first_path(
+    out: &mut [u16; 8192],
+    map: &[bool; 4096],
+    sx: u16,
+    sy: u16,
+    tx: u16,
+    ty: u16,
+) -> usize {
+    let s = place(map, sx, sy);
+    let t = place(map, tx, ty);
+    if s == POINTS {
+        return 0;
+    }
+    if t == POINTS {
+        return 0;
+    }
+    if s == t {
+        walk::put(out, 0, s);
+        return 1;
+    }
+    let mut level = [0u16; 4096];
+    let mut upright = [0u16; 4096];
+    labels::label(&mut level, &mut upright, map, t);
+    let segments = fewest(level[s], upright[s]);
+    if segments == 0 {
+        return 0;
+    }
+    walk::walk(out, &level, &upright, map, s, t, segments)
+}
+
+// The place of the point (x, y), or 4,096 where it is not free.
+fn place(map: &[bool; 4096], x: u16, y: u16) -> usize
+    ensures { λ r. ⌜ r ≤ 4096 ⌝ }
+{
+    let column = x as usize;
+    let row = y as usize;
+    if SIDE <= column {
+        return POINTS;
+    }
+    if SIDE <= row {
+        return POINTS;
+    }
+    let p = row * SIDE + column;
+    if map[p] { p } else { POINTS }
+}
+
+// The smaller of two labels, where 0 stands for none.
+fn fewest(a: u16, b: u16) -> u16 {
+    if a == 0 {
+        return b;
+    }
+    if b == 0 {
+        return a;
+    }
+    if a < b { a } else { b }
+}

@@ -1,0 +1,158 @@
+// The walk over the labels: at each corner the first point in order from which the rest of the path
+// takes one segment less.
+ghost use Prim.Native.Nat.{_<_, _≤_};
+use crate::POINTS;
+use crate::SIDE;
+
+// Which way the next segment may go.
+enum Heading {
+    Either,
+    Level,
+    Upright,
+}
+
+// Whether all points from the place a to the place b are free, at every step-th place.
+fn all_free(map: &[bool; 4096], a: usize, b: usize, step: usize) -> bool
+    requires { ⌜ (b < 4096) × (0 < step) × (step ≤ 64) ⌝ }
+{
+    let mut p = a;
+    while p <= b {
+        if !map[p] {
+            return false;
+        }
+        p += step;
+    }
+    true
+}
+
+// Whether a level free segment has the ends p and q.
+fn level_free(map: &[bool; 4096], p: usize, q: usize) -> bool
+    requires { ⌜ (p < 4096) × (q < 4096) ⌝ }
+{
+    if p / SIDE != q / SIDE {
+        return false;
+    }
+    if p < q {
+        all_free(map, p, q, 1)
+    } else {
+        p != q && all_free(map, q, p, 1)
+    }
+}
+
+// Whether an upright free segment has the ends p and q.
+fn upright_free(map: &[bool; 4096], p: usize, q: usize) -> bool
+    requires { ⌜ (p < 4096) × (q < 4096) ⌝ }
+{
+    if p % SIDE != q % SIDE {
+        return false;
+    }
+    if p < q {
+        all_free(map, p, q, SIDE)
+    } else {
+        p != q && all_free(map, q, p, SIDE)
+    }
+}
+
+// Whether a free segment with the ends p and q goes as the heading says.
+fn segment(map: &[bool; 4096], heading: Heading, p: usize, q: usize) -> bool
+    requires { ⌜ (p < 4096) × (q < 4096) ⌝ }
+{
+    match heading {
+        Heading::Either => level_free(map, p, q) || upright_free(map, p, q),
+        Heading::Level => level_free(map, p, q),
+        Heading::Upright => upright_free(map, p, q),
+    }
+}
+
+// After the segment from p to q the next one goes the other way.
+fn after(p: usize, q: usize) -> Heading {
+    if p / SIDE == q / SIDE {
+        Heading::Upright
+    } else {
+        Heading::Level
+    }
+}
+
+// Whether the fewest segments from q to t, the first as the heading says, are `left`.
+fn leads(
+    level: &[u16; 4096],
+    upright: &[u16; 4096],
+    heading: Heading,
+    q: usize,
+    t: usize,
+    left: u16,
+) -> bool
+    requires { ⌜ q < 4096 ⌝ }
+{
+    if left == 0 {
+        return q == t;
+    }
+    match heading {
+        Heading::Either => level[q] == left || upright[q] == left,
+        Heading::Level => level[q] == left,
+        Heading::Upright => upright[q] == left,
+    }
+}
+
+// The first point in order that can follow the corner p, with `left` segments after it; 4,096 where
+// there is none.
+fn next_corner(
+    level: &[u16; 4096],
+    upright: &[u16; 4096],
+    map: &[bool; 4096],
+    heading: Heading,
+    p: usize,
+    t: usize,
+    left: u16,
+) -> usize
+    requires { ⌜ p < 4096 ⌝ }
+    ensures { λ r. ⌜ r ≤ 4096 ⌝ }
+{
+    for q in 0..POINTS {
+        if segment(map, heading, p, q) && leads(level, upright, after(p, q), q, t, left) {
+            return q;
+        }
+    }
+    POINTS
+}
+
+// Writes the point p as corner i, if `out` has room for it.
+pub(crate) fn put(out: &mut [u16; 8192], i: usize, p: usize)
+    requires { ⌜ p < 4096 ⌝ }
+{
+    if i < POINTS {
+        out[i * 2] = (p % SIDE) as u16;
+        out[i * 2 + 1] = (p / SIDE) as u16;
+    }
+}
+
+// Writes the corners from s to t, that many segments away, and answers how many they are.
+pub(crate) fn walk(
+    out: &mut [u16; 8192],
+    level: &[u16; 4096],
+    upright: &[u16; 4096],
+    map: &[bool; 4096],
+    s: usize,
+    t: usize,
+    segments: u16,
+) -> usize
+    requires { ⌜ s < 4096 ⌝ }
+{
+    put(out, 0, s);
+    let mut heading = Heading::Either;
+    let mut p = s;
+    let mut count: usize = 1;
+    let mut left = segments;
+    while 0 < left {
+        left -= 1;
+        let q = next_corner(level, upright, map, heading, p, t, left);
+        if q == POINTS {
+            return 0;
+        }
+        put(out, count, q);
+        heading = after(p, q);
+        p = q;
+        count += 1;
+    }
+    count
+}

@@ -1,0 +1,72 @@
+// Runs the plain search on the starred boards of document 01 that have a track, and writes what it finds: a line for
+// each pair of points, with the corners of the path.
+ghost use Prim.Native.Nat.{_≤_, _<_};
+
+// Writes a point, as x,y.
+fn print_point(x: u16, y: u16) {
+    io::print_decimal(1, x as u64);
+    io::write_all(1, b",");
+    io::print_decimal(1, y as u64);
+}
+
+// Writes the first n corners of the list, a blank before each, and ends the line.
+fn print_corners(corners: &[u16; 8192], n: usize)
+    requires { ⌜ n ≤ 4096 ⌝ }
+{
+    for i in 0..n {
+        io::write_all(1, b" ");
+        print_point(corners[i * 2], corners[i * 2 + 1]);
+    }
+    io::write_all(1, b"\n");
+}
+
+// Writes the path between two points of a board.
+fn show(table: &[u16; 640], n: usize, d: u16, w: u16, h: u16, sx: u16, sy: u16, tx: u16, ty: u16)
+    requires { ⌜ n ≤ 128 ⌝ }
+{
+    let mut map = [false; 4096];
+    let mut corners = [0u16; 8192];
+    plain::free_points(&mut map, table, n, d, w, h);
+    let found = plain::first_path(&mut corners, &map, sx, sy, tx, ty);
+    print_point(sx, sy);
+    io::write_all(1, b" to ");
+    print_point(tx, ty);
+    io::write_all(1, b":");
+    if found <= 4096 {
+        print_corners(&corners, found);
+    }
+}
+
+// Puts a patch at place i of the table.
+fn patch(table: &mut [u16; 640], i: usize, x0: u16, y0: u16, x1: u16, y1: u16)
+    requires { ⌜ i < 128 ⌝ }
+{
+    table[i * 5 + 1] = x0;
+    table[i * 5 + 2] = y0;
+    table[i * 5 + 3] = x1;
+    table[i * 5 + 4] = y1;
+}
+
+fn main() {
+    let mut table = [0u16; 640];
+    // Boards without a patch.
+    show(&table, 0, 0, 3, 3, 0, 0, 2, 2);
+    show(&table, 0, 0, 3, 3, 0, 2, 2, 0);
+    show(&table, 0, 0, 4, 1, 0, 0, 3, 0);
+    show(&table, 0, 0, 4, 1, 1, 0, 1, 0);
+    show(&table, 0, 0, 1, 1, 0, 0, 0, 0);
+    // Two free points that touch at a corner.
+    patch(&mut table, 0, 0, 0, 1, 1);
+    patch(&mut table, 1, 1, 1, 2, 2);
+    show(&table, 2, 0, 2, 2, 1, 0, 0, 1);
+    // A patch from edge to edge.
+    patch(&mut table, 0, 1, 0, 2, 3);
+    show(&table, 1, 0, 3, 3, 0, 0, 2, 0);
+    // A patch with clearance 1.
+    patch(&mut table, 0, 4, 4, 6, 6);
+    show(&table, 1, 1, 10, 10, 3, 3, 0, 0);
+    show(&table, 1, 1, 10, 10, 2, 3, 7, 6);
+    // The board of the job file.
+    patch(&mut table, 0, 2, 0, 3, 3);
+    show(&table, 1, 0, 6, 4, 0, 0, 4, 0);
+}

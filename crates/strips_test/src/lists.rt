@@ -1,0 +1,54 @@
+// Records and lists, compared.
+use foil_spec::Board;
+
+// The record of a square foil.
+pub(crate) fn square(side: u16, clearance: u16, entries: usize, strips: usize) -> Board {
+    Board {
+        width: side,
+        height: side,
+        clearance,
+        entries,
+        strips,
+    }
+}
+
+// A record of zeros, to begin a foil on.
+pub(crate) fn no_board() -> Board {
+    square(0, 0, 0, 0)
+}
+
+// Whether the records are the same.
+pub(crate) fn same_board(a: Board, b: Board) -> bool {
+    a.width == b.width
+        && a.height == b.height
+        && a.clearance == b.clearance
+        && a.entries == b.entries
+        && a.strips == b.strips
+}
+
+// Whether the lists are the same.
+pub(crate) fn same(a: &[u16], b: &[u16]) -> bool {
+    if a.len() != b.len() {
+        return false;
+    }
+    let mut i = 0;
+    while i < a.len() {
+        if a[i] != b[i] {
+            return false;
+        }
+        i += 1;
+    }
+    true
+}
+
+// Whether the list still holds sevens from place `from` on.
+pub(crate) fn sevens(list: &[u16], from: usize) -> bool {
+    let mut i = from;
+    while i < list.len() {
+        if list[i] != 7 {
+            return false;
+        }
+        i += 1;
+    }
+    true
+}

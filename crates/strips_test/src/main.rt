@@ -1,0 +1,155 @@
+// Runs document 01's foils about strips, and those about lists and limits, through the calls, and
+// writes what they answer: 0 where a step is accepted, else the number of its refusal. All lists are
+// lent full of sevens, so that a place that no call touches still holds one.
+mod drawing;
+mod lists;
+mod show;
+mod spoilt;
+
+use foil::draw;
+use foil::lift;
+use foil::new_foil;
+use foil_spec::Board;
+
+fn main() {
+    sizes();
+    short_table();
+    short_strips();
+    finest_foil();
+    too_fine_foil();
+    hidden_pattern();
+    full_table();
+    spoilt::states();
+    lifted_track();
+}
+
+// Foils that cannot be begun, and the largest one that can.
+fn sizes() {
+    begin(0, 1, 0);
+    begin(1, 0, 0);
+    begin(4097, 1, 0);
+    begin(1, 4097, 0);
+    begin(1, 1, 16);
+    begin(0, 1, 16);
+    begin(4096, 4096, 15);
+}
+
+// Begins a foil on the shortest lists that will do.
+fn begin(w: u16, h: u16, d: u16) {
+    let mut table = [7u16; 640];
+    let mut strips = [7u16; 16384];
+    let done = new_foil(&mut table, &mut strips, lists::no_board(), w, h, d);
+    show::size(w, h);
+    show::count(b", reach ", d as u64);
+    show::done(b": ", done);
+    show::end();
+}
+
+// A table that is one number short; 12 comes before 1.
+fn short_table() {
+    let mut table = [7u16; 639];
+    let mut strips = [7u16; 16384];
+    let done = new_foil(&mut table, &mut strips, lists::no_board(), 0, 1, 0);
+    show::done(b"639 numbers of a table: ", done);
+    show::end();
+}
+
+// A strip list that is one number short.
+fn short_strips() {
+    let mut table = [7u16; 640];
+    let mut strips = [7u16; 16383];
+    let done = new_foil(&mut table, &mut strips, lists::no_board(), 0, 1, 0);
+    show::done(b"16383 numbers of a strip list: ", done);
+    show::end();
+}
+
+// 127 by 127 with lines at each odd x and each odd y: as many strips as the list holds.
+fn finest_foil() {
+    let mut table = [7u16; 645];
+    let mut strips = [7u16; 16388];
+    let board = drawing::lined(&mut table, &mut strips, 127, 127, 127, 127);
+    show::foil(board);
+    looked_up(&table, &strips, board);
+    show::tails(&table, &strips);
+}
+
+// Points of the finest foil: free ones, blocked ones, and ones off the foil.
+fn looked_up(table: &[u16], strips: &[u16], board: Board) {
+    show::point(table, strips, board, 0, 0);
+    show::point(table, strips, board, 126, 0);
+    show::point(table, strips, board, 4, 2);
+    show::point(table, strips, board, 126, 126);
+    show::point(table, strips, board, 1, 0);
+    show::point(table, strips, board, 0, 125);
+    show::point(table, strips, board, 127, 0);
+    show::point(table, strips, board, 0, 127);
+}
+
+// 129 by 127 with lines at x = 1, 3, .. 127 and y = 1, 3, .. 123: the line at y = 125 would make too
+// many strips.
+fn too_fine_foil() {
+    let mut table = [7u16; 645];
+    let mut strips = [7u16; 16388];
+    let board = drawing::lined(&mut table, &mut strips, 129, 127, 129, 125);
+    show::foil(board);
+    let old_table = table;
+    let old_strips = strips;
+    let done = drawing::line(&mut table, &mut strips, board, true, 125);
+    show::done(b"line at y = 125: ", done);
+    show::kept(&table, &old_table, &strips, &old_strips, done.board, board);
+    show::tails(&table, &strips);
+}
+
+// The same foil with a track at y = 124: now the line at y = 125 is accepted, and lifting the track
+// would make too many strips.
+fn hidden_pattern() {
+    let mut table = [7u16; 645];
+    let mut strips = [7u16; 16388];
+    let lined = drawing::lined(&mut table, &mut strips, 129, 127, 129, 125);
+    let track = drawing::leg(&mut table, &mut strips, lined, 0, 124, 129, 125);
+    let line = drawing::line(&mut table, &mut strips, track, true, 125);
+    let board = line.board;
+    show::foil(board);
+    let old_table = table;
+    let old_strips = strips;
+    let done = lift(&mut table, &mut strips, board, 5);
+    show::done(b"lift of the track at y = 124: ", done);
+    show::kept(&table, &old_table, &strips, &old_strips, done.board, board);
+}
+
+// 128 equal patches, and one more.
+fn full_table() {
+    let mut table = [7u16; 645];
+    let mut strips = [7u16; 16388];
+    let board = drawing::equal_patches(&mut table, &mut strips);
+    show::foil(board);
+    let old_table = table;
+    let old_strips = strips;
+    let done = draw(&mut table, &mut strips, board, 1, 1, 2, 2);
+    show::done(b"one more: ", done);
+    show::kept(&table, &old_table, &strips, &old_strips, done.board, board);
+    show::tails(&table, &strips);
+}
+
+// The track of document 01's job, lifted; and nets that cannot be.
+fn lifted_track() {
+    let mut table = [7u16; 645];
+    let mut strips = [7u16; 16388];
+    let board = drawing::job_track(&mut table, &mut strips);
+    show::three_strips(&strips, board);
+    lift_of(&mut table, &mut strips, board, 0);
+    lift_of(&mut table, &mut strips, board, 1000);
+    lift_of(&mut table, &mut strips, board, 4);
+    let after = lift_of(&mut table, &mut strips, board, 5);
+    show::three_strips(&strips, after);
+    lift_of(&mut table, &mut strips, after, 5);
+}
+
+// Lifts a net and writes the answer. The record after it.
+fn lift_of(table: &mut [u16], strips: &mut [u16], board: Board, net: u16) -> Board {
+    let done = lift(table, strips, board, net);
+    show::count(b"lift ", net as u64);
+    show::done(b": ", done);
+    show::end();
+    done.board
+}
