@@ -38,8 +38,11 @@ loop-less : tie.Need-loop-less Inv-loop μ-loop
 loop-less c = search needs
 
 loop-again : tie.Need-loop-again Inv-loop μ-loop
-loop-again c = (omega arith, below-more _ _ (c .before .before .before .loop .inv .1)
-    (sym (c .before .blocks-at .ensures) ∙ c .if3 .left))
+loop-again c = (
+  omega arith,
+  below-more _ _ (c .before .before .before .loop .inv .1)
+      (sym (c .before .blocks-at .ensures) ∙ c .if3 .left),
+)
 
 returns-4 : tie.Need-returns-4 Inv-loop μ-loop
 returns-4 c e =
