@@ -10,6 +10,7 @@ pub record Point : Type 0 where
   pub x : ℕ
   pub y : ℕ
 
+-- the point (x, y)
 abbrev pub point : ℕ → ℕ → Point
 point x y = record { x = x; y = y }
 
@@ -25,6 +26,7 @@ pub record Entry : Type 0 where
   pub x1 : ℕ
   pub y1 : ℕ
 
+-- an entry from its five numbers
 abbrev pub entry : ℕ → ℕ → ℕ → ℕ → ℕ → Entry
 entry net x0 y0 x1 y1 = record { net = net; x0 = x0; y0 = y0; x1 = x1; y1 = y1 }
 

@@ -107,6 +107,7 @@ pub record Refusal : Type 0 where
   pub applies : Bool
   pub number : ℕ
 
+-- where the test passes, the number is answered
 infix 4 _⇒_
 abbrev pub _⇒_ : Bool → ℕ → Refusal
 _⇒_ b n = record { applies = b; number = n }

@@ -19,9 +19,11 @@ pub record Lent : Type 0 where
   pub strips : List ℕ
   pub corners : List ℕ
 
+-- what is lent, from its four parts
 abbrev pub lent : Board → List ℕ → List ℕ → List ℕ → Lent
 lent b t s ks = record { board = b; table = t; strips = s; corners = ks }
 
+-- the same with another corner list
 abbrev pub withCorners : Lent → List ℕ → Lent
 withCorners m ks = lent (m .board) (m .table) (m .strips) ks
 

@@ -20,6 +20,7 @@ pub record Run : Type 0 where
   pub from : ℕ
   pub to : ℕ
 
+-- the columns from a up to b
 abbrev pub run : ℕ → ℕ → Run
 run a b = record { from = a; to = b }
 
@@ -41,6 +42,7 @@ scan g (suc n) x (since a) =
 unfoldable pub scanAt : (ℕ → Bool) → ℕ → ℕ → Scan → List Run
 scanAt g W x s = scan g (W - x) x s
 
+-- the runs that begin at column x or later, seen from outside of runs
 abbrev pub runsFrom : (ℕ → Bool) → ℕ → ℕ → List Run
 runsFrom g W x = scanAt g W x outside
 
