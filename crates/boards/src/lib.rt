@@ -1,13 +1,19 @@
 // Boards for tests, up to 40 by 40, made from a number: the same number always gives the same board.
 ghost use mathlib.Core.Path.{_≡_};
 ghost use Prim.Native.Nat.{_<_, _≤_, min};
+ghost use Rattle.boards.specs.Board.{OnBoard};
 
-// A board's width, height and clearance, how many entries it has, and the number that is left.
+// A board: its width, height and clearance, how many entries it has, two points on it that may be blocked, and the
+// number for the next board.
 pub struct Made {
     pub width: u16,
     pub height: u16,
     pub clearance: u16,
     pub entries: usize,
+    pub sx: u16,
+    pub sy: u16,
+    pub tx: u16,
+    pub ty: u16,
     pub seed: u32,
 }
 
@@ -167,8 +173,7 @@ fn patches(table: &mut [u16; 640], width: u16, height: u16, d: u16, seed: u32) -
 
 // Makes a board, and puts its entries at the front of the table.
 pub fn make(table: &mut [u16; 640], seed: u32) -> Made
-    ensures { λ r. ⌜ (0 < r .width) × (r .width ≤ 40) × (0 < r .height) × (r .height ≤ 40) ⌝ }
-    ensures { λ r. ⌜ (r .clearance ≤ 3) × (r .entries ≤ 128) ⌝ }
+    ensures { λ r. ⌜ OnBoard r ⌝ }
 {
     let a = next(seed);
     let b = next(a);
@@ -178,12 +183,20 @@ pub fn make(table: &mut [u16; 640], seed: u32) -> Made
     let height = 1 + below(b, 40);
     let clearance = below(c, 1 + below(e, 4));
     let drawn = patches(table, width, height, clearance, e);
+    let p = next(drawn.seed);
+    let q = next(p);
+    let r = next(q);
+    let s = next(r);
     Made {
         width,
         height,
         clearance,
         entries: drawn.entries,
-        seed: drawn.seed,
+        sx: below(p, width),
+        sy: below(q, height),
+        tx: below(r, width),
+        ty: below(s, height),
+        seed: s,
     }
 }
 
@@ -200,16 +213,13 @@ fn first_free(map: &[bool; 4096], from: usize) -> usize
     4096
 }
 
-// A free place of the map, where the point (x, y) stands at y * 64 + x: the first from some point of the board on, or
-// else of all; 4,096 where no point is free.
-pub fn choose(map: &[bool; 4096], width: u16, height: u16, seed: u32) -> usize
-    requires { ⌜ (0 < width) × (width ≤ 40) × (0 < height) × (height ≤ 40) ⌝ }
+// A free place of the map, where the point (x, y) stands at y * 64 + x: the first from that point on, or else of all;
+// 4,096 where no point is free.
+pub fn choose(map: &[bool; 4096], x: u16, y: u16) -> usize
+    requires { ⌜ (x < 64) × (y < 64) ⌝ }
     ensures { λ r. ⌜ r ≤ 4096 ⌝ }
 {
-    let a = next(seed);
-    let x = below(a, width) as usize;
-    let y = below(next(a), height) as usize;
-    let p = first_free(map, y * 64 + x);
+    let p = first_free(map, (y as usize) * 64 + (x as usize));
     if p < 4096 {
         return p;
     }

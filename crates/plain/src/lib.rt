@@ -3,7 +3,7 @@
 //
 // A board is at most 64 by 64. A list of points has 4,096 places, and the point (x, y) stands at
 // y * 64 + x: the order of the places is the order of corners, smaller y first, then smaller x.
-mod labels;
+mod rounds;
 mod walk;
 
 ghost use mathlib.Core.Path.{_≡_};
@@ -94,7 +94,7 @@ pub fn first_path(
     }
     let mut level = [0u16; 4096];
     let mut upright = [0u16; 4096];
-    labels::label(&mut level, &mut upright, map, t);
+    rounds::label(&mut level, &mut upright, map, t);
     let segments = fewest(level[s], upright[s]);
     if segments == 0 {
         return 0;

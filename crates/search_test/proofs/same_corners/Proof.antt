@@ -1,14 +1,17 @@
--- `plain::labels::has` is safe and ends: the loop counts up to 4,096.
+-- `search_test::same_corners` is safe and ends: the loop counts up to the last number.
 use Prim.Native.Nat.{_≤_, _-_}
 use borrow.Author.Needs.{needs}
-use Rattle.plain.proofs.labels.has.Statement.{statement}
-use Rattle.plain.proofs.labels.has.Tie as tie
+use Rattle.search_test.proofs.same_corners.Statement.{statement}
+use Rattle.search_test.proofs.same_corners.Tie as tie
 
 abbrev Inv-loop : tie.InvT-loop
-Inv-loop labels k p₀ p = p ≤ 4096
+Inv-loop a b n i₀ i-end i = i ≤ i-end
 
 abbrev μ-loop : tie.MeasureT-loop
-μ-loop labels k p₀ p = 4096 - p
+μ-loop a b n i₀ i-end i = i-end - i
+
+mul-i-end : tie.Need-mul-i-end Inv-loop μ-loop
+mul-i-end c = search needs
 
 loop-holds : tie.Need-loop-holds Inv-loop μ-loop
 loop-holds c = search needs
@@ -19,11 +22,17 @@ mul-if1 c = search needs
 element-copy-out-if1 : tie.Need-element-copy-out-if1 Inv-loop μ-loop
 element-copy-out-if1 c = search needs
 
+mul-if1-2 : tie.Need-mul-if1-2 Inv-loop μ-loop
+mul-if1-2 c = search needs
+
+element-copy-out-if1-2 : tie.Need-element-copy-out-if1-2 Inv-loop μ-loop
+element-copy-out-if1-2 c = search needs
+
 returns : tie.Need-returns Inv-loop μ-loop
 returns c = search needs
 
-add-p : tie.Need-add-p Inv-loop μ-loop
-add-p c = search needs
+add-i : tie.Need-add-i Inv-loop μ-loop
+add-i c = search needs
 
 loop-less : tie.Need-loop-less Inv-loop μ-loop
 loop-less c = search needs
@@ -34,17 +43,20 @@ loop-again c = search needs
 returns-2 : tie.Need-returns-2 Inv-loop μ-loop
 returns-2 c = search needs
 
-pub has-spec : {M : Type 1} → statement M
-has-spec =
+pub same-corners-spec : {M : Type 1} → statement M
+same-corners-spec =
     tie.close
     (tie.spec
     Inv-loop
     μ-loop
+    mul-i-end
     loop-holds
     mul-if1
     element-copy-out-if1
+    mul-if1-2
+    element-copy-out-if1-2
     returns
-    add-p
+    add-i
     loop-less
     loop-again
     returns-2)

@@ -1,8 +1,8 @@
--- `plain::labels::round` is safe and ends: the loop counts up to 4,096.
+-- `plain::rounds::round` is safe and ends: the loop counts up to 4,096.
 use Prim.Native.Nat.{_≤_, _-_}
 use borrow.Author.Needs.{needs}
-use Rattle.plain.proofs.labels.round.Statement.{statement}
-use Rattle.plain.proofs.labels.round.Tie as tie
+use Rattle.plain.proofs.rounds.round.Statement.{statement}
+use Rattle.plain.proofs.rounds.round.Tie as tie
 
 abbrev Inv-loop : tie.InvT-loop
 Inv-loop labels₀ rest map back on k p₀ labels p = p ≤ 4096

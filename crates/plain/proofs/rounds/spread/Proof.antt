@@ -1,8 +1,8 @@
--- `plain::labels::spread` is safe and ends: the loop counts up to 64, and p is a point.
+-- `plain::rounds::spread` is safe and ends: the loop counts up to 64, and p is a point.
 use Prim.Native.Nat.{_≤_, _<_, _-_}
 use borrow.Author.Needs.{needs}
-use Rattle.plain.proofs.labels.spread.Statement.{statement}
-use Rattle.plain.proofs.labels.spread.Tie as tie
+use Rattle.plain.proofs.rounds.spread.Statement.{statement}
+use Rattle.plain.proofs.rounds.spread.Tie as tie
 
 abbrev Inv-loop : tie.InvT-loop
 Inv-loop labels₀ map from toward k p₀ counter₀ labels p counter = (p < 4096) × (counter ≤ 64)

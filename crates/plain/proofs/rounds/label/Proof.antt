@@ -1,8 +1,8 @@
--- `plain::labels::label` is safe and ends: the loop counts up to 8,192.
+-- `plain::rounds::label` is safe and ends: the loop counts up to 8,192.
 use Prim.Native.Nat.{_≤_, _-_}
 use borrow.Author.Needs.{needs}
-use Rattle.plain.proofs.labels.label.Statement.{statement}
-use Rattle.plain.proofs.labels.label.Tie as tie
+use Rattle.plain.proofs.rounds.label.Statement.{statement}
+use Rattle.plain.proofs.rounds.label.Tie as tie
 
 abbrev Inv-loop : tie.InvT-loop
 Inv-loop level₀ upright₀ map t k₀ level upright k = k ≤ 8192

@@ -1,0 +1,2 @@
+-- What the contracts of the boards say.
+pub mod Board
