@@ -5,7 +5,8 @@ use Rattle.plain.proofs.walk.walk.Statement.{statement}
 use Rattle.plain.proofs.walk.walk.Tie as tie
 
 abbrev Inv-loop : tie.InvT-loop
-Inv-loop out₀ level upright map s t segments heading₀ p₀ count₀ left₀ out heading p count left = (p < 4096) × (count + left ≤ 65536)
+Inv-loop out₀ level upright map s t segments heading₀ p₀ count₀ left₀ out heading p count left =
+    (p < 4096) × (count + left ≤ 65536)
 
 abbrev μ-loop : tie.MeasureT-loop
 μ-loop out₀ level upright map s t segments heading₀ p₀ count₀ left₀ out heading p count left = left
