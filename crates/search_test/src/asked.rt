@@ -9,7 +9,7 @@ ghost use Rattle.boards.specs.Board.{OnBoard};
 ghost use Rattle.grid.specs.Zones.{Boxes};
 ghost use Rattle.search_test.specs.Box.{Box};
 
-// More corners than any path has: the answer where the search cannot be asked.
+// More corners than any path has: the answer where the points are not free or an entry covers nothing.
 const UNASKED: usize = 8192;
 
 // Whether entry i of the table covers something.
@@ -26,7 +26,7 @@ fn box_ok(table: &[u16; 640], i: usize) -> bool
     true
 }
 
-// Whether each of the first n entries does.
+// Whether each of the first n entries covers something.
 fn boxes_ok(table: &[u16; 640], n: usize) -> bool
     requires { ⌜ n ≤ 128 ⌝ }
     ensures { λ r. ⌜ (r ≡ true → Boxes n (now (table .entry))) ⌝ }
@@ -40,7 +40,7 @@ fn boxes_ok(table: &[u16; 640], n: usize) -> bool
 }
 
 // Writes the corners of the path that the search finds between two points of a board to the front of `out`, and answers
-// how many they are.
+// how many they are. The search is asked as a lay asks it, so of more than 129 corners none is written.
 pub(crate) fn first_path(
     out: &mut [u16; 8192],
     table: &[u16; 640],

@@ -82,8 +82,8 @@ fn try_board(table: &[u16; 640], made: Made) -> Outcome
     compare(table, &map, made, s, t)
 }
 
-// Counts an outcome: the first three places of the counts are for boards without a free point, without a path and
-// with a difference, and those after them for paths by their bends, the last also for more.
+// Where an outcome is counted: boards without a free point, without a path and with a difference at the first three
+// places, then paths by their bends, 60 or more at the last.
 fn place_of(outcome: Outcome) -> usize
     ensures { λ r. ⌜ r < 64 ⌝ }
 {
