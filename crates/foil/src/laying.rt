@@ -1,17 +1,17 @@
 // Lay: finds the first path of fewest bends, and books its legs.
+use crate::Answer;
+use crate::Done;
+use crate::lists_short;
+use crate::refuse;
+use booking::Booked;
 use booking::book;
 use booking::copy_front;
 use booking::in_use;
-use booking::Booked;
-use crate::lists_short;
-use crate::refuse;
-use crate::Answer;
-use crate::Done;
 use foil_spec::Board;
 use state::is_sound;
 use state::net_ok;
-use strips::locate;
 use strips::Place;
+use strips::locate;
 use tracks::append_legs;
 use tracks::find;
 ghost use mathlib.Core.Path.{_≡_};
@@ -20,7 +20,8 @@ ghost use mathlib.Core.List.{[]};
 ghost use Rattle.foil_spec.specs.Foil.{point};
 ghost use Rattle.foil_spec.specs.Ledger.{lay as lays, offFoil, blocked};
 ghost use Rattle.foil_spec.specs.Lent.{lent, held};
-ghost use Rattle.foil.specs.Contract.{StepDone, Ready, MayLay, OffFoil};
+ghost use Rattle.ledger_laws.specs.Demand3.{MayLay};
+ghost use Rattle.foil.specs.Contract.{StepDone, Ready, OffFoil};
 
 // Lays a track of the net from (sx, sy) to (tx, ty): writes its corners to the front of the corner
 // list, and appends an entry for each leg.
