@@ -8,13 +8,13 @@ use mathlib.Core.Option.{Option, none, some}
 use lib.Dec.{leb, ltb}
 use lib.ListN.{length, getD}
 use borrow.Author.Tests.{ltb-false, leb-false, eq-eqb, ne-eqb}
-use Rattle.foil_spec.specs.Ledger.{Refusal, first, refused, After}
+use Rattle.foil_spec.specs.Ledger.{Refusal, first, refused, numberOf, After}
 use Rattle.foil_spec.specs.Lent.{Lent, lent, stepOn}
 use Rattle.foil_spec.specs.Job.{mapByte, has, isEnd, recordEnd, steps, recordChecks}
 use Rattle.foil_spec.specs.Calls.{Reply as Outcome, answered, atEnd, runRecord, actRecord, tooLarge, callOn}
 use Rattle.foil_spec.specs.declared.Board.{Board}
 use Rattle.ledger_laws.proofs.Refusals.{none-applies}
-use Rattle.job.specs.Contract.{numberOf, replyOf, RecordDone}
+use Rattle.job.specs.Contract.{replyOf, RecordDone}
 use Rattle.job.specs.Parts.{Whole, checkedOf, fileChecks, FileChecked, refusedBy, Replies, StepsDone}
 use Rattle.job.specs.declared.checks.Checked.{Checked}
 use Rattle.job.specs.declared.checks.Checked.the-variants.{Passed, Refused}

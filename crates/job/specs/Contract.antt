@@ -4,7 +4,7 @@ use mathlib.Core.Path.{_≡_}
 use mathlib.Core.Bool.{Bool, true, false}
 use mathlib.Core.List.{List, [], _∷_}
 use mathlib.Core.Option.{Option, none, some}
-use Rattle.foil_spec.specs.Ledger.{Answer, refused, accepted, laid, found}
+use Rattle.foil_spec.specs.Ledger.{Answer, numberOf}
 use Rattle.foil_spec.specs.Lent.{Lent}
 use Rattle.foil_spec.specs.Job.{has}
 use Rattle.foil_spec.specs.Calls.{runRecord, callOn, answered, ran, atEnd}
@@ -45,13 +45,6 @@ answersOf on l =
 unfoldable pub nextOf : Option ℕ → Next
 nextOf (some n) = At n
 nextOf none = Nowhere
-
--- the number that an answer refuses by, 0 if it is accepted
-unfoldable pub numberOf : Answer → ℕ
-numberOf (refused n) = n
-numberOf accepted = 0
-numberOf (laid cs n) = 0
-numberOf (found n) = 0
 
 -- document 01's number and values for each case of a reply; `on` says which bits are set
 unfoldable pub replyOf : (ℕ → Bool) → Outcome → Reply
