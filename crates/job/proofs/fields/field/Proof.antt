@@ -23,9 +23,11 @@ shared-slice-read-result c = search needs
 
 cast-result : tie.Need-cast-result
 cast-result c =
-    omega
-    (arith, c .shared-slice-known2 .given
-    (c .before .fields-at .result + 2 * c .before .before .before .args .i))
+    omega (
+      arith,
+      c .shared-slice-known2 .given
+          (c .before .fields-at .result + 2 * c .before .before .before .args .i),
+    )
 
 add-result : tie.Need-add-result
 add-result c = search needs
