@@ -7,18 +7,14 @@ use lib.Dec.{eqb}
 use lib.ListN.{length, getD}
 use borrow.Author.Tests.{lt-ltb, le-ltb, le-leb, lt-leb, eq-eqb, ne-eqb, not-true, not-false}
 use Rattle.foil_spec.specs.Ledger.{first}
-use Rattle.foil_spec.specs.Lent.{lent, store, held, sound}
+use Rattle.foil_spec.specs.Lent.{lent, sound}
 use Rattle.foil_spec.specs.Job.{mapByte, has, fieldsAt, recordEnd, isEnd, recordChecks}
 use Rattle.foil_spec.specs.Calls.{tooLarge}
 use Rattle.foil_spec.specs.declared.Board.{Board}
 use Rattle.foil.specs.Contract.{TooShort}
+use Rattle.foil.proofs.Refusing.{sound-apart}
 use Rattle.job.specs.Parts.{checkedOf, fileChecks, FileChecked}
 use Rattle.job.specs.declared.checks.Checked.the-variants.{Passed, Refused}
-
--- 13 does not look at the corner list
-pub sound-corners : (b : Board) (t s ks : List ℕ) → sound (lent b t s ks) ≡ sound (lent b t s [])
-unfolding sound store held
-sound-corners b t s ks = refl
 
 -- ---- the checks before the record
 
@@ -40,7 +36,7 @@ module _ (bs : List ℕ) (at : ℕ) (b : Board) (t s : List ℕ) where
 
       module _ (later : at ≡ 0 → ⊥) (g : Bool) (g-is : g ≡ sound (lent b t s [])) where
         g-all : (ks : List ℕ) → sound (lent b t s ks) ≡ g
-        g-all ks = sound-corners b t s ks ∙ sym g-is
+        g-all ks = sym (g-is ∙ sound-apart b t s ks)
 
         pub broken : not g ≡ true → FileChecked bs at b t s (Refused 13)
         unfolding checkedOf first fileChecks tooLarge
