@@ -111,19 +111,26 @@ module _ (c : Step) (m : Lent) (r : Done) (t s : List ℕ) where
       }
 
   -- a step that only 11 can still refuse, and the layout that it makes
-  pub settled-done : (l : Layout) → l ≡ next c (held m) → refusal c m ≡ first ((tooFine (next c (held m)) ⇒ 11) ∷ [])
-      → says c (held m) ≡ accepted → Settled l (m .board) (m .table) (m .strips) t s r → StepDone c m r t s (m .corners)
-  unfolding first
-  settled-done l e f a (fits k q) =
-      let n = subst (λ (x : Layout). Stored x (m .table) (m .strips) t s (r .board)) e k in
-      accepted-done (f ∙ rw (n .fine) refl) a q n
-  settled-done l e f a (over k q b) =
-      let n = subst (λ (x : Layout). Unchanged x (m .table) (m .strips) t s) e k in
-      let d = refused-done c m 11 r (λ i. record { answer = q i; board = b i }) (f ∙ rw (n .many) refl) in
-      record {
-        answer = d .answer;
-        board = d .board;
-        table = n .table ∙ d .table;
-        strips = n .strips ∙ d .strips;
-        corners = d .corners;
-      }
+  module _ (l : Layout) (e : l ≡ next c (held m)) (f : refusal c m ≡ first ((tooFine (next c (held m)) ⇒ 11) ∷ []))
+    where
+      pub fine-done : Unchanged l (m .table) (m .strips) t s → r ≡ refusedBy 11 (m .board)
+          → StepDone c m r t s (m .corners)
+      unfolding first
+      fine-done k q =
+          let n = subst (λ (x : Layout). Unchanged x (m .table) (m .strips) t s) e k in
+          let d = refused-done c m 11 r q (f ∙ rw (n .many) refl) in
+          record {
+            answer = d .answer;
+            board = d .board;
+            table = n .table ∙ d .table;
+            strips = n .strips ∙ d .strips;
+            corners = d .corners;
+          }
+
+      pub settled-done : says c (held m) ≡ accepted → Settled l (m .board) (m .table) (m .strips) t s r
+          → StepDone c m r t s (m .corners)
+      unfolding first
+      settled-done a (fits k q) =
+          let n = subst (λ (x : Layout). Stored x (m .table) (m .strips) t s (r .board)) e k in
+          accepted-done (f ∙ rw (n .fine) refl) a q n
+      settled-done a (over k q b) = fine-done k (λ i. record { answer = q i; board = b i })

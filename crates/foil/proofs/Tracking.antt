@@ -35,7 +35,7 @@ use Rattle.tracks.specs.Found.{Found}
 use Rattle.foil.specs.Contract.{answerOf, StepDone, refusedBy}
 use Rattle.foil.specs.declared.Answer.the-variants.{Laid}
 use Rattle.foil.specs.declared.Done.{Done}
-use Rattle.foil.proofs.Refusing.{refusal, refused-done}
+use Rattle.foil.proofs.Refusing.{refusal, refused-done, fine-done}
 use Rattle.foil.proofs.Making.{rows-again, rows-layout, rows-table, copied-rows}
 use Rattle.foil.proofs.Limits.{Held, held-limits}
 use Rattle.foil.proofs.Corners.{corners-free, length-legs, read-path, small-corners, copied-corners}
@@ -208,17 +208,7 @@ module _ (b : Board) (t s ks : List ℕ) (net : ℕ) (S T : Point) (y : MayLay (
             pub too-fine : (r : Done) (t′ s′ : List ℕ)
                 → Unchanged (layoutOf (b .width) (b .height) (b .clearance) all-rows rows) t s t′ s′
                 → r ≡ refusedBy 11 b → StepDone c m r t′ s′ ks
-            unfolding first
-            too-fine r t′ s′ u q =
-                let n = subst (λ (x : Layout). Unchanged x t s t′ s′) layout-is u in
-                let d = refused-done c m 11 r q (from-11 ∙ rw (n .many) refl) in
-                record {
-                  answer = d .answer;
-                  board = d .board;
-                  table = n .table ∙ d .table;
-                  strips = n .strips ∙ d .strips;
-                  corners = d .corners;
-                }
+            too-fine r t′ s′ = fine-done c m r t′ s′ _ layout-is from-11
 
             pub laid-done : (after : Board) (t′ s′ ks′ : List ℕ) (n : ℕ) → n ≡ k - 2
                 → Stored (layoutOf (b .width) (b .height) (b .clearance) all-rows rows) t s t′ s′ after

@@ -1,9 +1,8 @@
 // The calls on a foil, over slices of numbers: the table has five numbers a place, the strip list
 // four. None has a `requires`: whatever is lent, each answers, and changes only what document 01 says.
-use booking::Booked;
-
 mod laying;
 
+use booking::Booked;
 use booking::append;
 use booking::book;
 use booking::copy_front;
