@@ -24,12 +24,12 @@ struct Drawn {
 }
 
 // The number after `seed` in a fixed row of numbers: D. H. Lehmer's, modulo the prime 2^31 - 1.
-fn next(seed: u32) -> u32 {
+pub fn next(seed: u32) -> u32 {
     ((seed as u64) * 48271 % 2147483647) as u32
 }
 
 // A number below n.
-fn below(seed: u32, n: u16) -> u16
+pub fn below(seed: u32, n: u16) -> u16
     requires { ⌜ 0 < n ⌝ }
     ensures { λ r. ⌜ r < n ⌝ }
 {

@@ -1,0 +1,66 @@
+-- `foil_test::run::run` is safe and ends: the loop counts the records.
+use Prim.Native.Nat.{_≤_, _-_}
+use borrow.Author.Needs.{needs}
+use Rattle.foil_test.proofs.run.run.Statement.{statement}
+use Rattle.foil_test.proofs.run.run.Tie as tie
+
+abbrev Inv-loop : tie.InvT-loop
+Inv-loop counts₀ bytes table₀ strips₀ corners₀ board₀ at₀ counter₀ counts table strips corners board at counter = counter ≤ 60001
+
+abbrev μ-loop : tie.MeasureT-loop
+μ-loop counts₀ bytes table₀ strips₀ corners₀ board₀ at₀ counter₀ counts table strips corners board at counter = 60001 - counter
+
+no-board-requires : tie.Need-no-board-requires Inv-loop μ-loop
+no-board-requires c κs = search needs
+
+loop-holds : tie.Need-loop-holds Inv-loop μ-loop
+loop-holds c = search needs
+
+run-one-requires : tie.Need-run-one-requires Inv-loop μ-loop
+run-one-requires c κs = search needs
+
+follow-requires : tie.Need-follow-requires Inv-loop μ-loop
+follow-requires c κs = search needs
+
+enum-known-place : tie.Need-enum-known-place Inv-loop μ-loop
+enum-known-place c = search needs
+
+enum-told : tie.Need-enum-told Inv-loop μ-loop
+enum-told c = search needs
+
+over-requires : tie.Need-over-requires Inv-loop μ-loop
+over-requires c κs = search needs
+
+returns : tie.Need-returns Inv-loop μ-loop
+returns c = search needs
+
+add-counter : tie.Need-add-counter Inv-loop μ-loop
+add-counter c = search needs
+
+loop-less : tie.Need-loop-less Inv-loop μ-loop
+loop-less c = search needs
+
+loop-again : tie.Need-loop-again Inv-loop μ-loop
+loop-again c = search needs
+
+returns-2 : tie.Need-returns-2 Inv-loop μ-loop
+returns-2 c = search needs
+
+pub run-spec : {M : Type 1} → statement M
+run-spec =
+    tie.close
+    (tie.spec
+    Inv-loop
+    μ-loop
+    no-board-requires
+    loop-holds
+    run-one-requires
+    follow-requires
+    enum-known-place
+    enum-told
+    over-requires
+    returns
+    add-counter
+    loop-less
+    loop-again
+    returns-2)

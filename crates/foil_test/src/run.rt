@@ -1,0 +1,139 @@
+// A job file run to its end without its lines: how many steps were accepted and refused by each number, and how it
+// ended.
+use foil::Answer;
+use foil_spec::Board;
+use job::Answers;
+use job::Next;
+use job::Replied;
+use job::Reply;
+use job::Told;
+use job::run_record;
+ghost use Prim.Native.Nat.{_<_, _≤_};
+ghost use lib.ListN.{length};
+
+// More records than any file that is not too long has.
+const RECORDS: usize = 60001;
+
+// How a job ended: by the number of a record as a whole, by its board, or by the end mark.
+pub(crate) enum Ended {
+    By(u8),
+    Board,
+    Mark,
+}
+
+// A job after its last record: the board's record, and how it ended.
+pub(crate) struct Job {
+    pub(crate) board: Board,
+    pub(crate) ended: Ended,
+}
+
+// The record before a foil is begun.
+pub(crate) fn no_board() -> Board {
+    Board {
+        width: 0,
+        height: 0,
+        clearance: 0,
+        entries: 0,
+        strips: 0,
+    }
+}
+
+// Adds one to the count of a step's number, if the step was run.
+fn count(counts: &mut [u64; 32], told: Told) {
+    let Told::Said(answer) = told else {
+        return;
+    };
+    let k = number(answer);
+    if k < 32 {
+        counts[k] = std::num::wrapping_add_u64(counts[k], 1);
+    }
+}
+
+// The number of an answer, 0 if it is accepted.
+pub(crate) fn number(answer: Answer) -> usize {
+    let Answer::Refused(number) = answer else {
+        return 0;
+    };
+    number as usize
+}
+
+// Counts the steps of a record.
+fn count_steps(counts: &mut [u64; 32], answers: Answers) {
+    let board = answers.board;
+    let patch = answers.patch;
+    let track = answers.track;
+    let lift = answers.lift;
+    count(counts, board);
+    count(counts, patch);
+    count(counts, track);
+    count(counts, lift);
+}
+
+// Runs the record at a place.
+fn run_one(
+    table: &mut [u16; 640],
+    strips: &mut [u16; 16384],
+    corners: &mut [u16; 16384],
+    board: Board,
+    bytes: &[u8],
+    at: usize,
+) -> Replied {
+    run_record(table, strips, corners, board, bytes, at)
+}
+
+// Counts the steps of a record by its reply, and answers the place of the next one, if there is one.
+fn follow(counts: &mut [u64; 32], done: Replied) -> Next {
+    let reply = done.reply;
+    let Reply::Ran(answers, next) = reply else {
+        return Next::Nowhere;
+    };
+    count_steps(counts, answers);
+    next
+}
+
+// How the job ended with a record.
+fn how(done: Replied) -> Ended {
+    let reply = done.reply;
+    match reply {
+        Reply::Refused(number) => Ended::By(number),
+        Reply::AtEnd => Ended::Mark,
+        Reply::Ran(_, _) => Ended::Board,
+    }
+}
+
+// The job after its last record.
+fn over(done: Replied) -> Job {
+    let board = done.board;
+    Job {
+        board,
+        ended: how(done),
+    }
+}
+
+// Runs a job file and counts its steps by their numbers.
+pub(crate) fn run(counts: &mut [u64; 32], bytes: &[u8]) -> Job {
+    let mut table = [0u16; 640];
+    let mut strips = [0u16; 16384];
+    let mut corners = [0u16; 16384];
+    let mut board = no_board();
+    let mut at: usize = 0;
+    for _ in 0..RECORDS {
+        let done = run_one(&mut table, &mut strips, &mut corners, board, bytes, at);
+        board = done.board;
+        let Next::At(place) = follow(counts, done) else {
+            return over(done);
+        };
+        at = place;
+    }
+    Job {
+        board,
+        ended: Ended::Board,
+    }
+}
+
+// Runs the first n bytes of a list as a job file.
+pub(crate) fn run_front(counts: &mut [u64; 32], bytes: &[u8], n: usize) -> Job
+    requires { ⌜ n ≤ length (now bytes) ⌝ }
+{
+    run(counts, &bytes[..n])
+}

@@ -1,0 +1,147 @@
+// Document 01's foil, kept plainly, for the calls to be compared with: a row of entries, from which free points, paths
+// and strips are worked out anew each time. A foil is at most 64 by 64, so that 4,096 strips are never passed.
+mod laying;
+mod records;
+mod runs;
+
+pub use laying::lay;
+pub use records::NONE;
+pub use records::Ran;
+pub use records::record;
+pub use runs::strips;
+ghost use mathlib.Core.Path.{_≡_};
+ghost use Prim.Native.Nat.{_+_, _<_, _≤_};
+
+// A foil's size, its clearance, and how many entries its row has.
+pub struct Foil {
+    pub width: u16,
+    pub height: u16,
+    pub clearance: u16,
+    pub entries: usize,
+}
+
+// The number of a step, 0 if it is accepted, with the corners of a track; and the foil after it.
+pub struct Done {
+    pub number: u8,
+    pub corners: usize,
+    pub foil: Foil,
+}
+
+// A refused step.
+fn refuse(number: u8, foil: Foil) -> Done
+    ensures { λ r. ⌜ r .foil .entries ≡ foil .entries ⌝ }
+{
+    Done {
+        number,
+        corners: 0,
+        foil,
+    }
+}
+
+// An accepted step, which leaves so many entries.
+fn accept(corners: usize, foil: Foil, entries: usize) -> Done
+    ensures { λ r. ⌜ r .foil .entries ≡ entries ⌝ }
+{
+    Done {
+        number: 0,
+        corners,
+        foil: Foil {
+            width: foil.width,
+            height: foil.height,
+            clearance: foil.clearance,
+            entries,
+        },
+    }
+}
+
+// Puts an entry at place i of the row.
+fn put(row: &mut [u16; 640], i: usize, net: u16, x0: u16, y0: u16, x1: u16, y1: u16)
+    requires { ⌜ i < 128 ⌝ }
+{
+    row[i * 5] = net;
+    row[i * 5 + 1] = x0;
+    row[i * 5 + 2] = y0;
+    row[i * 5 + 3] = x1;
+    row[i * 5 + 4] = y1;
+}
+
+// Draws a patch.
+pub fn draw(row: &mut [u16; 640], foil: Foil, x0: u16, y0: u16, x1: u16, y1: u16) -> Done
+    requires { ⌜ foil .entries ≤ 128 ⌝ }
+    ensures { λ r. ⌜ r .foil .entries ≤ 128 ⌝ }
+{
+    let n = foil.entries;
+    if x1 <= x0 || foil.width < x1 {
+        return refuse(3, foil);
+    }
+    if y1 <= y0 || foil.height < y1 {
+        return refuse(3, foil);
+    }
+    if 128 <= n {
+        return refuse(10, foil);
+    }
+    put(row, n, 0, x0, y0, x1, y1);
+    accept(0, foil, n + 1)
+}
+
+// Whether one of the first n entries is of the net.
+fn in_use(row: &[u16; 640], n: usize, net: u16) -> bool
+    requires { ⌜ n ≤ 128 ⌝ }
+{
+    for i in 0..n {
+        if row[i * 5] == net {
+            return true;
+        }
+    }
+    false
+}
+
+// Lifts a net.
+pub fn lift(row: &mut [u16; 640], foil: Foil, net: u16) -> Done
+    requires { ⌜ foil .entries ≤ 128 ⌝ }
+    ensures { λ r. ⌜ r .foil .entries ≤ 128 ⌝ }
+{
+    let n = foil.entries;
+    if net < 1 || 999 < net {
+        return refuse(4, foil);
+    }
+    if !in_use(row, n, net) {
+        return refuse(6, foil);
+    }
+    let old = *row;
+    *row = [0; 640];
+    accept(0, foil, strike(row, &old, n, net))
+}
+
+// Puts the first n entries of the old row at the front of the row, but for those of the net, and answers how many they
+// are.
+fn strike(row: &mut [u16; 640], old: &[u16; 640], n: usize, net: u16) -> usize
+    requires { ⌜ n ≤ 128 ⌝ }
+    ensures { λ r. ⌜ r ≤ 128 ⌝ }
+{
+    let mut left: usize = 0;
+    for i in 0..n {
+        left = keep(row, left, old, i, net);
+    }
+    left
+}
+
+// Puts entry i of the old row at place `left`, unless it is of the net; the place after it.
+fn keep(row: &mut [u16; 640], left: usize, old: &[u16; 640], i: usize, net: u16) -> usize
+    requires { ⌜ (left ≤ i) × (i < 128) ⌝ }
+    ensures { λ r. ⌜ r ≤ i + 1 ⌝ }
+{
+    if old[i * 5] == net {
+        return left;
+    }
+    put(
+        row,
+        left,
+        old[i * 5],
+        old[i * 5 + 1],
+        old[i * 5 + 2],
+        old[i * 5 + 3],
+        old[i * 5 + 4],
+    );
+    left + 1
+}

@@ -1,0 +1,88 @@
+// The reply of run a record, compared with what the plain foil says.
+use foil::Answer;
+use job::Answers;
+use job::Next;
+use job::Reply;
+use job::Told;
+use plain_foil::NONE;
+use plain_foil::Ran;
+
+// No number that is answered: a look up's answer to another step.
+const WRONG: u8 = 254;
+
+// A place past the end of every file.
+pub(crate) const NOWHERE: usize = 65536;
+
+// The number of a step: that of its refusal, 0 if it is accepted, or none if the record does not have it.
+fn number_of(told: Told) -> u8 {
+    let Told::Said(answer) = told else {
+        return NONE;
+    };
+    match answer {
+        Answer::Refused(number) => number,
+        Answer::Accepted => 0,
+        Answer::Laid(_, _) => 0,
+        Answer::Found(_) => WRONG,
+    }
+}
+
+// The bends of a path with so many corners.
+fn bends(corners: usize) -> usize {
+    if corners < 2 { 0 } else { corners - 2 }
+}
+
+// Whether a track was laid with the corners and bends that it should have, or was not laid.
+fn same_track(told: Told, want: Ran) -> bool {
+    if want.track != 0 {
+        return number_of(told) == want.track;
+    }
+    let Told::Said(answer) = told else {
+        return false;
+    };
+    let Answer::Laid(corners, turns) = answer else {
+        return false;
+    };
+    corners == want.corners && turns == bends(want.corners)
+}
+
+// Whether the steps of a record were answered as they should be.
+fn same_steps(answers: Answers, want: Ran) -> bool {
+    let board = answers.board;
+    let patch = answers.patch;
+    let track = answers.track;
+    let lift = answers.lift;
+    if number_of(board) != want.board || number_of(patch) != want.patch {
+        return false;
+    }
+    same_track(track, want) && number_of(lift) == want.lift
+}
+
+// Whether the next place is the right one, and there is none where the board has ended the job.
+fn same_next(next: Next, want: Ran) -> bool {
+    let Next::At(place) = next else {
+        return want.over;
+    };
+    !want.over && place == want.next
+}
+
+// Whether a record was answered as it should be.
+pub(crate) fn same_reply(reply: Reply, want: Ran) -> bool {
+    match reply {
+        Reply::Refused(number) => number != 0 && number == want.number,
+        Reply::AtEnd => want.end,
+        Reply::Ran(answers, next) => {
+            want.number == 0 && !want.end && same_steps(answers, want) && same_next(next, want)
+        }
+    }
+}
+
+// The next place that a reply names; past the end of every file where there is none.
+pub(crate) fn next_place(reply: Reply) -> usize {
+    let Reply::Ran(_, next) = reply else {
+        return NOWHERE;
+    };
+    let Next::At(place) = next else {
+        return NOWHERE;
+    };
+    place
+}

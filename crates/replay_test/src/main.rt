@@ -1,0 +1,270 @@
+// Replays random job files beside a plain foil, and writes how many records there were, how many of their steps were
+// accepted and refused by each number, and how often the two differ: in an answer, in the record, in the table, the
+// strips or the corner list, or in the strip of a point that is looked up.
+mod compare;
+mod holds;
+mod jobs;
+
+use boards::next;
+use foil_spec::Board;
+use job::Replied;
+use job::run_record;
+use jobs::Made;
+use plain_foil::Foil;
+use plain_foil::Ran;
+ghost use Prim.Native.Nat.{_<_, _≤_};
+ghost use lib.ListN.{length};
+
+// How many job files are replayed.
+const JOBS: usize = 300;
+
+// More records than any of these files has.
+const RECORDS: usize = 3000;
+
+// Where the counts of records, end marks, tracks and differences are; those of the numbers come first.
+const RUN: usize = 20;
+
+const ENDS: usize = 21;
+
+const LAID: usize = 22;
+
+const DIFFERENT: usize = 23;
+
+// Adds one to a count.
+fn count(counts: &mut [u64; 24], k: usize)
+    requires { ⌜ k < 24 ⌝ }
+{
+    counts[k] = std::num::wrapping_add_u64(counts[k], 1);
+}
+
+// Counts the number of a step or a record, if there is one.
+fn count_number(counts: &mut [u64; 24], number: u8) {
+    let k = number as usize;
+    if k < RUN {
+        count(counts, k);
+    }
+}
+
+// Where a job stands: the record by the calls, the plain foil, the place of the next record, and the number for a point.
+struct Stood {
+    board: Board,
+    foil: Foil,
+    at: usize,
+    point: u32,
+}
+
+// A job before its first record.
+fn unbegun(seed: u32) -> Stood
+    ensures { λ r. ⌜ (r .foil .entries ≤ 128) × (r .at ≤ 60000) ⌝ }
+{
+    Stood {
+        board: Board {
+            width: 0,
+            height: 0,
+            clearance: 0,
+            entries: 0,
+            strips: 0,
+        },
+        foil: Foil {
+            width: 0,
+            height: 0,
+            clearance: 0,
+            entries: 0,
+        },
+        at: 0,
+        point: seed,
+    }
+}
+
+// Counts what came of a record by the plain foil.
+fn count_record(counts: &mut [u64; 24], want: Ran) {
+    count(counts, RUN);
+    if want.end {
+        count(counts, ENDS);
+    }
+    if want.number != 0 {
+        count_number(counts, want.number);
+    }
+    if want.track == 0 {
+        count(counts, LAID);
+    }
+    count_number(counts, want.board);
+    count_number(counts, want.patch);
+    count_number(counts, want.track);
+    count_number(counts, want.lift);
+}
+
+// Runs a record by the call, with so many corner places lent.
+fn run_one(
+    table: &mut [u16; 645],
+    strips: &mut [u16; 16388],
+    corners: &mut [u16; 300],
+    room: usize,
+    board: Board,
+    bytes: &[u8],
+    at: usize,
+) -> Replied
+    requires { ⌜ room ≤ 150 ⌝ }
+{
+    run_front(table, strips, corners, room * 2, board, bytes, at)
+}
+
+// Runs a record with the first n numbers of the corner list lent.
+fn run_front(
+    table: &mut [u16],
+    strips: &mut [u16],
+    corners: &mut [u16],
+    n: usize,
+    board: Board,
+    bytes: &[u8],
+    at: usize,
+) -> Replied
+    requires { ⌜ n ≤ length (now corners) ⌝ }
+{
+    run_record(table, strips, &mut corners[..n], board, bytes, at)
+}
+
+// Whether the foil by the calls and the plain one agree, also in the strip of a point at random.
+fn agree(
+    table: &[u16; 645],
+    strips: &[u16; 16388],
+    corners: &[u16; 300],
+    given: Replied,
+    row: &[u16; 640],
+    path: &[u16; 8192],
+    want: Ran,
+    point: u32,
+) -> bool
+    requires { ⌜ want .foil .entries ≤ 128 ⌝ }
+{
+    let reply = given.reply;
+    if !compare::same_reply(reply, want) {
+        return false;
+    }
+    if !holds::same(table, strips, corners, given.board, row, path, want.foil) {
+        return false;
+    }
+    holds::same_point(table, strips, given.board, row, want.foil, point)
+}
+
+// Runs a record on both foils, and counts what came of it.
+fn replay_one(
+    counts: &mut [u64; 24],
+    table: &mut [u16; 645],
+    strips: &mut [u16; 16388],
+    corners: &mut [u16; 300],
+    row: &mut [u16; 640],
+    path: &mut [u16; 8192],
+    stood: Stood,
+    room: usize,
+    bytes: &[u8],
+) -> Stood
+    requires { ⌜ (stood .foil .entries ≤ 128) × (stood .at ≤ 60000) × (room ≤ 150) ⌝ }
+    ensures { λ r. ⌜ r .foil .entries ≤ 128 ⌝ }
+{
+    let given = run_one(table, strips, corners, room, stood.board, bytes, stood.at);
+    let want = plain_foil::record(row, path, stood.foil, room, bytes, stood.at);
+    let point = next(stood.point);
+    let foil = want.foil;
+    let board = given.board;
+    count_record(counts, want);
+    if !agree(table, strips, corners, given, row, path, want, point) {
+        count(counts, DIFFERENT);
+        return Stood {
+            board,
+            foil,
+            at: compare::NOWHERE,
+            point,
+        };
+    }
+    let reply = given.reply;
+    Stood {
+        board,
+        foil,
+        at: compare::next_place(reply),
+        point,
+    }
+}
+
+// Replays a job file, with so many corner places lent, up to its end or a difference.
+fn replay(counts: &mut [u64; 24], bytes: &[u8], room: usize, seed: u32)
+    requires { ⌜ room ≤ 150 ⌝ }
+{
+    let mut table = [7u16; 645];
+    let mut strips = [7u16; 16388];
+    let mut corners = [7u16; 300];
+    let mut row = [0u16; 640];
+    let mut path = [7u16; 8192];
+    let mut stood = unbegun(seed);
+    for _ in 0..RECORDS {
+        stood = replay_one(
+            counts,
+            &mut table,
+            &mut strips,
+            &mut corners,
+            &mut row,
+            &mut path,
+            stood,
+            room,
+            bytes,
+        );
+        if 60000 < stood.at {
+            return;
+        }
+    }
+}
+
+// Replays the job file that the first n bytes of a list are.
+fn replay_front(counts: &mut [u64; 24], bytes: &[u8], n: usize, room: usize, seed: u32)
+    requires { ⌜ (n ≤ length (now bytes)) × (room ≤ 150) ⌝ }
+{
+    replay(counts, &bytes[..n], room, seed);
+}
+
+// Replays a job file that was made.
+fn replay_made(counts: &mut [u64; 24], bytes: &[u8; 12000], made: Made)
+    requires { ⌜ (made .length ≤ 12000) × (made .room ≤ 150) ⌝ }
+{
+    replay_front(counts, bytes, made.length, made.room, made.seed);
+}
+
+// Makes and replays the job files.
+fn run(counts: &mut [u64; 24]) {
+    let mut seed: u32 = 1;
+    for _ in 0..JOBS {
+        let mut bytes = [0u8; 12000];
+        let made = jobs::make(&mut bytes, seed);
+        replay_made(counts, &bytes, made);
+        seed = made.seed;
+    }
+}
+
+// Writes a line: words, and a count.
+fn print_line(words: &[u8], n: u64) {
+    io::write_all(1, words);
+    io::print_decimal(1, n);
+    io::write_all(1, b"\n");
+}
+
+// Writes a line for each number that refused something.
+fn print_numbers(counts: &[u64; 24]) {
+    for k in 1..RUN {
+        if counts[k] != 0 {
+            io::write_all(1, b"refused by ");
+            io::print_decimal(1, k as u64);
+            print_line(b": ", counts[k]);
+        }
+    }
+}
+
+fn main() {
+    let mut counts = [0u64; 24];
+    run(&mut counts);
+    print_line(b"random jobs: ", JOBS as u64);
+    print_line(b"records: ", counts[RUN]);
+    print_line(b"end marks: ", counts[ENDS]);
+    print_line(b"steps accepted: ", counts[0]);
+    print_line(b"tracks among them: ", counts[LAID]);
+    print_numbers(&counts);
+    print_line(b"different: ", counts[DIFFERENT]);
+}
