@@ -1,0 +1,3 @@
+-- What the contracts of the calls over structs cite.
+pub mod Calls
+pub mod Flats

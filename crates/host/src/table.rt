@@ -1,0 +1,65 @@
+// The patch table as a lent slice of entry structs. Each function takes its first 128 places out as
+// numbers, does a call on these, and puts them back; the board's record goes by value.
+use crate::flat;
+use crate::flat::empty;
+use crate::flat::Flat;
+use crate::flat::Left;
+use crate::flat::pick;
+use crate::flat::put;
+use foil_spec::Board;
+use foil_spec::Entry;
+ghost use mathlib.Core.Path.{_≡_};
+ghost use mathlib.Core.List.{[]};
+ghost use lib.ListN.{length};
+ghost use Rattle.foil_spec.specs.Ledger.{newFoil, draw as draws, lift as lifts, lookUp};
+ghost use Rattle.host.specs.Flats.{loadTo, storeTo};
+ghost use Rattle.host.specs.Calls.{HostDone};
+
+// Takes the numbers of a table's first 128 places out.
+pub fn load(table: &[Entry]) -> Flat
+    ensures { λ r. ⌜ r ≡ loadTo (now (table .entry)) (length (now (table .entry))) ⌝ }
+{
+    let n = table.len();
+    let mut f = empty(n);
+    let mut i = 0;
+    while i < n {
+        let e = table[i];
+        f = put(f, i, e);
+        i = i + 1;
+    }
+    f
+}
+
+// Puts the numbers of the first 128 places back; the places after them stay as they are.
+pub fn store(table: &mut [Entry], f: Flat)
+    ensures { λ _. ⌜ now (table .exit) ≡ storeTo f (now (table .entry)) (length (now (table .entry))) ⌝ }
+{
+    let n = table.len();
+    let mut i = 0;
+    while i < n {
+        let old = table[i];
+        let e = pick(f, i, old);
+        table[i] = e;
+        i = i + 1;
+    }
+}
+
+// Appends a patch: an entry of net 0 at the first unused place.
+pub fn append(
+    table: &mut [Entry],
+    strips: &mut [u16],
+    b: Board,
+    x0: u16,
+    y0: u16,
+    x1: u16,
+    y1: u16,
+) -> Left
+    ensures { λ r. ⌜ HostDone (draws x0 y0 x1 y1) b (now (table .entry)) (now (strips .entry)) []
+        (r .answer) (r .board) (now (table .exit)) (now (strips .exit)) [] ⌝ }
+{
+    let t = load(table);
+    let out = flat::draw(strips, t, b, x0, y0, x1, y1);
+    let u = out.table;
+    store(table, u);
+    out
+}
