@@ -17,9 +17,9 @@ use Rattle.ledger_laws.proofs.Kept.{of-ok, patch-ok}
 use Rattle.ledger_laws.proofs.Sound.{Sound, of-sound, length-read}
 use Rattle.strips.specs.Table.{Table}
 use Rattle.booking.specs.Rows.{rowsOf, Appended}
-use Rattle.foil.specs.Contract.{StepDone, refusedBy, Settled}
+use Rattle.foil.specs.Contract.{StepDone, refusedBy, Ready, Settled}
 use Rattle.foil.specs.declared.Done.{Done}
-use Rattle.foil.proofs.Refusing.{refusal, refused-done, Ready, settled-done}
+use Rattle.foil.proofs.Refusing.{refusal, refused-done, settled-done}
 use Rattle.foil.proofs.Making.{rows-again, rows-layout, rows-table, copied-rows}
 use Rattle.foil.proofs.Limits.{Held, held-limits}
 
@@ -93,7 +93,7 @@ module _ (b : Board) (t s : List ℕ) (x0 y0 x1 y1 : ℕ) where
 
           pub drawn-table : Table rows (b .entries + 1) (b .clearance) (b .width) (b .height)
           drawn-table =
-              let h : Held b = held-limits b t s facts in
+              let h : Held b = held-limits b t s [] facts in
               rows-table rows (held m .entries ++ e ∷ []) (b .entries + 1) one-longer drawn-rows
               (b .width) (b .height) (b .clearance) (omega arith) (h .small) (h .wide) (h .high) all-ok
 

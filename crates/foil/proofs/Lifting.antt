@@ -15,9 +15,9 @@ use Rattle.ledger_laws.proofs.Kept.{of-ok}
 use Rattle.ledger_laws.proofs.Sound.{Sound, of-sound}
 use Rattle.strips.specs.Table.{Table}
 use Rattle.booking.specs.Rows.{rowsOf, otherNets, Kept}
-use Rattle.foil.specs.Contract.{StepDone, refusedBy, Settled}
+use Rattle.foil.specs.Contract.{StepDone, refusedBy, Ready, Settled}
 use Rattle.foil.specs.declared.Done.{Done}
-use Rattle.foil.proofs.Refusing.{refusal, refused-done, Ready, settled-done}
+use Rattle.foil.proofs.Refusing.{refusal, refused-done, settled-done}
 use Rattle.foil.proofs.Making.{rows-again, rows-layout, rows-table}
 use Rattle.foil.proofs.Limits.{Held, held-limits}
 
@@ -68,7 +68,7 @@ module _ (b : Board) (t s : List ℕ) (net : ℕ) where
 
           pub lifted-table : Table rows n (b .clearance) (b .width) (b .height)
           lifted-table =
-              let h : Held b = held-limits b t s facts in
+              let h : Held b = held-limits b t s [] facts in
               rows-table rows es n (sym (kept .counted)) (kept .is) (b .width) (b .height) (b .clearance)
               (omega (arith, kept .few, h .few)) (h .small) (h .wide) (h .high) all-ok
 

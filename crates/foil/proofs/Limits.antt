@@ -2,7 +2,7 @@
 use Prim.Native.Nat.{ℕ, _≤_}
 use mathlib.Core.Path.{_≡_}
 use mathlib.Core.Bool.{true}
-use mathlib.Core.List.{List, []}
+use mathlib.Core.List.{List}
 use lib.Dec.{leb}
 use borrow.Author.Tests.{leb-true}
 use Rattle.foil_spec.specs.Foil.{sizeOk, clearanceOk}
@@ -18,10 +18,10 @@ pub record Held (b : Board) : Type 0 where
   pub wide : b .width ≤ 4096
   pub high : b .height ≤ 4096
 
-pub held-limits : (b : Board) (t s : List ℕ) → Sound (lent b t s []) → Held b
+pub held-limits : (b : Board) (t s ks : List ℕ) → Sound (lent b t s ks) → Held b
 unfolding held layoutOf sizeOk clearanceOk
-held-limits b t s k =
-    let g = of-ok (held (lent b t s [])) (k .kept) in
+held-limits b t s ks k =
+    let g = of-ok (held (lent b t s ks)) (k .kept) in
     let w = g .width in
     let h = g .height in
     let d = g .clearance in

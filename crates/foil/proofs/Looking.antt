@@ -21,9 +21,9 @@ use Rattle.ledger_laws.proofs.Sound.{Sound, of-sound, sound-store-is}
 use Rattle.strips.specs.Places.{listedStrips, placeIn}
 use Rattle.strips.specs.declared.Place.the-variants.{At, Nowhere}
 use Rattle.strips.proofs.Placing.{listed-written, place-free, place-blocked}
-use Rattle.foil.specs.Contract.{answerOf, Looked, TooShort}
+use Rattle.foil.specs.Contract.{answerOf, Looked, TooShort, Ready}
 use Rattle.foil.specs.declared.Answer.the-variants.{Refused, Found}
-use Rattle.foil.proofs.Refusing.{refusal, Ready}
+use Rattle.foil.proofs.Refusing.{refusal}
 
 -- a look up leaves all as it is
 looked-refused : (p : Point) (m : Lent) (n : ℕ) → refusal (lookUp p) m ≡ some n → Looked p m (Refused n)
@@ -105,12 +105,23 @@ module _ (b : Board) (t s : List ℕ) (p : Point) where
       unfolding stripsOf
       at-blocked f = ap (placeIn p) listed ∙ place-blocked (free (held m)) (held m .width) (held m .height) p f
 
-      pub nowhere : placeIn p (listedStrips s (b .strips)) ≡ Nowhere → Looked p m (Refused 8)
-      unfolding first blocked
-      nowhere e =
+      pub nowhere-blocked : placeIn p (listedStrips s (b .strips)) ≡ Nowhere → true ≡ blocked (held m) p
+      unfolding blocked
+      nowhere-blocked e =
           both (free (held m) (p .x) (p .y))
           (λ f. let h = at-free f in absurd (let z : _≡_ {A = ℕ} 0 1 = cc in omega arith))
-          (λ f. looked-refused p m 8 (from-7 ∙ rw (on-foil, f) refl))
+          (λ f. rw f refl)
+
+      pub somewhere-free : (k : ℕ) → placeIn p (listedStrips s (b .strips)) ≡ At k → false ≡ blocked (held m) p
+      unfolding blocked
+      somewhere-free k e =
+          both (free (held m) (p .x) (p .y))
+          (λ f. rw f refl)
+          (λ f. let h = at-blocked f in absurd (let z : _≡_ {A = ℕ} 0 1 = cc in omega arith))
+
+      pub nowhere : placeIn p (listedStrips s (b .strips)) ≡ Nowhere → Looked p m (Refused 8)
+      unfolding first
+      nowhere e = looked-refused p m 8 (from-7 ∙ rw (on-foil, sym (nowhere-blocked e)) refl)
 
       pub somewhere : (k : ℕ) → placeIn p (listedStrips s (b .strips)) ≡ At k → Looked p m (Found k)
       unfolding first blocked

@@ -19,7 +19,7 @@ use Rattle.ledger_laws.proofs.Stored.{Long}
 use Rattle.ledger_laws.proofs.Steps.{long-lists}
 use Rattle.ledger_laws.proofs.Refusals.{short-refused, Reads, broken-refused}
 use Rattle.booking.specs.Booked.{Stored, Unchanged}
-use Rattle.foil.specs.Contract.{answerOf, StepDone, refusedBy, TooShort, Settled, fits, over}
+use Rattle.foil.specs.Contract.{answerOf, StepDone, refusedBy, TooShort, Ready, Settled, fits, over}
 use Rattle.foil.specs.declared.Answer.the-variants.{Accepted}
 use Rattle.foil.specs.declared.Done.{Done}
 
@@ -65,29 +65,35 @@ refused-done c m n r q e =
     }
 
 -- every step is refused by 12 where the lists are too short
-pub short-done : (c : Step) (b : Board) (t s : List ℕ) (r : Done) (k : Bool) → TooShort t s k → k ≡ true
-    → r ≡ refusedBy 12 b → StepDone c (lent b t s []) r t s []
-short-done c b t s r k h e q =
-    let m : Lent = lent b t s [] in
-    refused-done c m 12 r q (short-refused c (roomOf m) (not (sound m)) (held m) (sym (h .is b []) ∙ e))
+pub short-done : (c : Step) (b : Board) (t s ks : List ℕ) (r : Done) (k : Bool) → TooShort t s k → k ≡ true
+    → r ≡ refusedBy 12 b → StepDone c (lent b t s ks) r t s ks
+short-done c b t s ks r k h e q =
+    let m : Lent = lent b t s ks in
+    refused-done c m 12 r q (short-refused c (roomOf m) (not (sound m)) (held m) (sym (h .is b ks) ∙ e))
 
--- lists that are long enough, and that keep the rules
-pub record Ready (m : Lent) : Type 0 where
-  pub long : short (roomOf m) ≡ false
-  pub fine : sound m ≡ true
+-- 13 does not look at the corner list
+sound-apart : (b : Board) (t s ks : List ℕ) → sound (lent b t s []) ≡ sound (lent b t s ks)
+unfolding sound held store
+sound-apart b t s ks = refl
 
-module _ (b : Board) (t s : List ℕ) (k : Bool) (k-is : TooShort t s k) (e : k ≡ false) (g : Bool)
+module _ (b : Board) (t s ks : List ℕ) (k : Bool) (k-is : TooShort t s k) (e : k ≡ false) (g : Bool)
     (g-is : g ≡ sound (lent b t s [])) where
+  abbrev all-lent : Lent
+  all-lent = lent b t s ks
+
+  fine-is : g ≡ sound all-lent
+  fine-is = g-is ∙ sound-apart b t s ks
+
   -- a step that reads them is refused by 13 where they break a rule
   pub broken-done : (c : Step) → Reads c → not g ≡ true → (r : Done) → r ≡ refusedBy 13 b
-      → StepDone c (lent b t s []) r t s []
+      → StepDone c (lent b t s ks) r t s ks
   broken-done c n y r q =
-      let m : Lent = lent b t s [] in
-      refused-done c m 13 r q
-      (rw (sym g-is ∙ not-true g y) (broken-refused c (roomOf m) (held m) n (sym (k-is .is b []) ∙ e)))
+      refused-done c all-lent 13 r q
+      (rw (sym fine-is ∙ not-true g y)
+      (broken-refused c (roomOf all-lent) (held all-lent) n (sym (k-is .is b ks) ∙ e)))
 
-  pub ready : not g ≡ false → Ready (lent b t s [])
-  ready y = record { long = sym (k-is .is b []) ∙ e; fine = sym g-is ∙ not-false g y }
+  pub ready : not g ≡ false → Ready (lent b t s ks)
+  ready y = record { long = sym (k-is .is b ks) ∙ e; fine = sym fine-is ∙ not-false g y }
 
 module _ (c : Step) (m : Lent) (r : Done) (t s : List ℕ) where
   pub accepted-done : refusal c m ≡ none → says c (held m) ≡ accepted → r .answer ≡ Accepted

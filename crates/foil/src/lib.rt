@@ -1,12 +1,16 @@
 // The calls on a foil, over slices of numbers: the table has five numbers a place, the strip list
 // four. None has a `requires`: whatever is lent, each answers, and changes only what document 01 says.
 use booking::Booked;
+
+mod laying;
+
 use booking::append;
 use booking::book;
 use booking::copy_front;
 use booking::in_use;
 use booking::without;
 use foil_spec::Board;
+pub use laying::lay;
 use state::box_ok;
 use state::clearance_ok;
 use state::is_sound;
@@ -148,7 +152,7 @@ pub fn look_up(table: &[u16], strips: &[u16], board: Board, x: u16, y: u16) -> A
 }
 
 // Whether the lent table or strip list is too short (12).
-fn lists_short(table: &[u16], strips: &[u16]) -> bool
+pub fn lists_short(table: &[u16], strips: &[u16]) -> bool
     ensures { λ r. ⌜ TooShort (now (table .entry)) (now (strips .entry)) r ⌝ }
 {
     if table.len() < 640 {

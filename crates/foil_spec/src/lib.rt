@@ -3,6 +3,7 @@
 
 // The board's record: its width and height, the clearance (document 01: reach), and how many entries
 // and strips the lent lists hold.
+#[repr(C)]
 pub struct Board {
     pub width: u16,
     pub height: u16,
@@ -12,6 +13,7 @@ pub struct Board {
 }
 
 // An entry of the patch table: its net, and the points with x0 <= x < x1 and y0 <= y < y1.
+#[repr(C)]
 pub struct Entry {
     pub net: u16,
     pub x0: u16,

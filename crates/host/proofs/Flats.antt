@@ -156,7 +156,7 @@ unfolding entryAt
 entry-other a i n e ne =
     let far : (j : ℕ) → n * 5 ≤ j → j < n * 5 + 5 → getD (setFive a (i * 5) e) j 0 ≡ getD a j 0 =
     λ j l m. five-far a (i * 5) e j (λ q. ne (omega (arith, q, l, m))) (λ q. ne (omega (arith, q, l, m)))
-        (λ q. ne (omega (arith, q, l, m))) (λ q. ne (omega (arith, q, l, m))) (λ q. ne (omega (arith, q, l, m))) in
+    (λ q. ne (omega (arith, q, l, m))) (λ q. ne (omega (arith, q, l, m))) (λ q. ne (omega (arith, q, l, m))) in
     let p₀ = far (n * 5) (omega arith) (omega arith) in
     let p₁ = far (n * 5 + 1) (omega arith) (omega arith) in
     let p₂ = far (n * 5 + 2) (omega arith) (omega arith) in

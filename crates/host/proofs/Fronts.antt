@@ -80,12 +80,12 @@ module _ (rest : List ℕ) where
         is-stored (longer rest m) g ∙ store-longer l m (omega (arith, full)) in
         let size : length (store l m .table) ≡ 640 =
         unfold store in length-written 640 (each entryNumbers (l .entries)) (m .table) (entries-fit l ok)
-            (omega (arith, full)) ∙ full in
+        (omega (arith, full)) ∙ full in
         let here : cut (longer rest m) ≡ m =
         ap (λ (t : List ℕ). lent (m .board) t (m .strips) (m .corners)) (take-at (m .table) rest 640 full) in
         let there : cut (longer rest (store l m)) ≡ store l m =
         ap (λ (t : List ℕ). lent (store l m .board) t (store l m .strips) (store l m .corners))
-            (take-at (store l m .table) rest 640 size) in
+        (take-at (store l m .table) rest 640 size) in
         let same : m ≡ store l m = sym here ∙ ap cut e ∙ there in
         ap sound same ∙ sound-store l m ok
 

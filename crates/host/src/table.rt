@@ -1,9 +1,9 @@
 // The patch table as a lent slice of entry structs. Each function takes its first 128 places out as
 // numbers, does a call on these, and puts them back; the board's record goes by value.
 use crate::flat;
-use crate::flat::empty;
 use crate::flat::Flat;
 use crate::flat::Left;
+use crate::flat::empty;
 use crate::flat::pick;
 use crate::flat::put;
 use foil_spec::Board;
@@ -11,9 +11,10 @@ use foil_spec::Entry;
 ghost use mathlib.Core.Path.{_≡_};
 ghost use mathlib.Core.List.{[]};
 ghost use lib.ListN.{length};
-ghost use Rattle.foil_spec.specs.Ledger.{newFoil, draw as draws, lift as lifts, lookUp};
+ghost use Rattle.foil_spec.specs.Foil.{point};
+ghost use Rattle.foil_spec.specs.Ledger.{newFoil, draw as draws, lay as lays, lift as lifts};
 ghost use Rattle.host.specs.Flats.{loadTo, storeTo};
-ghost use Rattle.host.specs.Calls.{HostDone};
+ghost use Rattle.host.specs.Calls.{ThinDone};
 
 // Takes the numbers of a table's first 128 places out.
 pub fn load(table: &[Entry]) -> Flat
@@ -44,6 +45,18 @@ pub fn store(table: &mut [Entry], f: Flat)
     }
 }
 
+// Empties the table: a foil begins.
+pub fn clear(table: &mut [Entry], strips: &mut [u16], b: Board, w: u16, h: u16, d: u16) -> Left
+    ensures { λ r. ⌜ ThinDone (newFoil w h d) b (now (table .entry)) (now (strips .entry)) []
+        r (now (table .exit)) (now (strips .exit)) [] ⌝ }
+{
+    let t = load(table);
+    let out = flat::new_foil(strips, t, b, w, h, d);
+    let u = out.table;
+    store(table, u);
+    out
+}
+
 // Appends a patch: an entry of net 0 at the first unused place.
 pub fn append(
     table: &mut [Entry],
@@ -54,11 +67,45 @@ pub fn append(
     x1: u16,
     y1: u16,
 ) -> Left
-    ensures { λ r. ⌜ HostDone (draws x0 y0 x1 y1) b (now (table .entry)) (now (strips .entry)) []
-        (r .answer) (r .board) (now (table .exit)) (now (strips .exit)) [] ⌝ }
+    ensures { λ r. ⌜ ThinDone (draws x0 y0 x1 y1) b (now (table .entry)) (now (strips .entry)) []
+        r (now (table .exit)) (now (strips .exit)) [] ⌝ }
 {
     let t = load(table);
     let out = flat::draw(strips, t, b, x0, y0, x1, y1);
+    let u = out.table;
+    store(table, u);
+    out
+}
+
+// Appends a track: an entry for each leg.
+pub fn append_track(
+    table: &mut [Entry],
+    strips: &mut [u16],
+    corners: &mut [u16],
+    b: Board,
+    net: u16,
+    sx: u16,
+    sy: u16,
+    tx: u16,
+    ty: u16,
+) -> Left
+    ensures { λ r. ⌜ ThinDone (lays net (point sx sy) (point tx ty)) b (now (table .entry)) (now (strips .entry)) (now (corners .entry))
+        r (now (table .exit)) (now (strips .exit)) (now (corners .exit)) ⌝ }
+{
+    let t = load(table);
+    let out = flat::lay(strips, corners, t, b, net, sx, sy, tx, ty);
+    let u = out.table;
+    store(table, u);
+    out
+}
+
+// Lifts a net's entries out.
+pub fn lift(table: &mut [Entry], strips: &mut [u16], b: Board, net: u16) -> Left
+    ensures { λ r. ⌜ ThinDone (lifts net) b (now (table .entry)) (now (strips .entry)) []
+        r (now (table .exit)) (now (strips .exit)) [] ⌝ }
+{
+    let t = load(table);
+    let out = flat::lift(strips, t, b, net);
     let u = out.table;
     store(table, u);
     out

@@ -1,7 +1,8 @@
 -- What the search answers, return by return.
-use Prim.Native.Nat.{ℕ, _<_}
+use Prim.Native.Nat.{ℕ, _≤_, _<_}
 use native.Mathlib.Omega.{arith}
-use mathlib.Core.Path.{_≡_, sym, ap, _∙_}
+use mathlib.Core.Path.{_≡_, refl, sym, ap, _∙_}
+use mathlib.Core.Logic.{_⊎_, ⊎-elim}
 use mathlib.Core.List.{List}
 use lib.Dec.{eqb}
 use Rattle.foil_spec.specs.Foil.{Point, Layout}
@@ -18,14 +19,23 @@ module _ (l : Layout) (S T : Point) (cols rows el eu lv up : List ℕ) (s : Star
         none = k .none ∙ ap (λ (n : ℕ). eqb n 0) e;
         count = sym e ∙ k .count;
         corners = λ a b. absurd (omega arith);
+        untouched = λ a. refl;
       }
 
   pub found-many : 129 < s .corners → Found l S T out out (s .corners)
-  found-many h = record { none = k .none; count = k .count; corners = λ a b. absurd (omega arith) }
+  found-many h =
+      record { none = k .none; count = k .count; corners = λ a b. absurd (omega arith); untouched = λ a. refl }
 
   pub walk-ready : (s .corners ≡ 0 → ⊥) → (cs : List Point) × Ready cs cols rows el eu lv up s
   walk-ready n = (cornersOf l S T, k .ready (omega arith))
 
-  pub found-some : (out′ : List ℕ) → Walked cols rows el eu lv up s out out′ → Found l S T out out′ (s .corners)
-  found-some out′ w =
-      record { none = k .none; count = k .count; corners = λ a b. w .writes (cornersOf l S T) (k .ready a) }
+  pub found-some : (out′ : List ℕ) → (s .corners ≡ 0 → ⊥) → s .corners ≤ 129
+      → Walked cols rows el eu lv up s out out′ → Found l S T out out′ (s .corners)
+  found-some out′ some few w =
+      record {
+        none = k .none;
+        count = k .count;
+        corners = λ a b. w .writes (cornersOf l S T) (k .ready a);
+        untouched =
+            ⊎-elim (λ (e : s .corners ≡ 0). absurd (some e)) (λ (h : 129 < s .corners). absurd (omega arith));
+      }

@@ -33,7 +33,7 @@ same-length-2 c = search needs
 -- src/lib.rt:78:9
 returns : tie.Need-returns
 returns c =
-    short-done _ _ _ _ _ _ (c .before .before .lists-short .ensures) (c .before .if1 .taken) (c .refuse .ensures)
+    short-done _ _ _ _ _ _ _ (c .before .before .lists-short .ensures) (c .before .if1 .taken) (c .refuse .ensures)
 
 -- src/lib.rt:80:9
 is-sound-requires : tie.Need-is-sound-requires
@@ -54,7 +54,7 @@ same-length-4 c = search needs
 -- src/lib.rt:81:9
 returns-2 : tie.Need-returns-2
 returns-2 c =
-    broken-done _ _ _ _ (c .before .before .before .before .before .before .lists-short .ensures)
+    broken-done _ _ _ _ _ (c .before .before .before .before .before .before .lists-short .ensures)
     (c .before .before .before .before .before .if1 .left) _
     (c .before .before .is-sound .ensures) _ tt (c .before .if2 .taken) _ (c .refuse2 .ensures)
 
@@ -78,7 +78,7 @@ same-length-6 c = search needs
 returns-3 : tie.Need-returns-3
 returns-3 c =
     no-patch _ _ _ _ _ _ _
-    (ready _ _ _ _ (c .before .before .before .before .before .before .before .before .lists-short .ensures)
+    (ready _ _ _ _ _ (c .before .before .before .before .before .before .before .before .lists-short .ensures)
     (c .before .before .before .before .before .before .before .if1 .left) _
     (c .before .before .before .before .is-sound .ensures) (c .before .before .before .if2 .left)) _
     (c .before .before .box-ok .ensures) (c .before .if3 .taken) _ (c .refuse3 .ensures)
@@ -99,7 +99,7 @@ same-length-8 c = search needs
 returns-4 : tie.Need-returns-4
 returns-4 c =
     table-full _ _ _ _ _ _ _
-    (ready _ _ _ _ (c .before .before .before .before .before .before .before .before .before .lists-short .ensures)
+    (ready _ _ _ _ _ (c .before .before .before .before .before .before .before .before .before .lists-short .ensures)
     (c .before .before .before .before .before .before .before .before .if1 .left) _
     (c .before .before .before .before .before .is-sound .ensures) (c .before .before .before .before .if2 .left)) _
     (c .before .before .before .box-ok .ensures) (c .before .before .if3 .left) (c .before .if4 .taken) _
@@ -140,7 +140,7 @@ add-settle c = search needs
 settle-requires : tie.Need-settle-requires
 settle-requires c κs = (
   drawn-table _ _ _ _ _ _ _
-      (ready _ _ _ _
+      (ready _ _ _ _ _
       (c .before .before .before .before .before .before .before .before .before .before .before .before .before
       .before .before .before .before .before .lists-short .ensures)
       (c .before .before .before .before .before .before .before .before .before .before .before .before .before
@@ -157,7 +157,7 @@ settle-requires c κs = (
       (c .before .before .before .before .append .ensures),
   (
     drawn-again _ _ _ _ _ _ _
-        (ready _ _ _ _
+        (ready _ _ _ _ _
         (c .before .before .before .before .before .before .before .before .before .before .before .before
         .before .before .before .before .before .before .lists-short .ensures)
         (c .before .before .before .before .before .before .before .before .before .before .before .before
@@ -203,7 +203,7 @@ same-length-10 c = search needs
 returns-5 : tie.Need-returns-5
 returns-5 c =
     drawn _ _ _ _ _ _ _
-    (ready _ _ _ _
+    (ready _ _ _ _ _
     (c .before .before .before .before .before .before .before .before .before .before .before .before .before
     .before .before .before .before .before .before .before .before .before .before .lists-short .ensures)
     (c .before .before .before .before .before .before .before .before .before .before .before .before .before

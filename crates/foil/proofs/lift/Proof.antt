@@ -1,4 +1,5 @@
 use native.Mathlib.Omega.{arith}
+use mathlib.Core.List.{[]}
 use Rattle.ledger_laws.proofs.Sound.{of-sound}
 use Rattle.foil.proofs.Refusing.{long-enough, short-done, broken-done, ready}
 use Rattle.foil.proofs.Limits.{held-limits}
@@ -36,7 +37,7 @@ same-length-2 c = search needs
 -- src/lib.rt:102:9
 returns : tie.Need-returns
 returns c =
-    short-done _ _ _ _ _ _ (c .before .before .lists-short .ensures) (c .before .if1 .taken) (c .refuse .ensures)
+    short-done _ _ _ _ _ _ _ (c .before .before .lists-short .ensures) (c .before .if1 .taken) (c .refuse .ensures)
 
 -- src/lib.rt:104:9
 is-sound-requires : tie.Need-is-sound-requires
@@ -57,7 +58,7 @@ same-length-4 c = search needs
 -- src/lib.rt:105:9
 returns-2 : tie.Need-returns-2
 returns-2 c =
-    broken-done _ _ _ _ (c .before .before .before .before .before .before .lists-short .ensures)
+    broken-done _ _ _ _ _ (c .before .before .before .before .before .before .lists-short .ensures)
     (c .before .before .before .before .before .if1 .left) _
     (c .before .before .is-sound .ensures) _ tt (c .before .if2 .taken) _ (c .refuse2 .ensures)
 
@@ -81,7 +82,7 @@ same-length-6 c = search needs
 returns-3 : tie.Need-returns-3
 returns-3 c =
     no-net _ _ _ _
-    (ready _ _ _ _ (c .before .before .before .before .before .before .before .before .lists-short .ensures)
+    (ready _ _ _ _ _ (c .before .before .before .before .before .before .before .before .lists-short .ensures)
     (c .before .before .before .before .before .before .before .if1 .left) _
     (c .before .before .before .before .is-sound .ensures) (c .before .before .before .if2 .left)) _
     (c .before .before .net-ok .ensures) (c .before .if3 .taken) _ (c .refuse3 .ensures)
@@ -96,7 +97,7 @@ in-use-requires c κs =
           .before .args .board) _
           (c .before .before .before .before .before .before .before .before .lists-short .ensures)
           (c .before .before .before .before .before .before .before .if1 .left)) .table,
-      (held-limits _ _ _ (of-sound _ ((ready _ _ _ _
+      (held-limits _ _ _ [] (of-sound _ ((ready _ _ _ _ _
           (c .before .before .before .before .before .before .before .before .lists-short .ensures)
           (c .before .before .before .before .before .before .before .if1 .left) _
           (c .before .before .before .before .is-sound .ensures) (c .before .before .before .if2 .left)) .fine))) .few,
@@ -118,7 +119,7 @@ same-length-8 c = search needs
 returns-4 : tie.Need-returns-4
 returns-4 c =
     not-there _ _ _ _
-    (ready _ _ _ _
+    (ready _ _ _ _ _
     (c .before .before .before .before .before .before .before .before .before .before .before .lists-short .ensures)
     (c .before .before .before .before .before .before .before .before .before .before .if1 .left) _
     (c .before .before .before .before .before .before .before .is-sound .ensures)
@@ -133,7 +134,7 @@ slice-aggregate-without c = search needs
 -- src/lib.rt:115:9
 without-requires : tie.Need-without-requires
 without-requires c κs = (
-  (held-limits _ _ _ (of-sound _ ((ready _ _ _ _
+  (held-limits _ _ _ [] (of-sound _ ((ready _ _ _ _ _
       (c .before .before .before .before .before .before .before .before .before .before .before
       .before .lists-short .ensures)
       (c .before .before .before .before .before .before .before .before .before .before .before .if1 .left) _
@@ -147,7 +148,7 @@ without-requires c κs = (
         (c .before .before .before .before .before .before .before .before .before .before .before
         .before .lists-short .ensures)
         (c .before .before .before .before .before .before .before .before .before .before .before .if1 .left)) .table,
-    (held-limits _ _ _ (of-sound _ ((ready _ _ _ _
+    (held-limits _ _ _ [] (of-sound _ ((ready _ _ _ _ _
         (c .before .before .before .before .before .before .before .before .before .before .before
         .before .lists-short .ensures)
         (c .before .before .before .before .before .before .before .before .before .before .before .if1 .left) _
@@ -165,7 +166,7 @@ slice-aggregate-settle c = search needs
 settle-requires : tie.Need-settle-requires
 settle-requires c κs = (
   lifted-table _ _ _ _
-      (ready _ _ _ _
+      (ready _ _ _ _ _
       (c .before .before .before .before .before .before .before .before .before .before .before .before .before
       .before .before .before .before .lists-short .ensures)
       (c .before .before .before .before .before .before .before .before .before .before .before .before .before
@@ -180,7 +181,7 @@ settle-requires c κs = (
       (c .before .before .before .before .without .ensures),
   (
     lifted-again _ _ _ _
-        (ready _ _ _ _
+        (ready _ _ _ _ _
         (c .before .before .before .before .before .before .before .before .before .before .before .before
         .before .before .before .before .before .lists-short .ensures)
         (c .before .before .before .before .before .before .before .before .before .before .before .before
@@ -225,7 +226,7 @@ same-length-10 c = search needs
 returns-5 : tie.Need-returns-5
 returns-5 c =
     lifted _ _ _ _
-    (ready _ _ _ _
+    (ready _ _ _ _ _
     (c .before .before .before .before .before .before .before .before .before .before .before .before .before
     .before .before .before .before .before .before .before .before .before .lists-short .ensures)
     (c .before .before .before .before .before .before .before .before .before .before .before .before .before

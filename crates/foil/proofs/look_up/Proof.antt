@@ -33,7 +33,7 @@ returns-2 c =
 returns-3 : tie.Need-returns-3
 returns-3 c =
     off-right _ _ _ _
-    (ready _ _ _ _ (c .before .before .before .before .before .lists-short .ensures)
+    (ready _ _ _ _ _ (c .before .before .before .before .before .lists-short .ensures)
     (c .before .before .before .before .if1 .left) _ (c .before .before .before .is-sound .ensures)
     (c .before .before .if2 .left))
     (c .if3 .taken)
@@ -42,7 +42,7 @@ returns-3 c =
 returns-4 : tie.Need-returns-4
 returns-4 c =
     off-below _ _ _ _
-    (ready _ _ _ _ (c .before .before .before .before .before .before .before .lists-short .ensures)
+    (ready _ _ _ _ _ (c .before .before .before .before .before .before .before .lists-short .ensures)
     (c .before .before .before .before .before .before .if1 .left) _
     (c .before .before .before .before .before .is-sound .ensures) (c .before .before .before .before .if2 .left))
     (c .if4 .taken)
@@ -53,7 +53,7 @@ locate-requires c κs =
     strips-long _ _ _ (point
     (c .before .before .before .before .before .before .before .before .before .before .args .x)
     (c .before .before .before .before .before .before .before .before .before .before .args .y))
-    (ready _ _ _ _ (c .before .before .before .before .before .before .before .lists-short .ensures)
+    (ready _ _ _ _ _ (c .before .before .before .before .before .before .before .lists-short .ensures)
     (c .before .before .before .before .before .before .if1 .left) _
     (c .before .before .before .before .before .is-sound .ensures) (c .before .before .before .before .if2 .left))
 
@@ -69,7 +69,7 @@ enum-told c = search needs
 returns-5 : tie.Need-returns-5
 returns-5 c =
     nowhere _ _ _ _
-    (ready _ _ _ _
+    (ready _ _ _ _ _
     (c .before .before .before .before .before .before .before .before .before .before .lists-short .ensures)
     (c .before .before .before .before .before .before .before .before .before .if1 .left) _
     (c .before .before .before .before .before .before .before .before .is-sound .ensures)
@@ -81,7 +81,7 @@ returns-5 c =
 returns-6 : tie.Need-returns-6
 returns-6 c =
     somewhere _ _ _ _
-    (ready _ _ _ _
+    (ready _ _ _ _ _
     (c .before .before .before .before .before .before .before .before .before .before .before .lists-short .ensures)
     (c .before .before .before .before .before .before .before .before .before .before .if1 .left) _
     (c .before .before .before .before .before .before .before .before .before .is-sound .ensures)

@@ -32,7 +32,7 @@ same-length-2 c = search needs
 -- src/lib.rt:50:9
 returns : tie.Need-returns
 returns c =
-    short-done _ _ _ _ _ _ (c .before .before .lists-short .ensures) (c .before .if1 .taken) (c .refuse .ensures)
+    short-done _ _ _ _ _ _ _ (c .before .before .lists-short .ensures) (c .before .if1 .taken) (c .refuse .ensures)
 
 -- src/lib.rt:52:9
 size-ok-requires : tie.Need-size-ok-requires

@@ -129,6 +129,8 @@ returns-3 c =
     found-some _ _ _ _ _ _ _ _ _ _
     (c .before .before .before .before .before .before .before .before .before .before .before .before .before
     .before .before .before .before .before .before .before .before .labels .ensures) _ _
+    (c .before .before .before .before .before .before .before .before .before .before .before .if1 .left)
+    (c .before .before .before .before .before .before .before .before .before .before .if2 .left)
     (c .before .before .walk .ensures)
 
 pub find-spec : {M : Type 1} → statement M
