@@ -2,23 +2,24 @@
 use Prim.Native.Nat.{ℕ, _-_, _/_, _≤_}
 use native.Mathlib.Omega.{arith}
 use mathlib.Core.Path.{_≡_, refl, sym, ap, ap₂, _∙_}
-use mathlib.Core.Bool.{Bool, true, false, not}
+use mathlib.Core.Bool.{Bool, true, false, cond, not}
 use mathlib.Core.List.{List, [], _∷_, _++_, append-assoc}
-use mathlib.Core.Option.{Option, none, some}
+use mathlib.Core.Option.{Option, none, some, Option·some-ne-none}
 use lib.ListN.{length, take, drop, replicate, length-append}
 use lib.Seq.{take-at, drop-append-le}
 use borrow.Author.Tests.{le-ltb}
 use Rattle.foil_spec.specs.Lists.{each}
 use Rattle.foil_spec.specs.Foil.{Layout}
-use Rattle.foil_spec.specs.Ledger.{Step, newFoil, draw, lay, lift, lookUp, Answer, Refusal, first, Room, short, refusals}
-use Rattle.foil_spec.specs.Ledger.{After, says, next, stripsOf}
-use Rattle.foil_spec.specs.Lent.{Lent, lent, withCorners, written, entryNumbers, boardOf, layoutOf, store, held, layoutOk}
-use Rattle.foil_spec.specs.Lent.{sound, roomOf, cornersAfter, finish, stepOn}
-use Rattle.foil_spec.specs.declared.Board.{Board}
+use Rattle.foil_spec.specs.Ledger.{Step, newFoil, draw, lay, lift, lookUp, Answer, first, Room, short, refusals}
+use Rattle.foil_spec.specs.Ledger.{After, says, next}
+use Rattle.foil_spec.specs.Lent.{Lent, lent, withCorners, written, entryNumbers, boardOf, layoutOf, store, held}
+use Rattle.foil_spec.specs.Lent.{layoutOk, sound, roomOf, cornersAfter, finish, stepOn}
+use Rattle.foil_spec.specs.Calls.{runRecord, endsJob, andThen, actAll, actRecord, callOn}
 use Rattle.foil_spec.proofs.Written.{length-written}
 use Rattle.list_laws.proofs.Tests.{both, clash}
 use Rattle.ledger_laws.proofs.Refusals.{short-refused, Reads, broken-refused}
 use Rattle.ledger_laws.proofs.Stored.{entries-fit, held-store, sound-store}
+use Rattle.ledger_laws.proofs.Kept.{new-kept, next-kept}
 use Rattle.ledger_laws.proofs.Sound.{length-read, of-sound}
 use Rattle.foil.proofs.Refusing.{refusal}
 
@@ -115,17 +116,18 @@ same-refusals (lay net S T) r r′ b l e c = rw (e, c) refl
 same-refusals (lift net) r r′ b l e c = rw e refl
 same-refusals (lookUp p) r r′ b l e c = rw e refl
 
+-- an answer, and a state that goes on after the front
+abbrev pub andMore : {A : Type 0} → List ℕ → After A Lent → After A Lent
+andMore rest a = record { answer = a .answer; state = longer rest (a .state) }
+
 module _ (rest : List ℕ) (m : Lent) (full : length (m .table) ≡ 640) where
   -- a step leaves the front as it leaves it where there is no more
   abbrev Longer : Step → Type 0
-  Longer s =
-      stepOn s (longer rest m)
-      ≡ record { answer = stepOn s m .answer; state = longer rest (stepOn s m .state) }
+  Longer s = stepOn s (longer rest m) ≡ andMore rest (stepOn s m)
 
   finish-longer : (o : Option ℕ) (s : Step) → says s (held (longer rest m)) ≡ says s (held m)
       → next s (held (longer rest m)) ≡ next s (held m)
-      → finish o s (longer rest m)
-      ≡ record { answer = finish o s m .answer; state = longer rest (finish o s m .state) }
+      → finish o s (longer rest m) ≡ andMore rest (finish o s m)
   unfolding finish
   finish-longer (some n) s a b = refl
   finish-longer none s a b =
@@ -185,3 +187,78 @@ module _ (rest : List ℕ) (m : Lent) (full : length (m .table) ≡ 640) where
       unsound (lay net S T) g = broken-step (lay net S T) tt g
       unsound (lift net) g = broken-step (lift net) tt g
       unsound (lookUp p) g = broken-step (lookUp p) tt g
+
+-- ---- a record
+
+-- a step leaves the front as long as it was
+module _ (m : Lent) (full : length (m .table) ≡ 640) where
+  kept-sound : (s : Step) → Reads s → refusal s m ≡ none → sound m ≡ true
+  kept-sound s n h =
+      both (sound m) (λ g. g)
+      (λ g. both (short (roomOf m))
+      (λ e. absurd (Option·some-ne-none 12 (sym (short-refused s (roomOf m) (not (sound m)) (held m) e) ∙ h)))
+      (λ e. absurd (Option·some-ne-none 13
+      (sym (broken-refused s (roomOf m) (held m) n e)
+      ∙ sym (ap (λ (b : Bool). first (refusals s (roomOf m) (not b) (held m))) g) ∙ h))))
+
+  reads-ok : (s : Step) → Reads s → refusal s m ≡ none → layoutOk (next s (held m)) ≡ true
+  reads-ok s n h =
+      next-kept s (roomOf m) (not (sound m)) (held m) (of-sound m (kept-sound s n h) .kept) h
+
+  next-ok : (s : Step) → refusal s m ≡ none → layoutOk (next s (held m)) ≡ true
+  next-ok (newFoil W H d) h = new-kept W H d (roomOf m) (not (sound m)) (held m) h
+  next-ok (draw x0 y0 x1 y1) h = reads-ok (draw x0 y0 x1 y1) tt h
+  next-ok (lay net S T) h = reads-ok (lay net S T) tt h
+  next-ok (lift net) h = reads-ok (lift net) tt h
+  next-ok (lookUp p) h = reads-ok (lookUp p) tt h
+
+  finish-full : (o : Option ℕ) (s : Step) → refusal s m ≡ o → length (finish o s m .state .table) ≡ 640
+  unfolding finish
+  finish-full (some n) s h = full
+  finish-full none s h =
+      unfold store in
+      length-written 640 (each entryNumbers (next s (held m) .entries)) (m .table)
+          (entries-fit (next s (held m)) (next-ok s h)) (omega (arith, full))
+      ∙ full
+
+  step-full : (s : Step) → length (stepOn s m .state .table) ≡ 640
+  unfolding stepOn
+  step-full s = finish-full (refusal s m) s refl
+
+then-more : (rest : List ℕ) (a : After Answer Lent) (b : After (List Answer) Lent)
+    → andThen (andMore rest a) (andMore rest b) ≡ andMore rest (andThen a b)
+unfolding andThen
+then-more rest a b = go (endsJob (a .answer))
+  where
+    go : (t : Bool)
+        → cond t
+        (record { answer = a .answer ∷ []; state = longer rest (a .state) })
+        (record { answer = a .answer ∷ b .answer; state = longer rest (b .state) })
+        ≡ andMore rest
+        (cond t
+        (record { answer = a .answer ∷ []; state = a .state })
+        (record { answer = a .answer ∷ b .answer; state = b .state }))
+    go true = refl
+    go false = refl
+
+steps-longer : (rest : List ℕ) (ss : List Step) (m : Lent) → length (m .table) ≡ 640
+    → actAll stepOn ss (longer rest m) ≡ andMore rest (actAll stepOn ss m)
+unfolding actAll
+steps-longer rest [] m full = refl
+steps-longer rest (s ∷ ss) m full =
+    rw (step-longer rest m full s)
+    (ap (andThen (andMore rest (stepOn s m))) (steps-longer rest ss (stepOn s m .state) (step-full m full s))
+    ∙ then-more rest (stepOn s m) (actAll stepOn ss (stepOn s m .state)))
+
+ran-longer : (rest : List ℕ) (o : Option ℕ) (end : Bool) (ss : List Step) (p : ℕ) (m : Lent) → length (m .table) ≡ 640
+    → actRecord stepOn o end ss p (longer rest m) ≡ andMore rest (actRecord stepOn o end ss p m)
+unfolding actRecord
+ran-longer rest (some n) end ss p m full = refl
+ran-longer rest none true ss p m full = refl
+ran-longer rest none false ss p m full = rw (steps-longer rest ss m full) refl
+
+pub record-longer : (rest : List ℕ) (bs : List ℕ) (at : ℕ) (m : Lent) → length (m .table) ≡ 640
+    → callOn (runRecord bs at) (longer rest m) ≡ andMore rest (callOn (runRecord bs at) m)
+unfolding callOn
+record-longer rest bs at m full =
+    rw (short-longer rest m full, sound-longer rest m full) (ran-longer rest _ _ _ _ m full)
