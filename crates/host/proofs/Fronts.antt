@@ -218,7 +218,7 @@ module _ (m : Lent) (full : length (m .table) ≡ 640) where
   finish-full none s h =
       unfold store in
       length-written 640 (each entryNumbers (next s (held m) .entries)) (m .table)
-          (entries-fit (next s (held m)) (next-ok s h)) (omega (arith, full))
+      (entries-fit (next s (held m)) (next-ok s h)) (omega (arith, full))
       ∙ full
 
   step-full : (s : Step) → length (stepOn s m .state .table) ≡ 640
