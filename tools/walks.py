@@ -6,14 +6,17 @@ functions, its parameters or its contract is changed, or a call is added. What i
 Three shapes of function have a walk each. A walk follows the MIR statement by statement, so that the body of the
 function must be just as it stands here.
 
-    public   pub fn f(board: &mut Board, s1: &mut [E1], .., n1: u16, ..) -> Answer
-             { let b = *board; let out = core(s1, .., b, n1, ..); *board = out.board; out.answer }
+    public   pub fn f(board: &mut Board, s1: &mut [E1], .., c1: &[u8], .., n1: u16, ..) -> Answer
+             { let b = *board; let out = core(s1, .., c1, .., b, n1, ..); *board = out.board; out.answer }
 
-    inner    pub fn f(table: &mut [Entry], s1: &mut [u16], .., b: Board, n1: u16, ..) -> Left
-             { let t = load(table); let out = core(s1, .., t, b, n1, ..); let u = out.table; store(table, u); out }
+    inner    pub fn f(table: &mut [Entry], s1: &mut [u16], .., c1: &[u8], .., b: Board, n1: u16, ..) -> Left
+             { let t = load(table); let out = core(s1, .., c1, .., t, b, n1, ..); let u = out.table;
+               store(table, u); out }
 
     look     pub fn f(board: &Board, table: &[Entry], s1: &[u16], .., n1: u16, ..) -> Answer
              { let b = *board; let t = load(table); core(s1, .., t, b, n1, ..) }
+
+The lists that are lent as `&mut` (`slices` below) come first, then those lent as `&` (`shared`).
 
 A walk hands on unopened what the callees ensure, so that it knows no contract but by its term. Terms are written over
 h (the record at entry), h' (at exit), y0, y1, .. (the lists at entry), z0, z1, .. (at exit), n1, .. (the numbers),
@@ -32,8 +35,11 @@ TYPES = {
     'Flat': ('host', 'flat.Flat'),
     'Said': ('host', 'flat.Said'),
     'Left': ('host', 'flat.Left'),
+    'Reply': ('job', 'Reply'),
+    'RecordSaid': ('host', 'records.RecordSaid'),
+    'Ran': ('host', 'records.Ran'),
 }
-ENUMS = ('Answer',)
+ENUMS = ('Answer', 'Reply')
 LOAD, STORE = 'table.load', 'table.store'
 LOADED = 'loadTo y0 (length y0)'
 STORED = 'storeTo (r .table) y0 (length y0)'
@@ -165,7 +171,8 @@ def typed(prefix, value, fact):
 
 
 def answer_typed(law, value, fact):
-    return '%s.lawful TA.the-type TA′.the-laws 𝓤 H A W %s.typed %s _ %s .0' % (law, 'tt ' if law == 'LE' else '', value, fact)
+    return '%s.lawful TA.the-type TA′.the-laws 𝓤 H A W %s.typed %s _ %s .0' % (law,
+        'tt ' if law == 'LE' else '', value, fact)
 
 
 def machine(name, kind, prefix):
@@ -360,7 +367,8 @@ def relend(source, reference, slice_local, room):
     return ('assigns ! (addr ! (from ! (fld ! refl (hop ! (look-in ! %d (sub ! 0 refl (whole !))) (stop !))))) '
             '(from ! (stop !)) (init ! %d refl (tt, tt)) $\n        '
             'assigns ! (agg ! (and-then ! (load ! (from ! (stop !)) (look ! %d refl)) '
-            '(and-then ! (load ! (from ! (fld ! refl (stop !))) (look-in ! %d (sub ! 1 refl (whole !)))) (no-more !)))) '
+            '(and-then ! (load ! (from ! (fld ! refl (stop !))) (look-in ! %d (sub ! 1 refl (whole !)))) '
+                '(no-more !)))) '
             '(from ! (stop !)) (init ! %d refl %s) $\n        '
             % (source, reference, reference, source, slice_local, SLICE_TYPED % room))
 
@@ -488,7 +496,8 @@ def public(function, core, out, field, slices, shared, numbers, core_post, post,
     out_lines += callee_uses([('core', core)]) + own_uses(function)
     out_lines += ['abbrev stayed : Stays (f.ended .signature .params) (f.ended .kept)',
                   'stayed = ' + nest(['stay-ref (0 ∷ []) tt (plain (λ _. T.the-row))']
-                                     + ['gave-slice (%d ∷ []) tt (plain (λ _. %s))' % (i, row(elements[i])) for i in each]
+                                     + ['gave-slice (%d ∷ []) tt (plain (λ _. %s))' % (i,
+                                         row(elements[i])) for i in each]
                                      + ['stay-none-slice (%d ∷ []) tt (plain (λ _. %s)) yes' % (i, row(elements[i]))
                                         for i in copied]
                                      + ['stay-none (λ _. %s) yes' % w for w in numbers]), '']
@@ -509,7 +518,8 @@ def public(function, core, out, field, slices, shared, numbers, core_post, post,
         '  abbrev to-core : Core 𝓤 H A at-mem run .Ghost',
         '  to-core = ((%s, %s, tt, %s, %s), tt)'
         % (nest(ks[1:]), nest(qs[1:]), core_args, nest(['%s ∷ []' % v for v in ss + ['mach h'] + values])), '']
-    held = ['‵ (MutSlice (named %d) %s %s .own %s (%s ∷ []))' % (i - 1, ks[i], row(elements[i]), low('x', i), low('s', i))
+    held = ['‵ (MutSlice (named %d) %s %s .own %s (%s ∷ []))' % (i - 1, ks[i], row(elements[i]), low('x', i),
+        low('s', i))
             for i in each]
     held += ['‵ (%s)' % shared_slice(i, i - 1, ks[i], elements) for i in copied]
     given = listed([tokens(ks, qs, 1)] + held)
@@ -523,14 +533,16 @@ def public(function, core, out, field, slices, shared, numbers, core_post, post,
                    '‵ (flft κ₀ q₀)', tokens(ks, qs, 1)]
                   + ['‵ (finally %s %s %s)' % (row(elements[i]), low('γ', i), low('z', i)) for i in each]
                   + ['‵ (%s)' % shared_slice(i, i, ks[i], elements) for i in copied])
-    out_lines += ['  exits : (r : %s) ' % out + ' '.join('(%s : List %s)' % (low('z', i), denotes(elements[i])) for i in each),
+    out_lines += ['  exits : (r : %s) ' % out + ' '.join('(%s : List %s)' % (low('z', i),
+        denotes(elements[i])) for i in each),
                   '      → %s' % post_at(answered, '(r .board)', zs),
                   '      → ' + ' → '.join('length %s ≡ length %s' % (low('z', i), low('y', i)) for i in each)
                   + ' → Is TA.the-row %s (%s ∷ [])' % (answered, answer_value),
                   '      → ent 𝓤 (⋆ 𝓤 H A (%s)) (Post (%s))' % (left, answer_value),
                   '  exits r %s e %s isA =\n      qed W (%s) ∵\n      suffices ! _ (ends-at 𝓤 H A f.ended stayed '
                   '(f.clauses 𝓤 H A at-mem run) W %s (%s) %s %s %s) $ says ! e $\n      '
-                  % (' '.join(zs), ' '.join(ls), left, bound, answer_value, answered, nest(['r .board'] + zs + ['tt'] * (j + m)),
+                  % (' '.join(zs), ' '.join(ls), left, bound, answer_value, answered, nest(['r .board'] + zs
+                      + ['tt'] * (j + m)),
                      nest(['tt'] + ls + ['tt'] * (j + m)))
                   + move([2, 3]) + 'join ! $ frame ! $ feqI ! (List Val) (vptr b o ∷ []) (vptr b o ∷ []) refl $ '
                   'fjoin3 ! $ nothing ! $ ' + owned_numbers(numbers)
@@ -558,11 +570,14 @@ def public(function, core, out, field, slices, shared, numbers, core_post, post,
     s += 'pass0 ! $\n        -- the record\'s borrow is opened\n        '
     s += move([2 * locals_ + 1]) + 'fsplit ! $ fsplit3 ! $ drop ! $ ' + move([2 * locals_ + 3]) + 'split ! $ '
     s += move([2, 3, 0]) + '\n        opens ! tt T.the-row {h = h} b o (λ vs. spelt ! T.the-row (Is T.the-row) ' \
-        '(shows 𝓤 H A T.the-row) (LL.vals T.the-type T′.the-laws) (LL.tells T.the-type T′.the-laws) fullShare h vs b o $ ' \
+        '(shows 𝓤 H A T.the-row) (LL.vals T.the-type T′.the-laws) (LL.tells T.the-type T′.the-laws) fullShare ' \
+            'h vs b o $ ' \
         + move([1]) + 'peeks ! T.the-row (Is T.the-row) (shows 𝓤 H A T.the-row) h (mach h ∷ []) (λ g. ' + move([1, 0])
-    s += '\n        -- [the record\'s cell; what it owns; the open borrow; obs; auth; the slices\' tokens; what the other'
+    s += '\n        -- [the record\'s cell; what it owns; the open borrow; obs; auth; the slices\' tokens; ' \
+        'what the other'
     s += '\n        -- parameters own; the locals]\n        '
-    s += 'assigns ! (of-opd ! (load ! (from ! (hop ! (look ! %d refl) (stop !))) (look-raw ! 0 refl))) (from ! (stop !)) ' \
+    s += 'assigns ! (of-opd ! (load ! (from ! (hop ! (look ! %d refl) (stop !))) (look-raw ! 0 refl))) (from ' \
+        '! (stop !)) ' \
         '(init ! %d refl (%s)) $\n        ' % (place(1, 7), place(record, 7), typed('T', 'h', 'g'))
     for i in each:
         reference = params + 1 + 2 * i
@@ -585,10 +600,12 @@ def public(function, core, out, field, slices, shared, numbers, core_post, post,
     s += '\n        ' + move([k + 1]) + 'split ! $ ' + move([1])
     s += 'peeks ! TO.the-row (Is TO.the-row) (shows 𝓤 H A TO.the-row) r (w ∷ []) (λ is.'
     base = k + j + 4
-    s += '\n        -- [what the result owns; the slices\' tokens; the last lists; …; the record\'s cell; what it owned;'
+    s += '\n        -- [what the result owns; the slices\' tokens; the last lists; …; the record\'s cell; ' \
+        'what it owned;'
     s += '\n        -- the open borrow; obs; auth; the locals]\n        '
     there = place(result, base + 5)
-    s += 'land ! (from ! (stop !)) (init ! %d refl (%s)) $ rewrite ! %d (λ (u : Val). ‵ (fat fullShare TO′.mir %s 0 u)) ' \
+    s += 'land ! (from ! (stop !)) (init ! %d refl (%s)) $ rewrite ! %d (λ (u : Val). ‵ (fat fullShare ' \
+        'TO′.mir %s 0 u)) ' \
         '(ap only (LL.tells TO.the-type TO′.the-laws r _ is)) refl $\n        ' \
         % (there, typed('TO', 'r', 'is'), there, low('l', result))
     s += 'assigns ! (of-opd ! (load ! (from ! (fld ! refl (stop !))) (look-in ! %d (sub ! 0 refl (whole !))))) ' \
@@ -607,7 +624,8 @@ def public(function, core, out, field, slices, shared, numbers, core_post, post,
            ' '.join(ls), answer_is)
     out_lines += [closed(s), '']
     walk = '%s %s (a .0 .ptr .0) (a .0 .ptr .1) (a .0 .name) (a .0 .now)\n      %s %s %%s %s' % (
-        ' '.join('(%s)' % at('κs', i) for i in range(k + j + 1)), ' '.join('(%s)' % at('qs', i) for i in range(k + j + 1)),
+        ' '.join('(%s)' % at('κs', i) for i in range(k + j + 1)), ' '.join('(%s)' % at('qs',
+            i) for i in range(k + j + 1)),
         ' '.join('(%s .ptr .0) (%s .ptr .1) (%s .name) (%s .now)' % ((at('a', i),) * 4) for i in every),
         ' '.join('(%s) (%s .1)' % (at('a', k + j + i), at('are', k + j + i)) for i in range(1, m + 1)),
         ' '.join('(%s .0 .1)' % at('are', i) for i in every))
@@ -620,7 +638,8 @@ def public(function, core, out, field, slices, shared, numbers, core_post, post,
         + ['uint-tells %s' % width(w) for w in numbers], walk,
         ['goes-ref 𝓤 H A W %d 0 tt (plain (λ _. T.the-row))' % (k + j + 1)]
         + ['goes-gave-slice 𝓤 H A W %d %d tt (plain (λ _. %s))' % (k + j + 1, i, row(elements[i])) for i in each]
-        + ['goes-none-slice 𝓤 H A W %d (%d ∷ []) tt (plain (λ _. %s)) yes' % (k + j + 1, i, row(elements[i])) for i in copied]
+        + ['goes-none-slice 𝓤 H A W %d (%d ∷ []) tt (plain (λ _. %s)) yes' % (k + j + 1, i,
+            row(elements[i])) for i in copied]
         + ['goes-none 𝓤 H A W %d (λ _. %s) yes (λ κs x f. refl)' % (k + j + 1, w) for w in numbers])
     return out_lines
 
@@ -641,7 +660,8 @@ def loaded_of():
             '      → ent 𝓤 (ensured 𝓤 H A ld.ended (ld.clauses 𝓤 H A mem run) (κ, tt) (x, tt) tt r) (fact 𝓤 (r ≡ %s))'
             % loaded,
             '  loaded-of κ x r =',
-            '      exE 𝓤 _ (λ ws. snd∗ 𝓤 (sem 𝓤 H A (lasts ld.ended (κ, tt) (x, tt) ws)) (fact 𝓤 (r ≡ %s)))' % loaded, '']
+            '      exE 𝓤 _ (λ ws. snd∗ 𝓤 (sem 𝓤 H A (lasts ld.ended (κ, tt) (x, tt) ws)) (fact 𝓤 (r ≡ %s)))'
+                % loaded, '']
 
 
 def inner(function, core, out, slices, shared, numbers, core_post, post, made, terms):
@@ -665,8 +685,10 @@ def inner(function, core, out, slices, shared, numbers, core_post, post, made, t
     bound = '((%s, %s, tt, a, vals), tt)' % (nest(ks), nest(qs))
     core_args = nest(xs[1:] + ['loaded', 'h'] + ns)
     lines = [
-        '-- `%s` meets its contract: a walk of its MIR, written by tools/walks.py (inner). The table is lent as' % colons(function),
-        '-- a `&` to `%s` for a lifetime that the walk makes, and comes back (Shared.antt); the other slices' % colons(LOAD),
+        '-- `%s` meets its contract: a walk of its MIR, written by tools/walks.py (inner). The table is '
+            'lent as' % colons(function),
+        '-- a `&` to `%s` for a lifetime that the walk makes, and comes back (Shared.antt); the other slices'
+            % colons(LOAD),
         '-- are given to `%s` for good, and the table to `%s`.' % (colons(core), colons(STORE)),
     ]
     lines += uses({
@@ -696,7 +718,8 @@ def inner(function, core, out, slices, shared, numbers, core_post, post, made, t
               'stayed = ' + nest(['gave-slice (%d ∷ []) tt (plain (λ _. %s))' % (i, row(elements[i])) for i in whole]
                                  + ['stay-none-slice (%d ∷ []) tt (plain (λ _. %s)) yes' % (i, row(elements[i]))
                                     for i in copied]
-                                 + ['stay-none (λ _. T.the-row) yes'] + ['stay-none (λ _. %s) yes' % w for w in numbers]), '']
+                                 + ['stay-none (λ _. T.the-row) yes'] + ['stay-none (λ _. %s) yes'
+                                     % w for w in numbers]), '']
     lines += machine('mach', 'Board', 'T') + machine('machF', 'Flat', 'TF') + machine('machO', out, 'TO') + named_is()
     lines += contracts([('Load', 'ld'), ('Core', 'core'), ('Store', 'st')]) + loaded_of()
     lines += ['module _ %s (W : Given 𝓤 H A) (at-mem : Memory → SProp 𝓤) (run : Routine → Fun 𝓤)' % LOGIC,
@@ -725,7 +748,8 @@ def inner(function, core, out, slices, shared, numbers, core_post, post, made, t
               '  to-core = ((%s, %s, tt, %s, %s), tt)'
               % (nest(ks[1:]), nest(qs[1:]), core_args,
                  nest(['%s ∷ []' % v for v in ss[1:] + ['machF loaded', 'mach h'] + values])), '']
-    held = ['‵ (MutSlice (named %d) %s %s .own %s (%s ∷ []))' % (i - 1, ks[i], row(elements[i]), xs[i], ss[i]) for i in each]
+    held = ['‵ (MutSlice (named %d) %s %s .own %s (%s ∷ []))' % (i - 1, ks[i], row(elements[i]), xs[i],
+        ss[i]) for i in each]
     held += ['‵ (%s)' % shared_slice(i, i - 1, ks[i], elements) for i in copied]
     given = listed([tokens(ks, qs, 1)] + held)
     lines += ['  goes-core : Is TF.the-row loaded (machF loaded ∷ []) → Is T.the-row h (mach h ∷ [])',
@@ -739,7 +763,8 @@ def inner(function, core, out, slices, shared, numbers, core_post, post, made, t
     table_token = '(‵ (flft κ₀ q₀) ⊛ ‵ ftrue)'
     table_held = '‵ (MutSlice (named 0) κ₀ T-Entry.the-row .own (x₀ γ₀) (s₀ ∷ []))'
     lines += ['  goes-store : (u : Flat) → Is TF.the-row u (machF u ∷ [])',
-              '      → ent 𝓤 (⋆ 𝓤 H A (%s)) (Store 𝓤 H A at-mem run .pre (to-store u))' % listed([table_token, table_held]),
+              '      → ent 𝓤 (⋆ 𝓤 H A (%s)) (Store 𝓤 H A at-mem run .pre (to-store u))' % listed([table_token,
+                  table_held]),
               '  goes-store u isF =\n      qed W (%s) ∵ nothing ! $ ' % listed([table_token, table_held])
               + owned_struct('TF', 'u', 'isF') + 'fjoin ! $ ' + move([2, 0]) + 'fjoin ! $ ' + move([1, 0])
               + 'join ! $ frame ! $ done !', '']
@@ -762,7 +787,8 @@ def inner(function, core, out, slices, shared, numbers, core_post, post, made, t
               + 'frame ! $ ' + owned_struct('TO', 'r', 'isO') + 'done !', '']
     callees = [('known-load', 'Load', LOAD), ('known', 'Core', core), ('known-store', 'Store', STORE)]
     lines += ['  module _ (C : Calls 𝓤 H) (Λ : Loops 𝓤 H) (fm : FmC 𝓤 H (W .laws) C)',
-              '\n'.join('      (%s : Triple 𝓤 (C #%s) (%s 𝓤 H A at-mem run))' % (n, symbol(f), c) for n, c, f in callees)
+              '\n'.join('      (%s : Triple 𝓤 (C #%s) (%s 𝓤 H A at-mem run))' % (n, symbol(f), c) for n, c,
+                  f in callees)
               + ' where',
               '    walk : ' + ''.join('Room %s (length %s) → ' % (row(elements[i]), low('y', i)) for i in every)
               + 'Is T.the-row h (mach h ∷ [])',
@@ -774,7 +800,8 @@ def inner(function, core, out, slices, shared, numbers, core_post, post, made, t
 
     s = '    walk %s g =\n        ' % ' '.join(rooms)
     s += begin(tokens(ks, qs, 0), ['MutSlice (named %d) %s %s' % (i, ks[i], row(elements[i])) for i in whole]
-               + ['ShrSlice (named %d) %s %s' % (i, ks[i], row(elements[i])) for i in copied] + ['T.the-row'] + numbers, arguments, locals_)
+               + ['ShrSlice (named %d) %s %s' % (i, ks[i], row(elements[i])) for i in copied] + ['T.the-row']
+                   + numbers, arguments, locals_)
     s += ''.join('pass1 ! (init ! %d refl %s) $ ' % (place(1 + i), SLICE_TYPED % rooms[i]) for i in every)
     s += 'pass1 ! (init ! %d refl (%s)) $ ' % (place(2 + k + j), typed('T', 'h', 'g'))
     s += ''.join('pass1 ! (init ! %d refl (tt, record { fits = %s })) $ ' % (place(2 + k + j + i), low('fits', i))
@@ -782,25 +809,32 @@ def inner(function, core, out, slices, shared, numbers, core_post, post, made, t
     s += 'pass0 ! $\n        '
     s += relend(place(1), place(params + 4), place(params + 5), 'room₀')
     s += '-- the table is lent as a `&` for the lifetime ν of the first call, and comes back\n        '
-    s += move([2 * locals_ + 1]) + 'fsplit ! $ ' + move([2 * locals_ + 2]) + 'split ! $ lft-new ! tt (λ ν. ' + move([3, 1])
-    s += '\n        use2 W (later (some (λ (δ : GName). %s ⊛ ‵ (LentShared T-Entry.the-row κ₀ (ν ∷ []) q₀ γ₀ b₀ o₀ y₀)))) ' \
+    s += move([2 * locals_ + 1]) + 'fsplit ! $ ' + move([2 * locals_ + 2]) + 'split ! $ lft-new ! tt (λ ' \
+        'ν. ' + move([3, 1])
+    s += '\n        use2 W (later (some (λ (δ : GName). %s ⊛ ‵ (LentShared T-Entry.the-row κ₀ (ν ∷ []) q₀ γ₀ ' \
+        'b₀ o₀ y₀)))) ' \
         '(lends-shared T-Entry.the-row κ₀ (ν ∷ []) q₀ γ₀ b₀ o₀ 𝓤 H A W (named 0) (named 0) y₀ room₀) $ ' \
         'await ! tt $ pick ! (λ δ. split ! $\n        ' % shared
     s += move([2, 0]) + 'use2 W (raw (Load 𝓤 H A at-mem run .pre (to-load ν δ))) (goes-load ν δ) $\n        '
-    s += 'calls-at ! fm (Load 𝓤 H A at-mem run) known-load (to-load ν δ) (%s) (λ w₁.\n        ' % copies([place(params + 5, 4)])
-    s += 'use1 W (later (some (λ (r : Flat). ((‵ (flft (ν ∷ []) fullShare) ⊛ ‵ ftrue) ⊛ ‵ (TF.the-row .own r (w₁ ∷ []))) ' \
+    s += 'calls-at ! fm (Load 𝓤 H A at-mem run) known-load (to-load ν δ) (%s) (λ w₁.\n     ' \
+        '   ' % copies([place(params + 5, 4)])
+    s += 'use1 W (later (some (λ (r : Flat). ((‵ (flft (ν ∷ []) fullShare) ⊛ ‵ ftrue) ⊛ ‵ (TF.the-row .own r ' \
+        '(w₁ ∷ []))) ' \
         '⊛ raw (ensured 𝓤 H A ld.ended (ld.clauses 𝓤 H A at-mem run) (ν ∷ [], tt) (x₀ δ, tt) tt r)))) (id⊢ 𝓤 _) $ ' \
         'await ! tt $ pick ! (λ t.\n        '
-    s += 'split ! $ ' + move([1]) + 'use1 W (raw (fact 𝓤 (t ≡ loaded))) (loaded-of 𝓤 H A at-mem run (ν ∷ []) (x₀ δ) t) $ ' \
+    s += 'split ! $ ' + move([1]) + 'use1 W (raw (fact 𝓤 (t ≡ loaded))) (loaded-of 𝓤 H A at-mem run (ν ∷ []) ' \
+        '(x₀ δ) t) $ ' \
         'heard ! (t ≡ loaded) (λ e₁. split ! $ ' + move([1]) \
         + 'peeks ! TF.the-row (Is TF.the-row) (shows 𝓤 H A TF.the-row) t (w₁ ∷ []) (λ is₁.\n        '
-    s += 'land ! (from ! (stop !)) (init ! %d refl (%s)) $ rewrite ! %d (λ (u : Val). ‵ (fat fullShare TF′.mir %s 0 u)) ' \
+    s += 'land ! (from ! (stop !)) (init ! %d refl (%s)) $ rewrite ! %d (λ (u : Val). ‵ (fat fullShare ' \
+        'TF′.mir %s 0 u)) ' \
         '(ap only (LL.tells TF.the-type TF′.the-laws t _ is₁) ∙ ap machF e₁) refl $ drop ! $\n        ' \
         % (place(loaded, 5), typed('TF', 't', 'is₁'), place(loaded, 5), low('l', loaded))
     s += 'split ! $ lft-end ! tt $ ' + move([0, 2]) + 'use2 W (later (%s ⊛ ‵ (flft κ₀ q₀))) ' % table_held \
         + '(shared-back T-Entry.the-row κ₀ (ν ∷ []) q₀ γ₀ b₀ o₀ 𝓤 H A W (named 0) (named 0) y₀ room₀) $ ' \
         'await ! tt $ split ! $\n        '
-    s += '-- [what the table\'s borrow owns; its token; true; the other tokens; what the other parameters own; the locals]\n        '
+    s += '-- [what the table\'s borrow owns; its token; true; the other tokens; what the other parameters ' \
+        'own; the locals]\n        '
     for i in each:
         reference = params + 4 + 2 * i
         s += relend(place(1 + i, 5), place(reference, 5), place(reference + 1, 5), rooms[i])
@@ -822,35 +856,42 @@ def inner(function, core, out, slices, shared, numbers, core_post, post, made, t
     s += 'split ! $ ' + move([1]) + 'heard ! (%s) (λ e₂. fsplit ! $ ' % fact + last_lists(k, ls[1:])
     s += '\n        ' + move([k + 1]) + 'split ! $ ' + move([1])
     s += 'peeks ! TO.the-row (Is TO.the-row) (shows 𝓤 H A TO.the-row) r (w₂ ∷ []) (λ is₂.\n        '
-    s += 'land ! (from ! (stop !)) (init ! %d refl (%s)) $ rewrite ! %d (λ (u : Val). ‵ (fat fullShare TO′.mir %s 0 u)) ' \
+    s += 'land ! (from ! (stop !)) (init ! %d refl (%s)) $ rewrite ! %d (λ (u : Val). ‵ (fat fullShare ' \
+        'TO′.mir %s 0 u)) ' \
         '(ap only (LL.tells TO.the-type TO′.the-laws r _ is₂)) refl $ drop ! $\n        ' \
         % (place(result, k + j + 7), typed('TO', 'r', 'is₂'), place(result, k + j + 7), low('l', result))
     table_is = '(LL.owed TO.the-type TO′.the-laws r _ is₂ .1 .1 .0)'
-    s += '-- [the other tokens; the last lists; …; what the table\'s borrow owns; its token; true; the locals]\n        '
+    s += '-- [the other tokens; the last lists; …; what the table\'s borrow owns; its token; true; the ' \
+        'locals]\n        '
     s += 'assigns ! (of-opd ! (load ! (from ! (fld ! refl (stop !))) (look-in ! %d (sub ! 2 refl (whole !))))) ' \
         '(from ! (stop !)) (init ! %d refl (%s)) $\n        ' \
         % (place(result, k + j + 6), place(stored, k + j + 6), typed('TF', '(r .table)', table_is))
     again = params + 7 + 2 * k
     s += relend(place(1, k + j + 6), place(again, k + j + 6), place(again + 1, k + j + 6), 'room₀')
     s += move([k + j + 4, k + j + 5]) + 'join ! $ ' + move([0, k + j + 4])
-    s += 'use2 W (raw (Store 𝓤 H A at-mem run .pre (to-store (r .table)))) (goes-store (r .table) %s) $\n        ' % table_is
+    s += 'use2 W (raw (Store 𝓤 H A at-mem run .pre (to-store (r .table)))) (goes-store (r .table) %s) $\n     ' \
+        '   ' % table_is
     s += 'calls-at ! fm (Store 𝓤 H A at-mem run) known-store (to-store (r .table)) (%s) (λ w₃.\n        ' \
         % copies([place(again + 1, k + j + 4), place(stored, k + j + 4)])
     s += 'use1 W (later (some (λ (z : Unit {0}). (%s ⊛ ‵ (Nothing .own z (w₃ ∷ []))) ⊛ raw (ensured 𝓤 H A st.ended ' \
-        '(st.clauses 𝓤 H A at-mem run) (κ₀, tt) (x₀ γ₀, (r .table, tt)) tt z)))) (id⊢ 𝓤 _) $ await ! tt $ pick ! (λ z.\n        ' \
+        '(st.clauses 𝓤 H A at-mem run) (κ₀, tt) (x₀ γ₀, (r .table, tt)) tt z)))) (id⊢ 𝓤 _) $ await ! tt $ ' \
+            'pick ! (λ z.\n        ' \
         % table_token
     fact = 'vs .0 ≡ ' + fill(STORED, env)
     s += 'split ! $ ' + move([1]) + 'use1 W (some (λ (vs : List Entry × (Unit {0} × Unit {0})). ' \
-        '‵ (lasts st.ended (κ₀, tt) (x₀ γ₀, (r .table, tt)) vs) ⊛ raw (fact 𝓤 (%s)))) (id⊢ 𝓤 _) $ pick ! (λ vs.\n        ' % fact
+        '‵ (lasts st.ended (κ₀, tt) (x₀ γ₀, (r .table, tt)) vs) ⊛ raw (fact 𝓤 (%s)))) (id⊢ 𝓤 _) $ pick ! (λ ' \
+            'vs.\n        ' % fact
     s += 'split ! $ ' + move([1]) + 'heard ! (%s) (λ e₃. fsplit ! $ fsplit ! $ ' % fact + move([1]) \
         + 'feqL ! (λ %s. ' % ls[0] + move([2]) + 'split ! $ ' + move([1]) + 'feqL ! (λ e₄.\n        '
     unit = params + 6 + 2 * k
-    s += 'land ! (from ! (stop !)) (init ! %d refl (subst (λ (y : Val). Holds (hasTy tyUnit y) × WT y) (sym (ap only e₄)) ' \
+    s += 'land ! (from ! (stop !)) (init ! %d refl (subst (λ (y : Val). Holds (hasTy tyUnit y) × WT y) (sym ' \
+        '(ap only e₄)) ' \
         '(tt, tt))) $ rewrite ! %d (λ (y : Val). ‵ (fat fullShare tyUnit %s 0 y)) (ap only e₄) refl $\n        ' \
         % (place(unit, k + j + 6), place(unit, k + j + 6), low('l', unit))
     result_is = '(subst (Is TO.the-row r) (LL.tells TO.the-type TO′.the-laws r _ is₂) is₂)'
     s += '-- [the table\'s token; its last list; true; the other tokens; the other last lists; …; the locals]\n        '
-    s += 'assigns ! (of-opd ! (load ! (from ! (stop !)) (look ! %d refl))) (from ! (stop !)) (init ! %d refl (%s)) $\n        ' \
+    s += 'assigns ! (of-opd ! (load ! (from ! (stop !)) (look ! %d refl))) (from ! (stop !)) (init ! %d refl ' \
+        '(%s)) $\n        ' \
         % (place(result, k + j + 6), place(0, k + j + 6), typed('TO', 'r', result_is))
     s += leave(0, k + j + 6, locals_)
     s += 'keep ! (%s) $ by ! (exits g r (vs .0) %s %s (%s) %s)' \
@@ -860,17 +901,20 @@ def inner(function, core, out, slices, shared, numbers, core_post, post, made, t
     lines += [closed(s), '']
     walk = '%s %s\n      %s (%s) %s %%s %s (%s)' % (
         ' '.join('(%s)' % at('κs', i) for i in every), ' '.join('(%s)' % at('qs', i) for i in every),
-        ' '.join('(%s .ptr .0) (%s .ptr .1) (%s .name) (%s .now)' % ((at('a', i),) * 4) for i in every), at('a', k + j + 1),
+        ' '.join('(%s .ptr .0) (%s .ptr .1) (%s .name) (%s .now)' % ((at('a', i),) * 4) for i in every), at('a',
+            k + j + 1),
         ' '.join('(%s) (%s .1)' % (at('a', k + j + 1 + i), at('are', k + j + 1 + i)) for i in range(1, m + 1)),
         ' '.join('(%s .0 .1)' % at('are', i) for i in every), at('are', k + j + 1))
     lines += ending(
         function, [(n, c, f, p) for (n, c, f), p in zip(callees, ('ld', 'core', 'st'))],
-        ['slice-vals'] * (k + j + 1) + ['LL.vals T.the-type T′.the-laws'] + ['uint-vals %s' % width(w) for w in numbers],
+        ['slice-vals'] * (k + j + 1) + ['LL.vals T.the-type T′.the-laws'] + ['uint-vals %s'
+            % width(w) for w in numbers],
         ['mut-slice-tells (named %d) (%s) %s' % (i, at('κs', i), row(elements[i])) for i in whole]
         + ['shr-slice-tells (named %d) (%s) %s' % (i, at('κs', i), row(elements[i])) for i in copied]
         + ['LL.tells T.the-type T′.the-laws'] + ['uint-tells %s' % width(w) for w in numbers], walk,
         ['goes-gave-slice 𝓤 H A W %d %d tt (plain (λ _. %s))' % (k + j + 1, i, row(elements[i])) for i in whole]
-        + ['goes-none-slice 𝓤 H A W %d (%d ∷ []) tt (plain (λ _. %s)) yes' % (k + j + 1, i, row(elements[i])) for i in copied]
+        + ['goes-none-slice 𝓤 H A W %d (%d ∷ []) tt (plain (λ _. %s)) yes' % (k + j + 1, i,
+            row(elements[i])) for i in copied]
         + ['goes-none 𝓤 H A W %d (λ _. T.the-row) yes (λ κs x f. refl)' % (k + j + 1)]
         + ['goes-none 𝓤 H A W %d (λ _. %s) yes (λ κs x f. refl)' % (k + j + 1, w) for w in numbers])
     return lines
@@ -878,10 +922,9 @@ def inner(function, core, out, slices, shared, numbers, core_post, post, made, t
 
 # ---- a call that changes nothing
 
-def look(function, core, answer, slices, numbers, core_post, terms):
-    """core_post is what the core ensures, of t, and what the function ensures too by `made`"""
-    post, made = core_post[1:]
-    core_post = core_post[0]
+def look(function, core, answer, slices, numbers, core_post, post, made, terms):
+    """core_post is what the core ensures, of t; post what the function ensures; made is post's proof, of
+    e2 : core_post"""
     law = 'LE' if answer in ENUMS else 'LL'
     k, m = len(slices), len(numbers)
     params = 2 + k + m
@@ -902,15 +945,11 @@ def look(function, core, answer, slices, numbers, core_post, terms):
     vals_tells = '(LL.vals T.the-type T′.the-laws) (LL.tells T.the-type T′.the-laws)'
 
     def shared(i, lifetime):
-        return 'ShrSlice (named %d) %s %s .own %s (%s ∷ [])' % (lifetime, ks[i + 1], row(elements[i]), xs[i], ss[i])
-
-    def twice(i):
-        """A `&` slice is copied: one for a callee, one kept."""
-        return ('use1 W (‵ (%s) ⊛ ‵ (%s)) (shr-slice-copy 𝓤 H A W (named %d) %s %s .twice %s (%s ∷ [])) $ split ! $ '
-                % (shared(i, i + 1), shared(i, i + 1), i + 1, ks[i + 1], row(elements[i]), xs[i], ss[i]))
+        return shared_slice(i, lifetime, ks[i + 1], elements)
 
     lines = [
-        '-- `%s` meets its contract: a walk of its MIR, written by tools/walks.py (look). The record is copied' % colons(function),
+        '-- `%s` meets its contract: a walk of its MIR, written by tools/walks.py (look). The record is copied'
+            % colons(function),
         '-- out of its `&`; the table is passed to `%s` and the other slices to `%s`,' % (colons(LOAD), colons(core)),
         '-- each as a copy of a `&` that the walk keeps.',
     ]
@@ -994,7 +1033,8 @@ def look(function, core, answer, slices, numbers, core_post, terms):
               'frame ! $ done !', '']
     callees = [('known-load', 'Load', LOAD), ('known', 'Core', core)]
     lines += ['  module _ (C : Calls 𝓤 H) (Λ : Loops 𝓤 H) (fm : FmC 𝓤 H (W .laws) C)',
-              '\n'.join('      (%s : Triple 𝓤 (C #%s) (%s 𝓤 H A at-mem run))' % (n, symbol(f), c) for n, c, f in callees)
+              '\n'.join('      (%s : Triple 𝓤 (C #%s) (%s 𝓤 H A at-mem run))' % (n, symbol(f), c) for n, c,
+                  f in callees)
               + ' where',
               '    walk : ' + ''.join('Room %s (length %s) → ' % (row(elements[i]), low('y', i)) for i in whole),
               '        ent 𝓤 (onEntry 𝓤 H A f.signature %s %s a vals) (WpFn 𝓤 H C Λ code.function (%s) Post)'
@@ -1012,35 +1052,43 @@ def look(function, core, answer, slices, numbers, core_post, terms):
     s += ''.join('pass1 ! (init ! %d refl (tt, record { fits = %s })) $ ' % (place(2 + k + i), low('fits', i))
                  for i in range(1, m + 1))
     s += 'pass0 ! $\n        -- the record is looked into, and copied out\n        '
-    s += move([2 * locals_ + 1]) + 'fsplit ! $ fsplit3 ! $ drop ! $ ' + move([2 * locals_ + 3]) + 'split ! $ ' + move([3, 0])
+    s += move([2 * locals_ + 1]) + 'fsplit ! $ fsplit3 ! $ drop ! $ ' + move([2 * locals_
+        + 3]) + 'split ! $ ' + move([3, 0])
     s += '\n        looks ! tt T.the-row (Is T.the-row) (shows 𝓤 H A T.the-row) %s ' \
         '(LL.copy T.the-type T′.the-copy 𝓤 H A W) h b o (λ q′ vs.\n        ' % vals_tells
     s += 'spelt ! T.the-row (Is T.the-row) (shows 𝓤 H A T.the-row) %s q′ h vs b o $ ' % vals_tells + move([1]) \
-        + 'peeks ! T.the-row (Is T.the-row) (shows 𝓤 H A T.the-row) h (mach h ∷ []) (λ g. ' + move([1, 0]) + '\n        '
-    s += 'assigns ! (of-opd ! (load ! (from ! (hop ! (look ! %d refl) (stop !))) (look-raw ! 0 refl))) (from ! (stop !)) ' \
+        + 'peeks ! T.the-row (Is T.the-row) (shows 𝓤 H A T.the-row) h (mach h ∷ []) (λ g. ' + move([1,
+            0]) + '\n        '
+    s += 'assigns ! (of-opd ! (load ! (from ! (hop ! (look ! %d refl) (stop !))) (look-raw ! 0 refl))) (from ' \
+        '! (stop !)) ' \
         '(init ! %d refl (%s)) $ shuts ! tt T.the-row q′ h (mach h ∷ []) b o $\n        ' \
         % (place(1, 7), place(record, 7), typed('T', 'h', 'g'))
-    s += '-- [its token; the fractured borrow; the other tokens; res; what the other parameters own; the locals]: a copy of'
+    s += '-- [its token; the fractured borrow; the other tokens; res; what the other parameters own; the ' \
+        'locals]: a copy of'
     s += '\n        -- the table goes to the first call\n        '
-    s += move([4]) + 'fsplit ! $ ' + twice(0) + move([5]) + 'split ! $ ' + move([0, 2])
+    s += move([4]) + 'fsplit ! $ ' + twice(0, 1, ks[1], elements) + move([5]) + 'split ! $ ' + move([0, 2])
     s += 'use2 W (raw (Load 𝓤 H A at-mem run .pre to-load)) goes-load $\n        '
     s += 'calls-at ! fm (Load 𝓤 H A at-mem run) known-load to-load (%s) (λ w₁.\n        ' % copies([place(2, 7)])
-    s += 'use1 W (later (some (λ (r : Flat). ((‵ (flft κ₁ q₁) ⊛ ‵ ftrue) ⊛ ‵ (TF.the-row .own r (w₁ ∷ []))) ⊛ raw (ensured ' \
-        '𝓤 H A ld.ended (ld.clauses 𝓤 H A at-mem run) (κ₁, tt) (x₀, tt) tt r)))) (id⊢ 𝓤 _) $ await ! tt $ pick ! (λ t.\n        '
+    s += 'use1 W (later (some (λ (r : Flat). ((‵ (flft κ₁ q₁) ⊛ ‵ ftrue) ⊛ ‵ (TF.the-row .own r (w₁ ∷ []))) ⊛ ' \
+        'raw (ensured ' \
+        '𝓤 H A ld.ended (ld.clauses 𝓤 H A at-mem run) (κ₁, tt) (x₀, tt) tt r)))) (id⊢ 𝓤 _) $ await ! tt $ ' \
+            'pick ! (λ t.\n        '
     s += 'split ! $ ' + move([1]) + 'use1 W (raw (fact 𝓤 (t ≡ loaded))) (loaded-of 𝓤 H A at-mem run κ₁ x₀ t) $ ' \
         'heard ! (t ≡ loaded) (λ e₁. split ! $ ' + move([1]) \
         + 'peeks ! TF.the-row (Is TF.the-row) (shows 𝓤 H A TF.the-row) t (w₁ ∷ []) (λ is₁.\n        '
-    s += 'land ! (from ! (stop !)) (init ! %d refl (%s)) $ rewrite ! %d (λ (u : Val). ‵ (fat fullShare TF′.mir %s 0 u)) ' \
+    s += 'land ! (from ! (stop !)) (init ! %d refl (%s)) $ rewrite ! %d (λ (u : Val). ‵ (fat fullShare ' \
+        'TF′.mir %s 0 u)) ' \
         '(ap only (LL.tells TF.the-type TF′.the-laws t _ is₁) ∙ ap machF e₁) refl $ drop ! $\n        ' \
         % (place(loaded, 8), typed('TF', 't', 'is₁'), place(loaded, 8), low('l', loaded))
-    s += '-- [the table\'s token; the other tokens; the table\'s copy; what the other parameters own; the record\'s token; its'
+    s += '-- [the table\'s token; the other tokens; the table\'s copy; what the other parameters own; the ' \
+        'record\'s token; its'
     s += '\n        -- borrow; res; the locals]\n        ' + move([3])
     front = ['rest']
     for i in each:
         if i > 1:
             s += move([2])
             front = [front[2]] + front[:2] + front[3:]
-        s += 'fsplit ! $ ' + twice(i)
+        s += 'fsplit ! $ ' + twice(i, i + 1, ks[i + 1], elements)
         front = [('gone', i), ('kept', i), 'rest'] + front[1:]
     s += gather(len(front) + 1, [front.index(('gone', i)) for i in each], '(goes-core (named-is t loaded w₁ is₁ e₁) g)')
     front = [x for x in front if x[0] != 'gone']
@@ -1050,7 +1098,8 @@ def look(function, core, answer, slices, numbers, core_post, terms):
     s += 'use1 W (later (some (λ (r : %s). (%s ⊛ ‵ (TA.the-row .own r (w ∷ []))) ⊛ raw (ensured 𝓤 H A core.ended ' \
         '(core.clauses 𝓤 H A at-mem run) %s %s tt r)))) (id⊢ 𝓤 _) $ await ! tt $ pick ! (λ r.\n        ' \
         % (answer, tokens(ks, qs, 2), nest(ks[2:]), core_args)
-    s += 'split ! $ ' + move([1]) + 'use1 W (raw (fact 𝓤 (%s))) (post-of r) $ heard ! (%s) (λ e₂. split ! $ ' % (fact, fact) \
+    s += 'split ! $ ' + move([1]) + 'use1 W (raw (fact 𝓤 (%s))) (post-of r) $ heard ! (%s) (λ e₂. split ' \
+        '! $ ' % (fact, fact) \
         + move([1]) + 'peeks ! TA.the-row (Is TA.the-row) (shows 𝓤 H A TA.the-row) r (w ∷ []) (λ is₂.\n        '
     s += 'land ! (from ! (stop !)) (init ! %d refl (%s)) $\n        ' % (place(0, k + 8), answer_typed(law, 'r', 'is₂'))
     s += leave(0, k + 8, locals_)
@@ -1069,7 +1118,8 @@ def look(function, core, answer, slices, numbers, core_post, terms):
         + ['shr-slice-tells (named %d) (%s) %s' % (i + 1, at('κs', i + 1), row(elements[i])) for i in whole]
         + ['uint-tells %s' % width(w) for w in numbers], walk,
         ['goes-none-ref 𝓤 H A W %d (0 ∷ []) tt (plain (λ _. T.the-row)) yes' % (k + 2)]
-        + ['goes-none-slice 𝓤 H A W %d (%d ∷ []) tt (plain (λ _. %s)) yes' % (k + 2, i + 1, row(elements[i])) for i in whole]
+        + ['goes-none-slice 𝓤 H A W %d (%d ∷ []) tt (plain (λ _. %s)) yes' % (k + 2, i + 1,
+            row(elements[i])) for i in whole]
         + ['goes-none 𝓤 H A W %d (λ _. %s) yes (λ κs x f. refl)' % (k + 2, w) for w in numbers])
     return lines
 
@@ -1078,6 +1128,7 @@ def look(function, core, answer, slices, numbers, core_post, terms):
 
 CALLS = 'use Rattle.host.specs.Calls.{%s}'
 TABLES = 'use Rattle.host.proofs.Tables.{%s}'
+RECORDS = 'use Rattle.host.specs.Records.{%s}'
 POINT = 'use Rattle.foil_spec.specs.Foil.{point}'
 
 
@@ -1138,5 +1189,17 @@ if __name__ == '__main__':
             ('exported.foil_look_up', 'flat.look_up_told', 'Said', 'LookTold', 'whole-told')):
         write(function, look(
             function, core, answer, ['u16'], ['u16'] * 2,
-            (post + ' (point n1 n2) h (entriesOf t) y1 r', post + ' (point n1 n2) h y0 y1 r', law + ' _ _ _ _ _ e2'),
+            post + ' (point n1 n2) h (entriesOf t) y1 r', post + ' (point n1 n2) h y0 y1 r', law + ' _ _ _ _ _ e2',
             [POINT, CALLS % post, TABLES % law, 'use Rattle.host.specs.Flats.{entriesOf}']))
+    write('table.run_record', inner(
+        'table.run_record', 'records.run_record', 'Ran', ['u16', 'u16'], ['u8'], ['usize'],
+        'FlatRan y3 n1 h t y1 y2 r z1 z2', 'ThinRan y3 n1 h y0 y1 y2 r z0 z1 z2', 'whole-ran _ _ _ _ _ _ _ _ _ _ e2 e3',
+        [RECORDS % 'FlatRan, ThinRan', 'use Rattle.host.proofs.Running.{whole-ran}']))
+    for function, post, field, made in (
+            ('run_record', 'HostRan', (1, 'reply', 'Reply'), 'e .done'),
+            ('exported.foil_run_record', 'RecordTold', (3, 'said', 'RecordSaid'),
+             'record { reply = r .reply; said = e .said; done = e .done }')):
+        write(function, public(
+            function, 'table.run_record', 'Ran', field, ['Entry', 'u16', 'u16'], ['u8'], ['usize'],
+            'ThinRan y4 n1 h y1 y2 y3 r z1 z2 z3', post + " y4 n1 h y1 y2 y3 r h' z1 z2 z3", made,
+            [RECORDS % ('ThinRan, ' + post)]))

@@ -29,6 +29,22 @@ struct foil_said {
     size_t corners, bends, place;
 };
 
+/* a step of a record: whether it was run, and its answer */
+struct foil_step {
+    bool ran;
+    struct foil_said said;
+};
+
+/* the reply to a record: the number that refuses it as a whole, 0 for none; whether it was the end mark; its steps;
+   whether the job goes on, and the next record's place */
+struct foil_record {
+    uint8_t number;
+    bool end;
+    struct foil_step board, patch, track, lift;
+    bool more;
+    size_t next;
+};
+
 /* begins a foil of w by h with clearance d */
 struct foil_said foil_new_foil(struct foil_board *board, struct foil_entry *table, size_t entries, uint16_t *strips,
                                size_t strip_numbers, uint16_t w, uint16_t h, uint16_t d);
@@ -49,5 +65,10 @@ struct foil_said foil_lift(struct foil_board *board, struct foil_entry *table, s
 /* looks a point up */
 struct foil_said foil_look_up(const struct foil_board *board, const struct foil_entry *table, size_t entries,
                               const uint16_t *strips, size_t strip_numbers, uint16_t x, uint16_t y);
+
+/* runs the record that begins at place `at` of a job file's bytes; a lay's corners are written as by foil_lay */
+struct foil_record foil_run_record(struct foil_board *board, struct foil_entry *table, size_t entries, uint16_t *strips,
+                                   size_t strip_numbers, uint16_t *corners, size_t corner_numbers,
+                                   const uint8_t *bytes, size_t byte_count, size_t at);
 
 #endif

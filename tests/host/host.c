@@ -1,4 +1,5 @@
-/* A host program: the foil of document 01's job, by calls, as a customer's program would make it. */
+/* A host program: the foil of document 01's job, by calls and then as the job's bytes, as a customer's program would
+   make it. */
 #include <stdio.h>
 
 #include "foil.h"
@@ -35,6 +36,38 @@ static void show_lay(unsigned net, struct foil_said said)
     printf("\n");
 }
 
+/* document 01's job */
+static const uint8_t job[] = {0x03, 0x06, 0x00, 0x04, 0x00, 0x00, 0x00, 0x02, 0x00, 0x00, 0x00, 0x03, 0x00, 0x03,
+                              0x00, 0x04, 0x05, 0x00, 0x00, 0x00, 0x00, 0x00, 0x04, 0x00, 0x00, 0x00, 0x00};
+
+/* runs a job file of `count` bytes, record by record */
+static void run_job(size_t count)
+{
+    size_t at = 0;
+    for (;;) {
+        struct foil_record r = foil_run_record(LENT, CORNERS, job, count, at);
+        if (r.number != 0) {
+            printf("file %u\n", r.number);
+            return;
+        }
+        if (r.end) {
+            show_foil();
+            return;
+        }
+        if (r.board.ran)
+            printf("board %u\n", r.board.said.number);
+        if (r.patch.ran)
+            printf("patch %u\n", r.patch.said.number);
+        if (r.track.ran)
+            show_lay(job[at + 1] + 256u * job[at + 2], r.track.said);
+        if (r.lift.ran)
+            printf("lift %u\n", r.lift.said.number);
+        if (!r.more)
+            return;
+        at = r.next;
+    }
+}
+
 int main(void)
 {
     struct foil_said said;
@@ -61,5 +94,8 @@ int main(void)
     /* a foil that another program has spoiled */
     strips[0] = 1;
     printf("lift 5 %u\n", foil_lift(LENT, 5).number);
+    /* a job's first record begins the foil anew */
+    run_job(sizeof job);
+    run_job(sizeof job - 1);
     return 0;
 }

@@ -3,3 +3,4 @@ pub mod Shared
 pub mod Flats
 pub mod Fronts
 pub mod Tables
+pub mod Running

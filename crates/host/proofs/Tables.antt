@@ -106,8 +106,8 @@ module _ (c : Step) (b : Board) (s ks : List ℕ) (r : Done) (s′ ks′ : List 
         corners = d .corners ∙ sym (ap (λ x. x .state .corners) e);
       }
 
-pub whole-done : (c : Step) (b : Board) (es : List Entry) (s ks : List ℕ) (r : Left) (es′ : List Entry) (s′ ks′ : List ℕ)
-    → FlatDone c b (loadTo es (length es)) s ks r s′ ks′ → es′ ≡ storeTo (r .table) es (length es)
+pub whole-done : (c : Step) (b : Board) (es : List Entry) (s ks : List ℕ) (r : Left) (es′ : List Entry)
+    (s′ ks′ : List ℕ) → FlatDone c b (loadTo es (length es)) s ks r s′ ks′ → es′ ≡ storeTo (r .table) es (length es)
     → ThinDone c b es s ks r es′ s′ ks′
 whole-done c b es s ks r es′ s′ ks′ d e =
     let o : Done = record { answer = r .answer; board = r .board } in

@@ -1,6 +1,7 @@
 // The calls for programs in C, under plain names: an answer is told by its numbers.
 use crate::flat;
 use crate::flat::Said;
+use crate::records::RecordSaid;
 use crate::table;
 use crate::table::load;
 use foil_spec::Board;
@@ -9,6 +10,7 @@ ghost use mathlib.Core.List.{[]};
 ghost use Rattle.foil_spec.specs.Foil.{point};
 ghost use Rattle.foil_spec.specs.Ledger.{newFoil, draw as draws, lay as lays, lift as lifts};
 ghost use Rattle.host.specs.Calls.{StepTold, LookTold};
+ghost use Rattle.host.specs.Records.{RecordTold};
 
 // Begins a foil of w by h with clearance d: an empty table, and one strip, the whole foil.
 #[no_mangle]
@@ -107,4 +109,24 @@ pub extern "C" fn foil_look_up(
     let b = *board;
     let t = load(table);
     flat::look_up_told(strips, t, b, x, y)
+}
+
+// Runs the record that begins at place `at` of a job file's bytes.
+#[no_mangle]
+pub extern "C" fn foil_run_record(
+    board: &mut Board,
+    table: &mut [Entry],
+    strips: &mut [u16],
+    corners: &mut [u16],
+    bytes: &[u8],
+    at: usize,
+) -> RecordSaid
+    ensures { λ r. ⌜ RecordTold (now (bytes .entry)) at
+        (now (board .entry)) (now (table .entry)) (now (strips .entry)) (now (corners .entry))
+        r (now (board .exit)) (now (table .exit)) (now (strips .exit)) (now (corners .exit)) ⌝ }
+{
+    let b = *board;
+    let out = table::run_record(table, strips, corners, bytes, b, at);
+    *board = out.board;
+    out.said
 }

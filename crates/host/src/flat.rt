@@ -79,14 +79,14 @@ pub fn pick(f: Flat, i: usize, old: Entry) -> Entry
 }
 
 // How many numbers are lent on of a table of n places: five a place, of 128 places at most.
-fn numbers_lent(n: usize) -> usize
+pub fn numbers_lent(n: usize) -> usize
     ensures { λ r. ⌜ r ≡ numbersLent n ⌝ }
 {
     if n < 128 { n * 5 } else { 640 }
 }
 
 // The numbers of an answer.
-fn said_of(answer: Answer) -> Said
+pub fn said_of(answer: Answer) -> Said
     ensures { λ r. ⌜ r ≡ saidOf answer ⌝ }
 {
     let mut number = 0;
@@ -164,7 +164,8 @@ pub fn lay(
     ty: u16,
 ) -> Left
     requires { ⌜ length (t .at) ≡ 640 ⌝ }
-    ensures { λ r. ⌜ FlatDone (lays net (point sx sy) (point tx ty)) b t (now (strips .entry)) (now (corners .entry)) r (now (strips .exit)) (now (corners .exit)) ⌝ }
+    ensures { λ r. ⌜ FlatDone (lays net (point sx sy) (point tx ty)) b t
+        (now (strips .entry)) (now (corners .entry)) r (now (strips .exit)) (now (corners .exit)) ⌝ }
 {
     let mut a = t.at;
     let n = numbers_lent(t.len);

@@ -3,16 +3,19 @@
 // has the same calls for programs in C.
 mod exported;
 mod flat;
+mod records;
 mod table;
 
 use foil::Answer;
 use foil_spec::Board;
 use foil_spec::Entry;
+use job::Reply;
 use table::load;
 ghost use mathlib.Core.List.{[]};
 ghost use Rattle.foil_spec.specs.Foil.{point};
 ghost use Rattle.foil_spec.specs.Ledger.{newFoil, draw as draws, lay as lays, lift as lifts};
 ghost use Rattle.host.specs.Calls.{HostDone, HostLooked};
+ghost use Rattle.host.specs.Records.{HostRan};
 
 // Begins a foil of w by h with clearance d: an empty table, and one strip, the whole foil.
 pub fn new_foil(
@@ -95,4 +98,23 @@ pub fn look_up(board: &Board, table: &[Entry], strips: &[u16], x: u16, y: u16) -
     let b = *board;
     let t = load(table);
     flat::look_up(strips, t, b, x, y)
+}
+
+// Runs the record that begins at place `at` of a job file's bytes.
+pub fn run_record(
+    board: &mut Board,
+    table: &mut [Entry],
+    strips: &mut [u16],
+    corners: &mut [u16],
+    bytes: &[u8],
+    at: usize,
+) -> Reply
+    ensures { λ r. ⌜ HostRan (now (bytes .entry)) at
+        (now (board .entry)) (now (table .entry)) (now (strips .entry)) (now (corners .entry))
+        r (now (board .exit)) (now (table .exit)) (now (strips .exit)) (now (corners .exit)) ⌝ }
+{
+    let b = *board;
+    let out = table::run_record(table, strips, corners, bytes, b, at);
+    *board = out.board;
+    out.reply
 }

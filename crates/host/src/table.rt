@@ -6,6 +6,8 @@ use crate::flat::Left;
 use crate::flat::empty;
 use crate::flat::pick;
 use crate::flat::put;
+use crate::records;
+use crate::records::Ran;
 use foil_spec::Board;
 use foil_spec::Entry;
 ghost use mathlib.Core.Path.{_≡_};
@@ -15,6 +17,7 @@ ghost use Rattle.foil_spec.specs.Foil.{point};
 ghost use Rattle.foil_spec.specs.Ledger.{newFoil, draw as draws, lay as lays, lift as lifts};
 ghost use Rattle.host.specs.Flats.{loadTo, storeTo};
 ghost use Rattle.host.specs.Calls.{ThinDone};
+ghost use Rattle.host.specs.Records.{ThinRan};
 
 // Takes the numbers of a table's first 128 places out.
 pub fn load(table: &[Entry]) -> Flat
@@ -89,7 +92,8 @@ pub fn append_track(
     tx: u16,
     ty: u16,
 ) -> Left
-    ensures { λ r. ⌜ ThinDone (lays net (point sx sy) (point tx ty)) b (now (table .entry)) (now (strips .entry)) (now (corners .entry))
+    ensures { λ r. ⌜ ThinDone (lays net (point sx sy) (point tx ty)) b
+        (now (table .entry)) (now (strips .entry)) (now (corners .entry))
         r (now (table .exit)) (now (strips .exit)) (now (corners .exit)) ⌝ }
 {
     let t = load(table);
@@ -106,6 +110,26 @@ pub fn lift(table: &mut [Entry], strips: &mut [u16], b: Board, net: u16) -> Left
 {
     let t = load(table);
     let out = flat::lift(strips, t, b, net);
+    let u = out.table;
+    store(table, u);
+    out
+}
+
+// Runs a record of a job file on the table.
+pub fn run_record(
+    table: &mut [Entry],
+    strips: &mut [u16],
+    corners: &mut [u16],
+    bytes: &[u8],
+    b: Board,
+    at: usize,
+) -> Ran
+    ensures { λ r. ⌜ ThinRan (now (bytes .entry)) at b
+        (now (table .entry)) (now (strips .entry)) (now (corners .entry))
+        r (now (table .exit)) (now (strips .exit)) (now (corners .exit)) ⌝ }
+{
+    let t = load(table);
+    let out = records::run_record(strips, corners, bytes, t, b, at);
     let u = out.table;
     store(table, u);
     out

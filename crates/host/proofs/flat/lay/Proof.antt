@@ -51,9 +51,11 @@ same-length-2 c = search needs
 returns : tie.Need-returns
 returns c =
     flat-done _ _ _ _ _ _ _ _ _ _ _
-    (c .before .before .before .before .before .before .before .before .before .before .before .before .before .before .pre)
+    (c .before .before .before .before .before .before .before .before .before
+    .before .before .before .before .before .pre)
     (c .before .before .before .before .before .before .before .before .before .before .numbers-lent .ensures)
-    (c .before .before .before .before .before .a3 .given) (c .before .before .before .before .before .before .lay .ensures) (c .leave .ensures)
+    (c .before .before .before .before .before .a3 .given)
+    (c .before .before .before .before .before .before .lay .ensures) (c .leave .ensures)
 
 pub lay-spec : {M : Type 1} → statement M
 lay-spec =

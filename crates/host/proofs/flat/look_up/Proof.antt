@@ -37,7 +37,8 @@ look-up-requires c κs = search needs
 -- src/flat.rt:187:1
 returns : tie.Need-returns
 returns c =
-    flat-looked _ _ _ _ _ _ (c .before .before .before .before .before .pre) (c .before .before .numbers-lent .ensures) (c .look-up .ensures)
+    flat-looked _ _ _ _ _ _
+    (c .before .before .before .before .before .pre) (c .before .before .numbers-lent .ensures) (c .look-up .ensures)
 
 pub look-up-spec : {M : Type 1} → statement M
 look-up-spec =

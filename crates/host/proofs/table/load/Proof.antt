@@ -1,6 +1,6 @@
 -- `host::table::load` meets its contract: a walk of its MIR, by hand, with a loop. Each turn looks into the slice,
 -- copies one entry out, shuts the slice, and calls `put`, which takes plain values alone. The loop's variant is the
--- place i, with i ≤ n and that the numbers so far stand in their local; what is had between turns is written out in `At`.
+-- place i, with i ≤ n and that the numbers so far stand in their local; `At` is what is had between turns.
 use mathlib.Core.Path.{_≡_, refl, sym, ap, subst, _∙_}
 use Prim.Native.Nat.{ℕ, _<_, _≤_, _^_, _*_, _+_, _-_, zero-le}
 use native.Mathlib.Omega.{arith}
