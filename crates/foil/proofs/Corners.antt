@@ -1,55 +1,22 @@
 -- The corners of a path as they stand in a flat list, and how many entries its legs are.
-use Prim.Native.Nat.{ℕ, zero, suc, _+_, _-_, _*_, _≤_, _<_, max}
+use Prim.Native.Nat.{ℕ, _+_, _-_, _*_, _≤_, _<_, max}
 use native.Mathlib.Omega.{arith}
-use mathlib.Core.Path.{_≡_, refl, sym, ap, ap₂, _∙_, fun-ext}
+use mathlib.Core.Path.{_≡_, refl, sym, ap, ap₂, _∙_}
 use mathlib.Core.Bool.{Bool, true}
-use mathlib.Core.List.{List, [], _∷_, _++_, map, append-assoc}
+use mathlib.Core.List.{List, [], _∷_, _++_}
 use lib.ListN.{length, length-append, take, drop}
 use lib.Seq.{paste, take-at}
-use Rattle.foil_spec.specs.Lists.{range, all, each}
-use Rattle.foil_spec.specs.Foil.{Point, free}
+use Rattle.foil_spec.specs.Lists.{all, each}
+use Rattle.foil_spec.specs.Foil.{Point}
 use Rattle.foil_spec.specs.Paths.{Heading, either, after, segment, leads, isPath}
 use Rattle.foil_spec.specs.Ledger.{legsFrom, legs}
-use Rattle.foil_spec.specs.Lent.{pointNumbers}
+use Rattle.foil_spec.specs.Lent.{pointNumbers, cornerAt, cornersIn}
 use Rattle.list_laws.proofs.Tests.{and-l, and-r, and-i, parts}
 use Rattle.list_laws.proofs.Members.{at-place}
 use Rattle.path_laws.proofs.Segments.{end-free}
-use Rattle.tracks.specs.Legs.{pointAt, Corners}
-
--- ---- the corners, read back
-
-pub length-corners : (cs : List Point) → length (each pointNumbers cs) ≡ length cs * 2
-unfolding pointNumbers
-length-corners [] = refl
-length-corners (p ∷ cs) =
-    length-append (pointNumbers p) (each pointNumbers cs) ∙ omega (arith, length-corners cs)
-
-map-later : (g : ℕ → Point) (a n : ℕ) → map g (range (suc a) n) ≡ map (λ (k : ℕ). g (suc k)) (range a n)
-map-later g a zero = refl
-map-later g a (suc n) = ap (λ (ps : List Point). g (suc a) ∷ ps) (map-later g (suc a) n)
-
-corner-later : (p : Point) (l : List ℕ) (k : ℕ) → pointAt (pointNumbers p ++ l) (suc k) ≡ pointAt l k
-unfolding pointAt pointNumbers
-corner-later p l k =
-    let a : suc k * 2 ≡ suc (suc (k * 2)) = omega arith in
-    let b : suc k * 2 + 1 ≡ suc (suc (k * 2 + 1)) = omega arith in
-    rw (b, a) refl
-
-corner-here : (p : Point) (l : List ℕ) → pointAt (pointNumbers p ++ l) 0 ≡ p
-unfolding pointAt pointNumbers
-corner-here p l = refl
-
-read-corners : (cs : List Point) (rest : List ℕ)
-    → map (pointAt (each pointNumbers cs ++ rest)) (range 0 (length cs)) ≡ cs
-read-corners [] rest = refl
-read-corners (p ∷ cs) rest =
-    let l : List ℕ = each pointNumbers cs ++ rest in
-    ap (λ (u : List ℕ). map (pointAt u) (range 0 (suc (length cs))))
-    (append-assoc (pointNumbers p) (each pointNumbers cs) rest)
-    ∙ ap₂ {A = Point} {B = List Point} {C = List Point} (λ a b. a ∷ b) (corner-here p l)
-    (map-later (pointAt (pointNumbers p ++ l)) 0 (length cs)
-    ∙ ap (λ (g : ℕ → Point). map g (range 0 (length cs))) (fun-ext (λ k. corner-later p l k))
-    ∙ read-corners cs rest)
+use Rattle.ledger_laws.proofs.Stored.{length-points}
+use Rattle.ledger_laws.proofs.CornerLists.{corners-read}
+use Rattle.tracks.specs.Legs.{Corners}
 
 -- ---- every corner of a path is free
 
@@ -88,22 +55,23 @@ length-legs net (p ∷ q ∷ cs) h = omega (arith, length-from net p (q ∷ cs))
 
 module _ (cs : List Point) (rest path : List ℕ) (k : ℕ) (count : k ≡ length cs)
     (is : path ≡ each pointNumbers cs ++ rest) where
-  pub read-path : map (pointAt path) (range 0 k) ≡ cs
+  pub read-path : cornersIn path k ≡ cs
   read-path =
-      ap (λ (u : List ℕ). map (pointAt u) (range 0 k)) is
-      ∙ ap (λ (n : ℕ). map (pointAt (each pointNumbers cs ++ rest)) (range 0 n)) count
-      ∙ read-corners cs rest
+      ap (λ (u : List ℕ). cornersIn u k) is
+      ∙ ap (λ (n : ℕ). cornersIn (each pointNumbers cs ++ rest) n) count
+      ∙ corners-read cs rest
 
   -- corners that are free on a small board are small
   pub small-corners : (f : ℕ → ℕ → Bool) → ((x y : ℕ) → f x y ≡ true → (x < 4096) × (y < 4096))
       → all (λ (q : Point). f (q .x) (q .y)) cs ≡ true → Corners path k
+  unfolding cornersIn
   small-corners f inside h =
-      let at = at-place (λ (q : Point). f (q .x) (q .y)) (pointAt path) k
+      let at = at-place (λ (q : Point). f (q .x) (q .y)) (cornerAt path) k
       (ap (λ (ps : List Point). all (λ (q : Point). f (q .x) (q .y)) ps) read-path ∙ h) in
       record {
         long =
             let a = ap length is in
-            omega (arith, a, length-append (each pointNumbers cs) rest, length-corners cs, count);
+            omega (arith, a, length-append (each pointNumbers cs) rest, length-points cs, count);
         small-x = λ i l. inside _ _ (at i l) .0;
         small-y = λ i l. inside _ _ (at i l) .1;
       }
@@ -112,7 +80,7 @@ module _ (cs : List Point) (rest path : List ℕ) (k : ℕ) (count : k ≡ lengt
   pub copied-corners : (ks : List ℕ)
       → paste ks 0 path (k * 2) ≡ each pointNumbers cs ++ drop (length (each pointNumbers cs)) ks
   copied-corners ks =
-      let e : k * 2 ≡ length (each pointNumbers cs) = omega (arith, length-corners cs, count) in
+      let e : k * 2 ≡ length (each pointNumbers cs) = omega (arith, length-points cs, count) in
       let z : 0 + k * 2 ≡ length (each pointNumbers cs) = omega (arith, e) in
       ap₂ {A = List ℕ} {B = List ℕ} {C = List ℕ} (λ a b. a ++ b)
       (ap (take (k * 2)) is ∙ take-at (each pointNumbers cs) rest (k * 2) (sym e))

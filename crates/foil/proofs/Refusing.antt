@@ -72,7 +72,7 @@ short-done c b t s ks r k h e q =
     refused-done c m 12 r q (short-refused c (roomOf m) (not (sound m)) (held m) (sym (h .is b ks) ∙ e))
 
 -- 13 does not look at the corner list
-sound-apart : (b : Board) (t s ks : List ℕ) → sound (lent b t s []) ≡ sound (lent b t s ks)
+pub sound-apart : (b : Board) (t s ks : List ℕ) → sound (lent b t s []) ≡ sound (lent b t s ks)
 unfolding sound held store
 sound-apart b t s ks = refl
 

@@ -12,15 +12,17 @@ use borrow.Author.Tests.{lt-ltb, le-ltb, eq-eqb, ne-eqb}
 use Rattle.foil_spec.specs.Lists.{range, all, each}
 use Rattle.foil_spec.specs.Foil.{Point, Entry, Layout, entryOk, free}
 use Rattle.foil_spec.specs.Paths.{bends}
-use Rattle.foil_spec.specs.Ledger.{Step, lay, pathOf, noPath, cornersOf, legs, blocked, tooLong, tooFine}
-use Rattle.foil_spec.specs.Ledger.{next, says, laid, _⇒_, first, refusals}
+use Rattle.foil_spec.specs.Ledger.{Step, lay, pathOf, noPath, cornersOf, legs, tooLong, tooFine}
+use Rattle.foil_spec.specs.Ledger.{next, says, laid, _⇒_, first}
 use Rattle.foil_spec.specs.Lent.{Lent, lent, withCorners, store, pointNumbers, entryAt, layoutOf, held, roomOf}
 use Rattle.foil_spec.specs.Lent.{cornersAfter, finish, stepOn}
 use Rattle.foil_spec.specs.declared.Board.{Board}
-use Rattle.list_laws.proofs.Tests.{not-ff, all-append}
+use Rattle.list_laws.proofs.Tests.{all-append}
 use Rattle.path_laws.proofs.Laws.{gives-first}
+use Rattle.ledger_laws.specs.Demand3.{MayLay}
 use Rattle.ledger_laws.proofs.Legs.{free-inside}
 use Rattle.ledger_laws.proofs.Kept.{of-ok, laid-ok}
+use Rattle.ledger_laws.proofs.Lay.{lay-from-9}
 use Rattle.ledger_laws.proofs.Steps.{long-lists}
 use Rattle.ledger_laws.proofs.Sound.{Sound, of-sound, length-read}
 use Rattle.strips.specs.Table.{Table}
@@ -28,9 +30,9 @@ use Rattle.booking.specs.Rows.{rowsOf}
 use Rattle.booking.specs.Booked.{Stored, Unchanged}
 use Rattle.grid.proofs.Board.{boxes-of}
 use Rattle.search.specs.Grid.{Posed}
-use Rattle.tracks.specs.Legs.{pointAt, Corners, Legs}
+use Rattle.tracks.specs.Legs.{Corners, Legs}
 use Rattle.tracks.specs.Found.{Found}
-use Rattle.foil.specs.Contract.{answerOf, StepDone, refusedBy, MayLay}
+use Rattle.foil.specs.Contract.{answerOf, StepDone, refusedBy}
 use Rattle.foil.specs.declared.Answer.the-variants.{Laid}
 use Rattle.foil.specs.declared.Done.{Done}
 use Rattle.foil.proofs.Refusing.{refusal, refused-done}
@@ -53,16 +55,16 @@ module _ (b : Board) (t s ks : List ℕ) (net : ℕ) (S T : Point) (y : MayLay (
   cs = cornersOf l S T
 
   facts : Sound m
-  facts = of-sound m (y .ready .fine)
+  facts = of-sound m (y .fine)
 
   pub limits : Held b
   limits = held-limits b t s ks facts
 
   pub lists-long : (640 ≤ length t) × (16384 ≤ length s)
-  lists-long = let k = long-lists m (y .ready .long) in (k .table, k .strips)
+  lists-long = let k = long-lists m (y .long) in (k .table, k .strips)
 
   pub posed : Posed t (b .entries) (b .clearance) (b .width) (b .height) S T
-  unfolding held layoutOf blocked
+  unfolding held layoutOf
   posed =
       record {
         table = omega (arith, lists-long .0, limits .few);
@@ -71,20 +73,9 @@ module _ (b : Board) (t s ks : List ℕ) (net : ℕ) (S T : Point) (y : MayLay (
         wide = limits .wide;
         high = limits .high;
         boxes = boxes-of (b .width) (b .height) (b .clearance) (b .entries) t (of-ok l (facts .kept) .entries);
-        s-free = not-ff _ (y .s-free);
-        t-free = not-ff _ (y .t-free);
+        s-free = y .start-free;
+        t-free = y .end-free;
       }
-
-  from-9 : refusal c m
-      ≡ first (
-      (noPath (pathOf l S T) ⇒ 9)
-      ∷ (ltb (roomOf m .corners) (length cs) ⇒ 12)
-      ∷ (tooLong (next c l) ⇒ 10)
-      ∷ (tooFine (next c l) ⇒ 11)
-      ∷ [])
-  unfolding refusals first
-  from-9 =
-      rw (y .ready .long, y .ready .fine, y .allowed, y .unused, y .s-on, y .t-on, y .s-free, y .t-free) refl
 
   entries-after : next c l .entries ≡ l .entries ++ legs net cs
   unfolding next
@@ -102,7 +93,7 @@ module _ (b : Board) (t s ks : List ℕ) (net : ℕ) (S T : Point) (y : MayLay (
 
     pub no-path : k ≡ 0 → (r : Done) → r ≡ refusedBy 9 b → StepDone c m r t s ks
     unfolding first
-    no-path e r q = refused-done c m 9 r q (from-9 ∙ rw (found .none ∙ eq-eqb k 0 e) refl)
+    no-path e r q = refused-done c m 9 r q (lay-from-9 m net S T y ∙ rw (found .none ∙ eq-eqb k 0 e) refl)
 
     module _ (some-path : k ≡ 0 → ⊥) where
       from-12 : refusal c m
@@ -112,7 +103,7 @@ module _ (b : Board) (t s ks : List ℕ) (net : ℕ) (S T : Point) (y : MayLay (
           ∷ (tooFine (next c l) ⇒ 11)
           ∷ [])
       unfolding first
-      from-12 = from-9 ∙ rw (found .none ∙ ne-eqb k 0 some-path) refl
+      from-12 = lay-from-9 m net S T y ∙ rw (found .none ∙ ne-eqb k 0 some-path) refl
 
       pub few-corners : length ks / 2 < k → (r : Done) → r ≡ refusedBy 12 b → StepDone c m r t s ks
       unfolding first roomOf

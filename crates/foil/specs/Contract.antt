@@ -4,8 +4,8 @@ use mathlib.Core.Path.{_≡_}
 use mathlib.Core.Bool.{Bool, true, false}
 use mathlib.Core.List.{List}
 use lib.ListN.{length}
-use Rattle.foil_spec.specs.Foil.{Point, Layout, netOk}
-use Rattle.foil_spec.specs.Ledger.{Step, lookUp, inUse, offFoil, blocked, short}
+use Rattle.foil_spec.specs.Foil.{Point, Layout}
+use Rattle.foil_spec.specs.Ledger.{Step, lookUp, offFoil, short}
 use Rattle.foil_spec.specs.Ledger.{Answer as Outcome, refused, accepted, laid, found}
 use Rattle.foil_spec.specs.Lent.{Lent, lent, held, sound, roomOf, stepOn}
 use Rattle.foil_spec.specs.declared.Board.{Board}
@@ -50,16 +50,6 @@ pub record Ready (m : Lent) : Type 0 where
 -- the answer says whether the point is off the foil, whatever the lists hold
 pub record OffFoil (b : Board) (p : Point) (r : Bool) : Type 0 where
   pub is : (t s ks : List ℕ) → r ≡ offFoil (held (lent b t s ks)) p
-
--- a lay that none of 12 (table, strips), 13, 4, 5, 7 and 8 refuses
-pub record MayLay (m : Lent) (net : ℕ) (S T : Point) : Type 0 where
-  pub ready : Ready m
-  pub allowed : netOk net ≡ true
-  pub unused : inUse net (held m .entries) ≡ false
-  pub s-on : offFoil (held m) S ≡ false
-  pub t-on : offFoil (held m) T ≡ false
-  pub s-free : blocked (held m) S ≡ false
-  pub t-free : blocked (held m) T ≡ false
 
 -- a layout was taken over, or has too many strips
 pub data Settled (l : Layout) (b : Board) (t s t′ s′ : List ℕ) (r : Done) : Type 0 where

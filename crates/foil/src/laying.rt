@@ -20,7 +20,8 @@ ghost use mathlib.Core.List.{[]};
 ghost use Rattle.foil_spec.specs.Foil.{point};
 ghost use Rattle.foil_spec.specs.Ledger.{lay as lays, offFoil, blocked};
 ghost use Rattle.foil_spec.specs.Lent.{lent, held};
-ghost use Rattle.foil.specs.Contract.{StepDone, Ready, MayLay, OffFoil};
+ghost use Rattle.ledger_laws.specs.Demand3.{MayLay};
+ghost use Rattle.foil.specs.Contract.{StepDone, Ready, OffFoil};
 
 // Lays a track of the net from (sx, sy) to (tx, ty): writes its corners to the front of the corner
 // list, and appends an entry for each leg.

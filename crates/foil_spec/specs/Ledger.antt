@@ -86,6 +86,13 @@ pub data Answer : Type 0 where
   laid : List Point → ℕ → Answer
   found : ℕ → Answer
 
+-- the refusal number, 0 if accepted
+unfoldable pub numberOf : Answer → ℕ
+numberOf (refused n) = n
+numberOf accepted = 0
+numberOf (laid cs n) = 0
+numberOf (found n) = 0
+
 -- what an accepted step leaves
 unfoldable pub next : Step → Layout → Layout
 next (newFoil W H d) l = record { width = W; height = H; clearance = d; entries = [] }

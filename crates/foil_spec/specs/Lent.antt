@@ -6,7 +6,7 @@ use mathlib.Core.Option.{Option, none, some}
 use lib.Dec.{eqb}
 use lib.ListN.{length, getD, drop, replicate}
 use Rattle.foil_spec.specs.Lists.{range, all, each}
-use Rattle.foil_spec.specs.Foil.{Point, Entry, entry, Layout, sizeOk, clearanceOk, entryOk}
+use Rattle.foil_spec.specs.Foil.{Point, point, Entry, entry, Layout, sizeOk, clearanceOk, entryOk}
 use Rattle.foil_spec.specs.Strips.{Strip}
 use Rattle.foil_spec.specs.Ledger.{Step, Answer, refused, accepted, laid, found, After}
 use Rattle.foil_spec.specs.Ledger.{stripsOf, tooLong, tooFine, first, refusals, Room, says, next}
@@ -68,6 +68,14 @@ store l m =
 unfoldable pub entryAt : List ℕ → ℕ → Entry
 entryAt t k =
     entry (getD t (k * 5) 0) (getD t (k * 5 + 1) 0) (getD t (k * 5 + 2) 0) (getD t (k * 5 + 3) 0) (getD t (k * 5 + 4) 0)
+
+-- the corner at place k of a corner list
+unfoldable pub cornerAt : List ℕ → ℕ → Point
+cornerAt ks k = point (getD ks (k * 2) 0) (getD ks (k * 2 + 1) 0)
+
+-- the first n corners of a corner list
+unfoldable pub cornersIn : List ℕ → ℕ → List Point
+cornersIn ks n = map (cornerAt ks) (range 0 n)
 
 -- the layout of width W, height H and clearance d whose entries are the first n of a table
 unfoldable pub layoutOf : ℕ → ℕ → ℕ → ℕ → List ℕ → Layout

@@ -1,5 +1,6 @@
 -- Laws of the ledger and of what is lent.
 pub mod Stored
+pub mod CornerLists
 pub mod Refusals
 pub mod Legs
 pub mod Kept

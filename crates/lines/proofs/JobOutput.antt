@@ -9,13 +9,13 @@ use Rattle.foil_spec.specs.Paths.{after, between, levelFree, uprightFree, segme
 use Rattle.foil_spec.specs.Paths.{firstFrom, firstPath}
 use Rattle.foil_spec.specs.Ledger.{stripsOf, pathOf, noPath, cornersOf, leg, legsFrom, legs, ofNet, inUse}
 use Rattle.foil_spec.specs.Ledger.{offFoil, blocked, tooLong, tooFine, next, says, first, short, refusals, settle}
-use Rattle.foil_spec.specs.Ledger.{ledgerStep}
+use Rattle.foil_spec.specs.Ledger.{numberOf, ledgerStep}
 use Rattle.foil_spec.specs.Job.{number, fieldCount, mapByte, has, fieldsAt, recordEnd, field, steps, isEnd}
 use Rattle.foil_spec.specs.Job.{recordChecks}
 use Rattle.foil_spec.specs.Calls.{endsJob, andThen, actAll, actRecord, tooLarge, ledgerCall}
 use Rattle.lines.specs.Lines.{ascii, digitsIn, decimal, item, cornerItem}
 use Rattle.lines.specs.Lines.{boardLine, patchLine, trackLaid, stripLine}
-use Rattle.lines.specs.Output.{numberOf, trackLine, stepLine, stepLines, jobRoom, noFoil, replyLines}
+use Rattle.lines.specs.Output.{trackLine, stepLine, stepLines, jobRoom, noFoil, replyLines}
 use Rattle.lines.specs.Output.{outputFrom, output}
 
 -- the bytes of document 01's job

@@ -3,11 +3,10 @@ use Prim.Native.Nat.{ℕ, zero, suc, _+_, _*_, _/_, _%_}
 use Prim.Native.String.{String, [], _∷_}
 use Prim.Native.Char.{code}
 use mathlib.Core.Bool.{true, false}
-use mathlib.Core.List.{List, [], _∷_, _++_, map}
+use mathlib.Core.List.{List, [], _∷_, _++_}
 use lib.Dec.{ltb}
-use lib.ListN.{getD}
-use Rattle.foil_spec.specs.Lists.{range, each}
-use Rattle.foil_spec.specs.Foil.{Point, point}
+use Rattle.foil_spec.specs.Lists.{each}
+use Rattle.foil_spec.specs.Foil.{Point}
 use Rattle.foil_spec.specs.Strips.{Strip}
 
 -- the codes of the characters
@@ -32,14 +31,6 @@ item n = ascii " " ++ decimal n
 -- a blank and the corner as x,y
 unfoldable pub cornerItem : Point → List ℕ
 cornerItem p = item (p .x) ++ ascii "," ++ decimal (p .y)
-
--- corner k of a corner list
-unfoldable pub cornerAt : List ℕ → ℕ → Point
-cornerAt ks k = point (getD ks (k * 2) 0) (getD ks (k * 2 + 1) 0)
-
--- the first n corners of a corner list
-unfoldable pub cornersIn : List ℕ → ℕ → List Point
-cornersIn ks n = map (cornerAt ks) (range 0 n)
 
 -- the line of a new foil, with the refusal number, 0 if accepted
 unfoldable pub boardLine : ℕ → List ℕ

@@ -6,17 +6,10 @@ use lib.ListN.{length}
 use Rattle.foil_spec.specs.Lists.{each}
 use Rattle.foil_spec.specs.Foil.{Layout}
 use Rattle.foil_spec.specs.Ledger.{Step, newFoil, draw, lay, lift, lookUp, stripsOf}
-use Rattle.foil_spec.specs.Ledger.{Answer, refused, accepted, laid, found, Room}
+use Rattle.foil_spec.specs.Ledger.{Answer, numberOf, refused, accepted, laid, found, Room}
 use Rattle.foil_spec.specs.Job.{steps}
 use Rattle.foil_spec.specs.Calls.{runRecord, Reply, answered, ran, atEnd, ledgerCall}
 use Rattle.lines.specs.Lines.{boardLine, patchLine, trackRefused, trackLaid, liftLine, stripLine, fileLine}
-
--- the refusal number, 0 if accepted
-unfoldable pub numberOf : Answer → ℕ
-numberOf (refused n) = n
-numberOf accepted = 0
-numberOf (laid cs n) = 0
-numberOf (found n) = 0
 
 -- the line of a lay, which is refused or lays a track
 unfoldable pub trackLine : ℕ → Answer → List ℕ

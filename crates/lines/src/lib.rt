@@ -10,7 +10,8 @@ use put::put_number;
 ghost use Prim.Native.Nat.{_+_, _*_, _≤_};
 ghost use mathlib.Core.List.{_++_};
 ghost use lib.ListN.{length};
-ghost use Rattle.lines.specs.Lines.{ascii, item, cornersIn, boardLine, patchLine, trackRefused};
+ghost use Rattle.foil_spec.specs.Lent.{cornersIn};
+ghost use Rattle.lines.specs.Lines.{ascii, item, boardLine, patchLine, trackRefused};
 ghost use Rattle.lines.specs.Lines.{trackLaid, liftLine, stripLine, fileLine};
 ghost use Rattle.lines.specs.Put.{Put};
 

@@ -3,7 +3,8 @@ ghost use Prim.Native.Nat.{_+_, _*_, _≤_};
 ghost use lib.ListN.{length};
 ghost use Rattle.foil_spec.specs.Lists.{each};
 ghost use Rattle.foil_spec.specs.Foil.{point};
-ghost use Rattle.lines.specs.Lines.{decimal, item, cornerItem, cornersIn};
+ghost use Rattle.foil_spec.specs.Lent.{cornersIn};
+ghost use Rattle.lines.specs.Lines.{decimal, item, cornerItem};
 ghost use Rattle.lines.specs.Put.{Put};
 
 // Puts the bytes there.

@@ -9,9 +9,10 @@ use lib.ListN.{length, length-append, length-map}
 use Rattle.foil_spec.specs.Lists.{range}
 use Rattle.foil_spec.specs.Foil.{Point, Entry, entry}
 use Rattle.foil_spec.specs.Ledger.{leg, legsFrom, legs}
+use Rattle.foil_spec.specs.Lent.{cornerAt, cornersIn}
 use Rattle.list_laws.proofs.Members.{map-last, length-range}
 use Rattle.booking.specs.Rows.{rowsOf, Appended}
-use Rattle.tracks.specs.Legs.{pointAt, Legs}
+use Rattle.tracks.specs.Legs.{Legs}
 
 -- the legs between neighbouring corners, g being the corner at a place
 module _ (net : ℕ) (g : ℕ → Point) where
@@ -32,11 +33,11 @@ pub record Going (old new : List ℕ) (n net : ℕ) (p : List ℕ) (k j : ℕ) :
   pub le : j + 1 ≤ k
   pub long : 640 ≡ length new
   pub rows : (es : List Entry) → length es ≡ n → old ≡ rowsOf es
-      → new ≡ rowsOf (es ++ map (λ (i : ℕ). leg net (pointAt p i) (pointAt p (suc i))) (range 0 j))
+      → new ≡ rowsOf (es ++ map (λ (i : ℕ). leg net (cornerAt p i) (cornerAt p (suc i))) (range 0 j))
 
 module _ (old : List ℕ) (n net : ℕ) (p : List ℕ) (k : ℕ) where
   abbrev step : ℕ → Entry
-  step i = leg net (pointAt p i) (pointAt p (suc i))
+  step i = leg net (cornerAt p i) (cornerAt p (suc i))
 
   pub going-none : 1 ≤ k → 640 ≡ length old → Going old old n net p k 0
   going-none l len =
@@ -47,7 +48,7 @@ module _ (old : List ℕ) (n net : ℕ) (p : List ℕ) (k : ℕ) where
       }
 
   pub going-more : (new new′ : List ℕ) (j : ℕ) → j + 1 < k → Going old new n net p k j
-      → Appended new new′ (n + j) (leg net (pointAt p j) (pointAt p (j + 1))) → Going old new′ n net p k (j + 1)
+      → Appended new new′ (n + j) (leg net (cornerAt p j) (cornerAt p (j + 1))) → Going old new′ n net p k (j + 1)
   going-more new new′ j l g a =
       record {
         le = omega arith;
@@ -58,24 +59,25 @@ module _ (old : List ℕ) (n net : ℕ) (p : List ℕ) (k : ℕ) where
             length-append es ds ∙ omega (arith, c, length-map (range 0 j) step, length-range 0 j) in
             a .rows (es ++ ds) q (g .rows es c e)
             ∙ ap rowsOf
-            (append-assoc es ds (leg net (pointAt p j) (pointAt p (j + 1)) ∷ [])
+            (append-assoc es ds (leg net (cornerAt p j) (cornerAt p (j + 1)) ∷ [])
             ∙ ap (λ (x : List Entry). es ++ x)
-            (ap (λ (i : ℕ). ds ++ leg net (pointAt p j) (pointAt p i) ∷ []) (add-one j)
-            ∙ ap (λ (i : ℕ). ds ++ leg net (pointAt p i) (pointAt p (suc i)) ∷ []) (sym (zero-add j))
+            (ap (λ (i : ℕ). ds ++ leg net (cornerAt p j) (cornerAt p i) ∷ []) (add-one j)
+            ∙ ap (λ (i : ℕ). ds ++ leg net (cornerAt p i) (cornerAt p (suc i)) ∷ []) (sym (zero-add j))
             ∙ sym (map-last step 0 j)
             ∙ ap (λ (i : ℕ). map step (range 0 i)) (sym (add-one j))));
       }
 
   pub going-all : (new : List ℕ) (j : ℕ) → 2 ≤ k → k ≤ j + 1 → n + k ≤ 129 → Going old new n net p k j
       → Legs old new n net p k (n + j)
+  unfolding cornersIn
   going-all new j two l fits g = done j (g .le) l g
     where
       done : (i : ℕ) → i + 1 ≤ k → k ≤ i + 1 → Going old new n net p k i → Legs old new n net p k (n + i)
       done zero a b h = absurd (omega arith)
       done (suc i) a b h =
           let e : suc (suc i) ≡ k = omega arith in
-          let is : legs net (map (pointAt p) (range 0 k)) ≡ map step (range 0 (suc i)) =
-          ap (λ (x : ℕ). legs net (map (pointAt p) (range 0 x))) (sym e) ∙ legs-are net (pointAt p) i in
+          let is : legs net (cornersIn p k) ≡ map step (range 0 (suc i)) =
+          ap (λ (x : ℕ). legs net (cornersIn p x)) (sym e) ∙ legs-are net (cornerAt p) i in
           record {
             rows = λ es c q. h .rows es c q ∙ ap (λ (x : List Entry). rowsOf (es ++ x)) (sym is);
             counted =
@@ -86,18 +88,18 @@ module _ (old : List ℕ) (n net : ℕ) (p : List ℕ) (k : ℕ) where
 
 -- one corner: one entry of a single point
 pub single : (old new : List ℕ) (n net : ℕ) (p : List ℕ) (k : ℕ) → k ≡ 1 → n < 128
-    → Appended old new n (leg net (pointAt p 0) (pointAt p 0)) → Legs old new n net p k (n + 1)
-unfolding legs
+    → Appended old new n (leg net (cornerAt p 0) (cornerAt p 0)) → Legs old new n net p k (n + 1)
+unfolding legs cornersIn
 single old new n net p k e l a =
     rw e (record { rows = λ es c q. a .rows es c q; counted = refl; few = omega arith })
 
 -- a leg from the smaller and the larger ends of two corners
 pub leg-appended : (old new : List ℕ) (n net : ℕ) (p : List ℕ) (i j x0 y0 x1 y1 : ℕ)
-    → x0 ≡ min (pointAt p i .x) (pointAt p j .x) → y0 ≡ min (pointAt p i .y) (pointAt p j .y)
-    → x1 ≡ max (pointAt p i .x) (pointAt p j .x) → y1 ≡ max (pointAt p i .y) (pointAt p j .y)
-    → Appended old new n (entry net x0 y0 (x1 + 1) (y1 + 1)) → Appended old new n (leg net (pointAt p i) (pointAt p j))
+    → x0 ≡ min (cornerAt p i .x) (cornerAt p j .x) → y0 ≡ min (cornerAt p i .y) (cornerAt p j .y)
+    → x1 ≡ max (cornerAt p i .x) (cornerAt p j .x) → y1 ≡ max (cornerAt p i .y) (cornerAt p j .y)
+    → Appended old new n (entry net x0 y0 (x1 + 1) (y1 + 1)) → Appended old new n (leg net (cornerAt p i) (cornerAt p j))
 unfolding leg
 leg-appended old new n net p i j x0 y0 x1 y1 a b c d h =
-    let e : x1 + 1 ≡ suc (max (pointAt p i .x) (pointAt p j .x)) = omega arith in
-    let f : y1 + 1 ≡ suc (max (pointAt p i .y) (pointAt p j .y)) = omega arith in
+    let e : x1 + 1 ≡ suc (max (cornerAt p i .x) (cornerAt p j .x)) = omega arith in
+    let f : y1 + 1 ≡ suc (max (cornerAt p i .y) (cornerAt p j .y)) = omega arith in
     subst (λ (x : Entry). Appended old new n x) (λ k. entry net (a k) (b k) (e k) (f k)) h

@@ -8,10 +8,10 @@ ghost use Prim.Native.Nat.{_+_, _*_, _≤_, _<_, min, max};
 ghost use lib.ListN.{length};
 ghost use Rattle.foil_spec.specs.Foil.{point};
 ghost use Rattle.foil_spec.specs.Ledger.{leg};
-ghost use Rattle.foil_spec.specs.Lent.{layoutOf};
+ghost use Rattle.foil_spec.specs.Lent.{cornerAt, layoutOf};
 ghost use Rattle.booking.specs.Rows.{Appended};
 ghost use Rattle.search.specs.Grid.{Posed};
-ghost use Rattle.tracks.specs.Legs.{pointAt, Corners, Legs};
+ghost use Rattle.tracks.specs.Legs.{Corners, Legs};
 ghost use Rattle.tracks.specs.Found.{Found};
 
 fn less(a: u16, b: u16) -> u16
@@ -36,10 +36,10 @@ fn more(a: u16, b: u16) -> u16
 fn append_leg(rows: &mut [u16], n: usize, net: u16, path: &[u16], i: usize, j: usize)
     requires { ⌜ (n < 128) × (640 ≡ length (now rows)) ⌝ }
     requires { ⌜ (i * 2 + 2 ≤ length (now path)) × (j * 2 + 2 ≤ length (now path)) ⌝ }
-    requires { ⌜ (pointAt (now path) i .x < 4096) × (pointAt (now path) i .y < 4096) ⌝ }
-    requires { ⌜ (pointAt (now path) j .x < 4096) × (pointAt (now path) j .y < 4096) ⌝ }
+    requires { ⌜ (cornerAt (now path) i .x < 4096) × (cornerAt (now path) i .y < 4096) ⌝ }
+    requires { ⌜ (cornerAt (now path) j .x < 4096) × (cornerAt (now path) j .y < 4096) ⌝ }
     ensures { λ _. ⌜ Appended (now (rows .entry)) (now (rows .exit)) n
-        (leg net (pointAt (now (path .entry)) i) (pointAt (now (path .entry)) j)) ⌝ }
+        (leg net (cornerAt (now (path .entry)) i) (cornerAt (now (path .entry)) j)) ⌝ }
 {
     let ax = path[i * 2];
     let ay = path[i * 2 + 1];

@@ -1,5 +1,5 @@
 use native.Mathlib.Omega.{arith}
-use Rattle.tracks.specs.Legs.{pointAt}
+use Rattle.foil_spec.specs.Lent.{cornerAt}
 use Rattle.tracks.proofs.Appending.{leg-appended}
 use borrow.Author.Needs.{needs}
 use Rattle.tracks.proofs.append_leg.Statement.{statement}
@@ -80,7 +80,7 @@ more-requires c κs = search needs
 
 -- src/lib.rt:47:9
 add-append : tie.Need-add-append
-unfolding pointAt
+unfolding cornerAt
 add-append c =
     omega (
       arith,
@@ -97,7 +97,7 @@ more-requires-2 c κs = search needs
 
 -- src/lib.rt:48:9
 add-append-2 : tie.Need-add-append-2
-unfolding pointAt
+unfolding cornerAt
 add-append-2 c =
     omega (
       arith,
@@ -118,7 +118,7 @@ same-length c = search needs
 
 -- src/lib.rt:29:1
 returns : tie.Need-returns
-unfolding pointAt
+unfolding cornerAt
 returns c =
     leg-appended _ _ _ _
     (c .before .before .before .before .before .before .before .before .before .before .before .before .before

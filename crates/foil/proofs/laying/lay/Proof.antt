@@ -268,26 +268,7 @@ returns-8 c =
 -- src/laying.rt:66:5
 lay-between-requires : tie.Need-lay-between-requires
 lay-between-requires c κs =
-    may-lay _ _ _ _ _ _ _ (ready _ _ _ _ _ (c .before .before .before .before .before .before .before .before
-    .before .before .before .before .before .before .before .before .before .before .before .before .before .before
-    .before .before .before .lists-short .ensures) (c .before .before .before .before .before .before .before
-    .before .before .before .before .before .before .before .before .before .before .before .before .before .before
-    .before .before .before .if1 .left) _ (c .before .before .before .before .before .before .before .before .before
-    .before .before .before .before .before .before .before .before .before .before .before .before .is-sound
-    .ensures) (c .before .before .before .before .before .before .before .before .before .before .before .before
-    .before .before .before .before .before .before .before .before .if2 .left)) _ (c .before .before .before
-    .before .before .before .before .before .before .before .before .before .before .before .before .before .before
-    .before .before .net-ok .ensures) (c .before .before .before .before .before .before .before .before .before
-    .before .before .before .before .before .before .before .before .before .if3 .left) _ (c .before .before .before
-    .before .before .before .before .before .before .before .before .before .before .before .before .before .in-use
-    .ensures) (c .before .before .before .before .before .before .before .before .before .before .before .before
-    .before .before .before .if4 .left) _ (c .before .before .before .before .before .before .before .before .before
-    .before .before .before .before .before .off-foil .ensures) (c .before .before .before .before .before .before
-    .before .before .before .before .before .before .before .if5 .left) _ (c .before .before .before .before .before
-    .before .before .before .before .before .before .before .off-foil2 .ensures) (c .before .before .before .before
-    .before .before .before .before .before .before .before .if6 .left) _ (c .before .before .before .before .before
-    .before .before .before .is-blocked .ensures) (c .before .before .before .before .before .before .before .if7
-    .left) _ (c .before .before .before .before .is-blocked2 .ensures) (c .before .before .before .if8 .left)
+    may-lay _ _ _ _ _ _ _ (ready _ _ _ _ _ (c .before .before .before .before .before .before .before .before .before .before .before .before .before .before .before .before .before .before .before .before .before .before .before .before .before .lists-short .ensures) (c .before .before .before .before .before .before .before .before .before .before .before .before .before .before .before .before .before .before .before .before .before .before .before .before .if1 .left) _ (c .before .before .before .before .before .before .before .before .before .before .before .before .before .before .before .before .before .before .before .before .before .is-sound .ensures) (c .before .before .before .before .before .before .before .before .before .before .before .before .before .before .before .before .before .before .before .before .if2 .left)) _ (c .before .before .before .before .before .before .before .before .before .before .before .before .before .before .before .before .before .before .before .net-ok .ensures) (c .before .before .before .before .before .before .before .before .before .before .before .before .before .before .before .before .before .before .if3 .left) _ (c .before .before .before .before .before .before .before .before .before .before .before .before .before .before .before .before .in-use .ensures) (c .before .before .before .before .before .before .before .before .before .before .before .before .before .before .before .if4 .left) _ (c .before .before .before .before .before .before .before .before .is-blocked .ensures) (c .before .before .before .before .before .before .before .if7 .left) _ (c .before .before .before .before .is-blocked2 .ensures) (c .before .before .before .if8 .left)
 
 -- src/laying.rt:27:1
 same-length-17 : tie.Need-same-length-17

@@ -2,7 +2,8 @@
 use Prim.Native.Nat.{_+_, _-_, _*_, _≤_}
 use native.Mathlib.Omega.{arith}
 use Rattle.foil_spec.specs.Lists.{each}
-use Rattle.lines.specs.Lines.{cornerItem, cornerAt, cornersIn}
+use Rattle.foil_spec.specs.Lent.{cornerAt, cornersIn}
+use Rattle.lines.specs.Lines.{cornerItem}
 use Rattle.lines.specs.Put.{Put}
 use Rattle.lines.proofs.Putting.{put-length}
 use Rattle.lines.proofs.Corners.{corners-none, corners-more, corners-all}

@@ -1,0 +1,61 @@
+-- Where the fields of a record lie.
+use Prim.Native.Nat.{ℕ, zero, suc, _+_, _*_, _≤_, _<_}
+use native.Mathlib.Omega.{arith}
+use native.Mathlib.Numerals.{add-one}
+use mathlib.Core.Path.{_≡_, refl, sym, ap, _∙_}
+use mathlib.Core.Bool.{Bool, true, false, cond, not, _&&_}
+use mathlib.Core.Logic.{⊎-elim}
+use mathlib.Core.List.{List}
+use borrow.Author.Tests.{not-false}
+use Rattle.foil_spec.specs.Job.{fieldCount, has, fieldsAt, recordEnd}
+use Rattle.list_laws.proofs.Tests.{and-l, lt-or-le}
+use Rattle.job.specs.Parts.{Whole, Given}
+
+pub count-small : (k : ℕ) → fieldCount k ≤ 5
+unfolding fieldCount
+count-small zero = omega arith
+count-small (suc zero) = omega arith
+count-small (suc (suc zero)) = omega arith
+count-small (suc (suc (suc zero))) = omega arith
+count-small (suc (suc (suc (suc k)))) = omega arith
+
+bytes-small : (b : Bool) (k : ℕ) → cond b (2 * fieldCount k) 0 ≤ 10
+bytes-small true k = omega (arith, count-small k)
+bytes-small false k = omega arith
+
+module _ (bs : List ℕ) (at : ℕ) where
+  pub fields-more : (k r : ℕ) → r ≡ cond (has bs at k) (2 * fieldCount k) 0
+      → fieldsAt bs at k + r ≡ fieldsAt bs at (k + 1)
+  unfolding fieldsAt
+  fields-more k r e = rw add-one (ap (λ (x : ℕ). fieldsAt bs at k + x) e)
+
+  pub fields-done : (place i k : ℕ) → place ≡ fieldsAt bs at i → i ≡ k → place ≡ fieldsAt bs at k
+  fields-done place i k e f = e ∙ ap (fieldsAt bs at) f
+
+  pub fields-near : (k : ℕ) → fieldsAt bs at k ≤ at + 1 + 10 * k
+  unfolding fieldsAt
+  fields-near zero = omega arith
+  fields-near (suc k) = omega (arith, fields-near k, bytes-small (has bs at k) k)
+
+  fields-rise : (k j : ℕ) → k ≤ j → fieldsAt bs at k ≤ fieldsAt bs at j
+  unfolding fieldsAt
+  fields-rise k zero h = let e : k ≡ 0 = omega arith in rw e (omega arith)
+  fields-rise k (suc j) h =
+      ⊎-elim
+      (λ (l : k < suc j). omega (arith, fields-rise k j (omega arith)))
+      (λ (l : suc j ≤ k). let e : k ≡ suc j = omega arith in rw e (omega arith))
+      (lt-or-le k (suc j))
+
+  -- the numbers of a bit whose step is run are among the bytes
+  pub field-there : Whole bs at → (k i : ℕ) → k < 4 → i < fieldCount k → (e go : Bool) → go ≡ (has bs at k && e)
+      → not go ≡ false → Given bs at k i
+  unfolding fieldsAt recordEnd
+  field-there w k i l s e go q n =
+      let h : has bs at k ≡ true = and-l (has bs at k) e (sym q ∙ not-false go n) in
+      let g : fieldsAt bs at k + 2 * fieldCount k ≡ fieldsAt bs at (suc k) = rw h refl in
+      record {
+        begun = w .begun;
+        bit = l;
+        few = omega (arith, count-small k);
+        there = omega (arith, fields-rise (suc k) 4 (omega arith), w .ends);
+      }

@@ -1,0 +1,81 @@
+use Rattle.job.proofs.Checking.{no-byte, unknown, misplaced, end-early, end-last, cut-short, complete}
+use borrow.Author.Needs.{needs}
+use Rattle.job.proofs.checks.record_refusal.Statement.{statement}
+use Rattle.job.proofs.checks.record_refusal.Tie as tie
+use Rattle.job.proofs.checks.record_refusal.Reads as reads
+use Rattle.job.proofs.checks.record_refusal.Lts as lts
+use Rattle.job.proofs.checks.board_misplaced.Reads as board-misplaced-reads
+use Rattle.job.proofs.fields.fields_at.Reads as fields-at-reads
+
+returns : tie.Need-returns
+returns c = no-byte _ _ (c .if1 .taken)
+
+shared-slice-read-if2 : tie.Need-shared-slice-read-if2
+shared-slice-read-if2 c = search needs
+
+returns-2 : tie.Need-returns-2
+returns-2 c = unknown _ _ (c .before .before .if1 .left) (c .if2 .taken)
+
+board-misplaced-requires : tie.Need-board-misplaced-requires
+board-misplaced-requires c κs = search needs
+
+returns-3 : tie.Need-returns-3
+returns-3 c =
+    misplaced _ _ (c .before .before .before .before .if1 .left) (c .before .before .if2 .left) _
+    (c .before .board-misplaced .ensures) (c .if3 .taken)
+
+shared-slice-read-if4 : tie.Need-shared-slice-read-if4
+shared-slice-read-if4 c = search needs
+
+add-if5 : tie.Need-add-if5
+add-if5 c = search needs
+
+returns-4 : tie.Need-returns-4
+returns-4 c =
+    end-early _ _ (c .before .before .before .before .before .before .before .if1 .left)
+    (c .before .before .before .before .before .if2 .left) _
+    (c .before .before .before .before .board-misplaced .ensures) (c .before .before .before .if3 .left)
+    (c .before .if4 .taken) (c .if5 .taken)
+
+returns-5 : tie.Need-returns-5
+returns-5 c =
+    end-last _ _ (c .before .before .before .before .before .before .before .if1 .left)
+    (c .before .before .before .before .before .if2 .left) _
+    (c .before .before .before .before .board-misplaced .ensures) (c .before .before .before .if3 .left)
+    (c .before .if4 .taken) (c .if5 .left)
+
+fields-at-requires : tie.Need-fields-at-requires
+fields-at-requires c κs = search needs
+
+returns-6 : tie.Need-returns-6
+returns-6 c =
+    cut-short _ _ (c .before .before .before .before .before .before .before .before .if1 .left)
+    (c .before .before .before .before .before .before .if2 .left) _
+    (c .before .before .before .before .before .board-misplaced .ensures)
+    (c .before .before .before .before .if3 .left) (c .before .before .if4 .left) _
+    (c .before .fields-at .ensures) (c .if6 .taken)
+
+returns-7 : tie.Need-returns-7
+returns-7 c =
+    complete _ _ (c .before .before .before .before .before .before .before .before .if1 .left)
+    (c .before .before .before .before .before .before .if2 .left) _
+    (c .before .before .before .before .before .board-misplaced .ensures)
+    (c .before .before .before .before .if3 .left) (c .before .before .if4 .left) _
+    (c .before .fields-at .ensures) (c .if6 .left)
+
+pub record-refusal-spec : {M : Type 1} → statement M
+record-refusal-spec =
+    tie.close
+    (tie.spec
+    returns
+    shared-slice-read-if2
+    returns-2
+    board-misplaced-requires
+    returns-3
+    shared-slice-read-if4
+    add-if5
+    returns-4
+    returns-5
+    fields-at-requires
+    returns-6
+    returns-7)

@@ -1,0 +1,82 @@
+use Prim.Native.Nat.{_+_, _*_}
+use native.Mathlib.Omega.{arith}
+use mathlib.Core.Path.{refl}
+use Rattle.foil_spec.specs.Job.{number, field}
+use borrow.Author.Needs.{needs}
+use Rattle.job.proofs.fields.field.Statement.{statement}
+use Rattle.job.proofs.fields.field.Tie as tie
+use Rattle.job.proofs.fields.field.Reads as reads
+use Rattle.job.proofs.fields.field.Lts as lts
+use Rattle.job.proofs.fields.fields_at.Reads as fields-at-reads
+
+fields-at-requires : tie.Need-fields-at-requires
+fields-at-requires c κs = search needs
+
+mul-place : tie.Need-mul-place
+mul-place c = search needs
+
+add-place : tie.Need-add-place
+add-place c = search needs
+
+shared-slice-read-result : tie.Need-shared-slice-read-result
+shared-slice-read-result c = search needs
+
+cast-result : tie.Need-cast-result
+cast-result c =
+    omega (
+      arith,
+      c .shared-slice-known2 .given
+          (c .before .fields-at .result + 2 * c .before .before .before .args .i),
+    )
+
+add-result : tie.Need-add-result
+add-result c = search needs
+
+shared-slice-read-result-2 : tie.Need-shared-slice-read-result-2
+shared-slice-read-result-2 c = search needs
+
+cast-result-2 : tie.Need-cast-result-2
+cast-result-2 c =
+    omega (
+      arith,
+      c .shared-slice-known3 .given
+          (c .before .before .fields-at .result + 2 * c .before .before .before .before .args .i + 1),
+    )
+
+mul-result : tie.Need-mul-result
+mul-result c =
+    omega (
+      arith,
+      c .shared-slice-known3 .given
+          (c .before .before .fields-at .result + 2 * c .before .before .before .before .args .i + 1),
+    )
+
+add-result-2 : tie.Need-add-result-2
+add-result-2 c =
+    omega (
+      arith,
+      c .before .shared-slice-known2 .given
+          (c .before .before .fields-at .result + 2 * c .before .before .before .before .args .i),
+      c .shared-slice-known3 .given
+          (c .before .before .fields-at .result + 2 * c .before .before .before .before .args .i + 1),
+    )
+
+returns : tie.Need-returns
+unfolding field number
+returns c = rw (c .before .before .fields-at .ensures) refl
+
+pub field-spec : {M : Type 1} → statement M
+field-spec =
+    tie.close
+    (tie.spec
+    fields-at-requires
+    mul-place
+    add-place
+    shared-slice-read-result
+    cast-result
+    add-result
+    shared-slice-read-result-2
+    cast-result-2
+    mul-result
+    add-result-2
+    returns)

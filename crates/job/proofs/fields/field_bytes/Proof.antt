@@ -1,0 +1,34 @@
+use native.Mathlib.Omega.{arith}
+use mathlib.Core.Path.{refl, sym, _∙_}
+use borrow.Author.Tests.{not-true, not-false}
+use Rattle.foil_spec.specs.Job.{fieldCount}
+use Rattle.job.proofs.Places.{count-small}
+use borrow.Author.Needs.{needs}
+use Rattle.job.proofs.fields.field_bytes.Statement.{statement}
+use Rattle.job.proofs.fields.field_bytes.Tie as tie
+use Rattle.job.proofs.fields.field_bytes.Reads as reads
+use Rattle.job.proofs.fields.field_bytes.Lts as lts
+use Rattle.job.proofs.fields.has.Reads as has-reads
+
+has-requires : tie.Need-has-requires
+has-requires c κs = search needs
+
+returns : tie.Need-returns
+returns c = rw (sym (c .before .has .ensures) ∙ not-true _ (c .if1 .taken)) refl
+
+mul-result : tie.Need-mul-result
+mul-result c = search needs
+
+array-read-result : tie.Need-array-read-result
+array-read-result c = search needs
+
+mul-result-2 : tie.Need-mul-result-2
+mul-result-2 c =
+    record { fits = unfold fieldCount in omega (arith, count-small (c .before .before .before .args .k)) }
+
+returns-2 : tie.Need-returns-2
+returns-2 c = rw (sym (c .before .has .ensures) ∙ not-false _ (c .if1 .left)) (unfold fieldCount in refl)
+
+pub field-bytes-spec : {M : Type 1} → statement M
+field-bytes-spec =
+    tie.close (tie.spec has-requires returns mul-result array-read-result mul-result-2 returns-2)

@@ -1,0 +1,68 @@
+use Prim.Native.Nat.{_+_, _≤_, _-_}
+use native.Mathlib.Omega.{arith}
+use mathlib.Core.Path.{_≡_, refl}
+use Rattle.foil_spec.specs.Job.{fieldsAt}
+use Rattle.job.proofs.Places.{fields-more, fields-done, fields-near}
+use Rattle.job.proofs.fields.fields_at.Statement.{statement}
+use Rattle.job.proofs.fields.fields_at.Tie as tie
+use Rattle.job.proofs.fields.fields_at.Reads as reads
+use Rattle.job.proofs.fields.fields_at.Lts as lts
+use Rattle.job.proofs.fields.field_bytes.Reads as field-bytes-reads
+
+abbrev Inv-loop : tie.InvT-loop
+Inv-loop bytes at k place₀ i₀ place i = (i ≤ k) × (place ≡ fieldsAt bytes at i)
+
+abbrev μ-loop : tie.MeasureT-loop
+μ-loop bytes at k place₀ i₀ place i = k - i
+
+add-place : tie.Need-add-place Inv-loop μ-loop
+add-place c = omega arith
+
+loop-holds : tie.Need-loop-holds Inv-loop μ-loop
+unfolding fieldsAt
+loop-holds c = (omega arith, refl)
+
+field-bytes-requires : tie.Need-field-bytes-requires Inv-loop μ-loop
+field-bytes-requires c κs = omega arith
+
+add-place-2 : tie.Need-add-place-2 Inv-loop μ-loop
+add-place-2 c =
+    omega (
+      arith,
+      fields-more (c .before .before .before .before .args .bytes .now)
+          (c .before .before .before .before .args .at) (c .before .before .loop .i) _
+          (c .field-bytes .ensures),
+      fields-near (c .before .before .before .before .args .bytes .now)
+          (c .before .before .before .before .args .at) (c .before .before .loop .i + 1),
+    )
+
+add-i : tie.Need-add-i Inv-loop μ-loop
+add-i c = omega arith
+
+loop-less : tie.Need-loop-less Inv-loop μ-loop
+loop-less c = omega arith
+
+loop-again : tie.Need-loop-again Inv-loop μ-loop
+loop-again c = (
+  omega arith,
+  rw (c .before .before .loop .inv .1) (fields-more _ _ _ _ (c .field-bytes
+      .ensures)),
+)
+
+returns : tie.Need-returns Inv-loop μ-loop
+returns c = fields-done _ _ _ _ _ (c .before .loop .inv .1) (omega arith)
+
+pub fields-at-spec : {M : Type 1} → statement M
+fields-at-spec =
+    tie.close
+    (tie.spec
+    Inv-loop
+    μ-loop
+    add-place
+    loop-holds
+    field-bytes-requires
+    add-place-2
+    add-i
+    loop-less
+    loop-again
+    returns)

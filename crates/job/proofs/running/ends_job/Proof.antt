@@ -1,0 +1,21 @@
+use Rattle.job.proofs.Stepping.{no-refusal, ends-other, ends-1, ends-2}
+use borrow.Author.Needs.{needs}
+use Rattle.job.proofs.running.ends_job.Statement.{statement}
+use Rattle.job.proofs.running.ends_job.Tie as tie
+use Rattle.job.proofs.running.ends_job.Reads as reads
+use Rattle.job.proofs.running.ends_job.Lts as lts
+
+enum-known-answer : tie.Need-enum-known-answer
+enum-known-answer c = search needs
+
+returns : tie.Need-returns
+returns c = ends-other _ (λ n e. no-refusal (rw e at (c .match .keys2)))
+
+returns-2 : tie.Need-returns-2
+returns-2 c = ends-1 _ _ (c .before .before .answer .given .1) (c .if1 .taken)
+
+returns-3 : tie.Need-returns-3
+returns-3 c = ends-2 _ _ (c .before .before .answer .given .1) (c .if1 .left)
+
+pub ends-job-spec : {M : Type 1} → statement M
+ends-job-spec = tie.close (tie.spec enum-known-answer returns returns-2 returns-3)

@@ -1,0 +1,20 @@
+use mathlib.Core.Path.{refl, sym, _∙_}
+use borrow.Author.Tests.{not-true, not-false}
+use borrow.Author.Needs.{needs}
+use Rattle.job.proofs.running.runs.Statement.{statement}
+use Rattle.job.proofs.running.runs.Tie as tie
+use Rattle.job.proofs.running.runs.Reads as reads
+use Rattle.job.proofs.running.runs.Lts as lts
+use Rattle.job.proofs.fields.has.Reads as has-reads
+
+has-requires : tie.Need-has-requires
+has-requires c κs = search needs
+
+returns : tie.Need-returns
+returns c = rw (sym (c .before .has .ensures) ∙ not-true _ (c .if1 .taken)) refl
+
+returns-2 : tie.Need-returns-2
+returns-2 c = rw (sym (c .before .before .has .ensures) ∙ not-false _ (c .before .if1 .left)) refl
+
+pub runs-spec : {M : Type 1} → statement M
+runs-spec = tie.close (tie.spec has-requires returns returns-2)

@@ -1,0 +1,50 @@
+// The fields of a record: which it has, where they begin, and their numbers. The caller names a record
+// whose map byte is among the bytes.
+ghost use mathlib.Core.Path.{_≡_};
+ghost use mathlib.Core.Bool.{cond};
+ghost use Prim.Native.Nat.{_*_, _≤_, _<_};
+ghost use lib.ListN.{length};
+ghost use Rattle.foil_spec.specs.Job.{fieldCount, has as hasBit, fieldsAt, field as fieldOf};
+ghost use Rattle.job.specs.Parts.{Begun, Given};
+
+// Whether bit k of the map byte is set.
+pub fn has(bytes: &[u8], at: usize, k: usize) -> bool
+    requires { ⌜ (at < length (now bytes)) × (k < 4) ⌝ }
+    ensures { λ r. ⌜ r ≡ hasBit (now (bytes .entry)) at k ⌝ }
+{
+    (bytes[at] >> k) % 2 == 1
+}
+
+// How many bytes the fields of bit k take: two for each number.
+fn field_bytes(bytes: &[u8], at: usize, k: usize) -> usize
+    requires { ⌜ (at < length (now bytes)) × (k < 4) ⌝ }
+    ensures { λ r. ⌜ r ≡ cond (hasBit (now (bytes .entry)) at k) (2 * fieldCount k) 0 ⌝ }
+{
+    if !has(bytes, at, k) {
+        return 0;
+    }
+    let counts = [3usize, 4, 5, 1];
+    2 * counts[k]
+}
+
+// Where the fields of bit k begin, or would begin; the place after the record where k is 4.
+pub fn fields_at(bytes: &[u8], at: usize, k: usize) -> usize
+    requires { ⌜ Begun (now bytes) at ⌝ }
+    requires { ⌜ k ≤ 4 ⌝ }
+    ensures { λ r. ⌜ r ≡ fieldsAt (now (bytes .entry)) at k ⌝ }
+{
+    let mut place = at + 1;
+    for i in 0..k {
+        place += field_bytes(bytes, at, i);
+    }
+    place
+}
+
+// Number i of the fields of bit k, low byte first.
+pub fn field(bytes: &[u8], at: usize, k: usize, i: usize) -> u16
+    requires { ⌜ Given (now bytes) at k i ⌝ }
+    ensures { λ r. ⌜ r ≡ fieldOf (now (bytes .entry)) at k i ⌝ }
+{
+    let place = fields_at(bytes, at, k) + 2 * i;
+    bytes[place] as u16 + 256 * (bytes[place + 1] as u16)
+}

@@ -1,0 +1,89 @@
+// The job file: the record that begins at a place of its bytes is checked, and its steps are run.
+mod checks;
+mod fields;
+mod running;
+
+use checks::Checked;
+use checks::file_refusal;
+use checks::record_refusal;
+use foil::Answer;
+use foil_spec::Board;
+use running::run_steps;
+ghost use mathlib.Core.Path.{_≡_};
+ghost use Rattle.foil_spec.specs.Lent.{lent};
+ghost use Rattle.job.specs.Contract.{RecordDone};
+ghost use Rattle.job.specs.Parts.{refusedBy};
+
+// What a step of a record answered, if the record has that step and it was run.
+pub enum Told {
+    Nothing,
+    Said(Answer),
+}
+
+// The answers of a record's steps, in bit order.
+pub struct Answers {
+    pub board: Told,
+    pub patch: Told,
+    pub track: Told,
+    pub lift: Told,
+}
+
+// The place of the next record; none where the job has ended.
+pub enum Next {
+    At(usize),
+    Nowhere,
+}
+
+// What run a record answers: the number that refuses the record as a whole, or each step's answer and
+// the next place, or that the end mark was met.
+pub enum Reply {
+    Refused(u8),
+    Ran(Answers, Next),
+    AtEnd,
+}
+
+// A reply, and the board's record after it.
+pub struct Replied {
+    pub reply: Reply,
+    pub board: Board,
+}
+
+// Runs the record that begins at place `at` of the job file's bytes.
+pub fn run_record(
+    table: &mut [u16],
+    strips: &mut [u16],
+    corners: &mut [u16],
+    board: Board,
+    bytes: &[u8],
+    at: usize,
+) -> Replied
+    ensures { λ r. ⌜ RecordDone (now (bytes .entry)) at
+        (lent board (now (table .entry)) (now (strips .entry)) (now (corners .entry)))
+        r (now (table .exit)) (now (strips .exit)) (now (corners .exit)) ⌝ }
+{
+    let whole = file_refusal(table, strips, board, bytes, at);
+    if let Checked::Refused(number) = whole {
+        return refuse(number, board);
+    }
+    let checked = record_refusal(bytes, at);
+    if let Checked::Refused(number) = checked {
+        return refuse(number, board);
+    }
+    if bytes[at] == 0 {
+        return Replied {
+            reply: Reply::AtEnd,
+            board,
+        };
+    }
+    run_steps(table, strips, corners, board, bytes, at)
+}
+
+// A record that is refused as a whole; the board's record stays as it is.
+fn refuse(number: u8, board: Board) -> Replied
+    ensures { λ r. ⌜ r ≡ refusedBy number board ⌝ }
+{
+    Replied {
+        reply: Reply::Refused(number),
+        board,
+    }
+}
