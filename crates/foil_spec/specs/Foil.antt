@@ -4,6 +4,7 @@ use mathlib.Core.Bool.{Bool, not, _&&_, _||_}
 use mathlib.Core.List.{List}
 use lib.Dec.{leb, ltb, eqb}
 use Rattle.foil_spec.specs.Lists.{all}
+use Rattle.foil_spec.specs.declared.Entry as declared
 
 -- a point of the foil
 pub record Point : Type 0 where
@@ -19,12 +20,8 @@ abbrev pub same : Point → Point → Bool
 same p q = eqb (p .x) (q .x) && eqb (p .y) (q .y)
 
 -- an entry of the patch table: its net, and the points with x0 ≤ x < x1 and y0 ≤ y < y1
-pub record Entry : Type 0 where
-  pub net : ℕ
-  pub x0 : ℕ
-  pub y0 : ℕ
-  pub x1 : ℕ
-  pub y1 : ℕ
+abbrev pub Entry : Type 0
+Entry = declared.Entry
 
 -- an entry from its five numbers
 abbrev pub entry : ℕ → ℕ → ℕ → ℕ → ℕ → Entry

@@ -1,0 +1,288 @@
+-- The numbers of a table's first 128 places: what is loaded is the table's front, and what is stored goes over it.
+use Prim.Native.Nat.{ℕ, zero, suc, _+_, _*_, _-_, _<_, _≤_, min}
+use native.Mathlib.Nat.{not-suc-le-zero}
+use native.Mathlib.Decide.{ℕ-discrete, decLe}
+use native.Mathlib.Omega.{arith}
+use mathlib.Core.Path.{_≡_, refl, sym, ap, ap₂, _∙_}
+use mathlib.Core.Bool.{true, false}
+use mathlib.Core.Logic.{by-cases, ⊎-elim, _≢_}
+use mathlib.Core.List.{List, [], _∷_, _++_, map}
+use lib.Dec.{ltb}
+use lib.ListN.{length, set, getD, take, drop, length-set, length-replicate, length-drop, take-append-drop}
+use lib.Seq.{getD-set-same, getD-set-other, getD-drop, take-suc, take-all, ext-getD}
+use borrow.Author.Tests.{lt-ltb, le-ltb}
+use Rattle.foil_spec.specs.Lists.{range, each}
+use Rattle.foil_spec.specs.Foil.{Entry}
+use Rattle.foil_spec.specs.Lent.{entryNumbers, entryAt}
+use Rattle.ledger_laws.proofs.Sound.{read-numbers}
+use Rattle.list_laws.proofs.Members.{map-last}
+use Rattle.list_laws.proofs.Tests.{lt-or-le}
+use Rattle.host.specs.declared.flat.Flat.{Flat}
+use Rattle.host.specs.Flats.{zeros, setFive, withEntry, pickEntry, numbersLent, entriesOf, noEntry}
+use Rattle.host.specs.Flats.{loadTo, storeTo}
+
+-- ---- one place
+
+pub with-in : (f : Flat) (i : ℕ) (e : Entry) → i < 128
+    → record { at = setFive (f .at) (i * 5) e; len = f .len } ≡ withEntry f i e
+unfolding withEntry
+with-in f i e l = let t : ltb i 128 ≡ true = lt-ltb i 128 l in rw (t, withEntry) refl
+
+pub with-out : (f : Flat) (i : ℕ) (e : Entry) → 128 ≤ i → f ≡ withEntry f i e
+unfolding withEntry
+with-out f i e l = let t : ltb i 128 ≡ false = le-ltb i 128 l in rw (t, withEntry) refl
+
+pub pick-in : (f : Flat) (i : ℕ) (old : Entry) → i < 128 → entryAt (f .at) i ≡ pickEntry f i old
+unfolding pickEntry
+pick-in f i old l = let t : ltb i 128 ≡ true = lt-ltb i 128 l in rw (t, pickEntry) refl
+
+pub pick-out : (f : Flat) (i : ℕ) (old : Entry) → 128 ≤ i → old ≡ pickEntry f i old
+unfolding pickEntry
+pick-out f i old l = let t : ltb i 128 ≡ false = le-ltb i 128 l in rw (t, pickEntry) refl
+
+-- ---- one place more
+
+pub load-more : (es : List Entry) (k : ℕ) → withEntry (loadTo es k) k (getD es k noEntry) ≡ loadTo es (k + 1)
+unfolding loadTo
+load-more es k = let e : k + 1 ≡ suc k = omega arith in rw e refl
+
+pub load-none : (es : List Entry) → zeros (length es) ≡ loadTo es 0
+unfolding loadTo
+load-none es = refl
+
+pub store-more : (f : Flat) (es : List Entry) (k : ℕ)
+    → set (storeTo f es k) k (pickEntry f k (getD (storeTo f es k) k noEntry)) ≡ storeTo f es (k + 1)
+unfolding storeTo
+store-more f es k = let e : k + 1 ≡ suc k = omega arith in rw e refl
+
+pub store-none : (f : Flat) (es : List Entry) → es ≡ storeTo f es 0
+unfolding storeTo
+store-none f es = refl
+
+pub store-length : (f : Flat) (es : List Entry) (k : ℕ) → length (storeTo f es k) ≡ length es
+unfolding storeTo
+store-length f es zero = refl
+store-length f es (suc k) =
+    length-set (storeTo f es k) k (pickEntry f k (getD (storeTo f es k) k noEntry)) ∙ store-length f es k
+
+-- ---- five numbers
+
+module _ (a : List ℕ) (k : ℕ) (e : Entry) where
+  abbrev s₁ : List ℕ
+  s₁ = set a k (e .net)
+
+  abbrev s₂ : List ℕ
+  s₂ = set s₁ (k + 1) (e .x0)
+
+  abbrev s₃ : List ℕ
+  s₃ = set s₂ (k + 2) (e .y0)
+
+  abbrev s₄ : List ℕ
+  s₄ = set s₃ (k + 3) (e .x1)
+
+  len₁ : length s₁ ≡ length a
+  len₁ = length-set a k (e .net)
+
+  len₂ : length s₂ ≡ length a
+  len₂ = length-set s₁ (k + 1) (e .x0) ∙ len₁
+
+  len₃ : length s₃ ≡ length a
+  len₃ = length-set s₂ (k + 2) (e .y0) ∙ len₂
+
+  len₄ : length s₄ ≡ length a
+  len₄ = length-set s₃ (k + 3) (e .x1) ∙ len₃
+
+  five-length : length (setFive a k e) ≡ length a
+  unfolding setFive
+  five-length = length-set s₄ (k + 4) (e .y1) ∙ len₄
+
+  -- each number from the i-th on stands as it is laid in: the later ones go elsewhere
+  past₁ : (i : ℕ) → i ≢ k + 1 → i ≢ k + 2 → i ≢ k + 3 → i ≢ k + 4 → getD (setFive a k e) i 0 ≡ getD s₁ i 0
+  unfolding setFive
+  past₁ i n₁ n₂ n₃ n₄ =
+      getD-set-other s₄ (k + 4) i (e .y1) 0 n₄ ∙ getD-set-other s₃ (k + 3) i (e .x1) 0 n₃
+      ∙ getD-set-other s₂ (k + 2) i (e .y0) 0 n₂ ∙ getD-set-other s₁ (k + 1) i (e .x0) 0 n₁
+
+  five-far : (i : ℕ) → i ≢ k → i ≢ k + 1 → i ≢ k + 2 → i ≢ k + 3 → i ≢ k + 4
+      → getD (setFive a k e) i 0 ≡ getD a i 0
+  five-far i n₀ n₁ n₂ n₃ n₄ = past₁ i n₁ n₂ n₃ n₄ ∙ getD-set-other a k i (e .net) 0 n₀
+
+  module _ (fits : k + 4 < length a) where
+    five-0 : getD (setFive a k e) k 0 ≡ e .net
+    five-0 =
+        past₁ k (λ q. omega (arith, q)) (λ q. omega (arith, q)) (λ q. omega (arith, q)) (λ q. omega (arith, q))
+        ∙ getD-set-same a k (e .net) 0 (omega arith)
+
+    five-1 : getD (setFive a k e) (k + 1) 0 ≡ e .x0
+    unfolding setFive
+    five-1 =
+        getD-set-other s₄ (k + 4) (k + 1) (e .y1) 0 (λ q. omega (arith, q))
+        ∙ getD-set-other s₃ (k + 3) (k + 1) (e .x1) 0 (λ q. omega (arith, q))
+        ∙ getD-set-other s₂ (k + 2) (k + 1) (e .y0) 0 (λ q. omega (arith, q))
+        ∙ getD-set-same s₁ (k + 1) (e .x0) 0 (omega (arith, len₁))
+
+    five-2 : getD (setFive a k e) (k + 2) 0 ≡ e .y0
+    unfolding setFive
+    five-2 =
+        getD-set-other s₄ (k + 4) (k + 2) (e .y1) 0 (λ q. omega (arith, q))
+        ∙ getD-set-other s₃ (k + 3) (k + 2) (e .x1) 0 (λ q. omega (arith, q))
+        ∙ getD-set-same s₂ (k + 2) (e .y0) 0 (omega (arith, len₂))
+
+    five-3 : getD (setFive a k e) (k + 3) 0 ≡ e .x1
+    unfolding setFive
+    five-3 =
+        getD-set-other s₄ (k + 4) (k + 3) (e .y1) 0 (λ q. omega (arith, q))
+        ∙ getD-set-same s₃ (k + 3) (e .x1) 0 (omega (arith, len₃))
+
+    five-4 : getD (setFive a k e) (k + 4) 0 ≡ e .y1
+    unfolding setFive
+    five-4 = getD-set-same s₄ (k + 4) (e .y1) 0 (omega (arith, len₄))
+
+-- the entry that is laid in is read again
+entry-same : (a : List ℕ) (i : ℕ) (e : Entry) → i * 5 + 4 < length a → entryAt (setFive a (i * 5) e) i ≡ e
+unfolding entryAt
+entry-same a i e h =
+    λ j. record {
+      net = five-0 a (i * 5) e h j;
+      x0 = five-1 a (i * 5) e h j;
+      y0 = five-2 a (i * 5) e h j;
+      x1 = five-3 a (i * 5) e h j;
+      y1 = five-4 a (i * 5) e h j;
+    }
+
+-- and any other entry stays
+entry-other : (a : List ℕ) (i n : ℕ) (e : Entry) → n ≢ i → entryAt (setFive a (i * 5) e) n ≡ entryAt a n
+unfolding entryAt
+entry-other a i n e ne =
+    let far : (j : ℕ) → n * 5 ≤ j → j < n * 5 + 5 → getD (setFive a (i * 5) e) j 0 ≡ getD a j 0 =
+    λ j l m. five-far a (i * 5) e j (λ q. ne (omega (arith, q, l, m))) (λ q. ne (omega (arith, q, l, m)))
+    (λ q. ne (omega (arith, q, l, m))) (λ q. ne (omega (arith, q, l, m))) (λ q. ne (omega (arith, q, l, m))) in
+    let p₀ = far (n * 5) (omega arith) (omega arith) in
+    let p₁ = far (n * 5 + 1) (omega arith) (omega arith) in
+    let p₂ = far (n * 5 + 2) (omega arith) (omega arith) in
+    let p₃ = far (n * 5 + 3) (omega arith) (omega arith) in
+    let p₄ = far (n * 5 + 4) (omega arith) (omega arith) in
+    λ t. record { net = p₀ t; x0 = p₁ t; y0 = p₂ t; x1 = p₃ t; y1 = p₄ t }
+
+-- ---- what is loaded
+
+pub load-length : (es : List Entry) (k : ℕ) → length (loadTo es k .at) ≡ 640
+unfolding loadTo zeros
+load-length es zero = length-replicate {A = ℕ} 640 0
+load-length es (suc k) =
+    let f : Flat = loadTo es k in
+    by-cases (decLe (suc k) 128)
+    (λ (l : suc k ≤ 128). ap (λ (g : Flat). length (g .at)) (sym (with-in f k (getD es k noEntry) l))
+    ∙ five-length (f .at) (k * 5) (getD es k noEntry) ∙ load-length es k)
+    (λ (n : suc k ≤ 128 → ⊥). ap (λ (g : Flat). length (g .at))
+    (sym (with-out f k (getD es k noEntry) (omega (arith, n)))) ∙ load-length es k)
+
+pub load-places : (es : List Entry) (k : ℕ) → loadTo es k .len ≡ length es
+unfolding loadTo zeros
+load-places es zero = refl
+load-places es (suc k) =
+    let f : Flat = loadTo es k in
+    by-cases (decLe (suc k) 128)
+    (λ (l : suc k ≤ 128). ap (λ (g : Flat). g .len) (sym (with-in f k (getD es k noEntry) l)) ∙ load-places es k)
+    (λ (n : suc k ≤ 128 → ⊥). ap (λ (g : Flat). g .len) (sym (with-out f k (getD es k noEntry) (omega (arith, n))))
+    ∙ load-places es k)
+
+with-other : (f : Flat) (k n : ℕ) (e : Entry) → n ≢ k → entryAt (withEntry f k e .at) n ≡ entryAt (f .at) n
+with-other f k n e ne =
+    by-cases (decLe (suc k) 128)
+    (λ (l : suc k ≤ 128). ap (λ (g : Flat). entryAt (g .at) n) (sym (with-in f k e l)) ∙ entry-other (f .at) k n e ne)
+    (λ (m : suc k ≤ 128 → ⊥). ap (λ (g : Flat). entryAt (g .at) n) (sym (with-out f k e (omega (arith, m)))))
+
+loaded-at : (es : List Entry) (k n : ℕ) → n < k → n < 128 → entryAt (loadTo es k .at) n ≡ getD es n noEntry
+unfolding loadTo
+loaded-at es zero n l m = absurd (not-suc-le-zero l)
+loaded-at es (suc k) n l m =
+    let f : Flat = loadTo es k in
+    let e : Entry = getD es k noEntry in
+    by-cases (ℕ-discrete n k)
+    (λ (q : n ≡ k). ap (λ (g : Flat). entryAt (g .at) n) (sym (with-in f k e (omega (arith, q, m))))
+    ∙ ap (λ (j : ℕ). entryAt (setFive (f .at) (k * 5) e) j) q
+    ∙ entry-same (f .at) k e (omega (arith, load-length es k, q, m)) ∙ ap (λ (j : ℕ). getD es j noEntry) (sym q))
+    (λ (ne : n ≡ k → ⊥). with-other f k n e ne ∙ loaded-at es k n (omega (arith, ne, l)) m)
+
+-- the first n places, one by one
+places : (g : ℕ → Entry) (es : List Entry) (n : ℕ) → n ≤ length es → ((k : ℕ) → k < n → g k ≡ getD es k noEntry)
+    → map g (range 0 n) ≡ take n es
+places g es zero h q = refl
+places g es (suc n) h q =
+    let z : 0 + n ≡ n = omega arith in
+    map-last g 0 n
+    ∙ ap₂ (λ (l : List Entry) (e : Entry). l ++ (e ∷ [])) (places g es n (omega arith) (λ k l. q k (omega arith)))
+    (ap g z ∙ q n (omega arith))
+    ∙ sym (take-suc es n noEntry h)
+
+take-least : (n k : ℕ) (es : List Entry) → n ≡ length es → take (min n k) es ≡ take k es
+take-least n k es e =
+    ⊎-elim
+    (λ (l : n < k). let m : min n k ≡ n = omega arith in
+    ap (λ (j : ℕ). take j es) m ∙ take-all n es (omega (arith, e)) ∙ sym (take-all k es (omega (arith, e, l))))
+    (λ (l : k ≤ n). let m : min n k ≡ k = omega arith in ap (λ (j : ℕ). take j es) m)
+    (lt-or-le n k)
+
+-- what is loaded is the front of the table
+pub loaded : (es : List Entry) → entriesOf (loadTo es (length es)) ≡ take 128 es
+unfolding entriesOf
+loaded es =
+    let n : ℕ = min (loadTo es (length es) .len) 128 in
+    let p = load-places es (length es) in
+    places (entryAt (loadTo es (length es) .at)) es n (omega (arith, p))
+    (λ k l. loaded-at es (length es) k (omega (arith, p, l)) (omega (arith, l)))
+    ∙ take-least (loadTo es (length es) .len) 128 es p
+
+-- ---- what is stored
+
+stored-not : (f : Flat) (es : List Entry) (k n : ℕ) → k ≤ n → getD (storeTo f es k) n noEntry ≡ getD es n noEntry
+unfolding storeTo
+stored-not f es zero n l = refl
+stored-not f es (suc k) n l =
+    getD-set-other (storeTo f es k) k n (pickEntry f k (getD (storeTo f es k) k noEntry)) noEntry
+    (λ q. omega (arith, q, l))
+    ∙ stored-not f es k n (omega (arith, l))
+
+stored-at : (f : Flat) (es : List Entry) (k n : ℕ) → n < k → n < length es
+    → getD (storeTo f es k) n noEntry ≡ pickEntry f n (getD es n noEntry)
+unfolding storeTo
+stored-at f es zero n l m = absurd (not-suc-le-zero l)
+stored-at f es (suc k) n l m =
+    let old : List Entry = storeTo f es k in
+    by-cases (ℕ-discrete n k)
+    (λ (q : n ≡ k). ap (λ (j : ℕ). getD (set old k (pickEntry f k (getD old k noEntry))) j noEntry) q
+    ∙ getD-set-same old k (pickEntry f k (getD old k noEntry)) noEntry (omega (arith, store-length f es k, q, m))
+    ∙ ap (pickEntry f k) (stored-not f es k k (omega arith))
+    ∙ ap (λ (j : ℕ). pickEntry f j (getD es j noEntry)) (sym q))
+    (λ (ne : n ≡ k → ⊥). getD-set-other old k n (pickEntry f k (getD old k noEntry)) noEntry ne
+    ∙ stored-at f es k n (omega (arith, ne, l)) m)
+
+-- what is stored goes over the front of the table, and the rest stays
+pub stored : (f : Flat) (es : List Entry) → f .len ≡ length es
+    → storeTo f es (length es) ≡ entriesOf f ++ drop 128 es
+unfolding entriesOf
+stored f es p =
+    let new : List Entry = storeTo f es (length es) in
+    let same : length new ≡ length es = store-length f es (length es) in
+    let d = length-drop 128 new in
+    let d′ = length-drop 128 es in
+    let front : map (entryAt (f .at)) (range 0 (min (f .len) 128)) ≡ take 128 new =
+    places (entryAt (f .at)) new (min (f .len) 128) (omega (arith, p, same))
+    (λ k l. pick-in f k (getD es k noEntry) (omega (arith, l))
+    ∙ sym (stored-at f es (length es) k (omega (arith, p, l)) (omega (arith, p, l))))
+    ∙ take-least (f .len) 128 new (p ∙ sym same) in
+    let back : drop 128 new ≡ drop 128 es =
+    ext-getD noEntry (drop 128 new) (drop 128 es) (omega (arith, d, d′, same))
+    (λ i l. getD-drop 128 new i noEntry
+    ∙ stored-at f es (length es) (128 + i) (omega (arith, d, same, l)) (omega (arith, d, same, l))
+    ∙ sym (pick-out f (128 + i) (getD es (128 + i) noEntry) (omega arith))
+    ∙ sym (getD-drop 128 es i noEntry)) in
+    sym (take-append-drop 128 new) ∙ ap₂ (λ (a b : List Entry). a ++ b) (sym front) back
+
+-- ---- what is lent on
+
+-- the numbers that are lent on are those of the entries
+pub lent-on : (f : Flat) → length (f .at) ≡ 640 → take (numbersLent (f .len)) (f .at) ≡ each entryNumbers (entriesOf f)
+unfolding numbersLent entriesOf
+lent-on f h = sym (read-numbers (f .at) (min (f .len) 128) (omega (arith, h)))

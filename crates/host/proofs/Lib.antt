@@ -1,0 +1,6 @@
+-- What the proofs of the calls over structs share.
+pub mod Shared
+pub mod Flats
+pub mod Fronts
+pub mod Tables
+pub mod Running

@@ -1,0 +1,161 @@
+-- From the numbers of a table's first 128 places to the table of entries: said once for whatever a call promises of
+-- the table's numbers before and after, then for a step and for a look up.
+use Prim.Native.Nat.{ℕ, _<_, _≤_}
+use native.Mathlib.Omega.{arith}
+use mathlib.Core.Path.{_≡_, refl, sym, ap, ap₂, _∙_, subst, subst₂}
+use mathlib.Core.Logic.{⊎-elim}
+use mathlib.Core.List.{List, [], _++_, map, append-nil}
+use lib.ListN.{length, take, drop, length-take, length-drop, length-append, drop-of-length-le, take-append-drop}
+use lib.Seq.{take-at}
+use Rattle.foil_spec.specs.Lists.{range, each}
+use Rattle.foil_spec.specs.Foil.{Point, Entry}
+use Rattle.foil_spec.specs.Ledger.{Step, lookUp}
+use Rattle.foil_spec.specs.Lent.{lent, entryNumbers, entryAt}
+use Rattle.foil_spec.specs.declared.Board.{Board}
+use Rattle.list_laws.proofs.Tests.{lt-or-le}
+use Rattle.ledger_laws.proofs.Stored.{length-entries, read-back}
+use Rattle.booking.proofs.Filling.{each-append}
+use Rattle.foil.specs.Contract.{StepDone, Looked, answerOf}
+use Rattle.foil.specs.declared.Answer.{Answer}
+use Rattle.foil.specs.declared.Done.{Done}
+use Rattle.host.specs.declared.flat.Flat.{Flat}
+use Rattle.host.specs.declared.flat.Said.{Said}
+use Rattle.host.specs.declared.flat.Left.{Left}
+use Rattle.host.specs.Flats.{numbersLent, entriesOf, loadTo, storeTo}
+use Rattle.host.specs.Calls.{saidOf, HostLooked, LookTold, ThinDone, FlatDone}
+use Rattle.host.proofs.Flats.{load-places, loaded, stored, lent-on}
+use Rattle.host.proofs.Fronts.{longer, step-longer}
+
+-- ---- what a call promises of the table's numbers
+
+-- the numbers of a table
+abbrev pub numbers : List Entry → List ℕ
+numbers es = each entryNumbers es
+
+-- they say what the entries are, and how many
+pub numbers-same : (es es′ : List Entry) → numbers es ≡ numbers es′ → es ≡ es′
+numbers-same es es′ e =
+    let n : length es ≡ length es′ = omega (arith, length-entries es, length-entries es′, ap length e) in
+    sym (read-back es [])
+    ∙ ap₂ (λ (t : List ℕ) (k : ℕ). map (entryAt (t ++ [])) (range 0 k)) e n
+    ∙ read-back es′ []
+
+-- a table's numbers are those of its first 128 places, then the others
+fronts : (es : List Entry) → numbers (take 128 es) ++ numbers (drop 128 es) ≡ numbers es
+fronts es = sym (each-append (take 128 es) (drop 128 es)) ∙ ap numbers (take-append-drop 128 es)
+
+-- the numbers of a call, written to the front of those that it was lent
+abbrev pub written-over : Flat → List ℕ → ℕ → Flat
+written-over t new n = record { at = new ++ drop n (t .at); len = t .len }
+
+module _ (P : List ℕ → List ℕ → Type 0) where
+  -- the numbers that were lent on, and what they are now, are those of the entries
+  pub on-entries : (t : Flat) (new : List ℕ) (n : ℕ) → length (t .at) ≡ 640 → n ≡ numbersLent (t .len)
+      → length new ≡ length (take n (t .at)) → P (take n (t .at)) new
+      → P (numbers (entriesOf t)) (numbers (entriesOf (written-over t new n)))
+  unfolding numbersLent
+  on-entries t new n full e l =
+      let t′ : Flat = written-over t new n in
+      let size : length new ≡ n = omega (arith, full, e, l, length-take n (t .at)) in
+      let full′ : length (t′ .at) ≡ 640 =
+      length-append new (drop n (t .at)) ∙ omega (arith, full, e, size, length-drop n (t .at)) in
+      subst₂ P (ap (λ (k : ℕ). take k (t .at)) e ∙ lent-on t full)
+      (sym (take-at new (drop n (t .at)) n size) ∙ ap (λ (k : ℕ). take k (t′ .at)) e ∙ lent-on t′ full′)
+
+  module _ (more : (t t′ rest : List ℕ) → length t ≡ 640 → P t t′ → P (t ++ rest) (t′ ++ rest)) where
+    -- front and rest, where the front is 640 numbers or there is no rest
+    on-whole : (es es′ : List Entry) → P (numbers (take 128 es)) (numbers es′)
+        → P (numbers (take 128 es) ++ numbers (drop 128 es)) (numbers es′ ++ numbers (drop 128 es))
+    on-whole es es′ d =
+        let front : List ℕ = numbers (take 128 es) in
+        let rest : List ℕ = numbers (drop 128 es) in
+        ⊎-elim
+        (λ (l : length es < 128).
+        let short : length es ≤ 128 = omega (arith, l) in
+        let none : rest ≡ [] = ap numbers (drop-of-length-le es short) in
+        subst₂ P (sym (ap (λ (x : List ℕ). front ++ x) none ∙ append-nil front))
+        (sym (ap (λ (x : List ℕ). numbers es′ ++ x) none ∙ append-nil (numbers es′))) d)
+        (λ (l : 128 ≤ length es).
+        more front (numbers es′) rest (omega (arith, l, length-entries (take 128 es), length-take 128 es)) d)
+        (lt-or-le (length es) 128)
+
+    -- the table is loaded, something is done to the numbers, and these are stored
+    pub on-table : (es es′ : List Entry) (f : Flat) → f .len ≡ loadTo es (length es) .len
+        → es′ ≡ storeTo f es (length es) → P (numbers (entriesOf (loadTo es (length es)))) (numbers (entriesOf f))
+        → P (numbers es) (numbers es′)
+    on-table es es′ f l e d =
+        subst₂ P (fronts es)
+        (sym (each-append (entriesOf f) (drop 128 es))
+        ∙ ap numbers (sym (e ∙ stored f es (l ∙ load-places es (length es)))))
+        (on-whole es (entriesOf f) (subst (λ (x : List Entry). P (numbers x) (numbers (entriesOf f))) (loaded es) d))
+
+-- ---- a step
+
+module _ (c : Step) (b : Board) (s ks : List ℕ) (r : Done) (s′ ks′ : List ℕ) where
+  abbrev Stepped : List ℕ → List ℕ → Type 0
+  Stepped t t′ = StepDone c (lent b t s ks) r t′ s′ ks′
+
+  stepped-more : (t t′ rest : List ℕ) → length t ≡ 640 → Stepped t t′ → Stepped (t ++ rest) (t′ ++ rest)
+  stepped-more t t′ rest full d =
+      let e = step-longer rest (lent b t s ks) full c in
+      record {
+        answer = d .answer ∙ sym (ap (λ x. answerOf (x .answer)) e);
+        board = d .board ∙ sym (ap (λ x. x .state .board) e);
+        table = ap (λ (l : List ℕ). l ++ rest) (d .table) ∙ sym (ap (λ x. x .state .table) e);
+        strips = d .strips ∙ sym (ap (λ x. x .state .strips) e);
+        corners = d .corners ∙ sym (ap (λ x. x .state .corners) e);
+      }
+
+pub whole-done : (c : Step) (b : Board) (es : List Entry) (s ks : List ℕ) (r : Left) (es′ : List Entry)
+    (s′ ks′ : List ℕ) → FlatDone c b (loadTo es (length es)) s ks r s′ ks′ → es′ ≡ storeTo (r .table) es (length es)
+    → ThinDone c b es s ks r es′ s′ ks′
+whole-done c b es s ks r es′ s′ ks′ d e =
+    let o : Done = record { answer = r .answer; board = r .board } in
+    record {
+      said = d .thin .said;
+      done =
+          on-table (Stepped c b s ks o s′ ks′) (stepped-more c b s ks o s′ ks′) es es′ (r .table) (d .places) e
+          (d .thin .done);
+    }
+
+module _ (c : Step) (b : Board) (t : Flat) (s ks : List ℕ) (d : Done) (s′ ks′ new : List ℕ) (n : ℕ) where
+  abbrev after : Left
+  after =
+      record { board = d .board; answer = d .answer; table = written-over t new n; said = saidOf (d .answer) }
+
+  pub flat-done : (r : Left) → length (t .at) ≡ 640 → n ≡ numbersLent (t .len) → length new ≡ length (take n (t .at))
+      → StepDone c (lent b (take n (t .at)) s ks) d new s′ ks′ → r ≡ after → FlatDone c b t s ks r s′ ks′
+  flat-done r full e l q is =
+      subst (λ (x : Left). FlatDone c b t s ks x s′ ks′) (sym is)
+      (record {
+        places = refl;
+        thin = record { said = refl; done = on-entries (Stepped c b s ks d s′ ks′) t new n full e l q };
+      })
+
+-- ---- a look up, which leaves the table as it is
+
+module _ (p : Point) (b : Board) (s : List ℕ) (a : Answer) where
+  abbrev LooksUp : List ℕ → List ℕ → Type 0
+  LooksUp t t′ = Looked p (lent b t s []) a
+
+  looked-more : (t t′ rest : List ℕ) → length t ≡ 640 → LooksUp t t′ → LooksUp (t ++ rest) (t′ ++ rest)
+  looked-more t t′ rest full d =
+      let e = step-longer rest (lent b t s []) full (lookUp p) in
+      record {
+        answer = d .answer ∙ sym (ap (λ x. answerOf (x .answer)) e);
+        state = ap (longer rest) (d .state) ∙ sym (ap (λ x. x .state) e);
+      }
+
+pub whole-looked : (p : Point) (b : Board) (es : List Entry) (s : List ℕ) (a : Answer)
+    → HostLooked p b (entriesOf (loadTo es (length es))) s a → HostLooked p b es s a
+whole-looked p b es s a d =
+    on-table (LooksUp p b s a) (looked-more p b s a) es _ (loadTo es (length es)) refl refl d
+
+pub whole-told : (p : Point) (b : Board) (es : List Entry) (s : List ℕ) (r : Said)
+    → LookTold p b (entriesOf (loadTo es (length es))) s r → LookTold p b es s r
+whole-told p b es s r d =
+    record { answer = d .answer; said = d .said; looked = whole-looked p b es s (d .answer) (d .looked) }
+
+pub flat-looked : (p : Point) (b : Board) (t : Flat) (s : List ℕ) (a : Answer) (n : ℕ) → length (t .at) ≡ 640
+    → n ≡ numbersLent (t .len) → Looked p (lent b (take n (t .at)) s []) a → HostLooked p b (entriesOf t) s a
+flat-looked p b t s a n full e d = on-entries (LooksUp p b s a) t (take n (t .at)) n full e refl d

@@ -1,0 +1,64 @@
+use borrow.Author.Needs.{needs}
+use native.Mathlib.Omega.{arith}
+use lib.ListN.{length-take}
+use Rattle.host.specs.Flats.{numbersLent}
+use Rattle.host.proofs.Tables.{flat-done}
+use Rattle.host.proofs.flat.draw.Statement.{statement}
+use Rattle.host.proofs.flat.draw.Tie as tie
+use Rattle.host.proofs.flat.draw.Reads as reads
+use Rattle.host.proofs.flat.draw.Lts as lts
+use Rattle.foil.proofs.draw.Reads as draw-reads
+use Rattle.host.proofs.flat.leave.Reads as leave-reads
+use Rattle.host.proofs.flat.numbers_lent.Reads as numbers-lent-reads
+
+-- src/flat.rt:149:9
+numbers-lent-requires : tie.Need-numbers-lent-requires
+numbers-lent-requires c κs = search needs
+
+-- src/flat.rt:150:27
+array-borrow-prefix-a : tie.Need-array-borrow-prefix-a
+unfolding numbersLent
+array-borrow-prefix-a c = omega (arith, c .numbers-lent .ensures, c .before .before .before .pre)
+
+-- src/flat.rt:150:27
+slice-aggregate-draw : tie.Need-slice-aggregate-draw
+unfolding numbersLent
+slice-aggregate-draw c =
+    omega (
+      arith,
+      c .before .numbers-lent .ensures,
+      c .before .before .before .before .pre,
+      length-take (c .before .numbers-lent .result) (c .before .before .before .before .args .t .at),
+    )
+
+-- src/flat.rt:150:9
+draw-requires : tie.Need-draw-requires
+draw-requires c κs = search needs
+
+-- src/flat.rt:151:5
+leave-requires : tie.Need-leave-requires
+leave-requires c κs = search needs
+
+-- src/flat.rt:144:1
+same-length : tie.Need-same-length
+same-length c = search needs
+
+-- src/flat.rt:144:1
+returns : tie.Need-returns
+returns c =
+    flat-done _ _ _ _ _ _ _ _ _ _ _
+    (c .before .before .before .before .before .before .before .before .before .before .pre)
+    (c .before .before .before .before .before .before .before .numbers-lent .ensures)
+    (c .before .before .before .a3 .given) (c .before .before .before .before .draw .ensures) (c .leave .ensures)
+
+pub draw-spec : {M : Type 1} → statement M
+draw-spec =
+    tie.close
+    (tie.spec
+    numbers-lent-requires
+    array-borrow-prefix-a
+    slice-aggregate-draw
+    draw-requires
+    leave-requires
+    same-length
+    returns)

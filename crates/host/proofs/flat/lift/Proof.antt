@@ -1,0 +1,64 @@
+use borrow.Author.Needs.{needs}
+use native.Mathlib.Omega.{arith}
+use lib.ListN.{length-take}
+use Rattle.host.specs.Flats.{numbersLent}
+use Rattle.host.proofs.Tables.{flat-done}
+use Rattle.host.proofs.flat.lift.Statement.{statement}
+use Rattle.host.proofs.flat.lift.Tie as tie
+use Rattle.host.proofs.flat.lift.Reads as reads
+use Rattle.host.proofs.flat.lift.Lts as lts
+use Rattle.foil.proofs.lift.Reads as lift-reads
+use Rattle.host.proofs.flat.leave.Reads as leave-reads
+use Rattle.host.proofs.flat.numbers_lent.Reads as numbers-lent-reads
+
+-- src/flat.rt:181:9
+numbers-lent-requires : tie.Need-numbers-lent-requires
+numbers-lent-requires c κs = search needs
+
+-- src/flat.rt:182:27
+array-borrow-prefix-a : tie.Need-array-borrow-prefix-a
+unfolding numbersLent
+array-borrow-prefix-a c = omega (arith, c .numbers-lent .ensures, c .before .before .before .pre)
+
+-- src/flat.rt:182:27
+slice-aggregate-lift : tie.Need-slice-aggregate-lift
+unfolding numbersLent
+slice-aggregate-lift c =
+    omega (
+      arith,
+      c .before .numbers-lent .ensures,
+      c .before .before .before .before .pre,
+      length-take (c .before .numbers-lent .result) (c .before .before .before .before .args .t .at),
+    )
+
+-- src/flat.rt:182:9
+lift-requires : tie.Need-lift-requires
+lift-requires c κs = search needs
+
+-- src/flat.rt:183:5
+leave-requires : tie.Need-leave-requires
+leave-requires c κs = search needs
+
+-- src/flat.rt:176:1
+same-length : tie.Need-same-length
+same-length c = search needs
+
+-- src/flat.rt:176:1
+returns : tie.Need-returns
+returns c =
+    flat-done _ _ _ _ _ _ _ _ _ _ _
+    (c .before .before .before .before .before .before .before .before .before .before .pre)
+    (c .before .before .before .before .before .before .before .numbers-lent .ensures)
+    (c .before .before .before .a3 .given) (c .before .before .before .before .lift .ensures) (c .leave .ensures)
+
+pub lift-spec : {M : Type 1} → statement M
+lift-spec =
+    tie.close
+    (tie.spec
+    numbers-lent-requires
+    array-borrow-prefix-a
+    slice-aggregate-lift
+    lift-requires
+    leave-requires
+    same-length
+    returns)

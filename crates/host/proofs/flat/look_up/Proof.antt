@@ -1,0 +1,51 @@
+use borrow.Author.Needs.{needs}
+use native.Mathlib.Omega.{arith}
+use lib.ListN.{length-take}
+use Rattle.host.specs.Flats.{numbersLent}
+use Rattle.host.proofs.Tables.{flat-looked}
+use Rattle.host.proofs.flat.look_up.Statement.{statement}
+use Rattle.host.proofs.flat.look_up.Tie as tie
+use Rattle.host.proofs.flat.look_up.Reads as reads
+use Rattle.host.proofs.flat.look_up.Lts as lts
+use Rattle.foil.proofs.look_up.Reads as look-up-reads
+use Rattle.host.proofs.flat.numbers_lent.Reads as numbers-lent-reads
+
+-- src/flat.rt:192:9
+numbers-lent-requires : tie.Need-numbers-lent-requires
+numbers-lent-requires c κs = search needs
+
+-- src/flat.rt:193:19
+array-share-prefix-a : tie.Need-array-share-prefix-a
+unfolding numbersLent
+array-share-prefix-a c = omega (arith, c .numbers-lent .ensures, c .before .before .before .pre)
+
+-- src/flat.rt:193:19
+slice-aggregate-look-up : tie.Need-slice-aggregate-look-up
+unfolding numbersLent
+slice-aggregate-look-up c =
+    omega (
+      arith,
+      c .before .numbers-lent .ensures,
+      c .before .before .before .before .pre,
+      length-take (c .before .numbers-lent .result) (c .before .before .before .before .args .t .at),
+    )
+
+-- src/flat.rt:193:5
+look-up-requires : tie.Need-look-up-requires
+look-up-requires c κs = search needs
+
+-- src/flat.rt:187:1
+returns : tie.Need-returns
+returns c =
+    flat-looked _ _ _ _ _ _
+    (c .before .before .before .before .before .pre) (c .before .before .numbers-lent .ensures) (c .look-up .ensures)
+
+pub look-up-spec : {M : Type 1} → statement M
+look-up-spec =
+    tie.close
+    (tie.spec
+    numbers-lent-requires
+    array-share-prefix-a
+    slice-aggregate-look-up
+    look-up-requires
+    returns)

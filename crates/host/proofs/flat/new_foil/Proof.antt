@@ -1,0 +1,64 @@
+use borrow.Author.Needs.{needs}
+use native.Mathlib.Omega.{arith}
+use lib.ListN.{length-take}
+use Rattle.host.specs.Flats.{numbersLent}
+use Rattle.host.proofs.Tables.{flat-done}
+use Rattle.host.proofs.flat.new_foil.Statement.{statement}
+use Rattle.host.proofs.flat.new_foil.Tie as tie
+use Rattle.host.proofs.flat.new_foil.Reads as reads
+use Rattle.host.proofs.flat.new_foil.Lts as lts
+use Rattle.foil.proofs.new_foil.Reads as new-foil-reads
+use Rattle.host.proofs.flat.leave.Reads as leave-reads
+use Rattle.host.proofs.flat.numbers_lent.Reads as numbers-lent-reads
+
+-- src/flat.rt:138:9
+numbers-lent-requires : tie.Need-numbers-lent-requires
+numbers-lent-requires c κs = search needs
+
+-- src/flat.rt:139:31
+array-borrow-prefix-a : tie.Need-array-borrow-prefix-a
+unfolding numbersLent
+array-borrow-prefix-a c = omega (arith, c .numbers-lent .ensures, c .before .before .before .pre)
+
+-- src/flat.rt:139:31
+slice-aggregate-new-foil : tie.Need-slice-aggregate-new-foil
+unfolding numbersLent
+slice-aggregate-new-foil c =
+    omega (
+      arith,
+      c .before .numbers-lent .ensures,
+      c .before .before .before .before .pre,
+      length-take (c .before .numbers-lent .result) (c .before .before .before .before .args .t .at),
+    )
+
+-- src/flat.rt:139:9
+new-foil-requires : tie.Need-new-foil-requires
+new-foil-requires c κs = search needs
+
+-- src/flat.rt:140:5
+leave-requires : tie.Need-leave-requires
+leave-requires c κs = search needs
+
+-- src/flat.rt:133:1
+same-length : tie.Need-same-length
+same-length c = search needs
+
+-- src/flat.rt:133:1
+returns : tie.Need-returns
+returns c =
+    flat-done _ _ _ _ _ _ _ _ _ _ _
+    (c .before .before .before .before .before .before .before .before .before .before .pre)
+    (c .before .before .before .before .before .before .before .numbers-lent .ensures)
+    (c .before .before .before .a3 .given) (c .before .before .before .before .new-foil .ensures) (c .leave .ensures)
+
+pub new-foil-spec : {M : Type 1} → statement M
+new-foil-spec =
+    tie.close
+    (tie.spec
+    numbers-lent-requires
+    array-borrow-prefix-a
+    slice-aggregate-new-foil
+    new-foil-requires
+    leave-requires
+    same-length
+    returns)

@@ -1,0 +1,98 @@
+use borrow.Author.Needs.{needs}
+use native.Mathlib.Omega.{arith}
+use Rattle.host.specs.Flats.{setFive}
+use Rattle.host.proofs.Flats.{with-in, with-out}
+use Rattle.host.proofs.flat.put.Statement.{statement}
+use Rattle.host.proofs.flat.put.Tie as tie
+use Rattle.host.proofs.flat.put.Reads as reads
+use Rattle.host.proofs.flat.put.Lts as lts
+
+mul-a : tie.Need-mul-a
+mul-a c = search needs
+
+mul-a-2 : tie.Need-mul-a-2
+mul-a-2 c = search needs
+
+array-write-a : tie.Need-array-write-a
+array-write-a c = search needs
+
+mul-a-3 : tie.Need-mul-a-3
+mul-a-3 c = search needs
+
+add-a : tie.Need-add-a
+add-a c = search needs
+
+mul-a-4 : tie.Need-mul-a-4
+mul-a-4 c = search needs
+
+array-write-a-2 : tie.Need-array-write-a-2
+array-write-a-2 c = search needs
+
+mul-a-5 : tie.Need-mul-a-5
+mul-a-5 c = search needs
+
+add-a-2 : tie.Need-add-a-2
+add-a-2 c = search needs
+
+mul-a-6 : tie.Need-mul-a-6
+mul-a-6 c = search needs
+
+array-write-a-3 : tie.Need-array-write-a-3
+array-write-a-3 c = search needs
+
+mul-a-7 : tie.Need-mul-a-7
+mul-a-7 c = search needs
+
+add-a-3 : tie.Need-add-a-3
+add-a-3 c = search needs
+
+mul-a-8 : tie.Need-mul-a-8
+mul-a-8 c = search needs
+
+array-write-a-4 : tie.Need-array-write-a-4
+array-write-a-4 c = search needs
+
+mul-a-9 : tie.Need-mul-a-9
+mul-a-9 c = search needs
+
+add-a-4 : tie.Need-add-a-4
+add-a-4 c = search needs
+
+mul-a-10 : tie.Need-mul-a-10
+mul-a-10 c = search needs
+
+array-write-a-5 : tie.Need-array-write-a-5
+array-write-a-5 c = search needs
+
+returns : tie.Need-returns
+unfolding setFive
+returns c = with-in _ _ _ (omega arith)
+
+returns-2 : tie.Need-returns-2
+returns-2 c = with-out _ _ _ (omega arith)
+
+pub put-spec : {M : Type 1} → statement M
+put-spec =
+    tie.close
+    (tie.spec
+    mul-a
+    mul-a-2
+    array-write-a
+    mul-a-3
+    add-a
+    mul-a-4
+    array-write-a-2
+    mul-a-5
+    add-a-2
+    mul-a-6
+    array-write-a-3
+    mul-a-7
+    add-a-3
+    mul-a-8
+    array-write-a-4
+    mul-a-9
+    add-a-4
+    mul-a-10
+    array-write-a-5
+    returns
+    returns-2)

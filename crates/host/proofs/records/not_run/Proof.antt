@@ -1,0 +1,30 @@
+use borrow.Author.Needs.{needs}
+use mathlib.Core.Bool.{true, false}
+use Rattle.host.specs.Records.{stepSaidOf, goesOn, placeNext, ranSaid}
+use Rattle.host.proofs.records.not_run.Statement.{statement}
+use Rattle.host.proofs.records.not_run.Tie as tie
+use Rattle.host.proofs.records.not_run.Reads as reads
+use Rattle.host.proofs.records.not_run.Lts as lts
+use Rattle.host.proofs.records.nothing_said.Reads as nothing-said-reads
+
+-- src/records.rt:80:15
+nothing-said-requires : tie.Need-nothing-said-requires
+nothing-said-requires c κs = search needs
+
+-- src/records.rt:75:1
+returns : tie.Need-returns
+unfolding ranSaid stepSaidOf goesOn placeNext
+returns c =
+    λ i. record {
+      number = c .before .args .number;
+      end = c .before .args .end;
+      board = record { ran = false; said = c .nothing-said .ensures i };
+      patch = record { ran = false; said = c .nothing-said .ensures i };
+      track = record { ran = false; said = c .nothing-said .ensures i };
+      lift = record { ran = false; said = c .nothing-said .ensures i };
+      more = false;
+      next = 0;
+    }
+
+pub not-run-spec : {M : Type 1} → statement M
+not-run-spec = tie.close (tie.spec nothing-said-requires returns)

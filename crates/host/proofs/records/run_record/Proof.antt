@@ -1,0 +1,72 @@
+use borrow.Author.Needs.{needs}
+use native.Mathlib.Omega.{arith}
+use lib.ListN.{length-take}
+use Rattle.host.specs.Flats.{numbersLent}
+use Rattle.host.proofs.Running.{flat-ran}
+use Rattle.host.proofs.records.run_record.Statement.{statement}
+use Rattle.host.proofs.records.run_record.Tie as tie
+use Rattle.host.proofs.records.run_record.Reads as reads
+use Rattle.host.proofs.records.run_record.Lts as lts
+use Rattle.host.proofs.flat.numbers_lent.Reads as numbers-lent-reads
+use Rattle.host.proofs.records.leave.Reads as leave-reads
+use Rattle.job.proofs.run_record.Reads as run-record-reads
+
+-- src/records.rt:174:9
+numbers-lent-requires : tie.Need-numbers-lent-requires
+numbers-lent-requires c κs = search needs
+
+-- src/records.rt:175:32
+array-borrow-prefix-a : tie.Need-array-borrow-prefix-a
+unfolding numbersLent
+array-borrow-prefix-a c =
+    omega (arith, c .numbers-lent .ensures, c .before .before .before .before .before .pre)
+
+-- src/records.rt:175:32
+slice-aggregate-run-record : tie.Need-slice-aggregate-run-record
+unfolding numbersLent
+slice-aggregate-run-record c =
+    omega (
+      arith,
+      c .before .numbers-lent .ensures,
+      c .before .before .before .before .before .before .pre,
+      length-take (c .before .numbers-lent .result) (c .before .before .before .before .before .before .args .t .at),
+    )
+
+-- src/records.rt:175:9
+run-record-requires : tie.Need-run-record-requires
+run-record-requires c κs = search needs
+
+-- src/records.rt:176:5
+leave-requires : tie.Need-leave-requires
+leave-requires c κs = search needs
+
+-- src/records.rt:161:1
+same-length : tie.Need-same-length
+same-length c = search needs
+
+-- src/records.rt:161:1
+same-length-2 : tie.Need-same-length-2
+same-length-2 c = search needs
+
+-- src/records.rt:161:1
+returns : tie.Need-returns
+returns c =
+    flat-ran _ _ _ _ _ _ _ _ _ _ _ _
+    (c .before .before .before .before .before .before .before .before .before
+    .before .before .before .before .before .before .pre)
+    (c .before .before .before .before .before .before .before .before .before .before .numbers-lent .ensures)
+    (c .before .before .before .before .before .a3 .given)
+    (c .before .before .before .before .before .before .run-record .ensures) (c .leave .ensures)
+
+pub run-record-spec : {M : Type 1} → statement M
+run-record-spec =
+    tie.close
+    (tie.spec
+    numbers-lent-requires
+    array-borrow-prefix-a
+    slice-aggregate-run-record
+    run-record-requires
+    leave-requires
+    same-length
+    same-length-2
+    returns)

@@ -1,0 +1,61 @@
+-- What the calls over structs have done: the same as the calls on numbers, `stepOn` of the table's numbers.
+use Prim.Native.Nat.{ℕ}
+use mathlib.Core.Path.{_≡_}
+use mathlib.Core.List.{List, []}
+use Rattle.foil_spec.specs.Lists.{each}
+use Rattle.foil_spec.specs.Foil.{Point, Entry}
+use Rattle.foil_spec.specs.Ledger.{Step}
+use Rattle.foil_spec.specs.Lent.{lent, entryNumbers}
+use Rattle.foil_spec.specs.declared.Board.{Board}
+use Rattle.foil.specs.declared.Answer.{Answer}
+use Rattle.foil.specs.declared.Answer.the-variants.{Refused, Accepted, Laid, Found}
+use Rattle.foil.specs.Contract.{StepDone, Looked}
+use Rattle.host.specs.declared.flat.Flat.{Flat}
+use Rattle.host.specs.declared.flat.Said.{Said}
+use Rattle.host.specs.declared.flat.Left.{Left}
+use Rattle.host.specs.Flats.{entriesOf}
+
+-- a step on the table es: board, strips and corner list were b, s and ks; it answered a and left b′, es′, s′ and ks′
+abbrev pub HostDone : Step → Board → List Entry → List ℕ → List ℕ → Answer → Board → List Entry → List ℕ → List ℕ
+    → Type 0
+HostDone c b es s ks a b′ es′ s′ ks′ =
+    StepDone c (lent b (each entryNumbers es) s ks) (record { answer = a; board = b′ }) (each entryNumbers es′) s′ ks′
+
+-- a look up of p on the table es, which it only reads, answered a
+abbrev pub HostLooked : Point → Board → List Entry → List ℕ → Answer → Type 0
+HostLooked p b es s a = Looked p (lent b (each entryNumbers es) s []) a
+
+-- ---- answers as numbers
+
+-- an answer's numbers: 0 is no refusal
+unfoldable pub saidOf : Answer → Said
+saidOf (Refused n) = record { number = n; corners = 0; bends = 0; place = 0 }
+saidOf Accepted = record { number = 0; corners = 0; bends = 0; place = 0 }
+saidOf (Laid k n) = record { number = 0; corners = k; bends = n; place = 0 }
+saidOf (Found k) = record { number = 0; corners = 0; bends = 0; place = k }
+
+-- a step whose answer is told by its numbers
+pub record StepTold (c : Step) (b : Board) (es : List Entry) (s ks : List ℕ) (r : Said) (b′ : Board) (es′ : List Entry)
+    (s′ ks′ : List ℕ) : Type 0 where
+  pub answer : Answer
+  pub said : r ≡ saidOf answer
+  pub done : HostDone c b es s ks answer b′ es′ s′ ks′
+
+-- a look up whose answer is told by its numbers
+pub record LookTold (p : Point) (b : Board) (es : List Entry) (s : List ℕ) (r : Said) : Type 0 where
+  pub answer : Answer
+  pub said : r ≡ saidOf answer
+  pub looked : HostLooked p b es s answer
+
+-- ---- what the thin functions leave
+
+-- a step on the table es left r, es′, s′ and ks′
+pub record ThinDone (c : Step) (b : Board) (es : List Entry) (s ks : List ℕ) (r : Left) (es′ : List Entry)
+    (s′ ks′ : List ℕ) : Type 0 where
+  pub said : r .said ≡ saidOf (r .answer)
+  pub done : HostDone c b es s ks (r .answer) (r .board) es′ s′ ks′
+
+-- the same of the table's numbers by value, whose places stay as many
+pub record FlatDone (c : Step) (b : Board) (t : Flat) (s ks : List ℕ) (r : Left) (s′ ks′ : List ℕ) : Type 0 where
+  pub places : r .table .len ≡ t .len
+  pub thin : ThinDone c b (entriesOf t) s ks r (entriesOf (r .table)) s′ ks′

@@ -1,0 +1,49 @@
+-- The numbers of a table's first 128 places by value: laid in place by place, and stored over a table.
+use Prim.Native.Nat.{ℕ, zero, suc, _+_, _*_, min}
+use mathlib.Core.Bool.{true, false}
+use mathlib.Core.List.{List, map}
+use lib.Dec.{ltb}
+use lib.ListN.{length, set, getD, replicate}
+use Rattle.foil_spec.specs.Lists.{range}
+use Rattle.foil_spec.specs.Foil.{Entry, entry}
+use Rattle.foil_spec.specs.Lent.{entryAt}
+use Rattle.host.specs.declared.flat.Flat.{Flat}
+
+-- no entry, for a table of n places
+unfoldable pub zeros : ℕ → Flat
+zeros n = record { at = replicate 640 0; len = n }
+
+-- five numbers from place k on
+unfoldable pub setFive : List ℕ → ℕ → Entry → List ℕ
+setFive a k e =
+    set (set (set (set (set a k (e .net)) (k + 1) (e .x0)) (k + 2) (e .y0)) (k + 3) (e .x1)) (k + 4) (e .y1)
+
+-- with the entry e at place i, if that is one of the first 128
+unfoldable pub withEntry : Flat → ℕ → Entry → Flat
+withEntry f i e = elim (ltb i 128) [ true ↦ record { at = setFive (f .at) (i * 5) e; len = f .len } | false ↦ f ]
+
+-- the entry at place i, or past the first 128 the old one
+unfoldable pub pickEntry : Flat → ℕ → Entry → Entry
+pickEntry f i old = elim (ltb i 128) [ true ↦ entryAt (f .at) i | false ↦ old ]
+
+-- how many numbers are lent on of a table of n places
+unfoldable pub numbersLent : ℕ → ℕ
+numbersLent n = min n 128 * 5
+
+-- the entries that the numbers say
+unfoldable pub entriesOf : Flat → List Entry
+entriesOf f = map (entryAt (f .at)) (range 0 (min (f .len) 128))
+
+-- what stands past the end of a table
+abbrev pub noEntry : Entry
+noEntry = entry 0 0 0 0 0
+
+-- the numbers of the first k places of a table
+unfoldable pub loadTo : List Entry → ℕ → Flat
+loadTo es zero = zeros (length es)
+loadTo es (suc k) = withEntry (loadTo es k) k (getD es k noEntry)
+
+-- a table with its first k places stored over
+unfoldable pub storeTo : Flat → List Entry → ℕ → List Entry
+storeTo f es zero = es
+storeTo f es (suc k) = set (storeTo f es k) k (pickEntry f k (getD (storeTo f es k) k noEntry))

@@ -1,0 +1,4 @@
+-- What the contracts of the calls over structs cite.
+pub mod Calls
+pub mod Flats
+pub mod Records

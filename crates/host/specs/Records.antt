@@ -1,0 +1,93 @@
+-- What running a record over structs has done: the same as on numbers, `callOn` of the table's numbers.
+use Prim.Native.Nat.{ℕ}
+use mathlib.Core.Path.{_≡_}
+use mathlib.Core.Bool.{Bool, true, false}
+use mathlib.Core.List.{List}
+use Rattle.foil_spec.specs.Lists.{each}
+use Rattle.foil_spec.specs.Foil.{Entry}
+use Rattle.foil_spec.specs.Lent.{lent, entryNumbers}
+use Rattle.foil_spec.specs.declared.Board.{Board}
+use Rattle.job.specs.declared.Told.{Told}
+use Rattle.job.specs.declared.Told.the-variants.{Nothing, Said}
+use Rattle.job.specs.declared.Answers.{Answers}
+use Rattle.job.specs.declared.Next.{Next}
+use Rattle.job.specs.declared.Next.the-variants.{At, Nowhere}
+use Rattle.job.specs.declared.Reply.{Reply}
+use Rattle.job.specs.declared.Reply.the-variants.{Refused, Ran as HasRun, AtEnd}
+use Rattle.job.specs.Contract.{RecordDone}
+use Rattle.host.specs.declared.flat.Flat.{Flat}
+use Rattle.host.specs.declared.records.StepSaid.{StepSaid}
+use Rattle.host.specs.declared.records.RecordSaid.{RecordSaid}
+use Rattle.host.specs.declared.records.Ran.{Ran}
+use Rattle.host.specs.Flats.{entriesOf}
+use Rattle.host.specs.Calls.{saidOf}
+
+-- the record at a place of the bytes bs, on the table es: board, strips and corner list were b, s and ks; it replied r
+-- and left b′, es′, s′ and ks′
+abbrev pub HostRan : List ℕ → ℕ → Board → List Entry → List ℕ → List ℕ → Reply → Board → List Entry → List ℕ
+    → List ℕ → Type 0
+HostRan bs at b es s ks r b′ es′ s′ ks′ =
+    RecordDone bs at (lent b (each entryNumbers es) s ks) (record { reply = r; board = b′ }) (each entryNumbers es′)
+    s′ ks′
+
+-- ---- replies as numbers
+
+-- a step's numbers, zeros if it was not run
+unfoldable pub stepSaidOf : Told → StepSaid
+stepSaidOf Nothing = record { ran = false; said = record { number = 0; corners = 0; bends = 0; place = 0 } }
+stepSaidOf (Said a) = record { ran = true; said = saidOf a }
+
+-- whether there is a next place
+unfoldable pub goesOn : Next → Bool
+goesOn (At n) = true
+goesOn Nowhere = false
+
+-- the next place, 0 for none
+unfoldable pub placeNext : Next → ℕ
+placeNext (At n) = n
+placeNext Nowhere = 0
+
+-- the numbers of a reply with these answers
+unfoldable pub ranSaid : ℕ → Bool → Answers → Next → RecordSaid
+ranSaid n end given next =
+    record {
+      number = n;
+      end = end;
+      board = stepSaidOf (given .board);
+      patch = stepSaidOf (given .patch);
+      track = stepSaidOf (given .track);
+      lift = stepSaidOf (given .lift);
+      more = goesOn next;
+      next = placeNext next;
+    }
+
+-- no step was run
+abbrev pub noAnswers : Answers
+noAnswers = record { board = Nothing; patch = Nothing; track = Nothing; lift = Nothing }
+
+-- a reply's numbers
+unfoldable pub recordSaidOf : Reply → RecordSaid
+recordSaidOf (Refused n) = ranSaid n false noAnswers Nowhere
+recordSaidOf (HasRun given next) = ranSaid 0 false given next
+recordSaidOf AtEnd = ranSaid 0 true noAnswers Nowhere
+
+-- a record whose reply is told by its numbers
+pub record RecordTold (bs : List ℕ) (at : ℕ) (b : Board) (es : List Entry) (s ks : List ℕ) (r : RecordSaid)
+    (b′ : Board) (es′ : List Entry) (s′ ks′ : List ℕ) : Type 0 where
+  pub reply : Reply
+  pub said : r ≡ recordSaidOf reply
+  pub done : HostRan bs at b es s ks reply b′ es′ s′ ks′
+
+-- ---- what the thin functions leave
+
+-- a record on the table es left r, es′, s′ and ks′
+pub record ThinRan (bs : List ℕ) (at : ℕ) (b : Board) (es : List Entry) (s ks : List ℕ) (r : Ran) (es′ : List Entry)
+    (s′ ks′ : List ℕ) : Type 0 where
+  pub said : r .said ≡ recordSaidOf (r .reply)
+  pub done : HostRan bs at b es s ks (r .reply) (r .board) es′ s′ ks′
+
+-- the same of the table's numbers by value, whose places stay as many
+pub record FlatRan (bs : List ℕ) (at : ℕ) (b : Board) (t : Flat) (s ks : List ℕ) (r : Ran) (s′ ks′ : List ℕ)
+    : Type 0 where
+  pub places : r .table .len ≡ t .len
+  pub thin : ThinRan bs at b (entriesOf t) s ks r (entriesOf (r .table)) s′ ks′

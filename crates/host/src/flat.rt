@@ -1,0 +1,204 @@
+// The table's numbers by value, and the calls of `foil` on them.
+use foil::Answer;
+use foil::Done;
+use foil_spec::Board;
+use foil_spec::Entry;
+ghost use mathlib.Core.Path.{_≡_};
+ghost use mathlib.Core.List.{[]};
+ghost use lib.ListN.{length};
+ghost use Rattle.foil_spec.specs.Foil.{point};
+ghost use Rattle.foil_spec.specs.Ledger.{newFoil, draw as draws, lay as lays, lift as lifts};
+ghost use Rattle.host.specs.Flats.{zeros, withEntry, pickEntry, numbersLent, entriesOf};
+ghost use Rattle.host.specs.Calls.{saidOf, FlatDone, HostLooked, LookTold};
+
+// The first 128 places of a lent table as numbers, five a place, and how many places are lent.
+pub struct Flat {
+    pub at: [u16; 640],
+    pub len: usize,
+}
+
+// An answer as numbers: the number of a refusal, 0 for none; the numbers of corners and bends after a
+// lay; the strip's place after a look up.
+#[repr(C)]
+pub struct Said {
+    pub number: u8,
+    pub corners: usize,
+    pub bends: usize,
+    pub place: usize,
+}
+
+// What a call leaves: the board's record, its answer, the table's numbers, and the answer as numbers.
+pub struct Left {
+    pub board: Board,
+    pub answer: Answer,
+    pub table: Flat,
+    pub said: Said,
+}
+
+// No entry, for a lent table of n places.
+pub fn empty(n: usize) -> Flat
+    ensures { λ r. ⌜ r ≡ zeros n ⌝ }
+{
+    let a = [0; 640];
+    Flat { at: a, len: n }
+}
+
+// With the entry e at place i; a place past the first 128 is left out.
+pub fn put(f: Flat, i: usize, e: Entry) -> Flat
+    ensures { λ r. ⌜ r ≡ withEntry f i e ⌝ }
+{
+    if i < 128 {
+        let mut a = f.at;
+        a[i * 5] = e.net;
+        a[i * 5 + 1] = e.x0;
+        a[i * 5 + 2] = e.y0;
+        a[i * 5 + 3] = e.x1;
+        a[i * 5 + 4] = e.y1;
+        Flat { at: a, len: f.len }
+    } else {
+        f
+    }
+}
+
+// The entry at place i; past the first 128 places the old one.
+pub fn pick(f: Flat, i: usize, old: Entry) -> Entry
+    ensures { λ r. ⌜ r ≡ pickEntry f i old ⌝ }
+{
+    if i < 128 {
+        let a = f.at;
+        Entry {
+            net: a[i * 5],
+            x0: a[i * 5 + 1],
+            y0: a[i * 5 + 2],
+            x1: a[i * 5 + 3],
+            y1: a[i * 5 + 4],
+        }
+    } else {
+        old
+    }
+}
+
+// How many numbers are lent on of a table of n places: five a place, of 128 places at most.
+pub fn numbers_lent(n: usize) -> usize
+    ensures { λ r. ⌜ r ≡ numbersLent n ⌝ }
+{
+    if n < 128 { n * 5 } else { 640 }
+}
+
+// The numbers of an answer.
+pub fn said_of(answer: Answer) -> Said
+    ensures { λ r. ⌜ r ≡ saidOf answer ⌝ }
+{
+    let mut number = 0;
+    let mut corners = 0;
+    let mut bends = 0;
+    let mut place = 0;
+    match answer {
+        Answer::Refused(n) => number = n,
+        Answer::Accepted => {}
+        Answer::Laid(k, n) => {
+            corners = k;
+            bends = n;
+        }
+        Answer::Found(k) => place = k,
+    }
+    Said {
+        number,
+        corners,
+        bends,
+        place,
+    }
+}
+
+// What a call on the table's numbers has left.
+fn leave(done: Done, at: [u16; 640], len: usize) -> Left
+    ensures { λ r. ⌜ r ≡ record {
+      board = done .board;
+      answer = done .answer;
+      table = record { at = at; len = len };
+      said = saidOf (done .answer);
+    } ⌝ }
+{
+    let board = done.board;
+    let answer = done.answer;
+    Left {
+        board,
+        answer,
+        table: Flat { at, len },
+        said: said_of(answer),
+    }
+}
+
+// Begins a foil.
+pub fn new_foil(strips: &mut [u16], t: Flat, b: Board, w: u16, h: u16, d: u16) -> Left
+    requires { ⌜ length (t .at) ≡ 640 ⌝ }
+    ensures { λ r. ⌜ FlatDone (newFoil w h d) b t (now (strips .entry)) [] r (now (strips .exit)) [] ⌝ }
+{
+    let mut a = t.at;
+    let n = numbers_lent(t.len);
+    let done = foil::new_foil(&mut a[..n], strips, b, w, h, d);
+    leave(done, a, t.len)
+}
+
+// Draws a patch.
+pub fn draw(strips: &mut [u16], t: Flat, b: Board, x0: u16, y0: u16, x1: u16, y1: u16) -> Left
+    requires { ⌜ length (t .at) ≡ 640 ⌝ }
+    ensures { λ r. ⌜ FlatDone (draws x0 y0 x1 y1) b t (now (strips .entry)) [] r (now (strips .exit)) [] ⌝ }
+{
+    let mut a = t.at;
+    let n = numbers_lent(t.len);
+    let done = foil::draw(&mut a[..n], strips, b, x0, y0, x1, y1);
+    leave(done, a, t.len)
+}
+
+// Lays a track.
+pub fn lay(
+    strips: &mut [u16],
+    corners: &mut [u16],
+    t: Flat,
+    b: Board,
+    net: u16,
+    sx: u16,
+    sy: u16,
+    tx: u16,
+    ty: u16,
+) -> Left
+    requires { ⌜ length (t .at) ≡ 640 ⌝ }
+    ensures { λ r. ⌜ FlatDone (lays net (point sx sy) (point tx ty)) b t
+        (now (strips .entry)) (now (corners .entry)) r (now (strips .exit)) (now (corners .exit)) ⌝ }
+{
+    let mut a = t.at;
+    let n = numbers_lent(t.len);
+    let done = foil::lay(&mut a[..n], strips, corners, b, net, sx, sy, tx, ty);
+    leave(done, a, t.len)
+}
+
+// Lifts a net.
+pub fn lift(strips: &mut [u16], t: Flat, b: Board, net: u16) -> Left
+    requires { ⌜ length (t .at) ≡ 640 ⌝ }
+    ensures { λ r. ⌜ FlatDone (lifts net) b t (now (strips .entry)) [] r (now (strips .exit)) [] ⌝ }
+{
+    let mut a = t.at;
+    let n = numbers_lent(t.len);
+    let done = foil::lift(&mut a[..n], strips, b, net);
+    leave(done, a, t.len)
+}
+
+// Looks a point up.
+pub fn look_up(strips: &[u16], t: Flat, b: Board, x: u16, y: u16) -> Answer
+    requires { ⌜ length (t .at) ≡ 640 ⌝ }
+    ensures { λ r. ⌜ HostLooked (point x y) b (entriesOf t) (now (strips .entry)) r ⌝ }
+{
+    let a = t.at;
+    let n = numbers_lent(t.len);
+    foil::look_up(&a[..n], strips, b, x, y)
+}
+
+// Looks a point up, and tells the answer by its numbers.
+pub fn look_up_told(strips: &[u16], t: Flat, b: Board, x: u16, y: u16) -> Said
+    requires { ⌜ length (t .at) ≡ 640 ⌝ }
+    ensures { λ r. ⌜ LookTold (point x y) b (entriesOf t) (now (strips .entry)) r ⌝ }
+{
+    let answer = look_up(strips, t, b, x, y);
+    said_of(answer)
+}

@@ -1,0 +1,120 @@
+// The calls on a foil as a host program uses them: the board's record is lent by `&mut`, the patch
+// table as a slice of entry structs. Each has the contract of the call of `foil` on numbers. `exported`
+// has the same calls for programs in C.
+mod exported;
+mod flat;
+mod records;
+mod table;
+
+use foil::Answer;
+use foil_spec::Board;
+use foil_spec::Entry;
+use job::Reply;
+use table::load;
+ghost use mathlib.Core.List.{[]};
+ghost use Rattle.foil_spec.specs.Foil.{point};
+ghost use Rattle.foil_spec.specs.Ledger.{newFoil, draw as draws, lay as lays, lift as lifts};
+ghost use Rattle.host.specs.Calls.{HostDone, HostLooked};
+ghost use Rattle.host.specs.Records.{HostRan};
+
+// Begins a foil of w by h with clearance d: an empty table, and one strip, the whole foil.
+pub fn new_foil(
+    board: &mut Board,
+    table: &mut [Entry],
+    strips: &mut [u16],
+    w: u16,
+    h: u16,
+    d: u16,
+) -> Answer
+    ensures { λ r. ⌜ HostDone (newFoil w h d)
+        (now (board .entry)) (now (table .entry)) (now (strips .entry)) []
+        r (now (board .exit)) (now (table .exit)) (now (strips .exit)) [] ⌝ }
+{
+    let b = *board;
+    let out = table::clear(table, strips, b, w, h, d);
+    *board = out.board;
+    out.answer
+}
+
+// Draws a patch: appends an entry of net 0.
+pub fn draw(
+    board: &mut Board,
+    table: &mut [Entry],
+    strips: &mut [u16],
+    x0: u16,
+    y0: u16,
+    x1: u16,
+    y1: u16,
+) -> Answer
+    ensures { λ r. ⌜ HostDone (draws x0 y0 x1 y1)
+        (now (board .entry)) (now (table .entry)) (now (strips .entry)) []
+        r (now (board .exit)) (now (table .exit)) (now (strips .exit)) [] ⌝ }
+{
+    let b = *board;
+    let out = table::append(table, strips, b, x0, y0, x1, y1);
+    *board = out.board;
+    out.answer
+}
+
+// Lays a track of the net from (sx, sy) to (tx, ty): writes its corners to the front of the corner
+// list, and appends an entry for each leg.
+pub fn lay(
+    board: &mut Board,
+    table: &mut [Entry],
+    strips: &mut [u16],
+    corners: &mut [u16],
+    net: u16,
+    sx: u16,
+    sy: u16,
+    tx: u16,
+    ty: u16,
+) -> Answer
+    ensures { λ r. ⌜ HostDone (lays net (point sx sy) (point tx ty))
+        (now (board .entry)) (now (table .entry)) (now (strips .entry)) (now (corners .entry))
+        r (now (board .exit)) (now (table .exit)) (now (strips .exit)) (now (corners .exit)) ⌝ }
+{
+    let b = *board;
+    let out = table::append_track(table, strips, corners, b, net, sx, sy, tx, ty);
+    *board = out.board;
+    out.answer
+}
+
+// Lifts a net: takes out all its entries, the rest keeping their order.
+pub fn lift(board: &mut Board, table: &mut [Entry], strips: &mut [u16], net: u16) -> Answer
+    ensures { λ r. ⌜ HostDone (lifts net)
+        (now (board .entry)) (now (table .entry)) (now (strips .entry)) []
+        r (now (board .exit)) (now (table .exit)) (now (strips .exit)) [] ⌝ }
+{
+    let b = *board;
+    let out = table::lift(table, strips, b, net);
+    *board = out.board;
+    out.answer
+}
+
+// Looks a point up: the place of the one strip that holds it. Nothing is changed.
+pub fn look_up(board: &Board, table: &[Entry], strips: &[u16], x: u16, y: u16) -> Answer
+    ensures { λ r. ⌜ HostLooked (point x y) (now (board .entry)) (now (table .entry)) (now (strips .entry)) r ⌝ }
+{
+    let b = *board;
+    let t = load(table);
+    flat::look_up(strips, t, b, x, y)
+}
+
+// Runs the record that begins at place `at` of a job file's bytes.
+pub fn run_record(
+    board: &mut Board,
+    table: &mut [Entry],
+    strips: &mut [u16],
+    corners: &mut [u16],
+    bytes: &[u8],
+    at: usize,
+) -> Reply
+    ensures { λ r. ⌜ HostRan (now (bytes .entry)) at
+        (now (board .entry)) (now (table .entry)) (now (strips .entry)) (now (corners .entry))
+        r (now (board .exit)) (now (table .exit)) (now (strips .exit)) (now (corners .exit)) ⌝ }
+{
+    let b = *board;
+    let out = table::run_record(table, strips, corners, bytes, b, at);
+    *board = out.board;
+    out.reply
+}

@@ -1,0 +1,177 @@
+// A record of a job file on the table's numbers by value, and its reply as numbers.
+use crate::flat::Flat;
+use crate::flat::Said;
+use crate::flat::numbers_lent;
+use crate::flat::said_of;
+use foil_spec::Board;
+use job::Answers;
+use job::Next;
+use job::Replied;
+use job::Reply;
+use job::Told;
+ghost use mathlib.Core.Path.{_≡_};
+ghost use mathlib.Core.Bool.{true, false};
+ghost use lib.ListN.{length};
+ghost use Rattle.host.specs.Records.{stepSaidOf, noAnswers, ranSaid, recordSaidOf, FlatRan};
+
+// A step of a record: whether it was run, and its answer as numbers, zeros if it was not.
+#[repr(C)]
+pub struct StepSaid {
+    pub ran: bool,
+    pub said: Said,
+}
+
+// A reply as numbers: the number that refuses the record as a whole, 0 for none; whether it was the end
+// mark; each step; whether the job goes on, and the next record's place.
+#[repr(C)]
+pub struct RecordSaid {
+    pub number: u8,
+    pub end: bool,
+    pub board: StepSaid,
+    pub patch: StepSaid,
+    pub track: StepSaid,
+    pub lift: StepSaid,
+    pub more: bool,
+    pub next: usize,
+}
+
+// What a record leaves: the board's record, its reply, the table's numbers, and the reply as numbers.
+pub struct Ran {
+    pub board: Board,
+    pub reply: Reply,
+    pub table: Flat,
+    pub said: RecordSaid,
+}
+
+// No numbers.
+fn nothing_said() -> Said
+    ensures { λ r. ⌜ r ≡ record { number = 0; corners = 0; bends = 0; place = 0 } ⌝ }
+{
+    Said {
+        number: 0,
+        corners: 0,
+        bends: 0,
+        place: 0,
+    }
+}
+
+// The numbers of a step.
+fn step_said_of(told: Told) -> StepSaid
+    ensures { λ r. ⌜ r ≡ stepSaidOf told ⌝ }
+{
+    let Told::Said(answer) = told else {
+        return StepSaid {
+            ran: false,
+            said: nothing_said(),
+        };
+    };
+    StepSaid {
+        ran: true,
+        said: said_of(answer),
+    }
+}
+
+// The numbers of a record that was not run.
+fn not_run(number: u8, end: bool) -> RecordSaid
+    ensures { λ r. ⌜ r ≡ ranSaid number end noAnswers Next.Nowhere ⌝ }
+{
+    let none = StepSaid {
+        ran: false,
+        said: nothing_said(),
+    };
+    RecordSaid {
+        number,
+        end,
+        board: none,
+        patch: none,
+        track: none,
+        lift: none,
+        more: false,
+        next: 0,
+    }
+}
+
+// The numbers of a record that was run.
+fn run(answers: Answers, next: Next) -> RecordSaid
+    ensures { λ r. ⌜ r ≡ ranSaid 0 false answers next ⌝ }
+{
+    let told = answers.board;
+    let board = step_said_of(told);
+    let told = answers.patch;
+    let patch = step_said_of(told);
+    let told = answers.track;
+    let track = step_said_of(told);
+    let told = answers.lift;
+    let lift = step_said_of(told);
+    let Next::At(place) = next else {
+        return RecordSaid {
+            number: 0,
+            end: false,
+            board,
+            patch,
+            track,
+            lift,
+            more: false,
+            next: 0,
+        };
+    };
+    RecordSaid {
+        number: 0,
+        end: false,
+        board,
+        patch,
+        track,
+        lift,
+        more: true,
+        next: place,
+    }
+}
+
+// The numbers of a reply.
+fn record_said_of(reply: Reply) -> RecordSaid
+    ensures { λ r. ⌜ r ≡ recordSaidOf reply ⌝ }
+{
+    match reply {
+        Reply::Refused(n) => not_run(n, false),
+        Reply::Ran(answers, next) => run(answers, next),
+        Reply::AtEnd => not_run(0, true),
+    }
+}
+
+// What a record on the table's numbers has left.
+fn leave(done: Replied, at: [u16; 640], len: usize) -> Ran
+    ensures { λ r. ⌜ r ≡ record {
+      board = done .board;
+      reply = done .reply;
+      table = record { at = at; len = len };
+      said = recordSaidOf (done .reply);
+    } ⌝ }
+{
+    let board = done.board;
+    let reply = done.reply;
+    Ran {
+        board,
+        reply,
+        table: Flat { at, len },
+        said: record_said_of(reply),
+    }
+}
+
+// Runs the record at a place of the bytes.
+pub fn run_record(
+    strips: &mut [u16],
+    corners: &mut [u16],
+    bytes: &[u8],
+    t: Flat,
+    b: Board,
+    at: usize,
+) -> Ran
+    requires { ⌜ length (t .at) ≡ 640 ⌝ }
+    ensures { λ r. ⌜ FlatRan (now (bytes .entry)) at b t (now (strips .entry)) (now (corners .entry))
+        r (now (strips .exit)) (now (corners .exit)) ⌝ }
+{
+    let mut a = t.at;
+    let n = numbers_lent(t.len);
+    let done = job::run_record(&mut a[..n], strips, corners, b, bytes, at);
+    leave(done, a, t.len)
+}

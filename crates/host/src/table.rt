@@ -1,0 +1,136 @@
+// The patch table as a lent slice of entry structs. Each function takes its first 128 places out as
+// numbers, does a call on these, and puts them back; the board's record goes by value.
+use crate::flat;
+use crate::flat::Flat;
+use crate::flat::Left;
+use crate::flat::empty;
+use crate::flat::pick;
+use crate::flat::put;
+use crate::records;
+use crate::records::Ran;
+use foil_spec::Board;
+use foil_spec::Entry;
+ghost use mathlib.Core.Path.{_≡_};
+ghost use mathlib.Core.List.{[]};
+ghost use lib.ListN.{length};
+ghost use Rattle.foil_spec.specs.Foil.{point};
+ghost use Rattle.foil_spec.specs.Ledger.{newFoil, draw as draws, lay as lays, lift as lifts};
+ghost use Rattle.host.specs.Flats.{loadTo, storeTo};
+ghost use Rattle.host.specs.Calls.{ThinDone};
+ghost use Rattle.host.specs.Records.{ThinRan};
+
+// Takes the numbers of a table's first 128 places out.
+pub fn load(table: &[Entry]) -> Flat
+    ensures { λ r. ⌜ r ≡ loadTo (now (table .entry)) (length (now (table .entry))) ⌝ }
+{
+    let n = table.len();
+    let mut f = empty(n);
+    let mut i = 0;
+    while i < n {
+        let e = table[i];
+        f = put(f, i, e);
+        i = i + 1;
+    }
+    f
+}
+
+// Puts the numbers of the first 128 places back; the places after them stay as they are.
+pub fn store(table: &mut [Entry], f: Flat)
+    ensures { λ _. ⌜ now (table .exit) ≡ storeTo f (now (table .entry)) (length (now (table .entry))) ⌝ }
+{
+    let n = table.len();
+    let mut i = 0;
+    while i < n {
+        let old = table[i];
+        let e = pick(f, i, old);
+        table[i] = e;
+        i = i + 1;
+    }
+}
+
+// Empties the table: a foil begins.
+pub fn clear(table: &mut [Entry], strips: &mut [u16], b: Board, w: u16, h: u16, d: u16) -> Left
+    ensures { λ r. ⌜ ThinDone (newFoil w h d) b (now (table .entry)) (now (strips .entry)) []
+        r (now (table .exit)) (now (strips .exit)) [] ⌝ }
+{
+    let t = load(table);
+    let out = flat::new_foil(strips, t, b, w, h, d);
+    let u = out.table;
+    store(table, u);
+    out
+}
+
+// Appends a patch: an entry of net 0 at the first unused place.
+pub fn append(
+    table: &mut [Entry],
+    strips: &mut [u16],
+    b: Board,
+    x0: u16,
+    y0: u16,
+    x1: u16,
+    y1: u16,
+) -> Left
+    ensures { λ r. ⌜ ThinDone (draws x0 y0 x1 y1) b (now (table .entry)) (now (strips .entry)) []
+        r (now (table .exit)) (now (strips .exit)) [] ⌝ }
+{
+    let t = load(table);
+    let out = flat::draw(strips, t, b, x0, y0, x1, y1);
+    let u = out.table;
+    store(table, u);
+    out
+}
+
+// Appends a track: an entry for each leg.
+pub fn append_track(
+    table: &mut [Entry],
+    strips: &mut [u16],
+    corners: &mut [u16],
+    b: Board,
+    net: u16,
+    sx: u16,
+    sy: u16,
+    tx: u16,
+    ty: u16,
+) -> Left
+    ensures { λ r. ⌜ ThinDone (lays net (point sx sy) (point tx ty)) b
+        (now (table .entry)) (now (strips .entry)) (now (corners .entry))
+        r (now (table .exit)) (now (strips .exit)) (now (corners .exit)) ⌝ }
+{
+    let t = load(table);
+    let out = flat::lay(strips, corners, t, b, net, sx, sy, tx, ty);
+    let u = out.table;
+    store(table, u);
+    out
+}
+
+// Lifts a net's entries out.
+pub fn lift(table: &mut [Entry], strips: &mut [u16], b: Board, net: u16) -> Left
+    ensures { λ r. ⌜ ThinDone (lifts net) b (now (table .entry)) (now (strips .entry)) []
+        r (now (table .exit)) (now (strips .exit)) [] ⌝ }
+{
+    let t = load(table);
+    let out = flat::lift(strips, t, b, net);
+    let u = out.table;
+    store(table, u);
+    out
+}
+
+// Runs a record of a job file on the table.
+pub fn run_record(
+    table: &mut [Entry],
+    strips: &mut [u16],
+    corners: &mut [u16],
+    bytes: &[u8],
+    b: Board,
+    at: usize,
+) -> Ran
+    ensures { λ r. ⌜ ThinRan (now (bytes .entry)) at b
+        (now (table .entry)) (now (strips .entry)) (now (corners .entry))
+        r (now (table .exit)) (now (strips .exit)) (now (corners .exit)) ⌝ }
+{
+    let t = load(table);
+    let out = records::run_record(strips, corners, bytes, t, b, at);
+    let u = out.table;
+    store(table, u);
+    out
+}

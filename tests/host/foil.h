@@ -1,0 +1,74 @@
+/* The calls on a foil, for C: the functions that `rt staticlib host` exports, as crates/host/src/exported.rt has them.
+   A list is lent by its address and its length. The table has 5 numbers an entry; a strip is 4 numbers (x0, y0, x1,
+   y1), a corner 2 (x, y). A call may be lent any lists: one that is too short is refused by 12. */
+#ifndef FOIL_H
+#define FOIL_H
+
+#include <stdbool.h>
+#include <stddef.h>
+#include <stdint.h>
+
+/* what a foil's lists must have room for */
+enum { FOIL_ENTRIES = 128, FOIL_STRIPS = 4096 };
+
+/* the board's record */
+struct foil_board {
+    uint16_t width, height, clearance;
+    size_t entries, strips;
+};
+
+/* an entry of the patch table: its net, and the points with x0 <= x < x1 and y0 <= y < y1 */
+struct foil_entry {
+    uint16_t net, x0, y0, x1, y1;
+};
+
+/* an answer: the number of a refusal, 0 for none; the numbers of corners and bends after a lay; the strip's place
+   after a look up */
+struct foil_said {
+    uint8_t number;
+    size_t corners, bends, place;
+};
+
+/* a step of a record: whether it was run, and its answer */
+struct foil_step {
+    bool ran;
+    struct foil_said said;
+};
+
+/* the reply to a record: the number that refuses it as a whole, 0 for none; whether it was the end mark; its steps;
+   whether the job goes on, and the next record's place */
+struct foil_record {
+    uint8_t number;
+    bool end;
+    struct foil_step board, patch, track, lift;
+    bool more;
+    size_t next;
+};
+
+/* begins a foil of w by h with clearance d */
+struct foil_said foil_new_foil(struct foil_board *board, struct foil_entry *table, size_t entries, uint16_t *strips,
+                               size_t strip_numbers, uint16_t w, uint16_t h, uint16_t d);
+
+/* draws a patch */
+struct foil_said foil_draw(struct foil_board *board, struct foil_entry *table, size_t entries, uint16_t *strips,
+                           size_t strip_numbers, uint16_t x0, uint16_t y0, uint16_t x1, uint16_t y1);
+
+/* lays a track of the net from (sx, sy) to (tx, ty), and writes its corners */
+struct foil_said foil_lay(struct foil_board *board, struct foil_entry *table, size_t entries, uint16_t *strips,
+                          size_t strip_numbers, uint16_t *corners, size_t corner_numbers, uint16_t net, uint16_t sx,
+                          uint16_t sy, uint16_t tx, uint16_t ty);
+
+/* lifts a net */
+struct foil_said foil_lift(struct foil_board *board, struct foil_entry *table, size_t entries, uint16_t *strips,
+                           size_t strip_numbers, uint16_t net);
+
+/* looks a point up */
+struct foil_said foil_look_up(const struct foil_board *board, const struct foil_entry *table, size_t entries,
+                              const uint16_t *strips, size_t strip_numbers, uint16_t x, uint16_t y);
+
+/* runs the record that begins at place `at` of a job file's bytes; a lay's corners are written as by foil_lay */
+struct foil_record foil_run_record(struct foil_board *board, struct foil_entry *table, size_t entries, uint16_t *strips,
+                                   size_t strip_numbers, uint16_t *corners, size_t corner_numbers,
+                                   const uint8_t *bytes, size_t byte_count, size_t at);
+
+#endif
