@@ -51,23 +51,18 @@ fn place(next: Next) {
     show::line(b"0, next place ", place);
 }
 
+// Lays net 1 from (0, 0) to (2, 2).
+fn lay_across(table: &mut [u16], strips: &mut [u16], corners: &mut [u16], board: Board) -> Done {
+    lay(table, strips, corners, board, 1, 0, 0, 2, 2)
+}
+
 // A table that is a number short: lay and run a record answer 12, and 18 comes before it.
 fn short_table() {
     let mut table = [7u16; 639];
     let mut strips = [7u16; 16384];
     let mut corners = [7u16; 4];
     let long = [0u8; 60001];
-    let done = lay(
-        &mut table,
-        &mut strips,
-        &mut corners,
-        no_board(),
-        0,
-        0,
-        0,
-        0,
-        0,
-    );
+    let done = lay_across(&mut table, &mut strips, &mut corners, no_board());
     answer(b"lay, 639 numbers of a table: ", done);
     let ran = run_record(&mut table, &mut strips, &mut corners, no_board(), b"", 0);
     reply(b"no bytes, 639 numbers of a table: ", ran);
@@ -80,17 +75,7 @@ fn short_strips() {
     let mut table = [7u16; 640];
     let mut strips = [7u16; 16383];
     let mut corners = [7u16; 4];
-    let done = lay(
-        &mut table,
-        &mut strips,
-        &mut corners,
-        no_board(),
-        0,
-        0,
-        0,
-        0,
-        0,
-    );
+    let done = lay_across(&mut table, &mut strips, &mut corners, no_board());
     answer(b"lay, 16383 numbers of a strip list: ", done);
     let ran = run_record(&mut table, &mut strips, &mut corners, no_board(), b"", 0);
     reply(b"no bytes, 16383 numbers of a strip list: ", ran);
@@ -103,31 +88,11 @@ fn short_corners() {
     let mut few = [7u16; 5];
     let mut enough = [7u16; 6];
     let begun = new_foil(&mut table, &mut strips, no_board(), 3, 3, 0);
-    let first = lay(
-        &mut table,
-        &mut strips,
-        &mut few,
-        begun.board,
-        1,
-        0,
-        0,
-        2,
-        2,
-    );
+    let first = lay_across(&mut table, &mut strips, &mut few, begun.board);
     answer(b"lay, 5 numbers of a corner list: ", first);
     number_line(b"its first number after that: ", few[0]);
     show::line(b"entries after that: ", first.board.entries);
-    let second = lay(
-        &mut table,
-        &mut strips,
-        &mut enough,
-        first.board,
-        1,
-        0,
-        0,
-        2,
-        2,
-    );
+    let second = lay_across(&mut table, &mut strips, &mut enough, first.board);
     answer(b"lay, 6 numbers of a corner list: ", second);
     number_line(b"its last x after that: ", enough[4]);
     show::line(b"entries after that: ", second.board.entries);
