@@ -1,0 +1,314 @@
+// Runs the job program and the plain router on the same jobs, holds their lines against each other, counts their
+// instructions and prints the tables. Words: the job program, the plain router, a folder for the files.
+mod jobs;
+
+use jobs::*;
+use std::collections::HashMap;
+use std::fs::{self, File};
+use std::path::{Path, PathBuf};
+use std::process::{Command, Stdio};
+use std::time::Instant;
+
+// The plain router looks at every point of the foil at each step. A job of more than so many points is not run under
+// callgrind, where it would take minutes.
+const POINTS: usize = 1 << 27;
+
+struct Bench {
+    ours: PathBuf,
+    plain: PathBuf,
+    room: PathBuf,
+    counted: HashMap<(PathBuf, Vec<u8>), u64>,
+}
+
+// What a step costs: the difference in instructions between the job with it and the job without, and the wall time of
+// the whole job, in milliseconds.
+struct Cost {
+    ours: u64,
+    plain: Option<u64>,
+    wall: (f64, f64),
+    said: String,
+}
+
+impl Cost {
+    fn millions(&self) -> f64 {
+        self.ours as f64 / 1e6
+    }
+}
+
+impl Bench {
+    // The lines of a job and how long it took, the best of five unless it is long.
+    fn run(&self, program: &Path, job: &[u8]) -> (String, f64) {
+        let mut best = f64::MAX;
+        let mut lines = String::new();
+        for _ in 0..5 {
+            let began = Instant::now();
+            lines = self.lines(Command::new(program), job);
+            best = best.min(began.elapsed().as_secs_f64() * 1000.0);
+            if best > 500.0 {
+                break;
+            }
+        }
+        (lines, best)
+    }
+
+    // The lines that a program writes for a job.
+    fn lines(&self, mut command: Command, job: &[u8]) -> String {
+        let file = self.room.join("job");
+        fs::write(&file, job).expect("room for a job");
+        let input = File::open(file).expect("the job");
+        let output = command.stdin(input).stderr(Stdio::null()).output().expect("a program that runs");
+        assert!(output.status.success(), "{command:?} failed");
+        String::from_utf8(output.stdout).expect("lines of text")
+    }
+
+    // The instructions of a whole job.
+    fn instructions(&mut self, program: &Path, job: &[u8]) -> u64 {
+        let key = (program.to_path_buf(), job.to_vec());
+        if let Some(&count) = self.counted.get(&key) {
+            return count;
+        }
+        let counts = self.room.join("counts");
+        let mut command = Command::new("valgrind");
+        command.arg("--tool=callgrind").arg(format!("--callgrind-out-file={}", counts.display())).arg(program);
+        self.lines(command, job);
+        let text = fs::read_to_string(counts).expect("callgrind's counts");
+        let total = text.lines().find_map(|line| line.strip_prefix("totals: ")).expect("a total");
+        let count = total.trim().parse().expect("a number");
+        self.counted.insert(key, count);
+        count
+    }
+
+    // Runs a job on both; they must write the same lines.
+    fn both(&self, job: &[u8]) -> (String, (f64, f64)) {
+        let (ours, plain) = (self.run(&self.ours, job), self.run(&self.plain, job));
+        if ours.0 != plain.0 {
+            fs::write("differs.job", job).expect("room for the job");
+            panic!("the two programs write different lines: see differs.job");
+        }
+        (ours.0, (ours.1, plain.1))
+    }
+
+    // The cost of one step on a board, after the steps `before`.
+    fn step(&mut self, table: &Table, before: &[u8], step: &[u8]) -> Cost {
+        let without = [&table.job(), before, &END].concat();
+        let with = [&table.job(), before, step, &END].concat();
+        let (lines, wall) = self.both(&with);
+        let (ours, plain) = (self.ours.clone(), self.plain.clone());
+        let more = |bench: &mut Bench, p: &Path| bench.instructions(p, &with) - bench.instructions(p, &without);
+        let points = table.side * table.side * (table.patches.len() + 1);
+        Cost {
+            ours: more(self, &ours),
+            plain: (points <= POINTS).then(|| more(self, &plain)),
+            wall,
+            said: said(&lines),
+        }
+    }
+}
+
+// What the last step answered, and how many strips there are after it.
+fn said(lines: &str) -> String {
+    let (strips, steps): (Vec<_>, Vec<_>) = lines.lines().partition(|line| line.starts_with("strip"));
+    let words: Vec<_> = steps.last().expect("a step").split(' ').collect();
+    let answer = match words[..] {
+        ["track", _, "0", "1", ..] => "1 bend".to_string(),
+        ["track", _, "0", bends, ..] => format!("{bends} bends"),
+        ["track" | "lift", _, "0"] | ["patch", "0"] => "done".to_string(),
+        _ => format!("refused by {}", words[words.len() - 1]),
+    };
+    format!("{answer}, {} strips", strips.len())
+}
+
+fn millions(count: u64) -> String {
+    format!("{:.2}", count as f64 / 1e6)
+}
+
+// The head of a table of steps.
+fn heading(title: &str, first: &str) {
+    println!("\n### {title}\n");
+    println!("| {first} | Step | Answer | Ours, M | Plain, M | Plain / ours | Job, ours, ms | Job, plain, ms | Plain / ours |");
+    println!("|---|---|---|--:|--:|--:|--:|--:|--:|");
+}
+
+// A row of it. The ratios are the plain router's cost over ours.
+fn row(first: &str, step: &str, cost: &Cost) {
+    let ratio = |a: f64, b: f64| if a < 10.0 * b { format!("{:.2}", a / b) } else { format!("{:.0}", a / b) };
+    let (plain, times) = match cost.plain {
+        Some(count) => (millions(count), ratio(count as f64, cost.ours as f64)),
+        None => ("not counted".into(), "".into()),
+    };
+    let (a, b) = cost.wall;
+    println!(
+        "| {first} | {step} | {} | {} | {plain} | {times} | {a:.1} | {b:.1} | {} |",
+        cost.said,
+        millions(cost.ours),
+        ratio(b, a)
+    );
+}
+
+fn main() {
+    let words: Vec<_> = std::env::args().skip(1).map(PathBuf::from).collect();
+    let [ours, plain, room] = words.try_into().expect("three words");
+    let mut bench = Bench { ours, plain, room, counted: HashMap::new() };
+    let mut figures = Vec::new();
+    by_size(&mut bench, &mut figures);
+    by_entries(&mut bench);
+    by_bends(&mut bench);
+    largest(&mut bench, &mut figures);
+    finest_foil(&mut bench, &mut figures);
+    long_jobs(&bench, &mut figures);
+    println!("\n### The figures asked for\n\n| What | Asked | Measured | |\n|---|--:|--:|---|");
+    for Figure { what, asked, measured, unit } in figures {
+        let met = if measured < asked { "met" } else { "MISSED" };
+        println!("| {what} | {asked}{unit} | {measured:.2}{unit} | {met} |");
+    }
+}
+
+// A figure that is asked for, and what was measured.
+struct Figure {
+    what: &'static str,
+    asked: f64,
+    measured: f64,
+    unit: &'static str,
+}
+
+// One board of 64 by 64 with 120 patches, scaled.
+fn by_size(bench: &mut Bench, figures: &mut Vec<Figure>) {
+    heading("Growth with W x H: 120 patches of a 64 by 64 foil, scaled", "Foil");
+    let small = scattered(64, 120, 2);
+    let mut numbers = Numbers::from(1);
+    let (s, t) = (numbers.free_point(&small), numbers.free_point(&small));
+    let mut counts: [Vec<f64>; 3] = Default::default();
+    for by in [1, 4, 16, 64] {
+        let table = small.scaled(by);
+        let lay = track(7, s.map(|n| n * by), t.map(|n| n * by));
+        let costs = [
+            ("draw", bench.step(&table, &[], &patch([20, 20, 22, 21].map(|n| n * by)))),
+            ("lay", bench.step(&table, &[], &lay)),
+            ("lift", bench.step(&table, &lay, &lift(7))),
+        ];
+        for (k, (step, cost)) in costs.iter().enumerate() {
+            row(&format!("{0} x {0}", table.side), step, cost);
+            counts[k].push(cost.ours as f64);
+        }
+    }
+    let spread = |c: &Vec<f64>| c.iter().copied().fold(0.0, f64::max) / c.iter().copied().fold(f64::MAX, f64::min);
+    let widest = counts.iter().map(spread).fold(0.0, f64::max);
+    figures.push(Figure { what: "64 x 64 to 4,096 x 4,096, the same table", asked: 1.3, measured: widest, unit: " times" });
+}
+
+// The first so many of 120 patches.
+fn by_entries(bench: &mut Bench) {
+    heading("Growth with the number of entries: scattered patches on 512 x 512", "Entries");
+    let all = scattered(512, 120, 15);
+    let mut numbers = Numbers::from(2);
+    let (s, t) = (numbers.free_point(&all), numbers.free_point(&all));
+    for count in [10, 20, 40, 80, 120] {
+        let table = Table { patches: all.patches[..count].to_vec(), ..all };
+        let draw = bench.step(&table, &[], &patch([250, 250, 260, 260]));
+        row(&count.to_string(), "draw", &draw);
+        let lay = bench.step(&table, &[], &track(7, s, t));
+        row(&count.to_string(), "lay", &lay);
+    }
+}
+
+// Mazes whose paths have more and more bends; the last one's has too many legs for the table.
+fn by_bends(bench: &mut Bench) {
+    heading("Growth with the number of bends: mazes on 512 x 512", "Maze");
+    for walls in [1, 5, 10, 20, 42] {
+        let cost = bench.step(&comb(512, walls), &[], &track(7, [0, 0], [0, 511]));
+        row(&format!("comb of {walls}"), "lay", &cost);
+    }
+    for walls in [10, 20, 40, 63] {
+        let cost = bench.step(&spiral(512, walls), &[], &track(7, [0, 0], [256, 256]));
+        row(&format!("spiral of {walls}"), "lay", &cost);
+    }
+    let cost = bench.step(&comb(512, 127), &[], &track(7, [0, 0], [0, 511]));
+    row("comb of 127", "lay", &cost);
+}
+
+// Steps on 4,096 x 4,096, the largest foil.
+fn largest(bench: &mut Bench, figures: &mut Vec<Figure>) {
+    heading("The largest foil: 4,096 x 4,096", "Board");
+    let table = scattered(4096, 120, 60);
+    let mut numbers = Numbers::from(4);
+    let mut worst = 0.0;
+    for _ in 0..4 {
+        let (s, t) = (numbers.free_point(&table), numbers.free_point(&table));
+        let cost = bench.step(&table, &[], &track(7, s, t));
+        row("120 scattered", "lay", &cost);
+        worst = cost.millions().max(worst);
+    }
+    figures.push(Figure { what: "lay, 120 scattered entries", asked: 10.0, measured: worst, unit: " M" });
+    let bars = staggered(4096, 126);
+    let mazes = [
+        ("comb of 42", &comb(4096, 42), [0, 4095]),
+        ("spiral of 63", &spiral(4096, 63), [2048, 2048]),
+        ("comb of 127", &comb(4096, 127), [0, 4095]),
+        ("126 staggered bars", &bars, [2600, 4090]),
+    ];
+    worst = 0.0;
+    for (name, table, end) in mazes {
+        let cost = bench.step(table, &[], &track(7, [0, 0], end));
+        row(name, "lay", &cost);
+        worst = cost.millions().max(worst);
+    }
+    figures.push(Figure { what: "lay, the worst board", asked: 20.0, measured: worst, unit: " M" });
+    row("126 staggered bars", "draw", &bench.step(&bars, &[], &patch([0, 0, 9, 9])));
+    row("126 staggered bars", "lift of a net not there", &bench.step(&bars, &[], &lift(7)));
+}
+
+// Steps at 4,096 strips.
+fn finest_foil(bench: &mut Bench, figures: &mut Vec<Figure>) {
+    heading("4,096 strips: document 01's foil of 127 x 127 with 126 lines", "Board");
+    let table = finest();
+    let point = track(7, [126, 126], [126, 126]);
+    let costs = [
+        ("draw of a line again", bench.step(&table, &[], &patch([1, 0, 2, 127]))),
+        ("lift", bench.step(&table, &point, &lift(7))),
+        ("lift of a net not there", bench.step(&table, &[], &lift(7))),
+        ("lay of a point", bench.step(&table, &[], &point)),
+        ("lay with no way", bench.step(&table, &[], &track(7, [0, 0], [126, 126]))),
+        ("lay to a blocked point", bench.step(&table, &[], &track(7, [0, 0], [1, 1]))),
+    ];
+    for (step, cost) in &costs {
+        row("finest", step, cost);
+    }
+    // a lay to a blocked point checks the state and goes through all the strips, as a look up does
+    let asked = [("draw", 5.0, 0), ("lift", 5.0, 1), ("look up: less than a lay to a blocked point", 3.0, 5)];
+    for (what, asked, k) in asked {
+        figures.push(Figure { what, asked, measured: costs[k].1.millions(), unit: " M" });
+    }
+}
+
+// Jobs as long as a file may be: a record again and again. They are run with no more than 2 MB of stack.
+fn long_jobs(bench: &Bench, figures: &mut Vec<Figure>) {
+    println!("\n### Jobs of 60,000 bytes\n");
+    println!("| Job | Steps | Ours, s | Plain, s |\n|---|--:|--:|--:|");
+    let job = |name: &str, table: &Table, again: Vec<u8>, steps: usize| {
+        let start = table.job();
+        let times = (60_000 - start.len() - END.len()) / again.len();
+        let whole = [start, again.repeat(times), END.to_vec()].concat();
+        let began = Instant::now();
+        let mut small = Command::new("sh");
+        small.args(["-c", "ulimit -s 2048 && exec \"$0\""]).arg(&bench.ours);
+        let lines = bench.lines(small, &whole);
+        let seconds = began.elapsed().as_secs_f64();
+        let mut plain = "not run".to_string();
+        if table.side * table.side * times * steps < POINTS << 4 {
+            let (same, wall) = bench.run(&bench.plain, &whole);
+            assert!(lines == same, "the two programs write different lines: {name}");
+            plain = format!("{:.2}", wall / 1000.0);
+        }
+        println!("| {name} | {} | {seconds:.2} | {plain} |", times * steps);
+        seconds
+    };
+    let seconds = job("lifts of a net not there, 4,096 strips", &finest(), lift(7), 1);
+    figures.push(Figure { what: "60,000 bytes of the shortest steps, 4,096 strips", asked: 30.0, measured: seconds, unit: " s" });
+    job("a point laid and lifted, 4,096 strips", &finest(), track_and_lift(7, [126, 126], [126, 126]), 2);
+    for (side, size) in [(64, 2), (4096, 60)] {
+        let name = format!("a track laid and lifted, 120 scattered on {side} x {side}");
+        job(&name, &scattered(side, 120, size), track_and_lift(7, [0, 0], [side - 1, side - 1]), 2);
+    }
+    let bars = staggered(4096, 126);
+    job("a track laid and lifted, 126 staggered bars", &bars, track_and_lift(7, [0, 0], [2600, 4090]), 2);
+}

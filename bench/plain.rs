@@ -1,0 +1,298 @@
+// The plain router: runs a job file over every point of the foil, and writes the lines that document 01 gives.
+// It is written for the bench, to be set beside the proved program: no grid, no queues of strips, no state check.
+use std::io::{Read, Write};
+
+type Point = (usize, usize);
+
+const ENTRIES: usize = 128;
+const STRIPS: usize = 4096;
+const CORNERS: usize = 8192;
+const BYTES: usize = 60_000;
+
+// Ends excluded; net 0 is a patch.
+#[derive(Clone, Copy)]
+struct Entry {
+    net: usize,
+    x0: usize,
+    y0: usize,
+    x1: usize,
+    y1: usize,
+}
+
+// Width, height, clearance (document 01's reach) and the row of entries.
+struct Foil {
+    w: usize,
+    h: usize,
+    d: usize,
+    row: Vec<Entry>,
+}
+
+impl Foil {
+    // Whether each point is free, row by row.
+    fn free_points(&self) -> Vec<bool> {
+        let mut free = vec![true; self.w * self.h];
+        for e in &self.row {
+            let xs = e.x0.saturating_sub(self.d)..(e.x1 + self.d).min(self.w);
+            for y in e.y0.saturating_sub(self.d)..(e.y1 + self.d).min(self.h) {
+                free[y * self.w..][xs.clone()].fill(false);
+            }
+        }
+        free
+    }
+
+    // The strips: the runs of each y, those that stand on the y before too made taller.
+    fn strips(&self) -> Vec<[usize; 4]> {
+        let free = self.free_points();
+        let mut strips: Vec<[usize; 4]> = Vec::new();
+        let mut above: Vec<usize> = Vec::new();
+        for y in 0..self.h {
+            let points = &free[y * self.w..][..self.w];
+            let mut here = Vec::new();
+            let mut at = 0;
+            let mut x = 0;
+            while x < self.w {
+                if !points[x] {
+                    x += 1;
+                    continue;
+                }
+                let x0 = x;
+                while x < self.w && points[x] {
+                    x += 1;
+                }
+                while at < above.len() && strips[above[at]][0] < x0 {
+                    at += 1;
+                }
+                if at < above.len() && strips[above[at]][0] == x0 && strips[above[at]][2] == x {
+                    strips[above[at]][3] = y + 1;
+                    here.push(above[at]);
+                } else {
+                    here.push(strips.len());
+                    strips.push([x0, y, x, y + 1]);
+                }
+            }
+            above = here;
+        }
+        strips
+    }
+
+    // Takes a new row over, unless it makes too many entries (10) or strips (11).
+    fn book(&mut self, row: Vec<Entry>) -> usize {
+        if row.len() > ENTRIES {
+            return 10;
+        }
+        let old = std::mem::replace(&mut self.row, row);
+        if self.strips().len() > STRIPS {
+            self.row = old;
+            return 11;
+        }
+        0
+    }
+
+    fn draw(&mut self, x0: usize, y0: usize, x1: usize, y1: usize) -> usize {
+        if !(x0 < x1 && x1 <= self.w && y0 < y1 && y1 <= self.h) {
+            return 3;
+        }
+        let mut row = self.row.clone();
+        row.push(Entry { net: 0, x0, y0, x1, y1 });
+        self.book(row)
+    }
+
+    fn lift(&mut self, net: usize) -> usize {
+        if !(1..=999).contains(&net) {
+            return 4;
+        }
+        if !self.row.iter().any(|e| e.net == net) {
+            return 6;
+        }
+        let row = self.row.iter().copied().filter(|e| e.net != net).collect();
+        self.book(row)
+    }
+
+    // The corners of the track, or the number of the refusal.
+    fn lay(&mut self, net: usize, s: Point, t: Point) -> Result<Vec<Point>, usize> {
+        if !(1..=999).contains(&net) {
+            return Err(4);
+        }
+        if self.row.iter().any(|e| e.net == net) {
+            return Err(5);
+        }
+        let off = |p: Point| p.0 >= self.w || p.1 >= self.h;
+        if off(s) || off(t) {
+            return Err(7);
+        }
+        let free = self.free_points();
+        if !free[s.1 * self.w + s.0] || !free[t.1 * self.w + t.0] {
+            return Err(8);
+        }
+        let search = Search { w: self.w, h: self.h, free };
+        let corners = search.first_path(s, t).ok_or(9usize)?;
+        if corners.len() > CORNERS {
+            return Err(12);
+        }
+        let mut row = self.row.clone();
+        for k in 0..(corners.len() - 1).max(1) {
+            let (a, b) = (corners[k], corners[(k + 1).min(corners.len() - 1)]);
+            let (x0, y0) = (a.0.min(b.0), a.1.min(b.1));
+            row.push(Entry { net, x0, y0, x1: a.0.max(b.0) + 1, y1: a.1.max(b.1) + 1 });
+        }
+        match self.book(row) {
+            0 => Ok(corners),
+            number => Err(number),
+        }
+    }
+}
+
+const LEVEL: usize = 0;
+const UPRIGHT: usize = 1;
+
+struct Search {
+    w: usize,
+    h: usize,
+    free: Vec<bool>,
+}
+
+impl Search {
+    // The points of the level or upright run through p, first to last: their range along the run, its start and its stride.
+    fn run(&self, p: usize, way: usize) -> (std::ops::RangeInclusive<usize>, usize, usize) {
+        let (start, stride, at, len) = match way {
+            LEVEL => (p - p % self.w, 1, p % self.w, self.w),
+            _ => (p % self.w, self.w, p / self.w, self.h),
+        };
+        let (mut a, mut b) = (at, at);
+        while a > 0 && self.free[start + (a - 1) * stride] {
+            a -= 1;
+        }
+        while b + 1 < len && self.free[start + (b + 1) * stride] {
+            b += 1;
+        }
+        (a..=b, start, stride)
+    }
+
+    // The first path of fewest bends. A point's label for a way to go is the number of legs to T, the first one going
+    // that way; 0 is none yet. Each round labels the runs through the points that the round before labelled.
+    fn first_path(&self, s: Point, t: Point) -> Option<Vec<Point>> {
+        if s == t {
+            return Some(vec![s]);
+        }
+        let (from, to) = (s.1 * self.w + s.0, t.1 * self.w + t.0);
+        let mut labels = [vec![0u16; self.free.len()], vec![0u16; self.free.len()]];
+        let mut last = [vec![to], vec![to]];
+        let mut legs = 0;
+        while labels[LEVEL][from] == 0 && labels[UPRIGHT][from] == 0 {
+            legs += 1;
+            let mut next = [Vec::new(), Vec::new()];
+            for way in [LEVEL, UPRIGHT] {
+                for &p in &last[1 - way] {
+                    if labels[way][p] == 0 {
+                        let (points, start, stride) = self.run(p, way);
+                        for k in points {
+                            labels[way][start + k * stride] = legs;
+                            next[way].push(start + k * stride);
+                        }
+                    }
+                }
+            }
+            if next[LEVEL].is_empty() && next[UPRIGHT].is_empty() {
+                return None;
+            }
+            last = next;
+        }
+        Some(self.walk(from, to, legs, &labels))
+    }
+
+    // From S on, the corner with the smallest y, then the smallest x, from which one leg fewer leads to T.
+    fn walk(&self, from: usize, to: usize, legs: u16, labels: &[Vec<u16>; 2]) -> Vec<Point> {
+        let mut corners = vec![from];
+        let mut ways = vec![LEVEL, UPRIGHT];
+        for left in (0..legs).rev() {
+            let p = corners[corners.len() - 1];
+            let mut best = None;
+            for &way in ways.iter().filter(|&&way| labels[way][p] == left + 1) {
+                let (points, start, stride) = self.run(p, way);
+                let leads = |q: usize| q != p && if left == 0 { q == to } else { labels[1 - way][q] == left };
+                let first = points.map(|k| start + k * stride).find(|&q| leads(q));
+                best = best.into_iter().chain(first.map(|q| (q, way))).min();
+            }
+            let (q, way) = best.expect("a label leads to the next");
+            corners.push(q);
+            ways = vec![1 - way];
+        }
+        corners.iter().map(|p| (p % self.w, p / self.w)).collect()
+    }
+}
+
+// Runs the records in turn; the text gets their lines.
+fn run_job(bytes: &[u8], text: &mut String) {
+    use std::fmt::Write;
+    let mut line = |words: String| writeln!(text, "{words}").expect("a text grows");
+    if bytes.len() > BYTES {
+        return line("file 18".into());
+    }
+    let mut foil = Foil { w: 0, h: 0, d: 0, row: Vec::new() };
+    let mut at = 0;
+    loop {
+        let Some(&map) = bytes.get(at) else {
+            return line("file 14".into());
+        };
+        let has = |bit: usize| map >> bit & 1 == 1;
+        if map > 15 {
+            return line("file 15".into());
+        }
+        if has(0) != (at == 0) {
+            return line("file 16".into());
+        }
+        if map == 0 {
+            if at + 1 < bytes.len() {
+                return line("file 17".into());
+            }
+            for [x0, y0, x1, y1] in foil.strips() {
+                line(format!("strip {x0} {y0} {x1} {y1}"));
+            }
+            return;
+        }
+        let sizes = [3, 4, 5, 1];
+        let size: usize = (0..4).filter(|&bit| has(bit)).map(|bit| 2 * sizes[bit]).sum();
+        if bytes.len() < at + 1 + size {
+            return line("file 14".into());
+        }
+        let mut numbers = bytes[at + 1..at + 1 + size].chunks(2).map(|b| b[0] as usize + 256 * b[1] as usize);
+        let mut number = || numbers.next().expect("all fields are present");
+        at += 1 + size;
+        if has(0) {
+            let (w, h, d) = (number(), number(), number());
+            let on = |n: usize| (1..=4096).contains(&n);
+            let refusal = if !on(w) || !on(h) { 1 } else if d > 15 { 2 } else { 0 };
+            line(format!("board {refusal}"));
+            if refusal > 0 {
+                return;
+            }
+            foil = Foil { w, h, d, row: Vec::new() };
+        }
+        if has(1) {
+            let refusal = foil.draw(number(), number(), number(), number());
+            line(format!("patch {refusal}"));
+        }
+        if has(2) {
+            let net = number();
+            match foil.lay(net, (number(), number()), (number(), number())) {
+                Err(refusal) => line(format!("track {net} {refusal}")),
+                Ok(corners) => {
+                    let places: String = corners.iter().map(|(x, y)| format!(" {x},{y}")).collect();
+                    line(format!("track {net} 0 {}{places}", corners.len().saturating_sub(2)));
+                }
+            }
+        }
+        if has(3) {
+            let net = number();
+            line(format!("lift {net} {}", foil.lift(net)));
+        }
+    }
+}
+
+fn main() {
+    let mut bytes = Vec::new();
+    std::io::stdin().read_to_end(&mut bytes).expect("a job on standard input");
+    let mut text = String::new();
+    run_job(&bytes, &mut text);
+    std::io::stdout().write_all(text.as_bytes()).expect("room for the lines");
+}
