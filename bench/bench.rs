@@ -125,7 +125,7 @@ fn millions(count: u64) -> String {
 // The head of a table of steps.
 fn heading(title: &str, first: &str) {
     println!("\n### {title}\n");
-    println!("| {first} | Step | Answer | Ours, M | Plain, M | Plain / ours | Job, ours, ms | Job, plain, ms | Plain / ours |");
+    println!("| {first} | Step | Answer | Ours, M | Plain, M | Ratio | Job, ours, ms | Job, plain, ms | Ratio |");
     println!("|---|---|---|--:|--:|--:|--:|--:|--:|");
 }
 
@@ -151,6 +151,7 @@ fn main() {
     let mut bench = Bench { ours, plain, room, counted: HashMap::new() };
     let mut figures = Vec::new();
     by_size(&mut bench, &mut figures);
+    rounded(&mut bench);
     by_entries(&mut bench);
     by_bends(&mut bench);
     largest(&mut bench, &mut figures);
@@ -193,7 +194,27 @@ fn by_size(bench: &mut Bench, figures: &mut Vec<Figure>) {
     }
     let spread = |c: &Vec<f64>| c.iter().copied().fold(0.0, f64::max) / c.iter().copied().fold(f64::MAX, f64::min);
     let widest = counts.iter().map(spread).fold(0.0, f64::max);
-    figures.push(Figure { what: "64 x 64 to 4,096 x 4,096, the same table", asked: 1.3, measured: widest, unit: " times" });
+    let what = "64 x 64 to 4,096 x 4,096, the same table";
+    figures.push(Figure { what, asked: 1.3, measured: widest, unit: " times" });
+}
+
+// The 120 scattered patches of the largest foil, rounded to coarser ones.
+fn rounded(bench: &mut Bench) {
+    heading("The 120 scattered patches of 4,096 x 4,096, rounded to a coarser foil", "Foil");
+    let fine = scattered(4096, 120, 60);
+    let coarse = fine.rounded(64);
+    let mut numbers = Numbers::from(4);
+    let mut point = || loop {
+        let p = numbers.free_point(&fine);
+        if coarse.free(p.map(|n| n / 64)) {
+            return p;
+        }
+    };
+    let (s, t) = (point(), point());
+    for (table, by) in [(coarse, 64), (fine, 1)] {
+        let cost = bench.step(&table, &[], &track(7, s.map(|n| n / by), t.map(|n| n / by)));
+        row(&format!("{0} x {0}", table.side), "lay", &cost);
+    }
 }
 
 // The first so many of 120 patches.
@@ -274,7 +295,11 @@ fn finest_foil(bench: &mut Bench, figures: &mut Vec<Figure>) {
         row("finest", step, cost);
     }
     // a lay to a blocked point checks the state and goes through all the strips, as a look up does
-    let asked = [("draw", 5.0, 0), ("lift", 5.0, 1), ("look up: less than a lay to a blocked point", 3.0, 5)];
+    let asked = [
+        ("draw, 4,096 strips", 5.0, 0),
+        ("lift, 4,096 strips", 5.0, 1),
+        ("look up, 4,096 strips: less than a lay to a blocked point", 3.0, 5),
+    ];
     for (what, asked, k) in asked {
         figures.push(Figure { what, asked, measured: costs[k].1.millions(), unit: " M" });
     }
@@ -303,7 +328,8 @@ fn long_jobs(bench: &Bench, figures: &mut Vec<Figure>) {
         seconds
     };
     let seconds = job("lifts of a net not there, 4,096 strips", &finest(), lift(7), 1);
-    figures.push(Figure { what: "60,000 bytes of the shortest steps, 4,096 strips", asked: 30.0, measured: seconds, unit: " s" });
+    let what = "60,000 bytes of the shortest steps, 4,096 strips";
+    figures.push(Figure { what, asked: 30.0, measured: seconds, unit: " s" });
     job("a point laid and lifted, 4,096 strips", &finest(), track_and_lift(7, [126, 126], [126, 126]), 2);
     for (side, size) in [(64, 2), (4096, 60)] {
         let name = format!("a track laid and lifted, 120 scattered on {side} x {side}");

@@ -43,7 +43,16 @@ impl Table {
         Table { side: self.side * by, patches: self.patches.iter().map(|p| p.map(|n| n * by)).collect() }
     }
 
-    fn free(&self, [x, y]: [usize; 2]) -> bool {
+    // The board on a foil coarser by so much, rounded: edges that were apart may fall together, so it is another table.
+    pub fn rounded(&self, by: usize) -> Table {
+        let round = |p: &[usize; 4]| {
+            let [x0, y0, x1, y1] = p.map(|n| n / by);
+            [x0, y0, x1.max(x0 + 1), y1.max(y0 + 1)]
+        };
+        Table { side: self.side / by, patches: self.patches.iter().map(round).collect() }
+    }
+
+    pub fn free(&self, [x, y]: [usize; 2]) -> bool {
         !self.patches.iter().any(|p| p[0] <= x && x < p[2] && p[1] <= y && y < p[3])
     }
 }
