@@ -17,7 +17,7 @@ struct Bench {
     ours: PathBuf,
     plain: PathBuf,
     room: PathBuf,
-    counted: HashMap<(PathBuf, Vec<u8>), u64>,
+    counted: HashMap<(PathBuf, Vec<u8>, &'static str), u64>,
 }
 
 // What a step costs: the difference in instructions between the job with it and the job without, and the wall time of
@@ -61,15 +61,19 @@ impl Bench {
         String::from_utf8(output.stdout).expect("lines of text")
     }
 
-    // The instructions of a whole job.
-    fn instructions(&mut self, program: &Path, job: &[u8]) -> u64 {
-        let key = (program.to_path_buf(), job.to_vec());
+    // The instructions of a whole job, or those within a function of it and what that calls.
+    fn instructions(&mut self, program: &Path, job: &[u8], within: &'static str) -> u64 {
+        let key = (program.to_path_buf(), job.to_vec(), within);
         if let Some(&count) = self.counted.get(&key) {
             return count;
         }
         let counts = self.room.join("counts");
         let mut command = Command::new("valgrind");
-        command.arg("--tool=callgrind").arg(format!("--callgrind-out-file={}", counts.display())).arg(program);
+        command.arg("--tool=callgrind").arg(format!("--callgrind-out-file={}", counts.display()));
+        if !within.is_empty() {
+            command.arg(format!("--toggle-collect={within}"));
+        }
+        command.arg(program);
         self.lines(command, job);
         let text = fs::read_to_string(counts).expect("callgrind's counts");
         let total = text.lines().find_map(|line| line.strip_prefix("totals: ")).expect("a total");
@@ -94,7 +98,7 @@ impl Bench {
         let with = [&table.job(), before, step, &END].concat();
         let (lines, wall) = self.both(&with);
         let (ours, plain) = (self.ours.clone(), self.plain.clone());
-        let more = |bench: &mut Bench, p: &Path| bench.instructions(p, &with) - bench.instructions(p, &without);
+        let more = |b: &mut Bench, p: &Path| b.instructions(p, &with, "") - b.instructions(p, &without, "");
         let points = table.side * table.side * (table.patches.len() + 1);
         Cost {
             ours: more(self, &ours),
@@ -157,6 +161,7 @@ fn main() {
     largest(&mut bench, &mut figures);
     finest_foil(&mut bench, &mut figures);
     long_jobs(&bench, &mut figures);
+    parts(&mut bench);
     println!("\n### The figures asked for\n\n| What | Asked | Measured | |\n|---|--:|--:|---|");
     for Figure { what, asked, measured, unit } in figures {
         let met = if measured < asked { "met" } else { "MISSED" };
@@ -337,4 +342,29 @@ fn long_jobs(bench: &Bench, figures: &mut Vec<Figure>) {
     }
     let bars = staggered(4096, 126);
     job("a track laid and lifted, 126 staggered bars", &bars, track_and_lift(7, [0, 0], [2600, 4090]), 2);
+}
+
+// Where our instructions go: those within each function that the compiler keeps as one, and what it calls.
+fn parts(bench: &mut Bench) {
+    println!("\n### Where the instructions go, M (state checks and a lay's search and booking build strips too)\n");
+    println!("| Step | In all | State checks | Search and booking | Building strips | Filling with zeros |");
+    println!("|---|--:|--:|--:|--:|--:|");
+    let names = ["", "state::is_sound", "foil::laying::lay_between", "strips::rebuild", "*memset*"];
+    let large = scattered(4096, 120, 60);
+    let mut numbers = Numbers::from(4);
+    let (s, t) = (numbers.free_point(&large), numbers.free_point(&large));
+    let steps = [
+        ("lay, 120 scattered on 4,096 x 4,096", large, track(7, s, t)),
+        ("draw, 4,096 strips", finest(), patch([1, 0, 2, 127])),
+        ("draw, 126 staggered bars", staggered(4096, 126), patch([0, 0, 9, 9])),
+    ];
+    let program = bench.ours.clone();
+    for (name, table, step) in steps {
+        let (without, with) = ([table.job(), END.to_vec()].concat(), [table.job(), step, END.to_vec()].concat());
+        let counts = names.map(|within| {
+            let more = bench.instructions(&program, &with, within) - bench.instructions(&program, &without, within);
+            millions(more)
+        });
+        println!("| {name} | {} |", counts.join(" | "));
+    }
 }

@@ -152,7 +152,7 @@ struct Search {
 }
 
 impl Search {
-    // The free points in a level or an upright line with p, first to last: point k of the line is at start + k * stride.
+    // The free points in a level or upright line with p, first to last; point k of the line is at start + k * stride.
     fn run(&self, p: usize, way: usize) -> (std::ops::RangeInclusive<usize>, usize, usize) {
         let (start, stride, at, len) = match way {
             LEVEL => (p - p % self.w, 1, p % self.w, self.w),
