@@ -13,6 +13,12 @@ use std::time::Instant;
 // callgrind, where it would take minutes.
 const POINTS: usize = 1 << 27;
 
+// The costliest to join of 60 pairs of points, on the scattered patches of the largest foil.
+const COSTLIEST: ([usize; 2], [usize; 2]) = ([165, 3959], [1253, 3576]);
+
+// The pair of 60 whose lay differs most from 64 x 64 to 4,096 x 4,096, on the scattered patches that are scaled.
+const UNEVEN: ([usize; 2], [usize; 2]) = ([42, 5], [13, 31]);
+
 struct Bench {
     ours: PathBuf,
     plain: PathBuf,
@@ -181,8 +187,7 @@ struct Figure {
 fn by_size(bench: &mut Bench, figures: &mut Vec<Figure>) {
     heading("Growth with W x H: 120 patches of a 64 by 64 foil, scaled", "Foil");
     let small = scattered(64, 120, 2);
-    let mut numbers = Numbers::from(1);
-    let (s, t) = (numbers.free_point(&small), numbers.free_point(&small));
+    let (s, t) = UNEVEN;
     let mut counts: [Vec<f64>; 3] = Default::default();
     for by in [1, 4, 16, 64] {
         let table = small.scaled(by);
@@ -258,8 +263,9 @@ fn largest(bench: &mut Bench, figures: &mut Vec<Figure>) {
     let table = scattered(4096, 120, 60);
     let mut numbers = Numbers::from(4);
     let mut worst = 0.0;
-    for _ in 0..4 {
-        let (s, t) = (numbers.free_point(&table), numbers.free_point(&table));
+    let mut pairs = vec![COSTLIEST];
+    pairs.extend((0..3).map(|_| (numbers.free_point(&table), numbers.free_point(&table))));
+    for (s, t) in pairs {
         let cost = bench.step(&table, &[], &track(7, s, t));
         row("120 scattered", "lay", &cost);
         worst = cost.millions().max(worst);
@@ -351,8 +357,7 @@ fn parts(bench: &mut Bench) {
     println!("|---|--:|--:|--:|--:|--:|");
     let names = ["", "state::is_sound", "foil::laying::lay_between", "strips::rebuild", "*memset*"];
     let large = scattered(4096, 120, 60);
-    let mut numbers = Numbers::from(4);
-    let (s, t) = (numbers.free_point(&large), numbers.free_point(&large));
+    let (s, t) = COSTLIEST;
     let steps = [
         ("lay, 120 scattered on 4,096 x 4,096", large, track(7, s, t)),
         ("draw, 4,096 strips", finest(), patch([1, 0, 2, 127])),
