@@ -1,4 +1,5 @@
-// Calls that are lent too little, or a state that is broken, and records at any place. All lists are lent full of sevens.
+// Calls that are lent too little, or a state that is broken, and records at any place. All lists are lent full of
+// sevens.
 use crate::run::no_board;
 use crate::run::number;
 use crate::show;
