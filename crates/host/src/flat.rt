@@ -1,4 +1,4 @@
-// The table's numbers by value, and the calls of `foil` on them.
+// The table's numbers by value, and the calls on numbers on them.
 use foil::Answer;
 use foil::Done;
 use foil_spec::Board;
@@ -165,7 +165,7 @@ pub fn lay(
 {
     let mut a = t.at;
     let n = numbers_lent(t.len);
-    let done = foil::lay(&mut a[..n], strips, corners, b, net, sx, sy, tx, ty);
+    let done = laying::lay(&mut a[..n], strips, corners, b, net, sx, sy, tx, ty);
     leave(done, a, t.len)
 }
 

@@ -8,7 +8,7 @@ use Rattle.host.proofs.flat.lay.Statement.{statement}
 use Rattle.host.proofs.flat.lay.Tie as tie
 use Rattle.host.proofs.flat.lay.Reads as reads
 use Rattle.host.proofs.flat.lay.Lts as lts
-use Rattle.foil.proofs.lay.Reads as lay-reads
+use Rattle.laying.proofs.lay.Reads as lay-reads
 use Rattle.host.proofs.flat.leave.Reads as leave-reads
 use Rattle.host.proofs.flat.numbers_lent.Reads as numbers-lent-reads
 
