@@ -43,8 +43,6 @@ ENUMS = ('Answer', 'Reply')
 LOAD, STORE = 'table.load', 'table.store'
 LOADED = 'loadTo y0 (length y0)'
 STORED = 'storeTo (r .table) y0 (length y0)'
-# what the core requires of what was loaded
-FULL = 'load-length y0 (length y0)'
 DIGITS = str.maketrans('0123456789', '₀₁₂₃₄₅₆₇₈₉')
 
 
@@ -706,7 +704,6 @@ def inner(function, core, out, slices, shared, numbers, core_post, post, made, t
         'denote.Slice': 'MutSlice, ShrSlice, finally, mut-slice-tells',
         'denote.Triple.Walked': 'gave-slice, goes-gave-slice',
         'Rattle.host.specs.Flats': 'loadTo, storeTo',
-        'Rattle.host.proofs.Flats': 'load-length',
         'Rattle.host.proofs.Shared': 'LentShared, lends-shared, shared-back',
     }, numbers, slices + shared)
     if shared:
@@ -754,10 +751,11 @@ def inner(function, core, out, slices, shared, numbers, core_post, post, made, t
     given = listed([tokens(ks, qs, 1)] + held)
     lines += ['  goes-core : Is TF.the-row loaded (machF loaded ∷ []) → Is T.the-row h (mach h ∷ [])',
               '      → ent 𝓤 (⋆ 𝓤 H A (%s)) (Core 𝓤 H A at-mem run .pre to-core)' % given,
-              '  goes-core isF g =\n      qed W (%s) ∵ says ! (%s) $ frame ! $ nothing ! $ ' % (given, fill(FULL, env))
+              '  goes-core isF g =\n      qed W (%s) ∵ nothing ! $ ' % given
               + owned_numbers(numbers) + owned_struct('T', 'h', 'g') + 'fjoin ! $ '
               + owned_struct('TF', 'loaded', 'isF') + 'fjoin ! $ '
-              + ''.join(move([i, 0]) + 'fjoin ! $ ' for i in reversed(every[1:])) + 'done !', '',
+              + ''.join(move([i + 1, 0]) + 'fjoin ! $ ' for i in reversed(every[1:]))
+              + move([1, 0]) + 'join ! $ frame ! $ done !', '',
               '  abbrev to-store : Flat → Store 𝓤 H A at-mem run .Ghost',
               '  to-store u = (((κ₀, tt), (q₀, tt), tt, (x₀ γ₀, (u, tt)), (s₀ ∷ [], (machF u ∷ [], tt))), tt)', '']
     table_token = '(‵ (flft κ₀ q₀) ⊛ ‵ ftrue)'
@@ -969,7 +967,6 @@ def look(function, core, answer, slices, numbers, core_post, post, made, terms):
         'denote.Struct.Steps': 'spelt',
         'denote.Triple.Walked': 'stay-none-ref, stay-none-slice, goes-none-ref, goes-none-slice',
         'Rattle.host.specs.Flats': 'loadTo',
-        'Rattle.host.proofs.Flats': 'load-length',
     }, numbers, slices)
     if law == 'LE':
         lines += ['use denote.Enum.Laws as LE']
@@ -1008,10 +1005,11 @@ def look(function, core, answer, slices, numbers, core_post, post, made, terms):
     given = listed([tokens(ks, qs, 2)] + ['‵ (%s)' % shared(i, i - 1) for i in each])
     lines += ['  goes-core : Is TF.the-row loaded (machF loaded ∷ []) → Is T.the-row h (mach h ∷ [])',
               '      → ent 𝓤 (⋆ 𝓤 H A (%s)) (Core 𝓤 H A at-mem run .pre to-core)' % given,
-              '  goes-core isF g =\n      qed W (%s) ∵ says ! (%s) $ frame ! $ nothing ! $ ' % (given, fill(FULL, env))
+              '  goes-core isF g =\n      qed W (%s) ∵ nothing ! $ ' % given
               + owned_numbers(numbers) + owned_struct('T', 'h', 'g') + 'fjoin ! $ '
               + owned_struct('TF', 'loaded', 'isF') + 'fjoin ! $ '
-              + ''.join(move([i, 0]) + 'fjoin ! $ ' for i in reversed(each)) + 'done !', '']
+              + ''.join(move([i + 1, 0]) + 'fjoin ! $ ' for i in reversed(each))
+              + move([1, 0]) + 'join ! $ frame ! $ done !', '']
     fact = fill(core_post, dict(env, t='loaded'))
     lines += ['  post-of : (r : %s) → ent 𝓤 (ensured 𝓤 H A core.ended (core.clauses 𝓤 H A at-mem run) %s %s tt r)'
               % (answer, nest(ks[2:]), core_args),

@@ -6,6 +6,3 @@ pub mod Beginning
 pub mod Drawing
 pub mod Lifting
 pub mod Looking
-pub mod Corners
-pub mod Checking
-pub mod Tracking

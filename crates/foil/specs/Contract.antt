@@ -5,9 +5,9 @@ use mathlib.Core.Bool.{Bool, true, false}
 use mathlib.Core.List.{List}
 use lib.ListN.{length}
 use Rattle.foil_spec.specs.Foil.{Point, Layout}
-use Rattle.foil_spec.specs.Ledger.{Step, lookUp, offFoil, short}
+use Rattle.foil_spec.specs.Ledger.{Step, lookUp, short}
 use Rattle.foil_spec.specs.Ledger.{Answer as Outcome, refused, accepted, laid, found}
-use Rattle.foil_spec.specs.Lent.{Lent, lent, held, sound, roomOf, stepOn}
+use Rattle.foil_spec.specs.Lent.{Lent, lent, sound, roomOf, stepOn}
 use Rattle.foil_spec.specs.declared.Board.{Board}
 use Rattle.booking.specs.Booked.{Stored, Unchanged}
 use Rattle.foil.specs.declared.Answer.{Answer}
@@ -46,10 +46,6 @@ pub record TooShort (t s : List ℕ) (r : Bool) : Type 0 where
 pub record Ready (m : Lent) : Type 0 where
   pub long : short (roomOf m) ≡ false
   pub fine : sound m ≡ true
-
--- the answer says whether the point is off the foil, whatever the lists hold
-pub record OffFoil (b : Board) (p : Point) (r : Bool) : Type 0 where
-  pub is : (t s ks : List ℕ) → r ≡ offFoil (held (lent b t s ks)) p
 
 -- a layout was taken over, or has too many strips
 pub data Settled (l : Layout) (b : Board) (t s t′ s′ : List ℕ) (r : Done) : Type 0 where

@@ -1,7 +1,6 @@
-// The calls on a foil, over slices of numbers: the table has five numbers a place, the strip list
-// four. None has a `requires`: whatever is lent, each answers, and changes only what document 01 says.
-mod laying;
-
+// The calls on a foil that need no search, over slices of numbers: the table has five numbers a place,
+// the strip list four. None has a `requires`: whatever is lent, each answers, and changes only what
+// document 01 says. Lay is in the crate `laying`.
 use booking::Booked;
 use booking::append;
 use booking::book;
@@ -9,7 +8,6 @@ use booking::copy_front;
 use booking::in_use;
 use booking::without;
 use foil_spec::Board;
-pub use laying::lay;
 use state::box_ok;
 use state::clearance_ok;
 use state::is_sound;
@@ -161,7 +159,7 @@ pub fn lists_short(table: &[u16], strips: &[u16]) -> bool
 }
 
 // A refusal by its number; the record stays as it is.
-fn refuse(number: u8, board: Board) -> Done
+pub fn refuse(number: u8, board: Board) -> Done
     ensures { λ r. ⌜ r ≡ refusedBy number board ⌝ }
 {
     Done {

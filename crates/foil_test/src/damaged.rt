@@ -17,8 +17,8 @@ pub(crate) fn all() {
     lengths();
 }
 
-// The foil of document 01's job with its patch, its track in the next record, and a lift of its net: 30 bytes. The patch
-// goes first, and the board's last byte takes the place of its map byte.
+// The foil of document 01's job with its patch, its track in the next record, and a lift of its net: 30 bytes. The
+// patch goes first, and the board's last byte takes the place of its map byte.
 fn small_job(bytes: &mut [u8; 60001]) {
     file::patch(bytes, 6, 2, 0, 3, 3);
     file::board(bytes, 0, 6, 4, 0);

@@ -1,15 +1,16 @@
-// Calls that are lent too little, or a state that is broken, and records at any place. All lists are lent full of sevens.
+// Calls that are lent too little, or a state that is broken, and records at any place. All lists are lent full of
+// sevens.
 use crate::run::no_board;
 use crate::run::number;
 use crate::show;
 use foil::Done;
-use foil::lay;
 use foil::new_foil;
 use foil_spec::Board;
 use job::Next;
 use job::Replied;
 use job::Reply;
 use job::run_record;
+use laying::lay;
 
 pub(crate) fn all() {
     short_table();

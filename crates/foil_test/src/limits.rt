@@ -84,7 +84,8 @@ fn too_fine() {
     show::job(b"4095 strips: ", &bytes, n);
 }
 
-// The same lines over a track at y = 124, and the line at y = 125: lifting the track would uncover too many strips (11).
+// The same lines over a track at y = 124, and the line at y = 125: lifting the track would uncover too many
+// strips (11).
 fn hidden() {
     let mut bytes = [0u8; 60001];
     let a = file::board(&mut bytes, 0, 129, 127, 0);

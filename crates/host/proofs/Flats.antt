@@ -11,6 +11,10 @@ use lib.Dec.{ltb}
 use lib.ListN.{length, set, getD, take, drop, length-set, length-replicate, length-drop, take-append-drop}
 use lib.Seq.{getD-set-same, getD-set-other, getD-drop, take-suc, take-all, ext-getD}
 use borrow.Author.Tests.{lt-ltb, le-ltb}
+use lib.ListN.{length-map}
+use mir.Val.{Val}
+use denote.Laws.{Is}
+use denote.Struct.Laws as LL
 use Rattle.foil_spec.specs.Lists.{range, each}
 use Rattle.foil_spec.specs.Foil.{Entry}
 use Rattle.foil_spec.specs.Lent.{entryNumbers, entryAt}
@@ -20,6 +24,8 @@ use Rattle.list_laws.proofs.Tests.{lt-or-le}
 use Rattle.host.specs.declared.flat.Flat.{Flat}
 use Rattle.host.specs.Flats.{zeros, setFive, withEntry, pickEntry, numbersLent, entriesOf, noEntry}
 use Rattle.host.specs.Flats.{loadTo, storeTo}
+use Rattle.host.proofs.flat.Flat as T
+use Rattle.host.proofs.flat.Flat.Laws as T′
 
 -- ---- one place
 
@@ -166,7 +172,7 @@ entry-other a i n e ne =
 
 -- ---- what is loaded
 
-pub load-length : (es : List Entry) (k : ℕ) → length (loadTo es k .at) ≡ 640
+load-length : (es : List Entry) (k : ℕ) → length (loadTo es k .at) ≡ 640
 unfolding loadTo zeros
 load-length es zero = length-replicate {A = ℕ} 640 0
 load-length es (suc k) =
@@ -281,6 +287,11 @@ stored f es p =
     sym (take-append-drop 128 new) ∙ ap₂ (λ (a b : List Entry). a ++ b) (sym front) back
 
 -- ---- what is lent on
+
+-- an array of the code has its length
+pub full : (f : Flat) {w : List Val} → Is T.the-row f w → length (f .at) ≡ 640
+full f is =
+    sym (length-map (f .at) (λ (v : ℕ). v)) ∙ LL.owed T.the-type T′.the-laws f _ is .0 .1 .0 .1
 
 -- the numbers that are lent on are those of the entries
 pub lent-on : (f : Flat) → length (f .at) ≡ 640 → take (numbersLent (f .len)) (f .at) ≡ each entryNumbers (entriesOf f)

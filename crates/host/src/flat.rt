@@ -1,11 +1,10 @@
-// The table's numbers by value, and the calls of `foil` on them.
+// The table's numbers by value, and the calls on numbers on them.
 use foil::Answer;
 use foil::Done;
 use foil_spec::Board;
 use foil_spec::Entry;
 ghost use mathlib.Core.Path.{_≡_};
 ghost use mathlib.Core.List.{[]};
-ghost use lib.ListN.{length};
 ghost use Rattle.foil_spec.specs.Foil.{point};
 ghost use Rattle.foil_spec.specs.Ledger.{newFoil, draw as draws, lay as lays, lift as lifts};
 ghost use Rattle.host.specs.Flats.{zeros, withEntry, pickEntry, numbersLent, entriesOf};
@@ -131,7 +130,6 @@ fn leave(done: Done, at: [u16; 640], len: usize) -> Left
 
 // Begins a foil.
 pub fn new_foil(strips: &mut [u16], t: Flat, b: Board, w: u16, h: u16, d: u16) -> Left
-    requires { ⌜ length (t .at) ≡ 640 ⌝ }
     ensures { λ r. ⌜ FlatDone (newFoil w h d) b t (now (strips .entry)) [] r (now (strips .exit)) [] ⌝ }
 {
     let mut a = t.at;
@@ -142,7 +140,6 @@ pub fn new_foil(strips: &mut [u16], t: Flat, b: Board, w: u16, h: u16, d: u16) -
 
 // Draws a patch.
 pub fn draw(strips: &mut [u16], t: Flat, b: Board, x0: u16, y0: u16, x1: u16, y1: u16) -> Left
-    requires { ⌜ length (t .at) ≡ 640 ⌝ }
     ensures { λ r. ⌜ FlatDone (draws x0 y0 x1 y1) b t (now (strips .entry)) [] r (now (strips .exit)) [] ⌝ }
 {
     let mut a = t.at;
@@ -163,19 +160,17 @@ pub fn lay(
     tx: u16,
     ty: u16,
 ) -> Left
-    requires { ⌜ length (t .at) ≡ 640 ⌝ }
     ensures { λ r. ⌜ FlatDone (lays net (point sx sy) (point tx ty)) b t
         (now (strips .entry)) (now (corners .entry)) r (now (strips .exit)) (now (corners .exit)) ⌝ }
 {
     let mut a = t.at;
     let n = numbers_lent(t.len);
-    let done = foil::lay(&mut a[..n], strips, corners, b, net, sx, sy, tx, ty);
+    let done = laying::lay(&mut a[..n], strips, corners, b, net, sx, sy, tx, ty);
     leave(done, a, t.len)
 }
 
 // Lifts a net.
 pub fn lift(strips: &mut [u16], t: Flat, b: Board, net: u16) -> Left
-    requires { ⌜ length (t .at) ≡ 640 ⌝ }
     ensures { λ r. ⌜ FlatDone (lifts net) b t (now (strips .entry)) [] r (now (strips .exit)) [] ⌝ }
 {
     let mut a = t.at;
@@ -186,7 +181,6 @@ pub fn lift(strips: &mut [u16], t: Flat, b: Board, net: u16) -> Left
 
 // Looks a point up.
 pub fn look_up(strips: &[u16], t: Flat, b: Board, x: u16, y: u16) -> Answer
-    requires { ⌜ length (t .at) ≡ 640 ⌝ }
     ensures { λ r. ⌜ HostLooked (point x y) b (entriesOf t) (now (strips .entry)) r ⌝ }
 {
     let a = t.at;
@@ -196,7 +190,6 @@ pub fn look_up(strips: &[u16], t: Flat, b: Board, x: u16, y: u16) -> Answer
 
 // Looks a point up, and tells the answer by its numbers.
 pub fn look_up_told(strips: &[u16], t: Flat, b: Board, x: u16, y: u16) -> Said
-    requires { ⌜ length (t .at) ≡ 640 ⌝ }
     ensures { λ r. ⌜ LookTold (point x y) b (entriesOf t) (now (strips .entry)) r ⌝ }
 {
     let answer = look_up(strips, t, b, x, y);

@@ -11,7 +11,6 @@ use job::Reply;
 use job::Told;
 ghost use mathlib.Core.Path.{_≡_};
 ghost use mathlib.Core.Bool.{true, false};
-ghost use lib.ListN.{length};
 ghost use Rattle.host.specs.Records.{stepSaidOf, noAnswers, ranSaid, recordSaidOf, FlatRan};
 
 // A step of a record: whether it was run, and its answer as numbers, zeros if it was not.
@@ -166,7 +165,6 @@ pub fn run_record(
     b: Board,
     at: usize,
 ) -> Ran
-    requires { ⌜ length (t .at) ≡ 640 ⌝ }
     ensures { λ r. ⌜ FlatRan (now (bytes .entry)) at b t (now (strips .entry)) (now (corners .entry))
         r (now (strips .exit)) (now (corners .exit)) ⌝ }
 {

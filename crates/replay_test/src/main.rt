@@ -45,7 +45,8 @@ fn count_number(counts: &mut [u64; 24], number: u8) {
     }
 }
 
-// Where a job stands: the record by the calls, the plain foil, the place of the next record, and the number for a point.
+// Where a job stands: the record by the calls, the plain foil, the place of the next record, and the number for a
+// point.
 struct Stood {
     board: Board,
     foil: Foil,

@@ -42,7 +42,6 @@ use denote.Exit.{yes}
 use denote.Memory.{partAt}
 use denote.Struct.Steps.{spelt}
 use Rattle.host.specs.Flats.{loadTo}
-use Rattle.host.proofs.Flats.{load-length}
 use denote.Struct.Laws as LL
 use denote.Enum.Laws as LE
 use Rattle.foil_spec.specs.declared.Board.{Board}
@@ -199,12 +198,12 @@ module _ {M : Type 1} (𝓤 : URA M) (H : Heap 𝓤) (A : Atoms 𝓤) (W : Given
       → ent 𝓤 (⋆ 𝓤 H A ((‵ (flft κ₂ q₂) ⊛ ‵ ftrue) ∷ ‵ (ShrSlice (named 0) κ₂ u16 .own x₁ (s₁ ∷ [])) ∷ [])) (Core 𝓤 H
       A at-mem run .pre to-core)
   goes-core isF g =
-      qed W ((‵ (flft κ₂ q₂) ⊛ ‵ ftrue) ∷ ‵ (ShrSlice (named 0) κ₂ u16 .own x₁ (s₁ ∷ [])) ∷ []) ∵ says ! (load-length
-      y₀ (length y₀)) $ frame ! $ nothing ! $ owned ! u16 (Is u16) (uint-makes 𝓤 H A W w16) n₂ _ (refl, fits₂) $
-      fjoin ! $ owned ! u16 (Is u16) (uint-makes 𝓤 H A W w16) n₁ _ (refl, fits₁) $ fjoin ! $
+      qed W ((‵ (flft κ₂ q₂) ⊛ ‵ ftrue) ∷ ‵ (ShrSlice (named 0) κ₂ u16 .own x₁ (s₁ ∷ [])) ∷ []) ∵ nothing ! $
+      owned ! u16 (Is u16) (uint-makes 𝓤 H A W w16) n₂ _ (refl, fits₂) $ fjoin ! $
+      owned ! u16 (Is u16) (uint-makes 𝓤 H A W w16) n₁ _ (refl, fits₁) $ fjoin ! $
       owned ! T.the-row (Is T.the-row) (LL.makes T.the-type T′.the-plain 𝓤 H A) h _ g $ fjoin ! $
       owned ! TF.the-row (Is TF.the-row) (LL.makes TF.the-type TF′.the-plain 𝓤 H A) loaded _ isF $ fjoin ! $
-      move ! (1 ∷ 0 ∷ []) $ fjoin ! $ done !
+      move ! (2 ∷ 0 ∷ []) $ fjoin ! $ move ! (1 ∷ 0 ∷ []) $ join ! $ frame ! $ done !
 
   post-of : (r : Answer) → ent 𝓤 (ensured 𝓤 H A core.ended (core.clauses 𝓤 H A at-mem run) (κ₂, tt) (
     x₁,

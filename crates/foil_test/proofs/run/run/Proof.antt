@@ -5,10 +5,10 @@ use Rattle.foil_test.proofs.run.run.Statement.{statement}
 use Rattle.foil_test.proofs.run.run.Tie as tie
 
 abbrev Inv-loop : tie.InvT-loop
-Inv-loop counts₀ bytes table₀ strips₀ corners₀ board₀ at₀ counter₀ counts table strips corners board at counter = counter ≤ 60001
+Inv-loop _ _ _ _ _ _ _ _ _ _ _ _ _ _ counter = counter ≤ 60001
 
 abbrev μ-loop : tie.MeasureT-loop
-μ-loop counts₀ bytes table₀ strips₀ corners₀ board₀ at₀ counter₀ counts table strips corners board at counter = 60001 - counter
+μ-loop _ _ _ _ _ _ _ _ _ _ _ _ _ _ counter = 60001 - counter
 
 no-board-requires : tie.Need-no-board-requires Inv-loop μ-loop
 no-board-requires c κs = search needs

@@ -2,12 +2,13 @@ use borrow.Author.Needs.{needs}
 use native.Mathlib.Omega.{arith}
 use lib.ListN.{length-take}
 use Rattle.host.specs.Flats.{numbersLent}
+use Rattle.host.proofs.Flats.{full}
 use Rattle.host.proofs.Tables.{flat-done}
 use Rattle.host.proofs.flat.lay.Statement.{statement}
 use Rattle.host.proofs.flat.lay.Tie as tie
 use Rattle.host.proofs.flat.lay.Reads as reads
 use Rattle.host.proofs.flat.lay.Lts as lts
-use Rattle.foil.proofs.lay.Reads as lay-reads
+use Rattle.laying.proofs.lay.Reads as lay-reads
 use Rattle.host.proofs.flat.leave.Reads as leave-reads
 use Rattle.host.proofs.flat.numbers_lent.Reads as numbers-lent-reads
 
@@ -18,7 +19,12 @@ numbers-lent-requires c κs = search needs
 -- src/flat.rt:171:26
 array-borrow-prefix-a : tie.Need-array-borrow-prefix-a
 unfolding numbersLent
-array-borrow-prefix-a c = omega (arith, c .numbers-lent .ensures, c .before .before .before .before .pre)
+array-borrow-prefix-a c = omega (
+  arith,
+  c .numbers-lent .ensures,
+  full (c .before .before .before .before .args .t)
+      (c .before .before .before .before .good .1 .1 .0),
+)
 
 -- src/flat.rt:171:26
 slice-aggregate-lay : tie.Need-slice-aggregate-lay
@@ -27,7 +33,8 @@ slice-aggregate-lay c =
     omega (
       arith,
       c .before .numbers-lent .ensures,
-      c .before .before .before .before .before .pre,
+      full (c .before .before .before .before .before .args .t) (c .before .before .before .before .before .good .1
+          .1 .0),
       length-take (c .before .numbers-lent .result) (c .before .before .before .before .before .args .t .at),
     )
 
@@ -51,8 +58,9 @@ same-length-2 c = search needs
 returns : tie.Need-returns
 returns c =
     flat-done _ _ _ _ _ _ _ _ _ _ _
-    (c .before .before .before .before .before .before .before .before .before
-    .before .before .before .before .before .pre)
+    (full (c .before .before .before .before .before .before .before .before .before .before .before .before
+    .before .before .args .t) (c .before .before .before .before .before .before .before .before .before .before
+    .before .before .before .before .good .1 .1 .0))
     (c .before .before .before .before .before .before .before .before .before .before .numbers-lent .ensures)
     (c .before .before .before .before .before .a3 .given)
     (c .before .before .before .before .before .before .lay .ensures) (c .leave .ensures)

@@ -2,6 +2,7 @@ use borrow.Author.Needs.{needs}
 use native.Mathlib.Omega.{arith}
 use lib.ListN.{length-take}
 use Rattle.host.specs.Flats.{numbersLent}
+use Rattle.host.proofs.Flats.{full}
 use Rattle.host.proofs.Tables.{flat-looked}
 use Rattle.host.proofs.flat.look_up.Statement.{statement}
 use Rattle.host.proofs.flat.look_up.Tie as tie
@@ -17,7 +18,12 @@ numbers-lent-requires c κs = search needs
 -- src/flat.rt:193:19
 array-share-prefix-a : tie.Need-array-share-prefix-a
 unfolding numbersLent
-array-share-prefix-a c = omega (arith, c .numbers-lent .ensures, c .before .before .before .pre)
+array-share-prefix-a c = omega (
+  arith,
+  c .numbers-lent .ensures,
+  full (c .before .before .before .args .t) (c
+      .before .before .before .good .1 .0),
+)
 
 -- src/flat.rt:193:19
 slice-aggregate-look-up : tie.Need-slice-aggregate-look-up
@@ -26,7 +32,7 @@ slice-aggregate-look-up c =
     omega (
       arith,
       c .before .numbers-lent .ensures,
-      c .before .before .before .before .pre,
+      full (c .before .before .before .before .args .t) (c .before .before .before .before .good .1 .0),
       length-take (c .before .numbers-lent .result) (c .before .before .before .before .args .t .at),
     )
 
@@ -38,7 +44,8 @@ look-up-requires c κs = search needs
 returns : tie.Need-returns
 returns c =
     flat-looked _ _ _ _ _ _
-    (c .before .before .before .before .before .pre) (c .before .before .numbers-lent .ensures) (c .look-up .ensures)
+    (full (c .before .before .before .before .before .args .t) (c .before .before .before .before .before .good .1
+    .0)) (c .before .before .numbers-lent .ensures) (c .look-up .ensures)
 
 pub look-up-spec : {M : Type 1} → statement M
 look-up-spec =

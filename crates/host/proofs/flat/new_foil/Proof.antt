@@ -2,6 +2,7 @@ use borrow.Author.Needs.{needs}
 use native.Mathlib.Omega.{arith}
 use lib.ListN.{length-take}
 use Rattle.host.specs.Flats.{numbersLent}
+use Rattle.host.proofs.Flats.{full}
 use Rattle.host.proofs.Tables.{flat-done}
 use Rattle.host.proofs.flat.new_foil.Statement.{statement}
 use Rattle.host.proofs.flat.new_foil.Tie as tie
@@ -18,7 +19,12 @@ numbers-lent-requires c κs = search needs
 -- src/flat.rt:139:31
 array-borrow-prefix-a : tie.Need-array-borrow-prefix-a
 unfolding numbersLent
-array-borrow-prefix-a c = omega (arith, c .numbers-lent .ensures, c .before .before .before .pre)
+array-borrow-prefix-a c = omega (
+  arith,
+  c .numbers-lent .ensures,
+  full (c .before .before .before .args .t) (c
+      .before .before .before .good .1 .0),
+)
 
 -- src/flat.rt:139:31
 slice-aggregate-new-foil : tie.Need-slice-aggregate-new-foil
@@ -27,7 +33,7 @@ slice-aggregate-new-foil c =
     omega (
       arith,
       c .before .numbers-lent .ensures,
-      c .before .before .before .before .pre,
+      full (c .before .before .before .before .args .t) (c .before .before .before .before .good .1 .0),
       length-take (c .before .numbers-lent .result) (c .before .before .before .before .args .t .at),
     )
 
@@ -47,7 +53,8 @@ same-length c = search needs
 returns : tie.Need-returns
 returns c =
     flat-done _ _ _ _ _ _ _ _ _ _ _
-    (c .before .before .before .before .before .before .before .before .before .before .pre)
+    (full (c .before .before .before .before .before .before .before .before .before .before .args .t) (c .before
+    .before .before .before .before .before .before .before .before .before .good .1 .0))
     (c .before .before .before .before .before .before .before .numbers-lent .ensures)
     (c .before .before .before .a3 .given) (c .before .before .before .before .new-foil .ensures) (c .leave .ensures)
 

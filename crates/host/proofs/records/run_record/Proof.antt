@@ -2,6 +2,7 @@ use borrow.Author.Needs.{needs}
 use native.Mathlib.Omega.{arith}
 use lib.ListN.{length-take}
 use Rattle.host.specs.Flats.{numbersLent}
+use Rattle.host.proofs.Flats.{full}
 use Rattle.host.proofs.Running.{flat-ran}
 use Rattle.host.proofs.records.run_record.Statement.{statement}
 use Rattle.host.proofs.records.run_record.Tie as tie
@@ -19,7 +20,12 @@ numbers-lent-requires c κs = search needs
 array-borrow-prefix-a : tie.Need-array-borrow-prefix-a
 unfolding numbersLent
 array-borrow-prefix-a c =
-    omega (arith, c .numbers-lent .ensures, c .before .before .before .before .before .pre)
+    omega (
+      arith,
+      c .numbers-lent .ensures,
+      full (c .before .before .before .before .before .args .t) (c .before
+          .before .before .before .before .good .1 .1 .1 .0),
+    )
 
 -- src/records.rt:175:32
 slice-aggregate-run-record : tie.Need-slice-aggregate-run-record
@@ -28,7 +34,8 @@ slice-aggregate-run-record c =
     omega (
       arith,
       c .before .numbers-lent .ensures,
-      c .before .before .before .before .before .before .pre,
+      full (c .before .before .before .before .before .before .args .t) (c .before .before .before .before .before
+          .before .good .1 .1 .1 .0),
       length-take (c .before .numbers-lent .result) (c .before .before .before .before .before .before .args .t .at),
     )
 
@@ -52,8 +59,9 @@ same-length-2 c = search needs
 returns : tie.Need-returns
 returns c =
     flat-ran _ _ _ _ _ _ _ _ _ _ _ _
-    (c .before .before .before .before .before .before .before .before .before
-    .before .before .before .before .before .before .pre)
+    (full (c .before .before .before .before .before .before .before .before .before .before .before .before
+    .before .before .before .args .t) (c .before .before .before .before .before .before .before .before .before
+    .before .before .before .before .before .before .good .1 .1 .1 .0))
     (c .before .before .before .before .before .before .before .before .before .before .numbers-lent .ensures)
     (c .before .before .before .before .before .a3 .given)
     (c .before .before .before .before .before .before .run-record .ensures) (c .leave .ensures)

@@ -44,7 +44,6 @@ use lib.Dec.{T as Holds}
 use types.Part.{agg, whole, sub, look-in}
 use types.Tokens.{lft-new, lft-end}
 use Rattle.host.specs.Flats.{loadTo, storeTo}
-use Rattle.host.proofs.Flats.{load-length}
 use Rattle.host.proofs.Shared.{LentShared, lends-shared, shared-back}
 use denote.Struct.Laws as LL
 use Rattle.foil_spec.specs.declared.Board.{Board}
@@ -273,15 +272,15 @@ module _ {M : Type 1} (𝓤 : URA M) (H : Heap 𝓤) (A : Atoms 𝓤) (W : Given
       [])) ∷ ‵ (MutSlice (named 1) κ₂ u16 .own x₂ (s₂ ∷ [])) ∷ [])) (Core 𝓤 H A at-mem run .pre to-core)
   goes-core isF g =
       qed W ((‵ (flft κ₁ q₁) ⊛ (‵ (flft κ₂ q₂) ⊛ ‵ ftrue)) ∷ ‵ (MutSlice (named 0) κ₁ u16 .own x₁ (s₁ ∷ [])) ∷ ‵
-      (MutSlice (named 1) κ₂ u16 .own x₂ (s₂ ∷ [])) ∷ []) ∵ says ! (load-length y₀ (length y₀)) $ frame ! $
-      nothing ! $ owned ! u16 (Is u16) (uint-makes 𝓤 H A W w16) n₅ _ (refl, fits₅) $ fjoin ! $
-      owned ! u16 (Is u16) (uint-makes 𝓤 H A W w16) n₄ _ (refl, fits₄) $ fjoin ! $
-      owned ! u16 (Is u16) (uint-makes 𝓤 H A W w16) n₃ _ (refl, fits₃) $ fjoin ! $
+      (MutSlice (named 1) κ₂ u16 .own x₂ (s₂ ∷ [])) ∷ []) ∵ nothing ! $ owned ! u16 (Is u16) (uint-makes 𝓤 H A W
+      w16) n₅ _ (refl, fits₅) $ fjoin ! $ owned ! u16 (Is u16) (uint-makes 𝓤 H A W w16) n₄ _ (refl, fits₄) $
+      fjoin ! $ owned ! u16 (Is u16) (uint-makes 𝓤 H A W w16) n₃ _ (refl, fits₃) $ fjoin ! $
       owned ! u16 (Is u16) (uint-makes 𝓤 H A W w16) n₂ _ (refl, fits₂) $ fjoin ! $
       owned ! u16 (Is u16) (uint-makes 𝓤 H A W w16) n₁ _ (refl, fits₁) $ fjoin ! $
       owned ! T.the-row (Is T.the-row) (LL.makes T.the-type T′.the-plain 𝓤 H A) h _ g $ fjoin ! $
       owned ! TF.the-row (Is TF.the-row) (LL.makes TF.the-type TF′.the-plain 𝓤 H A) loaded _ isF $ fjoin ! $
-      move ! (2 ∷ 0 ∷ []) $ fjoin ! $ move ! (1 ∷ 0 ∷ []) $ fjoin ! $ done !
+      move ! (3 ∷ 0 ∷ []) $ fjoin ! $ move ! (2 ∷ 0 ∷ []) $ fjoin ! $ move ! (1 ∷ 0 ∷ []) $ join ! $ frame ! $
+      done !
 
   abbrev to-store : Flat → Store 𝓤 H A at-mem run .Ghost
   to-store u = (((κ₀, tt), (q₀, tt), tt, (x₀ γ₀, (u, tt)), (s₀ ∷ [], (machF u ∷ [], tt))), tt)

@@ -32,13 +32,13 @@ use Rattle.grid.proofs.Board.{boxes-of}
 use Rattle.search.specs.Grid.{Posed}
 use Rattle.tracks.specs.Legs.{Corners, Legs}
 use Rattle.tracks.specs.Found.{Found}
 use Rattle.foil.specs.Contract.{answerOf, StepDone, refusedBy}
 use Rattle.foil.specs.declared.Answer.the-variants.{Laid}
 use Rattle.foil.specs.declared.Done.{Done}
 use Rattle.foil.proofs.Refusing.{refusal, refused-done, fine-done}
 use Rattle.foil.proofs.Making.{rows-again, rows-layout, rows-table, copied-rows}
 use Rattle.foil.proofs.Limits.{Held, held-limits}
-use Rattle.foil.proofs.Corners.{corners-free, length-legs, read-path, small-corners, copied-corners}
+use Rattle.laying.proofs.Corners.{corners-free, length-legs, read-path, small-corners, copied-corners}
 
 module _ (b : Board) (t s ks : List ℕ) (net : ℕ) (S T : Point) (y : MayLay (lent b t s ks) net S T) where
   abbrev m : Lent

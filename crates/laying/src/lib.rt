@@ -1,12 +1,13 @@
-// Lay: finds the first path of fewest bends, and books its legs.
-use crate::Answer;
-use crate::Done;
-use crate::lists_short;
-use crate::refuse;
+// The call lay: finds the first path of fewest bends, and books its legs. Like the other calls it has no
+// `requires`: whatever is lent, it answers.
 use booking::Booked;
 use booking::book;
 use booking::copy_front;
 use booking::in_use;
+use foil::Answer;
+use foil::Done;
+use foil::lists_short;
+use foil::refuse;
 use foil_spec::Board;
 use state::is_sound;
 use state::net_ok;
@@ -21,7 +22,8 @@ ghost use Rattle.foil_spec.specs.Foil.{point};
 ghost use Rattle.foil_spec.specs.Ledger.{lay as lays, blocked};
 ghost use Rattle.foil_spec.specs.Lent.{lent, held};
 ghost use Rattle.ledger_laws.specs.Demand3.{MayLay};
-ghost use Rattle.foil.specs.Contract.{StepDone, Ready, OffFoil};
+ghost use Rattle.foil.specs.Contract.{StepDone, Ready};
+ghost use Rattle.laying.specs.Points.{OffFoil};
 
 // Lays a track of the net from (sx, sy) to (tx, ty): writes its corners to the front of the corner
 // list, and appends an entry for each leg.

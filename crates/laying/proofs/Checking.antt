@@ -17,10 +17,11 @@ use Rattle.list_laws.proofs.Tests.{or-l, or-r, not-ff}
 use Rattle.ledger_laws.specs.Demand3.{MayLay}
 use Rattle.ledger_laws.proofs.Steps.{long-lists}
 use Rattle.ledger_laws.proofs.Sound.{of-sound}
-use Rattle.foil.specs.Contract.{StepDone, refusedBy, Ready, OffFoil}
+use Rattle.foil.specs.Contract.{StepDone, refusedBy, Ready}
+use Rattle.laying.specs.Points.{OffFoil}
 use Rattle.foil.specs.declared.Done.{Done}
 use Rattle.foil.proofs.Refusing.{refusal, refused-done}
 use Rattle.foil.proofs.Limits.{held-limits}
 
 -- ---- whether a point is off the foil
 

@@ -1,0 +1,13 @@
+-- What the contracts of lay's tests say of its two points.
+use Prim.Native.Nat.{ℕ}
+use mathlib.Core.Path.{_≡_}
+use mathlib.Core.Bool.{Bool}
+use mathlib.Core.List.{List}
+use Rattle.foil_spec.specs.Foil.{Point}
+use Rattle.foil_spec.specs.Ledger.{offFoil}
+use Rattle.foil_spec.specs.Lent.{lent, held}
+use Rattle.foil_spec.specs.declared.Board.{Board}
+
+-- the answer says whether the point is off the foil, whatever the lists hold
+pub record OffFoil (b : Board) (p : Point) (r : Bool) : Type 0 where
+  pub is : (t s ks : List ℕ) → r ≡ offFoil (held (lent b t s ks)) p
