@@ -355,7 +355,7 @@ fn parts(bench: &mut Bench) {
     println!("\n### Where the instructions go, M (state checks and a lay's search and booking build strips too)\n");
     println!("| Step | In all | State checks | Search and booking | Building strips | Filling with zeros |");
     println!("|---|--:|--:|--:|--:|--:|");
-    let names = ["", "state::is_sound", "foil::laying::lay_between", "strips::rebuild", "*memset*"];
+    let names = ["", "*is_sound", "*lay_between", "*rebuild", "*memset*"];
     let large = scattered(4096, 120, 60);
     let (s, t) = COSTLIEST;
     let steps = [
