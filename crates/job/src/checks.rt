@@ -20,7 +20,13 @@ pub enum Checked {
 }
 
 // The checks before the record itself is looked at: 18, 12 and, unless the place is 0, 13.
-pub fn file_refusal(table: &[u16], strips: &[u16], board: Board, bytes: &[u8], at: usize) -> Checked
+pub(crate) fn file_refusal(
+    table: &[u16],
+    strips: &[u16],
+    board: Board,
+    bytes: &[u8],
+    at: usize,
+) -> Checked
     ensures { λ r. ⌜ FileChecked (now (bytes .entry)) at board (now (table .entry)) (now (strips .entry)) r ⌝ }
 {
     if 60000 < bytes.len() {
@@ -39,7 +45,7 @@ pub fn file_refusal(table: &[u16], strips: &[u16], board: Board, bytes: &[u8], a
 }
 
 // The checks of the record at a place.
-pub fn record_refusal(bytes: &[u8], at: usize) -> Checked
+pub(crate) fn record_refusal(bytes: &[u8], at: usize) -> Checked
     requires { ⌜ length (now bytes) ≤ 60000 ⌝ }
     ensures { λ r. ⌜ r ≡ checkedOf (first (recordChecks (now (bytes .entry)) at)) ⌝ }
 {

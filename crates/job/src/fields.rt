@@ -8,7 +8,7 @@ ghost use Rattle.foil_spec.specs.Job.{fieldCount, has as hasBit, fieldsAt, fiel
 ghost use Rattle.job.specs.Parts.{Begun, Given};
 
 // Whether bit k of the map byte is set.
-pub fn has(bytes: &[u8], at: usize, k: usize) -> bool
+pub(crate) fn has(bytes: &[u8], at: usize, k: usize) -> bool
     requires { ⌜ (at < length (now bytes)) × (k < 4) ⌝ }
     ensures { λ r. ⌜ r ≡ hasBit (now (bytes .entry)) at k ⌝ }
 {
@@ -28,7 +28,7 @@ fn field_bytes(bytes: &[u8], at: usize, k: usize) -> usize
 }
 
 // Where the fields of bit k begin, or would begin; the place after the record where k is 4.
-pub fn fields_at(bytes: &[u8], at: usize, k: usize) -> usize
+pub(crate) fn fields_at(bytes: &[u8], at: usize, k: usize) -> usize
     requires { ⌜ Begun (now bytes) at ⌝ }
     requires { ⌜ k ≤ 4 ⌝ }
     ensures { λ r. ⌜ r ≡ fieldsAt (now (bytes .entry)) at k ⌝ }
@@ -41,7 +41,7 @@ pub fn fields_at(bytes: &[u8], at: usize, k: usize) -> usize
 }
 
 // Number i of the fields of bit k, low byte first.
-pub fn field(bytes: &[u8], at: usize, k: usize, i: usize) -> u16
+pub(crate) fn field(bytes: &[u8], at: usize, k: usize, i: usize) -> u16
     requires { ⌜ Given (now bytes) at k i ⌝ }
     ensures { λ r. ⌜ r ≡ fieldOf (now (bytes .entry)) at k i ⌝ }
 {

@@ -34,7 +34,7 @@ struct Stepped {
 }
 
 // Runs the steps of the record.
-pub fn run_steps(
+pub(crate) fn run_steps(
     table: &mut [u16],
     strips: &mut [u16],
     corners: &mut [u16],
