@@ -430,6 +430,27 @@ def last_places(n, first):
     return [places[i] for i in range(1, n + 1)]
 
 
+# ---- what the walks share
+
+def lengths_fit(elements, which):
+    """Premises of a walk: the lengths of these lists are ones that a machine can hold."""
+    return ''.join('Room %s (length %s) → ' % (row(elements[i]), low('y', i)) for i in which)
+
+
+def walk_head(callees, premises, ks, qs, arguments):
+    """The head of a walk: what is known of its callees, its premises with their arrows, and what it shows."""
+    known = ['      (%s : Triple 𝓤 (C #%s) (%s 𝓤 H A at-mem run))' % (n, symbol(f), c) for n, c, f in callees]
+    return ['  module _ (C : Calls 𝓤 H) (Λ : Loops 𝓤 H) (fm : FmC 𝓤 H (W .laws) C)',
+            '\n'.join(known) + ' where',
+            '    walk : %sent 𝓤 (onEntry 𝓤 H A f.signature %s %s a vals) (WpFn 𝓤 H C Λ code.function (%s) Post)'
+            % (premises, nest(ks), nest(qs), listed(arguments))]
+
+
+def place_of(count):
+    """Where local i stands among the items that are held, of a function with so many locals."""
+    return lambda i, offset=0: 2 * (count - 1 - i) + offset
+
+
 # ---- a record by `&mut`
 
 def public(function, core, out, field, slices, shared, numbers, core_post, post, made, terms):
@@ -547,14 +568,8 @@ def public(function, core, out, field, slices, shared, numbers, core_post, post,
                   + ''.join(move([i + 1, 0]) + 'fjoin ! $ ' for i in reversed(every)) + move([1, 0])
                   + 'fjoin ! $ frame ! $ owned ! TA.the-row (Is TA.the-row) (%s.makes TA.the-type TA′.the-plain 𝓤 H A) '
                   '%s _ isA $ done !' % (law, answered), '']
-    out_lines += ['  module _ (C : Calls 𝓤 H) (Λ : Loops 𝓤 H) (fm : FmC 𝓤 H (W .laws) C)',
-                  '      (known : Triple 𝓤 (C #%s) (Core 𝓤 H A at-mem run)) where' % symbol(core),
-                  '    walk : ' + ''.join('Room %s (length %s) → ' % (row(elements[i]), low('y', i)) for i in every),
-                  '        ent 𝓤 (onEntry 𝓤 H A f.signature %s %s a vals) (WpFn 𝓤 H C Λ code.function (%s) Post)'
-                  % (nest(ks), nest(qs), listed(arguments))]
-
-    def place(i, offset=0):
-        return 2 * (locals_ - 1 - i) + offset
+    out_lines += walk_head([('known', 'Core', core)], lengths_fit(elements, every) + '\n        ', ks, qs, arguments)
+    place = place_of(locals_)
 
     s = '    walk %s =\n        ' % ' '.join(rooms)
     s += begin(tokens(ks, qs, 0), ['MutRef (named 0) κ₀ T.the-row']
@@ -784,17 +799,9 @@ def inner(function, core, out, slices, shared, numbers, core_post, post, made, t
               + ''.join(move([i + 1, 0]) + 'fjoin ! $ ' for i in reversed(every))
               + 'frame ! $ ' + owned_struct('TO', 'r', 'isO') + 'done !', '']
     callees = [('known-load', 'Load', LOAD), ('known', 'Core', core), ('known-store', 'Store', STORE)]
-    lines += ['  module _ (C : Calls 𝓤 H) (Λ : Loops 𝓤 H) (fm : FmC 𝓤 H (W .laws) C)',
-              '\n'.join('      (%s : Triple 𝓤 (C #%s) (%s 𝓤 H A at-mem run))' % (n, symbol(f), c) for n, c,
-                  f in callees)
-              + ' where',
-              '    walk : ' + ''.join('Room %s (length %s) → ' % (row(elements[i]), low('y', i)) for i in every)
-              + 'Is T.the-row h (mach h ∷ [])',
-              '        → ent 𝓤 (onEntry 𝓤 H A f.signature %s %s a vals) (WpFn 𝓤 H C Λ code.function (%s) Post)'
-              % (nest(ks), nest(qs), listed(arguments))]
-
-    def place(i, offset=0):
-        return 2 * (locals_ - 1 - i) + offset
+    lines += walk_head(callees, lengths_fit(elements, every) + 'Is T.the-row h (mach h ∷ [])\n        → ', ks, qs,
+                       arguments)
+    place = place_of(locals_)
 
     s = '    walk %s g =\n        ' % ' '.join(rooms)
     s += begin(tokens(ks, qs, 0), ['MutSlice (named %d) %s %s' % (i, ks[i], row(elements[i])) for i in whole]
@@ -1030,16 +1037,8 @@ def look(function, core, answer, slices, numbers, core_post, post, made, terms):
               + move([2, 1]) + 'feqI ! (List Val) (vptr b o ∷ []) (vptr b o ∷ []) refl $ fjoin3 ! $ fjoin ! $ '
               'frame ! $ done !', '']
     callees = [('known-load', 'Load', LOAD), ('known', 'Core', core)]
-    lines += ['  module _ (C : Calls 𝓤 H) (Λ : Loops 𝓤 H) (fm : FmC 𝓤 H (W .laws) C)',
-              '\n'.join('      (%s : Triple 𝓤 (C #%s) (%s 𝓤 H A at-mem run))' % (n, symbol(f), c) for n, c,
-                  f in callees)
-              + ' where',
-              '    walk : ' + ''.join('Room %s (length %s) → ' % (row(elements[i]), low('y', i)) for i in whole),
-              '        ent 𝓤 (onEntry 𝓤 H A f.signature %s %s a vals) (WpFn 𝓤 H C Λ code.function (%s) Post)'
-              % (nest(ks), nest(qs), listed(arguments))]
-
-    def place(i, offset=0):
-        return 2 * (locals_ - 1 - i) + offset
+    lines += walk_head(callees, lengths_fit(elements, whole) + '\n        ', ks, qs, arguments)
+    place = place_of(locals_)
 
     s = '    walk %s =\n        ' % ' '.join(rooms)
     s += begin(tokens(ks, qs, 0), ['ShrRef (named 0) κ₀ T.the-row']
