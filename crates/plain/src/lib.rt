@@ -7,7 +7,7 @@ mod rounds;
 mod walk;
 
 ghost use mathlib.Core.Path.{_≡_};
-ghost use mathlib.Core.Bool.{true};
+ghost use mathlib.Core.Bool.{true, false};
 ghost use Prim.Native.Nat.{_≤_, _<_};
 ghost use Rattle.foil_spec.specs.Foil.{within, blocks};
 ghost use Rattle.foil_spec.specs.Lent.{entryAt};
@@ -33,7 +33,8 @@ pub fn free_points(map: &mut [bool; 4096], table: &[u16; 640], n: usize, d: u16,
 // Whether the point (x, y) is on the board, and no entry blocks it.
 pub fn is_free(table: &[u16; 640], n: usize, d: u16, w: u16, h: u16, x: u16, y: u16) -> bool
     requires { ⌜ n ≤ 128 ⌝ }
-    ensures { λ r. ⌜ (r ≡ true → Unblocked (now (table .entry)) n d w h x y) ⌝ }
+    ensures { λ r. ⌜ (r ≡ true → Unblocked (now (table .entry)) n d w h x y)
+        × (r ≡ false → Unblocked (now (table .entry)) n d w h x y → ⊥) ⌝ }
 {
     if w <= x {
         return false;

@@ -17,10 +17,10 @@ abbrev μ-loop : tie.MeasureT-loop
 μ-loop table n d w h x y i₀ i = n - i
 
 returns : tie.Need-returns Inv-loop μ-loop
-returns c = λ e. absurd (true≢false (sym e))
+returns c = (λ e. absurd (true≢false (sym e)), λ e u. omega (arith, u .x-on))
 
 returns-2 : tie.Need-returns-2 Inv-loop μ-loop
-returns-2 c = λ e. absurd (true≢false (sym e))
+returns-2 c = (λ e. absurd (true≢false (sym e)), λ e u. omega (arith, u .y-on))
 
 loop-holds : tie.Need-loop-holds Inv-loop μ-loop
 loop-holds c = (omega arith, λ k l. absurd (omega arith))
@@ -29,7 +29,10 @@ blocks-at-requires : tie.Need-blocks-at-requires Inv-loop μ-loop
 blocks-at-requires c κs = search needs
 
 returns-3 : tie.Need-returns-3 Inv-loop μ-loop
-returns-3 c = λ e. absurd (true≢false (sym e))
+returns-3 c = (
+  λ e. absurd (true≢false (sym e)),
+  λ e u. true≢false (sym (c .if3 .taken) ∙ c .before .blocks-at .ensures ∙ u .none _ (omega arith)),
+)
 
 add-i : tie.Need-add-i Inv-loop μ-loop
 add-i c = search needs
@@ -45,12 +48,14 @@ loop-again c = (
 )
 
 returns-4 : tie.Need-returns-4 Inv-loop μ-loop
-returns-4 c e =
-    record {
-      x-on = omega arith;
-      y-on = omega arith;
-      none = λ k l. c .before .loop .inv .1 k (omega arith);
-    }
+returns-4 c = (
+  λ e. record {
+    x-on = omega arith;
+    y-on = omega arith;
+    none = λ k l. c .before .loop .inv .1 k (omega arith);
+  },
+  λ e u. true≢false e,
+)
 
 pub is-free-spec : {M : Type 1} → statement M
 is-free-spec =
