@@ -151,10 +151,10 @@ module _ (m : Lent) (long : Long m) where
 -- ---- the call that begins a foil
 
 -- it is not short, it goes as on the ledger, and leaves a layout that keeps the rules
-record Begun (c : Call) (l : Layout) (m : Lent) : Type 0 where
-  long : short (roomOf m) ≡ false
-  kept : layoutOk (ledgerCall (roomOf m) c l .state) ≡ true
-  is : callOn c m ≡ shown m (m .corners) (ledgerCall (roomOf m) c l)
+pub record Begun (c : Call) (l : Layout) (m : Lent) : Type 0 where
+  pub long : short (roomOf m) ≡ false
+  pub kept : layoutOk (ledgerCall (roomOf m) c l .state) ≡ true
+  pub is : callOn c m ≡ shown m (m .corners) (ledgerCall (roomOf m) c l)
 
 module _ (W H d : ℕ) where
   settled-new : (o : Option ℕ) (l : Layout) → settle o (newFoil W H d) l .answer ≡ accepted → o ≡ none
@@ -241,12 +241,12 @@ unfolding actAll
 first-answer r s ss l x xs h = then-head (ledgerStep r s l) _ x xs h
 
 -- a record at place 0 that passes its checks opens with a board
-record Opens (ss : List Step) : Type 0 where
-  W : ℕ
-  H : ℕ
-  d : ℕ
-  later : List Step
-  is : ss ≡ newFoil W H d ∷ later
+pub record Opens (ss : List Step) : Type 0 where
+  pub W : ℕ
+  pub H : ℕ
+  pub d : ℕ
+  pub later : List Step
+  pub is : ss ≡ newFoil W H d ∷ later
 
 opens-with : (t : Bool) (W H d : ℕ) (ss : List Step) → t ≡ true → Opens (consIf t (newFoil W H d) ss)
 opens-with true W H d ss e = record { W = W; H = H; d = d; later = ss; is = refl }
@@ -257,7 +257,7 @@ unfolding xor
 only-true true e = refl
 only-true false e = clash refl e
 
-opens : (bs : List ℕ) → first (recordChecks bs 0) ≡ none → Opens (steps bs 0)
+pub opens : (bs : List ℕ) → first (recordChecks bs 0) ≡ none → Opens (steps bs 0)
 unfolding recordChecks steps
 opens bs h =
     let x : xor true (has bs 0 0) ≡ false = search none-applies in
@@ -268,7 +268,7 @@ ran-state : (r : Room) (ss : List Step) (p : ℕ) (l : Layout)
 unfolding actRecord
 ran-state r ss p l = refl
 
-begun-record : (bs : List ℕ) (xs : List Answer) (n : Option ℕ) (l : Layout) (m : Lent)
+pub begun-record : (bs : List ℕ) (xs : List Answer) (n : Option ℕ) (l : Layout) (m : Lent)
     → ledgerCall (roomOf m) (runRecord bs 0) l .answer ≡ ran (accepted ∷ xs) n → Begun (runRecord bs 0) l m
 unfolding ledgerCall callOn
 begun-record bs xs n l m e =

@@ -1,12 +1,12 @@
 -- Lay answers 9 exactly where there is no path, lays the first one, and lift takes it back.
-use Prim.Native.Nat.{ℕ}
+use Prim.Native.Nat.{ℕ, _≤_}
 use native.Mathlib.Omega.{arith}
 use mathlib.Core.Path.{_≡_, refl, sym, ap, _∙_, subst}
 use mathlib.Core.Bool.{Bool, true, false, not}
 use mathlib.Core.List.{List, [], _∷_, _++_, append-nil}
 use mathlib.Core.Option.{Option, none, some, Option·getD}
 use lib.Dec.{ltb}
-use borrow.Author.Tests.{eq-eqb, lt-leb}
+use borrow.Author.Tests.{eq-eqb, lt-leb, ltb-false}
 use lib.ListN.{length}
 use Rattle.foil_spec.specs.Lists.{keep, any}
 use Rattle.foil_spec.specs.Foil.{Point, Entry, Layout, netOk, free}
@@ -122,6 +122,16 @@ unfolding stepOn
 of-laid m net S T cs n h =
     let a = finished-laid (refusal (lay net S T) m) net S T m cs n h in
     record { unrefused = a .0; corners = a .1; bent = a .2 }
+
+-- its corners fit the corner list that is lent
+pub laid-fits : (m : Lent) (net : ℕ) (S T : Point) (cs : List Point) (n : ℕ)
+    → stepOn (lay net S T) m .answer ≡ laid cs n → length cs ≤ roomOf m .corners
+unfolding refusals
+laid-fits m net S T cs n h =
+    let a = of-laid m net S T cs n h in
+    let e = a .unrefused in
+    let f : ltb (roomOf m .corners) (length (cornersOf (held m) S T)) ≡ false = search none-applies depth 12 in
+    omega (arith, ltb-false (roomOf m .corners) (length (cornersOf (held m) S T)) f, ap length (a .corners))
 
 has-path : (r : Room) (b : Bool) (l : Layout) (net : ℕ) (S T : Point)
     → first (refusals (lay net S T) r b l) ≡ none → noPath (pathOf l S T) ≡ false

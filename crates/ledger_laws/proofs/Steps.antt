@@ -20,7 +20,7 @@ use Rattle.foil_spec.specs.Calls.{Call, step, runRecord, endsJob, andThen, actA
 use Rattle.foil_spec.specs.Calls.{tooLarge, ledgerCall, callOn}
 use Rattle.foil_spec.specs.Sequence.{answersIn, cornersAll, shown}
 use Rattle.foil_spec.proofs.Written.{length-written}
-use Rattle.list_laws.proofs.Tests.{parts}
+use Rattle.list_laws.proofs.Tests.{both, parts}
 use Rattle.ledger_laws.proofs.Refusals.{none-applies}
 use Rattle.ledger_laws.proofs.Stored.{Long, length-points, entries-fit, strips-fit, held-store, store-again}
 use Rattle.ledger_laws.proofs.Stored.{sound-store}
@@ -140,6 +140,38 @@ steps-are (s ∷ ss) l m n g =
     cons-is m (store l m) s ss l n
     (step-is s l m g ∙ ap (λ (r : Room). shownStep m (ledgerStep r s l)) (room-store l m n g))
     (λ k h. steps-are ss (ledgerStep (roomOf m) s l .state) k h (step-kept (roomOf m) s l g))
+
+-- ---- the corner list after answers of the ledger is as long as it was
+
+step-corners : (r : Room) (s : Step) (l : Layout) (ks : List ℕ) → r .corners ≡ length ks / 2
+    → length (cornersAfter (ledgerStep r s l .answer) ks) ≡ length ks
+unfolding ledgerStep
+step-corners r s l ks f = corners-fit r s l ks (first (refusals s r false l)) refl f
+
+steps-corners : (r : Room) (ss : List Step) (l : Layout) (ks : List ℕ) → r .corners ≡ length ks / 2
+    → length (cornersAll (actAll (ledgerStep r) ss l .answer) ks) ≡ length ks
+unfolding actAll cornersAll andThen
+steps-corners r [] l ks f = refl
+steps-corners r (s ∷ ss) l ks f =
+    let a : After Answer Layout = ledgerStep r s l in
+    let now : length (cornersAfter (a .answer) ks) ≡ length ks = step-corners r s l ks f in
+    both (endsJob (a .answer))
+    (λ e. rw e now)
+    (λ e. rw e (steps-corners r ss (a .state) (cornersAfter (a .answer) ks) (rw now f) ∙ now))
+
+reply-corners : (r : Room) (o : Option ℕ) (e : Bool) (ss : List Step) (p : ℕ) (l : Layout) (ks : List ℕ)
+    → r .corners ≡ length ks / 2
+    → length (cornersAll (answersIn (actRecord (ledgerStep r) o e ss p l .answer)) ks) ≡ length ks
+unfolding actRecord answersIn cornersAll cornersAfter
+reply-corners r (some n) e ss p l ks f = refl
+reply-corners r none true ss p l ks f = refl
+reply-corners r none false ss p l ks f = steps-corners r ss l ks f
+
+pub call-corners : (r : Room) (c : Call) (l : Layout) (ks : List ℕ) → r .corners ≡ length ks / 2
+    → length (cornersAll (answersIn (ledgerCall r c l .answer)) ks) ≡ length ks
+unfolding ledgerCall
+call-corners r (step s) l ks f = unfold answersIn cornersAll in step-corners r s l ks f
+call-corners r (runRecord bs at) l ks f = reply-corners r _ (isEnd bs at) (steps bs at) (recordEnd bs at) l ks f
 
 -- ---- a record as a whole, and every call
 
