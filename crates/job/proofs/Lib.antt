@@ -5,3 +5,4 @@ pub mod Corners
 pub mod Stepping
 pub mod Steps
 pub mod Wholes
+pub mod Replies

@@ -46,12 +46,10 @@ module _ (bs : List ℕ) (at : ℕ) where
       (λ (l : suc j ≤ k). let e : k ≡ suc j = omega arith in rw e (omega arith))
       (lt-or-le k (suc j))
 
-  -- the numbers of a bit whose step is run are among the bytes
-  pub field-there : Whole bs at → (k i : ℕ) → k < 4 → i < fieldCount k → (e go : Bool) → go ≡ (has bs at k && e)
-      → not go ≡ false → Given bs at k i
+  -- the numbers of a bit that is set are among the bytes
+  pub field-given : Whole bs at → (k i : ℕ) → k < 4 → i < fieldCount k → has bs at k ≡ true → Given bs at k i
   unfolding fieldsAt recordEnd
-  field-there w k i l s e go q n =
-      let h : has bs at k ≡ true = and-l (has bs at k) e (sym q ∙ not-false go n) in
+  field-given w k i l s h =
       let g : fieldsAt bs at k + 2 * fieldCount k ≡ fieldsAt bs at (suc k) = rw h refl in
       record {
         begun = w .begun;
@@ -59,3 +57,9 @@ module _ (bs : List ℕ) (at : ℕ) where
         few = omega (arith, count-small k);
         there = omega (arith, fields-rise (suc k) 4 (omega arith), w .ends);
       }
+
+  -- so are those of a bit whose step is run
+  pub field-there : Whole bs at → (k i : ℕ) → k < 4 → i < fieldCount k → (e go : Bool) → go ≡ (has bs at k && e)
+      → not go ≡ false → Given bs at k i
+  field-there w k i l s e go q n =
+      field-given w k i l s (and-l (has bs at k) e (sym q ∙ not-false go n))

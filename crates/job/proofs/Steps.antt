@@ -27,11 +27,11 @@ left true cs m = record { answer = []; state = m }
 left false cs m = actAll stepOn cs m
 
 -- the first of the steps that are left is met: what it tells, and what is left after it
-record Met (on e : Bool) (c : Step) (cs : List Step) (m : Lent) (told : Told) (e′ : Bool) (m′ : Lent) : Type 0 where
-  says : told ≡ toldAt on (left e (consIf on c cs) m .answer)
-  rest : restAfter on (left e (consIf on c cs) m .answer) ≡ left e′ cs m′ .answer
-  state : left e (consIf on c cs) m .state ≡ left e′ cs m′ .state
-  over : (e || any endsJob (left e (consIf on c cs) m .answer)) ≡ (e′ || any endsJob (left e′ cs m′ .answer))
+pub record Met (on e : Bool) (c : Step) (cs : List Step) (m : Lent) (told : Told) (e′ : Bool) (m′ : Lent) : Type 0 where
+  pub says : told ≡ toldAt on (left e (consIf on c cs) m .answer)
+  pub rest : restAfter on (left e (consIf on c cs) m .answer) ≡ left e′ cs m′ .answer
+  pub state : left e (consIf on c cs) m .state ≡ left e′ cs m′ .state
+  pub over : (e || any endsJob (left e (consIf on c cs) m .answer)) ≡ (e′ || any endsJob (left e′ cs m′ .answer))
 
 -- a step whose answer a ends the job or not, as t says
 run-met : (t : Bool) (a : Answer) → endsJob a ≡ t → (cs : List Step) (m m′ : Lent) (c : Step)
@@ -43,7 +43,7 @@ run-met true a h cs m m′ c e =
 run-met false a h cs m m′ c e =
     record { says = rw (e, h) refl; rest = rw (e, h) refl; state = rw (e, h) refl; over = rw (e, h) (rw h refl) }
 
-met : (on e : Bool) (c : Step) (cs : List Step) (m : Lent)
+pub met : (on e : Bool) (c : Step) (cs : List Step) (m : Lent)
     → Met on e c cs m (toldOf (stepIf (on && not e) c m .answer)) (endedAfter e (stepIf (on && not e) c m .answer))
     (stepIf (on && not e) c m .state)
 unfolding left toldAt restAfter stepIf toldOf endedAfter
@@ -66,7 +66,7 @@ unfolding left actAll
 none-left true m = refl
 none-left false m = refl
 
-same-left : (e : Bool) (m : Lent) → left e [] m .state ≡ m
+pub same-left : (e : Bool) (m : Lent) → left e [] m .state ≡ m
 unfolding left actAll
 same-left true m = refl
 same-left false m = refl

@@ -6,13 +6,15 @@ mod running;
 use checks::Checked;
 use checks::file_refusal;
 use checks::record_refusal;
+use fields::field;
 use foil::Answer;
 use foil_spec::Board;
 use running::run_steps;
 ghost use mathlib.Core.Path.{_≡_};
 ghost use Rattle.foil_spec.specs.Lent.{lent};
+ghost use Rattle.foil_spec.specs.Job.{field as fieldOf};
 ghost use Rattle.job.specs.Contract.{RecordDone};
-ghost use Rattle.job.specs.Parts.{refusedBy};
+ghost use Rattle.job.specs.Parts.{Given, refusedBy};
 
 // What a step of a record answered, if the record has that step and it was run.
 pub enum Told {
@@ -86,4 +88,13 @@ fn refuse(number: u8, board: Board) -> Replied
         reply: Reply::Refused(number),
         board,
     }
+}
+
+// The net that the step of bit k of a record names, as its line repeats it: 2 lays a track of the net, 3
+// lifts it.
+pub fn net_of(bytes: &[u8], at: usize, k: usize) -> u16
+    requires { ⌜ Given (now bytes) at k 0 ⌝ }
+    ensures { λ r. ⌜ r ≡ fieldOf (now (bytes .entry)) at k 0 ⌝ }
+{
+    field(bytes, at, k, 0)
 }

@@ -18,14 +18,19 @@ each-last f [] x = append-nil (f x)
 each-last {A} {B} f (y ∷ ys) x =
     ap (λ (l : List B). f y ++ l) (each-last f ys x) ∙ sym (append-assoc (f y) (each f ys) (f x))
 
+-- what the first k things of a numbered row give, and one more
+pub each-more : {A : Type 0} (g : A → List ℕ) (f : ℕ → A) (k : ℕ)
+    → each g (map f (range 0 (k + 1))) ≡ each g (map f (range 0 k)) ++ g (f k)
+each-more g f k =
+    ap (λ (j : ℕ). each g (map f (range 0 j))) (add-one k)
+    ∙ ap (each g) (map-last f 0 k)
+    ∙ each-last g (map f (range 0 k)) (f (0 + k))
+    ∙ ap (λ (j : ℕ). each g (map f (range 0 k)) ++ g (f j)) (zero-add k)
+
 corners-last : (ks : List ℕ) (k : ℕ)
     → each cornerItem (cornersIn ks (k + 1)) ≡ each cornerItem (cornersIn ks k) ++ cornerItem (cornerAt ks k)
 unfolding cornersIn
-corners-last ks k =
-    ap (λ (j : ℕ). each cornerItem (map (cornerAt ks) (range 0 j))) (add-one k)
-    ∙ ap (each cornerItem) (map-last (cornerAt ks) 0 k)
-    ∙ each-last cornerItem (map (cornerAt ks) (range 0 k)) (cornerAt ks (0 + k))
-    ∙ ap (λ (j : ℕ). each cornerItem (map (cornerAt ks) (range 0 k)) ++ cornerItem (cornerAt ks j)) (zero-add k)
+corners-last ks k = each-more cornerItem (cornerAt ks) k
 
 -- no corner is put, one corner more is, all are
 pub corners-none : (ks o : List ℕ) (at : ℕ) → at ≤ length o → Put o at (each cornerItem (cornersIn ks 0)) o at

@@ -1,6 +1,6 @@
 // The lines that the job program writes, into a lent list of bytes. Each function writes one line at
-// place `at` and answers the place after it. The job program is their only caller: it lends room
-// enough, and the `requires` says how much.
+// place `at` and answers the place after it, which says too how long a line can be. Their caller lends
+// room enough; the `requires` says how much.
 mod put;
 
 use put::put_bytes;
@@ -19,6 +19,7 @@ ghost use Rattle.lines.specs.Put.{Put};
 pub fn board_line(out: &mut [u8], at: usize, number: u8) -> usize
     requires { ⌜ at + 64 ≤ length (now out) ⌝ }
     ensures { λ r. ⌜ Put (now (out .entry)) at (boardLine number) (now (out .exit)) r ⌝ }
+    ensures { λ r. ⌜ r ≤ at + 64 ⌝ }
 {
     number_line(out, at, b"board", number)
 }
@@ -27,6 +28,7 @@ pub fn board_line(out: &mut [u8], at: usize, number: u8) -> usize
 pub fn patch_line(out: &mut [u8], at: usize, number: u8) -> usize
     requires { ⌜ at + 64 ≤ length (now out) ⌝ }
     ensures { λ r. ⌜ Put (now (out .entry)) at (patchLine number) (now (out .exit)) r ⌝ }
+    ensures { λ r. ⌜ r ≤ at + 64 ⌝ }
 {
     number_line(out, at, b"patch", number)
 }
@@ -35,6 +37,7 @@ pub fn patch_line(out: &mut [u8], at: usize, number: u8) -> usize
 pub fn track_refused(out: &mut [u8], at: usize, net: u16, number: u8) -> usize
     requires { ⌜ at + 64 ≤ length (now out) ⌝ }
     ensures { λ r. ⌜ Put (now (out .entry)) at (trackRefused net number) (now (out .exit)) r ⌝ }
+    ensures { λ r. ⌜ r ≤ at + 64 ⌝ }
 {
     net_line(out, at, b"track", net, number)
 }
@@ -52,6 +55,7 @@ pub fn track_laid(
     requires { ⌜ 2 * count ≤ length (now corners) ⌝ }
     ensures { λ r. ⌜ Put (now (out .entry)) at
         (trackLaid net bends (cornersIn (now (corners .entry)) count)) (now (out .exit)) r ⌝ }
+    ensures { λ r. ⌜ r ≤ at + 64 + 12 * count ⌝ }
 {
     let a = put_bytes(out, at, b"track");
     let b = put_item(out, a, net);
@@ -66,6 +70,7 @@ pub fn track_laid(
 pub fn lift_line(out: &mut [u8], at: usize, net: u16, number: u8) -> usize
     requires { ⌜ at + 64 ≤ length (now out) ⌝ }
     ensures { λ r. ⌜ Put (now (out .entry)) at (liftLine net number) (now (out .exit)) r ⌝ }
+    ensures { λ r. ⌜ r ≤ at + 64 ⌝ }
 {
     net_line(out, at, b"lift", net, number)
 }
@@ -75,6 +80,7 @@ pub fn strip_line(out: &mut [u8], at: usize, x0: u16, y0: u16, x1: u16, y1: u16)
     requires { ⌜ at + 64 ≤ length (now out) ⌝ }
     ensures { λ r. ⌜ Put (now (out .entry)) at (stripLine (record { x0 = x0; y0 = y0; x1 = x1; y1 = y1 }))
         (now (out .exit)) r ⌝ }
+    ensures { λ r. ⌜ r ≤ at + 30 ⌝ }
 {
     let a = put_bytes(out, at, b"strip");
     let b = put_item(out, a, x0);
@@ -88,6 +94,7 @@ pub fn strip_line(out: &mut [u8], at: usize, x0: u16, y0: u16, x1: u16, y1: u16)
 pub fn file_line(out: &mut [u8], at: usize, number: u8) -> usize
     requires { ⌜ at + 64 ≤ length (now out) ⌝ }
     ensures { λ r. ⌜ Put (now (out .entry)) at (fileLine number) (now (out .exit)) r ⌝ }
+    ensures { λ r. ⌜ r ≤ at + 64 ⌝ }
 {
     number_line(out, at, b"file", number)
 }
@@ -97,6 +104,7 @@ fn number_line(out: &mut [u8], at: usize, word: &[u8], number: u8) -> usize
     requires { ⌜ at + length (now word) + 21 ≤ length (now out) ⌝ }
     ensures { λ r. ⌜ Put (now (out .entry)) at (now (word .entry) ++ item number ++ ascii "\n")
         (now (out .exit)) r ⌝ }
+    ensures { λ r. ⌜ r ≤ at + length (now (word .entry)) + 7 ⌝ }
 {
     let a = put_bytes(out, at, word);
     let b = put_item(out, a, number as u16);
@@ -108,6 +116,7 @@ fn net_line(out: &mut [u8], at: usize, word: &[u8], net: u16, number: u8) -> usi
     requires { ⌜ at + length (now word) + 27 ≤ length (now out) ⌝ }
     ensures { λ r. ⌜ Put (now (out .entry)) at (now (word .entry) ++ item net ++ item number ++ ascii "\n")
         (now (out .exit)) r ⌝ }
+    ensures { λ r. ⌜ r ≤ at + length (now (word .entry)) + 13 ⌝ }
 {
     let a = put_bytes(out, at, word);
     let b = put_item(out, a, net);

@@ -16,7 +16,7 @@ same-length c = omega arith
 
 returns : tie.Need-returns
 unfolding boardLine
-returns c = c .before .before .number-line .ensures
+returns c = (c .before .before .number-line .ensures .0, omega arith)
 
 pub board-line-spec : {M : Type 1} → statement M
 board-line-spec =

@@ -16,7 +16,7 @@ same-length c = omega arith
 
 returns : tie.Need-returns
 unfolding fileLine
-returns c = c .before .before .number-line .ensures
+returns c = (c .before .before .number-line .ensures .0, omega arith)
 
 pub file-line-spec : {M : Type 1} → statement M
 file-line-spec =

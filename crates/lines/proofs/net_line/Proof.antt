@@ -28,10 +28,12 @@ returns c =
     let feed = c .before .before in
     let number = feed .before .before .before .before .before in
     let net = number .before .before .before .before in
-    let word = net .before .before .before .before in
-    put-then
-    (put-then (put-then (word .put-bytes .ensures) (net .put-item .ensures .0)) (number .put-item2 .ensures .0))
-    (feed .put-bytes2 .ensures)
+    let word = net .before .before .before .before in (
+      put-then
+          (put-then (put-then (word .put-bytes .ensures) (net .put-item .ensures .0)) (number .put-item2 .ensures .0))
+          (feed .put-bytes2 .ensures),
+      omega arith,
+    )
 
 pub net-line-spec : {M : Type 1} → statement M
 net-line-spec =

@@ -24,8 +24,10 @@ returns : tie.Need-returns
 returns c =
     let feed = c .before .before in
     let number = feed .before .before .before .before .before in
-    let word = number .before .before .before .before in
-    put-then (put-then (word .put-bytes .ensures) (number .put-item .ensures .0)) (feed .put-bytes2 .ensures)
+    let word = number .before .before .before .before in (
+      put-then (put-then (word .put-bytes .ensures) (number .put-item .ensures .0)) (feed .put-bytes2 .ensures),
+      omega arith,
+    )
 
 pub number-line-spec : {M : Type 1} → statement M
 number-line-spec =

@@ -16,7 +16,7 @@ same-length c = omega arith
 
 returns : tie.Need-returns
 unfolding patchLine
-returns c = c .before .before .number-line .ensures
+returns c = (c .before .before .number-line .ensures .0, omega arith)
 
 pub patch-line-spec : {M : Type 1} → statement M
 patch-line-spec =

@@ -41,14 +41,16 @@ returns c =
     let third = fourth .before .before .before .before in
     let second = third .before .before .before .before in
     let first = second .before .before .before .before in
-    let word = first .before .before .before .before in
-    put-then
-    (put-then
-    (put-then
-    (put-then (put-then (word .put-bytes .ensures) (first .put-item .ensures .0)) (second .put-item2 .ensures .0))
-    (third .put-item3 .ensures .0))
-    (fourth .put-item4 .ensures .0))
-    (feed .put-bytes2 .ensures)
+    let word = first .before .before .before .before in (
+      put-then
+          (put-then
+          (put-then
+          (put-then (put-then (word .put-bytes .ensures) (first .put-item .ensures .0)) (second .put-item2 .ensures .0))
+          (third .put-item3 .ensures .0))
+          (fourth .put-item4 .ensures .0))
+          (feed .put-bytes2 .ensures),
+      omega arith,
+    )
 
 pub strip-line-spec : {M : Type 1} → statement M
 strip-line-spec =

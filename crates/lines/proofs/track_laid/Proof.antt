@@ -48,14 +48,16 @@ returns c =
     let blank = bends .before .before .before .before in
     let zero = blank .before .before .before .before .before in
     let net = zero .before .before .before .before in
-    let word = net .before .before .before .before in
-    put-then
-    (put-then
-    (put-then
-    (put-then (put-then (word .put-bytes .ensures) (net .put-item .ensures .0)) (zero .put-item2 .ensures .0))
-    (put-then (blank .put-bytes2 .ensures) (bends .put-number .ensures .0)))
-    (corners .put-corners .ensures .0))
-    (feed .put-bytes3 .ensures)
+    let word = net .before .before .before .before in (
+      put-then
+          (put-then
+          (put-then
+          (put-then (put-then (word .put-bytes .ensures) (net .put-item .ensures .0)) (zero .put-item2 .ensures .0))
+          (put-then (blank .put-bytes2 .ensures) (bends .put-number .ensures .0)))
+          (corners .put-corners .ensures .0))
+          (feed .put-bytes3 .ensures),
+      omega arith,
+    )
 
 pub track-laid-spec : {M : Type 1} → statement M
 track-laid-spec =

@@ -16,7 +16,7 @@ same-length c = omega arith
 
 returns : tie.Need-returns
 unfolding trackRefused
-returns c = c .before .before .net-line .ensures
+returns c = (c .before .before .net-line .ensures .0, omega arith)
 
 pub track-refused-spec : {M : Type 1} → statement M
 track-refused-spec =
