@@ -1,10 +1,60 @@
-// The job program: reads a job file from standard input and writes the lines of its records.
+// The job program: reads a job file from standard input, and writes the lines of its records in turn.
+use job::Next;
+use job_report::no_board;
+use job_report::report_record;
+ghost use Prim.Native.Nat.{_≤_};
+ghost use lib.ListN.{length};
 
 // One byte more than a job file may have, so that a longer one is known.
 const BYTES: usize = 60001;
 
+// More records than any file has that is not too long, and one call more for its end.
+const RECORDS: usize = 60001;
+
 fn main() {
     let mut bytes = [0u8; BYTES];
     let n = io::read_full(0, &mut bytes);
-    job_report::write_job(&bytes[..n]);
+    write_job(&bytes[..n]);
+}
+
+// Runs the records of a job file in turn, on a foil of its own, and writes the lines of each.
+fn write_job(bytes: &[u8]) {
+    let mut out = [0u8; 131072];
+    let mut table = [0u16; 640];
+    let mut strips = [0u16; 16384];
+    let mut corners = [0u16; 16384];
+    let mut board = no_board();
+    let mut at: usize = 0;
+    for _ in 0..RECORDS {
+        let done = report_record(
+            &mut out,
+            &mut table,
+            &mut strips,
+            &mut corners,
+            board,
+            bytes,
+            at,
+        );
+        write_lines(&out, done.size);
+        let next = done.next;
+        let Next::At(place) = next else {
+            return;
+        };
+        board = done.board;
+        at = place;
+    }
+}
+
+// Writes the first n bytes of what a record gave.
+fn write_lines(out: &[u8; 131072], n: usize)
+    requires { ⌜ n ≤ 131072 ⌝ }
+{
+    write_front(out, n);
+}
+
+// Writes the first n bytes of a list.
+fn write_front(out: &[u8], n: usize)
+    requires { ⌜ n ≤ length (now out) ⌝ }
+{
+    io::write_all(1, &out[..n]);
 }

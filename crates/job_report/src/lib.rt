@@ -1,52 +1,77 @@
-// A job file run to its end: its records in turn, and for each the lines that document 01 gives for it.
-mod nets;
-mod write;
+// A job file, record by record: the record at a place is run, and its lines are written to the front of a
+// lent list of bytes. Whoever writes out what each call gave, from place 0 on, writes the job's output.
+mod answers;
+mod strip_lines;
 
+use answers::put_answers;
 use foil_spec::Board;
 use job::Next;
-use job::Replied;
 use job::Reply;
 use job::run_record;
-use write::write_answers;
-use write::write_file;
-use write::write_strips;
+use lines::file_line;
+use strip_lines::put_strips;
+ghost use mathlib.Core.Path.{_≡_};
+ghost use Prim.Native.Nat.{_≤_};
+ghost use Rattle.foil_spec.specs.Lent.{lent};
+ghost use Rattle.job.specs.declared.Next.the-variants.{Nowhere};
+ghost use Rattle.job_report.specs.Report.{RecordReported};
 
-// More records than any file that is not too long has, and one call more for its end.
-const RECORDS: usize = 60001;
-
-// Runs the records of a job file in turn, on a foil of its own and with 8,192 corner places lent, and
-// writes their lines to standard output.
-pub fn write_job(bytes: &[u8]) {
-    let mut table = [0u16; 640];
-    let mut strips = [0u16; 16384];
-    let mut corners = [0u16; 16384];
-    let mut board = no_board();
-    let mut at: usize = 0;
-    for _ in 0..RECORDS {
-        let done = run_one(&mut table, &mut strips, &mut corners, board, bytes, at);
-        board = done.board;
-        let next = write_one(done, &strips, &corners, bytes);
-        let Next::At(place) = next else {
-            return;
-        };
-        at = place;
-    }
+// How many bytes a record's lines take, the place of the next record, and the board's record after it.
+pub struct Reported {
+    pub size: usize,
+    pub next: Next,
+    pub board: Board,
 }
 
-// Runs the record at a place, on lists as long as document 01 asks.
-fn run_one(
+// Runs the record that begins at place `at` of the job file's bytes, on lists as long as document 01 asks
+// and with 8,192 corner places, and writes its lines to the front of `out`.
+pub fn report_record(
+    out: &mut [u8; 131072],
     table: &mut [u16; 640],
     strips: &mut [u16; 16384],
     corners: &mut [u16; 16384],
     board: Board,
     bytes: &[u8],
     at: usize,
-) -> Replied {
-    run_record(table, strips, corners, board, bytes, at)
+) -> Reported
+    ensures { λ r. ⌜ RecordReported (now (bytes .entry)) at
+        (lent board (now (table .entry)) (now (strips .entry)) (now (corners .entry)))
+        (now (out .entry)) (now (out .exit)) r
+        (now (table .exit)) (now (strips .exit)) (now (corners .exit)) ⌝ }
+    ensures { λ r. ⌜ r .size ≤ 131072 ⌝ }
+{
+    let done = run_record(table, strips, corners, board, bytes, at);
+    let reply = done.reply;
+    let left = done.board;
+    match reply {
+        Reply::Refused(number) => ended(file_line(out, 0, number), left),
+        Reply::Ran(answers, next) => {
+            let size = put_answers(out, answers, corners, bytes, at);
+            Reported {
+                size,
+                next,
+                board: left,
+            }
+        }
+        Reply::AtEnd => ended(put_strips(out, strips, left.strips), left),
+    }
 }
 
-// The record before a foil is begun.
-fn no_board() -> Board {
+// A record after which the job has ended.
+fn ended(size: usize, board: Board) -> Reported
+    ensures { λ r. ⌜ r ≡ record { size = size; next = Nowhere; board = board } ⌝ }
+{
+    Reported {
+        size,
+        next: Next::Nowhere,
+        board,
+    }
+}
+
+// The board's record before a foil is begun.
+pub fn no_board() -> Board
+    ensures { λ r. ⌜ r ≡ record { width = 0; height = 0; clearance = 0; entries = 0; strips = 0 } ⌝ }
+{
     Board {
         width: 0,
         height: 0,
@@ -54,31 +79,4 @@ fn no_board() -> Board {
         entries: 0,
         strips: 0,
     }
-}
-
-// Writes the lines of a record, and answers the place of the next one, if there is one.
-fn write_one(done: Replied, strips: &[u16; 16384], corners: &[u16; 16384], bytes: &[u8]) -> Next {
-    let reply = done.reply;
-    match reply {
-        Reply::Refused(number) => {
-            write_file(number);
-            Next::Nowhere
-        }
-        Reply::Ran(answers, next) => {
-            write_answers(answers, corners, bytes, after(next));
-            next
-        }
-        Reply::AtEnd => {
-            write_strips(strips, done.board.strips);
-            Next::Nowhere
-        }
-    }
-}
-
-// The place after a record; 0 where its board has ended the job, and no net is written.
-fn after(next: Next) -> usize {
-    let Next::At(place) = next else {
-        return 0;
-    };
-    place
 }

@@ -1,0 +1,6 @@
+-- What is proved of a job's lines.
+pub mod Output
+pub mod Answering
+pub mod Telling
+pub mod Listing
+pub mod Reporting

@@ -1,0 +1,118 @@
+-- `job_report::strip_lines::put_strips` meets its contract: the loop has put the lines of the first k strips.
+use Prim.Native.Nat.{_-_, _*_, _≤_}
+use native.Mathlib.Omega.{arith}
+use Rattle.foil_spec.specs.Lists.{each}
+use Rattle.strips.specs.Places.{listedStrip, listedStrips}
+use Rattle.lines.specs.Lines.{stripLine}
+use Rattle.lines.specs.Put.{Put}
+use Rattle.lines.proofs.Putting.{put-length}
+use Rattle.job_report.proofs.Listing.{strips-none, strips-more, strips-all}
+use Rattle.job_report.proofs.strip_lines.put_strips.Statement.{statement}
+use Rattle.job_report.proofs.strip_lines.put_strips.Tie as tie
+
+abbrev Inv-loop : tie.InvT-loop
+Inv-loop out₀ list count a₀ k₀ out a k =
+    (k ≤ count) × Put out₀ 0 (each stripLine (listedStrips list k)) out a × (a ≤ 30 * k)
+
+abbrev μ-loop : tie.MeasureT-loop
+μ-loop out₀ list count a₀ k₀ out a k = count - k
+
+loop-holds : tie.Need-loop-holds Inv-loop μ-loop
+loop-holds c = (omega arith, strips-none _ _, omega arith)
+
+mul-strip-line : tie.Need-mul-strip-line Inv-loop μ-loop
+mul-strip-line c = omega arith
+
+mul-strip-line-2 : tie.Need-mul-strip-line-2 Inv-loop μ-loop
+mul-strip-line-2 c = omega arith
+
+shared-slice-read-strip-line : tie.Need-shared-slice-read-strip-line Inv-loop μ-loop
+shared-slice-read-strip-line c = omega arith
+
+mul-strip-line-3 : tie.Need-mul-strip-line-3 Inv-loop μ-loop
+mul-strip-line-3 c = omega arith
+
+add-strip-line : tie.Need-add-strip-line Inv-loop μ-loop
+add-strip-line c = omega arith
+
+mul-strip-line-4 : tie.Need-mul-strip-line-4 Inv-loop μ-loop
+mul-strip-line-4 c = omega arith
+
+shared-slice-read-strip-line-2 : tie.Need-shared-slice-read-strip-line-2 Inv-loop μ-loop
+shared-slice-read-strip-line-2 c = omega arith
+
+mul-strip-line-5 : tie.Need-mul-strip-line-5 Inv-loop μ-loop
+mul-strip-line-5 c = omega arith
+
+add-strip-line-2 : tie.Need-add-strip-line-2 Inv-loop μ-loop
+add-strip-line-2 c = omega arith
+
+mul-strip-line-6 : tie.Need-mul-strip-line-6 Inv-loop μ-loop
+mul-strip-line-6 c = omega arith
+
+shared-slice-read-strip-line-3 : tie.Need-shared-slice-read-strip-line-3 Inv-loop μ-loop
+shared-slice-read-strip-line-3 c = omega arith
+
+mul-strip-line-7 : tie.Need-mul-strip-line-7 Inv-loop μ-loop
+mul-strip-line-7 c = omega arith
+
+add-strip-line-3 : tie.Need-add-strip-line-3 Inv-loop μ-loop
+add-strip-line-3 c = omega arith
+
+mul-strip-line-8 : tie.Need-mul-strip-line-8 Inv-loop μ-loop
+mul-strip-line-8 c = omega arith
+
+shared-slice-read-strip-line-4 : tie.Need-shared-slice-read-strip-line-4 Inv-loop μ-loop
+shared-slice-read-strip-line-4 c = omega arith
+
+strip-line-requires : tie.Need-strip-line-requires Inv-loop μ-loop
+strip-line-requires c κs = omega (arith, put-length (c .before .before .before .before .before .before .loop .inv .1))
+
+add-k : tie.Need-add-k Inv-loop μ-loop
+add-k c = omega arith
+
+loop-less : tie.Need-loop-less Inv-loop μ-loop
+loop-less c = omega arith
+
+loop-again : tie.Need-loop-again Inv-loop μ-loop
+unfolding listedStrip
+loop-again c =
+    let line = c .before .before in
+    let reads = line .before .before .before in
+    let turn = reads .before .before .before .before in
+    (omega arith, strips-more _ _ (turn .loop .inv .1) (line .strip-line .ensures .0), omega arith)
+
+same-length : tie.Need-same-length Inv-loop μ-loop
+same-length c = put-length (c .before .loop .inv .1)
+
+returns : tie.Need-returns Inv-loop μ-loop
+returns c = (strips-all _ _ _ (omega arith) (omega arith) (c .before .loop .inv .1), omega arith)
+
+pub put-strips-spec : {M : Type 1} → statement M
+put-strips-spec =
+    tie.close
+    (tie.spec
+    Inv-loop
+    μ-loop
+    loop-holds
+    mul-strip-line
+    mul-strip-line-2
+    shared-slice-read-strip-line
+    mul-strip-line-3
+    add-strip-line
+    mul-strip-line-4
+    shared-slice-read-strip-line-2
+    mul-strip-line-5
+    add-strip-line-2
+    mul-strip-line-6
+    shared-slice-read-strip-line-3
+    mul-strip-line-7
+    add-strip-line-3
+    mul-strip-line-8
+    shared-slice-read-strip-line-4
+    strip-line-requires
+    add-k
+    loop-less
+    loop-again
+    same-length
+    returns)

@@ -1,0 +1,3 @@
+-- What the contracts of a reported record cite, and what a whole job writes.
+pub mod Report
+pub mod Told
