@@ -7,4 +7,7 @@ pub mod Kept
 pub mod Steps
 pub mod Sound
 pub mod Lay
+pub mod Lending
+pub mod Moments
+pub mod Demand2
 pub mod Demand3
