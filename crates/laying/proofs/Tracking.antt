@@ -2,15 +2,15 @@
 use Prim.Native.Nat.{ℕ, _+_, _-_, _*_, _/_, _≤_, _<_, max}
 use native.Mathlib.Omega.{arith}
 use mathlib.Core.Path.{_≡_, refl, sym, ap, _∙_, subst}
-use mathlib.Core.Bool.{Bool, true, false, not}
+use mathlib.Core.Bool.{true, false, not}
 use mathlib.Core.List.{List, [], _∷_, _++_, map}
 use mathlib.Core.Option.{Option, none, some, Option·getD}
 use lib.Dec.{ltb, eqb}
-use lib.ListN.{length, drop, replicate, length-append, length-replicate}
+use lib.ListN.{length, drop, replicate, length-append}
 use lib.Seq.{paste}
 use borrow.Author.Tests.{lt-ltb, le-ltb, eq-eqb, ne-eqb}
 use Rattle.foil_spec.specs.Lists.{range, all, each}
-use Rattle.foil_spec.specs.Foil.{Point, Entry, Layout, entryOk, free}
+use Rattle.foil_spec.specs.Foil.{Point, Layout, entryOk, free}
 use Rattle.foil_spec.specs.Paths.{bends}
 use Rattle.foil_spec.specs.Ledger.{Step, lay, pathOf, noPath, cornersOf, legs, tooLong, tooFine}
 use Rattle.foil_spec.specs.Ledger.{next, says, laid, _⇒_, first}

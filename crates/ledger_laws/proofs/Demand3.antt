@@ -1,5 +1,5 @@
--- Demand 3: from a call that begins a foil on, every list of calls behaves as the ledger, and each lay and the lift after
--- it keep what the ledger's lines promise.
+-- Demand 3: from a call that begins a foil on, every list of calls behaves as the ledger, and each lay and the lift
+-- after it do what the ledger's lines promise.
 use Prim.Native.Nat.{ℕ}
 use native.Mathlib.Omega.{arith}
 use mathlib.Core.Path.{_≡_, refl, sym, ap, ap₂, _∙_, subst}
@@ -20,7 +20,7 @@ use Rattle.ledger_laws.proofs.CornerLists.{corners-read}
 use Rattle.ledger_laws.proofs.Stored.{Long}
 use Rattle.ledger_laws.proofs.Kept.{of-ok, call-kept}
 use Rattle.ledger_laws.proofs.Lay.{ledger-9, ledger-first, ledger-lifts}
-use Rattle.ledger_laws.proofs.Lending.{long-front, lend-is, begun, lend-begun}
+use Rattle.ledger_laws.proofs.Lending.{long-front, long-whole, lend-is, begun, lend-begun}
 use Rattle.ledger_laws.proofs.Moments.{Shows, Goes, Chain, Onward, Standing, opens, runs-on, at-every}
 
 -- ---- the whole list
@@ -47,8 +47,7 @@ pub behaves-as-ledger : BehavesAsLedger
 unfolding runLent runLedger told
 behaves-as-ledger m l c cs h =
     let b = begun (c .call) l (front c m) h in
-    let n = long-front c m (b .long) in
-    let k : Long m = record { table = omega (arith, n .table); strips = omega (arith, n .strips) } in
+    let k = long-whole c m (long-front c m (b .long)) in
     rw (lend-begun c l m b)
     (ap (λ (os : List (After Reply Lent)). shown m (c .corners) (told m c l) ∷ os)
     (run-again m c cs l ∙ run-is m k cs (told m c l .state) (b .kept)))

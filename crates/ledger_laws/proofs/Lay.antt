@@ -31,8 +31,8 @@ free-on l p h =
     let i = free-inside l (p .x) (p .y) h in
     rw (lt-leb (l .width) (p .x) (i .0), lt-leb (l .height) (p .y) (i .1)) refl
 
--- where the table and the strip list are long enough and the state keeps the rules, the refusals of such a lay are those
--- from 9 on
+-- where the table and the strip list are long enough and the state keeps the rules, the refusals of such a lay are
+-- those from 9 on
 pub lay-from-9 : (r : Room) (broken : Bool) (l : Layout) (net : ℕ) (S T : Point) → short r ≡ false → broken ≡ false
     → MayLay l net S T
     → first (refusals (lay net S T) r broken l)

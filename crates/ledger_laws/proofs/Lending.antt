@@ -30,6 +30,16 @@ use Rattle.ledger_laws.proofs.Steps.{no-13, call-is}
 
 -- ---- lists that are too short
 
+pub step-short : (s : Step) (m : Lent) → short (roomOf m) ≡ true
+    → stepOn s m ≡ record { answer = refused 12; state = m }
+unfolding stepOn finish
+step-short s m e = rw (short-refused s (roomOf m) (not (sound m)) (held m) e) refl
+
+pub ledger-short : (r : Room) (s : Step) (l : Layout) → short r ≡ true
+    → ledgerStep r s l ≡ record { answer = refused 12; state = l }
+unfolding ledgerStep settle
+ledger-short r s l e = rw (short-refused s r false l e) refl
+
 -- the number that a call is refused by where the lists are too short
 pub shortNumber : Call → ℕ
 shortNumber (step s) = 12
@@ -42,16 +52,16 @@ short-second false s rs e = rw e refl
 
 call-short : (c : Call) (m : Lent) → short (roomOf m) ≡ true
     → callOn c m ≡ record { answer = answered (refused (shortNumber c)); state = m }
-unfolding callOn shortNumber stepOn finish actRecord
-call-short (step s) m e = rw (short-refused s (roomOf m) (not (sound m)) (held m) e) refl
+unfolding callOn shortNumber actRecord
+call-short (step s) m e = rw (step-short s m e) refl
 call-short (runRecord bs at) m e =
     let rs : List Refusal = (not (eqb at 0) && not (sound m) ⇒ 13) ∷ recordChecks bs at in
     rw (short-second (tooLarge bs) (short (roomOf m)) rs e) refl
 
 pub told-short : (r : Room) (c : Call) (l : Layout) → short r ≡ true
     → ledgerCall r c l ≡ record { answer = answered (refused (shortNumber c)); state = l }
-unfolding ledgerCall shortNumber ledgerStep settle actRecord
-told-short r (step s) l e = rw (short-refused s r false l e) refl
+unfolding ledgerCall shortNumber actRecord
+told-short r (step s) l e = rw (ledger-short r s l e) refl
 told-short r (runRecord bs at) l e = rw (short-second (tooLarge bs) (short r) (recordChecks bs at) e) refl
 
 -- ---- front parts
@@ -68,6 +78,9 @@ long-front c m e =
     let t = length-take (c .tableFront) (m .table) in
     let s = length-take (c .stripFront) (m .strips) in
     record { table = omega (arith, n .table); strips = omega (arith, n .strips) }
+
+pub long-whole : (c : Lending) (m : Lent) → LongFront c m → Long m
+long-whole c m n = record { table = omega (arith, n .table); strips = omega (arith, n .strips) }
 
 pub lent-long : (c : Lending) (m : Lent) → LongFront c m → Long (front c m)
 unfolding front

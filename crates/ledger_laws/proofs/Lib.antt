@@ -9,5 +9,6 @@ pub mod Sound
 pub mod Lay
 pub mod Lending
 pub mod Moments
+pub mod Told
 pub mod Demand2
 pub mod Demand3

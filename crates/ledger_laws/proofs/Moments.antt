@@ -2,22 +2,22 @@
 use Prim.Native.Nat.{ℕ, _≤_}
 use native.Mathlib.Omega.{arith}
 use mathlib.Core.Path.{_≡_, refl, sym, ap, _∙_, subst}
-use mathlib.Core.Bool.{Bool, true, false, cond, not}
+use mathlib.Core.Bool.{Bool, true, false, cond}
 use mathlib.Core.List.{List, [], _∷_, _++_}
 use mathlib.Core.Option.{Option, none, some}
 use Rattle.foil_spec.specs.Foil.{Layout}
-use Rattle.foil_spec.specs.Ledger.{Step, newFoil, Answer, refused, Room, short, After, settle, ledgerStep}
-use Rattle.foil_spec.specs.Lent.{Lent, withCorners, store, held, layoutOk, sound, roomOf, cornersAfter, finish, stepOn}
+use Rattle.foil_spec.specs.Ledger.{Step, newFoil, Answer, Room, short, After, ledgerStep}
+use Rattle.foil_spec.specs.Lent.{Lent, withCorners, store, layoutOk, roomOf, cornersAfter, stepOn}
 use Rattle.foil_spec.specs.Job.{steps}
 use Rattle.foil_spec.specs.Calls.{Call, step, runRecord, Reply, endsJob, andThen, actAll, actRecord, ledgerCall}
 use Rattle.foil_spec.specs.Sequence.{Lending, Begins, front, back, lend, told, answersIn, cornersAll, shown}
 use Rattle.list_laws.proofs.Tests.{both}
 use Rattle.ledger_laws.specs.Moments.{Moment, momentOf, momentsOf, stepsRun, moments}
-use Rattle.ledger_laws.proofs.Refusals.{short-refused}
 use Rattle.ledger_laws.proofs.Stored.{Long, front-store, back-new, back-store}
 use Rattle.ledger_laws.proofs.Kept.{step-kept, call-kept}
 use Rattle.ledger_laws.proofs.Steps.{shownStep, step-is, room-store, room-after}
-use Rattle.ledger_laws.proofs.Lending.{LongFront, long-front, lent-long, back-front, room-front, told-short}
+use Rattle.ledger_laws.proofs.Lending.{step-short, ledger-short, told-short, LongFront, long-front, long-whole}
+use Rattle.ledger_laws.proofs.Lending.{lent-long, back-front, room-front}
 use Rattle.ledger_laws.proofs.Lending.{lend-is, Begun, new-is, new-state, begun, lend-begun, step-alone}
 
 -- ---- what is known of a step
@@ -76,12 +76,13 @@ chain-then m a b ks h = go (endsJob (a .answer))
 
 -- a call c on the whole lists n, which with what it leaves of its front part hold what m holds
 module _ (c : Lending) (n m : Lent) (long : Long (front c m))
-    (room : roomOf (front c m) ≡ roomOf (front c n))
     (whole : (l : Layout) (ks : List ℕ) → layoutOk l ≡ true
     → back c n (withCorners (store l (front c m)) ks) ≡ withCorners (store l m) ks) where
+  -- how many places it is lent
   abbrev r : Room
   r = roomOf (front c n)
 
+  -- the front part of m that it is lent, with a corner list
   abbrev f : List ℕ → Lent
   f ks = withCorners (front c m) ks
 
@@ -164,18 +165,6 @@ module _ (c : Lending) (n m : Lent) (long : Long (front c m))
       subst (Chain m l (momentsOf c n (s ∷ []) (store l (f ks)) l)) (step-alone r s l) (chain (s ∷ []) l ks g q)
   call-chain (runRecord bs at) l ks g q = record-chain _ _ bs at _ l ks g q
 
--- ---- lists that are too short
-
-step-short : (s : Step) (m : Lent) → short (roomOf m) ≡ true
-    → stepOn s m ≡ record { answer = refused 12; state = m }
-unfolding stepOn finish
-step-short s m e = rw (short-refused s (roomOf m) (not (sound m)) (held m) e) refl
-
-ledger-short : (r : Room) (s : Step) (l : Layout) → short r ≡ true
-    → ledgerStep r s l ≡ record { answer = refused 12; state = l }
-unfolding ledgerStep settle
-ledger-short r s l e = rw (short-refused s r false l e) refl
-
 -- ---- one call of the list
 
 module _ (m : Lent) (long : Long m) (c : Lending) (l : Layout) (ks : List ℕ) (g : layoutOk l ≡ true) where
@@ -197,7 +186,7 @@ module _ (m : Lent) (long : Long m) (c : Lending) (l : Layout) (ks : List ℕ) (
   unfolding shown
   lend-answer = ap (λ (z : After Reply Lent). z .answer) lend-lists
 
-  pub lend-state : lend c lists .state
+  lend-state : lend c lists .state
       ≡ withCorners (store (told lists c l .state) m) (cornersAll (answersIn (told lists c l .answer)) (c .corners))
   unfolding shown
   lend-state = ap (λ (z : After Reply Lent). z .state) lend-lists
@@ -253,7 +242,7 @@ module _ (m : Lent) (long : Long m) (c : Lending) (l : Layout) (ks : List ℕ) (
       (ledgerCall (roomOf (front c lists)) k l .state))
       at-front
       (unfold front in
-      call-chain c lists m (lent-long c m n) (sym room-is)
+      call-chain c lists m (lent-long c m n)
       (λ l′ ks′ g′. unfold back in back-store c m ht hs l l′ ks′ g g′) k l (c .corners) g (sym room-is))
 
   call-steps : (k : Call) → Steps k
@@ -261,10 +250,12 @@ module _ (m : Lent) (long : Long m) (c : Lending) (l : Layout) (ks : List ℕ) (
       both (short (roomOf (front c lists))) (λ e. short-steps e k)
       (λ e. long-steps (long-front c m (ap short (sym room-is) ∙ e)) k)
 
-  pub call-goes : Chain m l (momentsOf c lists (stepsRun (c .call) (lend c lists .answer)) (front c lists) l)
+  call-goes : Chain m l (momentsOf c lists (stepsRun (c .call) (lend c lists .answer)) (front c lists) l)
       (told lists c l .state)
   call-goes =
-      subst (λ (a : Reply). Chain m l (momentsOf c lists (stepsRun (c .call) a) (front c lists) l) (told lists c l .state))
+      subst
+      (λ (a : Reply).
+      Chain m l (momentsOf c lists (stepsRun (c .call) a) (front c lists) l) (told lists c l .state))
       (sym lend-answer) (unfold told in call-steps (c .call))
 
 -- ---- the calls after the one that begins a foil
@@ -295,16 +286,16 @@ module _ (m : Lent) (long : Long m) where
 -- ---- a whole list
 
 -- the first step is the new foil that begins it, and the others go as on the ledger
-pub record Opened (m : Lent) (ks : List Moment) : Type 0 where
-  pub W : ℕ
-  pub H : ℕ
-  pub d : ℕ
-  pub opening : Moment
-  pub others : List Moment
-  pub are : ks ≡ opening ∷ others
-  pub new : opening .step ≡ newFoil W H d
-  pub after : Shows m (opening .ledgerAfter) (opening .after)
-  pub onward : Onward m (opening .ledgerAfter) others
+record Opened (m : Lent) (ks : List Moment) : Type 0 where
+  W : ℕ
+  H : ℕ
+  d : ℕ
+  opening : Moment
+  others : List Moment
+  are : ks ≡ opening ∷ others
+  new : opening .step ≡ newFoil W H d
+  after : Shows m (opening .ledgerAfter) (opening .after)
+  onward : Onward m (opening .ledgerAfter) others
 
 module _ (m : Lent) (l : Layout) (c : Lending) (b : Begun (c .call) l (front c m)) where
   abbrev new : Step
@@ -330,7 +321,7 @@ module _ (m : Lent) (l : Layout) (c : Lending) (b : Begun (c .call) l (front c m
   new-left = new-state (b .W) (b .H) (b .d) (roomOf (front c m)) l (b .unrefused)
 
   -- the steps of the opening call after the new foil
-  pub rest : List Moment
+  rest : List Moment
   rest =
       cond (endsJob (stepOn new (front c m) .answer)) []
       (momentsOf c m (b .later) (stepOn new (front c m) .state) (line .state))
@@ -339,10 +330,10 @@ module _ (m : Lent) (l : Layout) (c : Lending) (b : Begun (c .call) l (front c m
   unfolding rest actAll
   rest-chain =
       unfold front in
-      chain-next c m m (lent-long c m long-first) refl whole-new (stepOn new (front c m)) line (c .corners) (b .later)
+      chain-next c m m (lent-long c m long-first) whole-new (stepOn new (front c m)) line (c .corners) (b .later)
       (actAll (ledgerStep (roomOf (front c m))) (b .later) (line .state)) new-on
-      (chain c m m (lent-long c m long-first) refl whole-new (b .later) (line .state) _ new-left
-      (room-next c m m (lent-long c m long-first) refl whole-new new l (c .corners) refl))
+      (chain c m m (lent-long c m long-first) whole-new (b .later) (line .state) _ new-left
+      (room-next c m m (lent-long c m long-first) whole-new new l (c .corners) refl))
 
   rest-goes : Chain m (line .state) rest (told m c l .state)
   unfolding told
@@ -366,13 +357,8 @@ module _ (m : Lent) (l : Layout) (c : Lending) (b : Begun (c .call) l (front c m
       let x : Lent = stepOn new (front c m) .state in
       shows m (line .state) (cornersAfter (line .answer) (c .corners)) (back c m x) new-left
       (unfold front in
-      whole-state c m m (lent-long c m long-first) refl whole-new x line (c .corners) new-left
+      whole-state c m m (lent-long c m long-first) whole-new x line (c .corners) new-left
       (ap (λ (z : After Answer Lent). z .state) new-on))
-
-  long-lists : Long m
-  long-lists =
-      let n = long-first in
-      record { table = omega (arith, n .table); strips = omega (arith, n .strips) }
 
   -- the steps of the calls after it
   later-on : (cs : List Lending)
@@ -380,7 +366,7 @@ module _ (m : Lent) (l : Layout) (c : Lending) (b : Begun (c .call) l (front c m
   later-on cs =
       subst (λ (x : After Reply Lent). Onward m (told m c l .state) (moments (x .state) (told m c l .state) cs))
       (sym lend-first)
-      (unfold shown in onward m long-lists cs (told m c l .state) _ (unfold told in b .kept))
+      (unfold shown in onward m (long-whole c m long-first) cs (told m c l .state) _ (unfold told in b .kept))
 
   opened : (cs : List Lending) → Opened m (moments m l (c ∷ cs))
   unfolding moments momentOf

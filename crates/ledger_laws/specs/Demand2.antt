@@ -15,19 +15,15 @@ pub record StripsRight (l : Layout) (n : Lent) : Type 0 where
   -- the list has 4,096 places, and the record counts no more strips
   pub long : 16384 ≤ length (n .strips)
   pub few : n .board .strips ≤ 4096
-
   -- at each place that is counted stands a strip, as wide and then as tall as the rule makes it
   pub are-strips : (k : ℕ) → k < n .board .strips
       → IsStrip (free l) (l .width) (l .height) (listedStrip (n .strips) k)
-
   -- in their order
   pub in-order : (j k : ℕ) → j < k → k < n .board .strips
       → stripBefore (listedStrip (n .strips) j) (listedStrip (n .strips) k) ≡ true
-
   -- a free point is in just one of them, any other point in none
   pub each-in-one : (p : Point)
       → length (keep (holds p) (listedStrips (n .strips) (n .board .strips))) ≡ cond (free l (p .x) (p .y)) 1 0
-
   -- zeros after them
   pub zeros : (i : ℕ) → n .board .strips * 4 ≤ i → i < 16384 → getD (n .strips) i 0 ≡ 0
 

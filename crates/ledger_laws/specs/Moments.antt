@@ -50,7 +50,7 @@ stepsRun (runRecord bs at) (answered a) = []
 stepsRun (runRecord bs at) (ran given place) = steps bs at
 stepsRun (runRecord bs at) atEnd = []
 
--- the steps that a list of calls runs, where m is lent to the first call and the ledger holds l before it
+-- the steps that a list of calls runs, on the whole lists m, where the ledger holds l before them
 unfoldable pub moments : Lent → Layout → List Lending → List Moment
 moments m l [] = []
 moments m l (c ∷ cs) =
