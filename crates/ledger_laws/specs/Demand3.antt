@@ -27,8 +27,8 @@ pub record MayLay (l : Layout) (net : ℕ) (S T : Point) : Type 0 where
   pub start-free : free l (S .x) (S .y) ≡ true
   pub end-free : free l (T .x) (T .y) ≡ true
 
--- a lay of such a net between such points, by the ledger as it stands before the lay, with the table and the strip list
--- long enough, answers 9 exactly when no path joins them
+-- a lay between points that are free by the ledger as it stands before the lay, its net allowed and not in use, the
+-- table and the strip list long enough, answers 9 exactly when no path joins the points
 abbrev pub NoWay : Type 0
 NoWay =
     AtEvery (λ k later.
@@ -43,8 +43,8 @@ LaysFirst =
     (net : ℕ) (S T : Point) (cs : List Point) (n : ℕ) → k .step ≡ lay net S T → k .answer ≡ laid cs n
     → IsFirst (free (k .ledgerBefore)) S T cs × (n ≡ bends cs) × (cornersIn (k .after .corners) (length cs) ≡ cs))
 
--- lifting it as the next step, by whatever call or record, with the table and the strip list long enough, is accepted
--- and gives back the record, the table and the strips
+-- lifting it as the next step, in the same record or by another call, lent any front parts that are long enough and any
+-- corner list, is accepted and gives back the record, the table and the strips
 abbrev pub LiftsBack : Type 0
 LiftsBack =
     AtEvery (λ k later.
