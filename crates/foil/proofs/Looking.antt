@@ -11,16 +11,17 @@ use Rattle.foil_spec.specs.Foil.{Point, free}
 use Rattle.foil_spec.specs.Strips.{placeOf}
 use Rattle.foil_spec.specs.Ledger.{lookUp, stripsOf, offFoil, blocked, next, says, _⇒_, first, refusals}
 use Rattle.foil_spec.specs.Lent.{Lent, lent, withCorners, store, layoutOf, held, sound, roomOf, cornersAfter}
-use Rattle.foil_spec.specs.Lent.{finish, stepOn}
+use Rattle.foil_spec.specs.Lent.{listedStrips, finish, stepOn}
 use Rattle.foil_spec.specs.declared.Board.{Board}
 use Rattle.list_laws.proofs.Tests.{both}
+use Rattle.strip_laws.proofs.Listed.{listed-written}
 use Rattle.ledger_laws.proofs.Refusals.{short-refused, broken-refused}
 use Rattle.ledger_laws.proofs.Stored.{strips-fit, length-strips}
 use Rattle.ledger_laws.proofs.Steps.{long-lists}
 use Rattle.ledger_laws.proofs.Sound.{Sound, of-sound, sound-store-is}
-use Rattle.strips.specs.Places.{listedStrips, placeIn}
+use Rattle.strips.specs.Places.{placeIn}
 use Rattle.strips.specs.declared.Place.the-variants.{At, Nowhere}
-use Rattle.strips.proofs.Placing.{listed-written, place-free, place-blocked}
+use Rattle.strips.proofs.Placing.{place-free, place-blocked}
 use Rattle.foil.specs.Contract.{answerOf, Looked, TooShort, Ready}
 use Rattle.foil.specs.declared.Answer.the-variants.{Refused, Found}
 use Rattle.foil.proofs.Refusing.{refusal}

@@ -69,6 +69,20 @@ unfoldable pub entryAt : List ℕ → ℕ → Entry
 entryAt t k =
     entry (getD t (k * 5) 0) (getD t (k * 5 + 1) 0) (getD t (k * 5 + 2) 0) (getD t (k * 5 + 3) 0) (getD t (k * 5 + 4) 0)
 
+-- the strip at place k of a strip list
+unfoldable pub listedStrip : List ℕ → ℕ → Strip
+listedStrip l k =
+    record {
+      x0 = getD l (k * 4) 0;
+      y0 = getD l (k * 4 + 1) 0;
+      x1 = getD l (k * 4 + 2) 0;
+      y1 = getD l (k * 4 + 3) 0;
+    }
+
+-- the first n strips of a strip list
+unfoldable pub listedStrips : List ℕ → ℕ → List Strip
+listedStrips l n = map (listedStrip l) (range 0 n)
+
 -- the corner at place k of a corner list
 unfoldable pub cornerAt : List ℕ → ℕ → Point
 cornerAt ks k = point (getD ks (k * 2) 0) (getD ks (k * 2 + 1) 0)

@@ -14,11 +14,10 @@ use Rattle.foil_spec.specs.Ledger.{next, _⇒_, first, refusals}
 use Rattle.foil_spec.specs.Lent.{Lent, lent, entryAt, layoutOf, held, roomOf}
 use Rattle.foil_spec.specs.declared.Board.{Board}
 use Rattle.list_laws.proofs.Tests.{or-l, or-r, not-ff}
-use Rattle.ledger_laws.specs.Demand3.{MayLay}
 use Rattle.ledger_laws.proofs.Steps.{long-lists}
 use Rattle.ledger_laws.proofs.Sound.{of-sound}
 use Rattle.foil.specs.Contract.{StepDone, refusedBy, Ready}
-use Rattle.laying.specs.Points.{OffFoil}
+use Rattle.laying.specs.Points.{OffFoil, ReadyToLay}
 use Rattle.foil.specs.declared.Done.{Done}
 use Rattle.foil.proofs.Refusing.{refusal, refused-done}
 use Rattle.foil.proofs.Limits.{held-limits}
@@ -109,17 +108,19 @@ module _ (b : Board) (t s ks : List ℕ) (net : ℕ) (S T : Point) where
               (from-4
               ∙ simp (sym o-is ∙ not-false o ok, sym u-is ∙ unused, sym (f-is .is t s ks) ∙ e, or-true) refl)
 
-          pub may-lay : (v : Bool) → v ≡ blocked (held (lent b t s [])) S → v ≡ false
-              → (w : Bool) → w ≡ blocked (held (lent b t s [])) T → w ≡ false → MayLay m net S T
+          pub ready-to-lay : (v : Bool) → v ≡ blocked (held (lent b t s [])) S → v ≡ false
+              → (w : Bool) → w ≡ blocked (held (lent b t s [])) T → w ≡ false → ReadyToLay m net S T
           unfolding held layoutOf blocked
-          may-lay v v-is ev w w-is ew =
+          ready-to-lay v v-is ev w w-is ew =
               record {
-                long = y .long;
-                fine = y .fine;
-                allowed = sym o-is ∙ not-false o ok;
-                unused = sym u-is ∙ unused;
-                start-free = not-ff _ (blocked-is S v v-is ev);
-                end-free = not-ff _ (blocked-is T w w-is ew);
+                ready = y;
+                may =
+                    record {
+                      allowed = sym o-is ∙ not-false o ok;
+                      unused = sym u-is ∙ unused;
+                      start-free = not-ff _ (blocked-is S v v-is ev);
+                      end-free = not-ff _ (blocked-is T w w-is ew);
+                    };
               }
 
           module _ (f : Bool) (f-is : OffFoil b S f) (s-in : f ≡ false) (g : Bool) (g-is : OffFoil b T g)

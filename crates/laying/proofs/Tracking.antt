@@ -2,24 +2,23 @@
 use Prim.Native.Nat.{ℕ, _+_, _-_, _*_, _/_, _≤_, _<_, max}
 use native.Mathlib.Omega.{arith}
 use mathlib.Core.Path.{_≡_, refl, sym, ap, _∙_, subst}
-use mathlib.Core.Bool.{Bool, true, false}
+use mathlib.Core.Bool.{true, false, not}
 use mathlib.Core.List.{List, [], _∷_, _++_, map}
 use mathlib.Core.Option.{Option, none, some, Option·getD}
 use lib.Dec.{ltb, eqb}
-use lib.ListN.{length, drop, replicate, length-append, length-replicate}
+use lib.ListN.{length, drop, replicate, length-append}
 use lib.Seq.{paste}
 use borrow.Author.Tests.{lt-ltb, le-ltb, eq-eqb, ne-eqb}
 use Rattle.foil_spec.specs.Lists.{range, all, each}
-use Rattle.foil_spec.specs.Foil.{Point, Entry, Layout, entryOk, free}
+use Rattle.foil_spec.specs.Foil.{Point, Layout, entryOk, free}
 use Rattle.foil_spec.specs.Paths.{bends}
 use Rattle.foil_spec.specs.Ledger.{Step, lay, pathOf, noPath, cornersOf, legs, tooLong, tooFine}
 use Rattle.foil_spec.specs.Ledger.{next, says, laid, _⇒_, first}
-use Rattle.foil_spec.specs.Lent.{Lent, lent, withCorners, store, pointNumbers, entryAt, layoutOf, held, roomOf}
+use Rattle.foil_spec.specs.Lent.{Lent, lent, withCorners, store, pointNumbers, entryAt, layoutOf, held, sound, roomOf}
 use Rattle.foil_spec.specs.Lent.{cornersAfter, finish, stepOn}
 use Rattle.foil_spec.specs.declared.Board.{Board}
 use Rattle.list_laws.proofs.Tests.{all-append}
 use Rattle.path_laws.proofs.Laws.{gives-first}
-use Rattle.ledger_laws.specs.Demand3.{MayLay}
 use Rattle.ledger_laws.proofs.Legs.{free-inside}
 use Rattle.ledger_laws.proofs.Kept.{of-ok, laid-ok}
 use Rattle.ledger_laws.proofs.Lay.{lay-from-9}
@@ -38,9 +37,10 @@ use Rattle.foil.specs.declared.Done.{Done}
 use Rattle.foil.proofs.Refusing.{refusal, refused-done, fine-done}
 use Rattle.foil.proofs.Making.{rows-again, rows-layout, rows-table, copied-rows}
 use Rattle.foil.proofs.Limits.{Held, held-limits}
+use Rattle.laying.specs.Points.{ReadyToLay}
 use Rattle.laying.proofs.Corners.{corners-free, length-legs, read-path, small-corners, copied-corners}
 
-module _ (b : Board) (t s ks : List ℕ) (net : ℕ) (S T : Point) (y : MayLay (lent b t s ks) net S T) where
+module _ (b : Board) (t s ks : List ℕ) (net : ℕ) (S T : Point) (y : ReadyToLay (lent b t s ks) net S T) where
   abbrev m : Lent
   m = lent b t s ks
 
@@ -55,13 +55,13 @@ module _ (b : Board) (t s ks : List ℕ) (net : ℕ) (S T : Point) (y : MayLay (
   cs = cornersOf l S T
 
   facts : Sound m
-  facts = of-sound m (y .fine)
+  facts = of-sound m (y .ready .fine)
 
   pub limits : Held b
   limits = held-limits b t s ks facts
 
   pub lists-long : (640 ≤ length t) × (16384 ≤ length s)
-  lists-long = let k = long-lists m (y .long) in (k .table, k .strips)
+  lists-long = let k = long-lists m (y .ready .long) in (k .table, k .strips)
 
   pub posed : Posed t (b .entries) (b .clearance) (b .width) (b .height) S T
   unfolding held layoutOf
@@ -73,9 +73,18 @@ module _ (b : Board) (t s ks : List ℕ) (net : ℕ) (S T : Point) (y : MayLay (
         wide = limits .wide;
         high = limits .high;
         boxes = boxes-of (b .width) (b .height) (b .clearance) (b .entries) t (of-ok l (facts .kept) .entries);
-        s-free = y .start-free;
-        t-free = y .end-free;
+        s-free = y .may .start-free;
+        t-free = y .may .end-free;
       }
+
+  from-9 : refusal c m
+      ≡ first (
+      (noPath (pathOf l S T) ⇒ 9)
+      ∷ (ltb (roomOf m .corners) (length cs) ⇒ 12)
+      ∷ (tooLong (next c l) ⇒ 10)
+      ∷ (tooFine (next c l) ⇒ 11)
+      ∷ [])
+  from-9 = lay-from-9 (roomOf m) (not (sound m)) l net S T (y .ready .long) (ap not (y .ready .fine)) (y .may)
 
   entries-after : next c l .entries ≡ l .entries ++ legs net cs
   unfolding next
@@ -83,7 +92,7 @@ module _ (b : Board) (t s ks : List ℕ) (net : ℕ) (S T : Point) (y : MayLay (
 
   legs-ok : all (entryOk (b .width) (b .height)) (legs net cs) ≡ true
   unfolding cornersOf held layoutOf
-  legs-ok = laid-ok l net S T (pathOf l S T) refl (y .allowed)
+  legs-ok = laid-ok l net S T (pathOf l S T) refl (y .may .allowed)
 
   module _ (path₀ path : List ℕ) (k : ℕ)
       (searched : Found (layoutOf (b .width) (b .height) (b .clearance) (b .entries) t) S T path₀ path k) where
@@ -93,7 +102,7 @@ module _ (b : Board) (t s ks : List ℕ) (net : ℕ) (S T : Point) (y : MayLay (
 
     pub no-path : k ≡ 0 → (r : Done) → r ≡ refusedBy 9 b → StepDone c m r t s ks
     unfolding first
-    no-path e r q = refused-done c m 9 r q (lay-from-9 m net S T y ∙ rw (found .none ∙ eq-eqb k 0 e) refl)
+    no-path e r q = refused-done c m 9 r q (from-9 ∙ rw (found .none ∙ eq-eqb k 0 e) refl)
 
     module _ (some-path : k ≡ 0 → ⊥) where
       from-12 : refusal c m
@@ -103,7 +112,7 @@ module _ (b : Board) (t s ks : List ℕ) (net : ℕ) (S T : Point) (y : MayLay (
           ∷ (tooFine (next c l) ⇒ 11)
           ∷ [])
       unfolding first
-      from-12 = lay-from-9 m net S T y ∙ rw (found .none ∙ ne-eqb k 0 some-path) refl
+      from-12 = from-9 ∙ rw (found .none ∙ ne-eqb k 0 some-path) refl
 
       pub few-corners : length ks / 2 < k → (r : Done) → r ≡ refusedBy 12 b → StepDone c m r t s ks
       unfolding first roomOf

@@ -21,9 +21,8 @@ ghost use mathlib.Core.List.{[]};
 ghost use Rattle.foil_spec.specs.Foil.{point};
 ghost use Rattle.foil_spec.specs.Ledger.{lay as lays, blocked};
 ghost use Rattle.foil_spec.specs.Lent.{lent, held};
-ghost use Rattle.ledger_laws.specs.Demand3.{MayLay};
 ghost use Rattle.foil.specs.Contract.{StepDone, Ready};
-ghost use Rattle.laying.specs.Points.{OffFoil};
+ghost use Rattle.laying.specs.Points.{OffFoil, ReadyToLay};
 
 // Lays a track of the net from (sx, sy) to (tx, ty): writes its corners to the front of the corner
 // list, and appends an entry for each leg.
@@ -125,7 +124,7 @@ fn lay_between(
     tx: u16,
     ty: u16,
 ) -> Done
-    requires { ⌜ MayLay (lent board (now table) (now strips) (now corners)) net (point sx sy) (point tx ty) ⌝ }
+    requires { ⌜ ReadyToLay (lent board (now table) (now strips) (now corners)) net (point sx sy) (point tx ty) ⌝ }
     ensures { λ r. ⌜ StepDone (lays net (point sx sy) (point tx ty))
         (lent board (now (table .entry)) (now (strips .entry)) (now (corners .entry)))
         r (now (table .exit)) (now (strips .exit)) (now (corners .exit)) ⌝ }

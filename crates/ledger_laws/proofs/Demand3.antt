@@ -1,331 +1,116 @@
--- Demand 3: from a call that begins a foil on, every list of calls behaves as the ledger.
-use Prim.Native.Nat.{ℕ, _≤_, min}
+-- Demand 3: from a call that begins a foil on, every list of calls behaves as the ledger, and each lay and the lift
+-- after it do what the ledger's lines promise.
+use Prim.Native.Nat.{ℕ}
 use native.Mathlib.Omega.{arith}
-use mathlib.Core.Path.{_≡_, refl, sym, ap, ap₂, _∙_, subst, subst₂}
-use mathlib.Core.Bool.{Bool, true, false, not, cond, _&&_, xor}
+use mathlib.Core.Path.{_≡_, refl, sym, ap, ap₂, _∙_, subst}
+use mathlib.Core.Bool.{true, false}
 use mathlib.Core.List.{List, [], _∷_}
-use mathlib.Core.Option.{Option, none, some}
-use mathlib.Core.Logic.{inl, inr}
-use lib.Dec.{eqb}
-use lib.ListN.{length, length-take, take-append-drop}
-use Rattle.foil_spec.specs.Lists.{each, consIf}
-use Rattle.foil_spec.specs.Foil.{Layout}
-use Rattle.foil_spec.specs.Ledger.{stripsOf, says, next, Refusal, _⇒_, first, Room, short, refusals, After, settle}
-use Rattle.foil_spec.specs.Ledger.{ledgerStep}
-use Rattle.foil_spec.specs.Ledger.{Step, newFoil, Answer, refused, accepted}
-use Rattle.foil_spec.specs.Lent.{Lent, withCorners, entryNumbers, stripNumbers, store, held, layoutOk, sound}
-use Rattle.foil_spec.specs.Lent.{roomOf, cornersAfter, finish, stepOn}
-use Rattle.foil_spec.specs.Job.{has, steps, isEnd, recordEnd, recordChecks}
-use Rattle.foil_spec.specs.Calls.{Call, step, runRecord, Reply, answered, ran, endsJob, andThen, actAll, actRecord}
-use Rattle.foil_spec.specs.Calls.{tooLarge, ledgerCall, callOn}
-use Rattle.foil_spec.specs.Sequence.{Lending, front, back, lend, runLent, told, answersIn, cornersAll, shown}
-use Rattle.foil_spec.specs.Sequence.{runLedger, Begins}
-use Rattle.foil_spec.proofs.Written.{length-written}
-use Rattle.list_laws.proofs.Tests.{clash, both}
-use Rattle.ledger_laws.specs.Demand3.{BehavesAsLedger}
-use Rattle.ledger_laws.proofs.Refusals.{no-rule, no-more, none-applies, short-refused}
-use Rattle.ledger_laws.proofs.Stored.{Long, entries-fit, strips-fit, front-store, back-new, back-store}
-use Rattle.ledger_laws.proofs.Kept.{new-kept, then-kept, steps-kept, call-kept}
-use Rattle.ledger_laws.proofs.Steps.{shownStep, shownSteps, long-lists, cons-is, steps-are, ran-is}
-use Rattle.ledger_laws.proofs.Steps.{no-13, call-is}
+use mathlib.Core.Logic.{_↔_}
+use lib.ListN.{length, drop}
+use Rattle.foil_spec.specs.Lists.{each}
+use Rattle.foil_spec.specs.Foil.{Point, Layout, free}
+use Rattle.foil_spec.specs.Paths.{isPath}
+use Rattle.foil_spec.specs.Ledger.{Step, lay, lift, Answer, refused, accepted, laid, short, After, ledgerStep}
+use Rattle.foil_spec.specs.Lent.{Lent, store, layoutOk, pointNumbers, cornersIn, roomOf, cornersAfter}
+use Rattle.foil_spec.specs.Calls.{Reply}
+use Rattle.foil_spec.specs.Sequence.{Lending, front, back, lend, runLent, told, shown, runLedger}
+use Rattle.ledger_laws.specs.Moments.{Moment}
+use Rattle.ledger_laws.specs.Demand3.{BehavesAsLedger, NoWay, LaysFirst, LiftsBack}
+use Rattle.ledger_laws.proofs.CornerLists.{corners-read}
+use Rattle.ledger_laws.proofs.Stored.{Long}
+use Rattle.ledger_laws.proofs.Kept.{of-ok, call-kept}
+use Rattle.ledger_laws.proofs.Lay.{ledger-9, ledger-first, ledger-lifts}
+use Rattle.ledger_laws.proofs.Lending.{long-front, long-whole, lend-is, begun, lend-begun}
+use Rattle.ledger_laws.proofs.Moments.{Shows, Goes, Chain, Onward, Standing, opens, runs-on, at-every}
 
--- ---- lists that are too short
+-- ---- the whole list
 
--- the number that a call is refused by where the lists are too short
-shortNumber : Call → ℕ
-shortNumber (step s) = 12
-shortNumber (runRecord bs at) = cond (tooLarge bs) 18 12
+-- only the record and the lists go on to the next call, and no corner list
+run-again : (m : Lent) (c : Lending) (cs : List Lending) (l : Layout)
+    → runLent (shown m (c .corners) (told m c l) .state) cs ≡ runLent (store (told m c l .state) m) cs
+unfolding runLent shown
+run-again m c [] l = refl
+run-again m c (d ∷ cs) l = unfold lend front back in refl
 
-short-second : (a s : Bool) (rs : List Refusal) → s ≡ true → first ((a ⇒ 18) ∷ (s ⇒ 12) ∷ rs) ≡ some (cond a 18 12)
-unfolding first
-short-second true s rs e = refl
-short-second false s rs e = rw e refl
-
-call-short : (c : Call) (m : Lent) → short (roomOf m) ≡ true
-    → callOn c m ≡ record { answer = answered (refused (shortNumber c)); state = m }
-unfolding callOn shortNumber stepOn finish actRecord
-call-short (step s) m e = rw (short-refused s (roomOf m) (not (sound m)) (held m) e) refl
-call-short (runRecord bs at) m e =
-    let rs : List Refusal = (not (eqb at 0) && not (sound m) ⇒ 13) ∷ recordChecks bs at in
-    rw (short-second (tooLarge bs) (short (roomOf m)) rs e) refl
-
-told-short : (r : Room) (c : Call) (l : Layout) → short r ≡ true
-    → ledgerCall r c l ≡ record { answer = answered (refused (shortNumber c)); state = l }
-unfolding ledgerCall shortNumber ledgerStep settle actRecord
-told-short r (step s) l e = rw (short-refused s r false l e) refl
-told-short r (runRecord bs at) l e = rw (short-second (tooLarge bs) (short r) (recordChecks bs at) e) refl
-
--- ---- front parts
-
--- what is lent of long lists is long only if the lists and the front parts are
-record LongFront (c : Lending) (m : Lent) : Type 0 where
-  table : 640 ≤ min (c .tableFront) (length (m .table))
-  strips : 16384 ≤ min (c .stripFront) (length (m .strips))
-
-long-front : (c : Lending) (m : Lent) → short (roomOf (front c m)) ≡ false → LongFront c m
-unfolding front
-long-front c m e =
-    let n = long-lists (front c m) e in
-    let t = length-take (c .tableFront) (m .table) in
-    let s = length-take (c .stripFront) (m .strips) in
-    record { table = omega (arith, n .table); strips = omega (arith, n .strips) }
-
-lent-long : (c : Lending) (m : Lent) → LongFront c m → Long (front c m)
-unfolding front
-lent-long c m n =
-    let t = length-take (c .tableFront) (m .table) in
-    let s = length-take (c .stripFront) (m .strips) in
-    record { table = omega (arith, n .table); strips = omega (arith, n .strips) }
-
-back-front : (c : Lending) (m : Lent) → back c m (front c m) ≡ withCorners m (c .corners)
-unfolding back front
-back-front c m =
-    ap₂ (λ (t s : List ℕ). record { board = m .board; table = t; strips = s; corners = c .corners })
-    (take-append-drop (c .tableFront) (m .table))
-    (take-append-drop (c .stripFront) (m .strips))
-
--- ---- one call of the list
-
--- a call that does to its front part what the ledger shows does so to the whole lists
-lend-shown : (c : Lending) (n m : Lent) (t : After Reply Layout)
-    → callOn (c .call) (front c n) ≡ shown (front c m) (c .corners) t
-    → back c n (shown (front c m) (c .corners) t .state) ≡ shown m (c .corners) t .state
-    → lend c n ≡ shown m (c .corners) t
-unfolding lend shown
-lend-shown c n m t e h = rw e (ap {A = Lent} {B = After Reply Lent} (λ x. record { answer = t .answer; state = x }) h)
-
-module _ (m : Lent) (long : Long m) where
-  room-front : (c : Lending) (l : Layout) → layoutOk l ≡ true → roomOf (front c (store l m)) ≡ roomOf (front c m)
-  unfolding roomOf front store
-  room-front c l g =
-      simp (
-        length-take,
-        length-written 640 (each entryNumbers (l .entries)) (m .table) (entries-fit l g) (long .table),
-        length-written 16384 (each stripNumbers (stripsOf l)) (m .strips) (strips-fit l g) (long .strips),
-      )
-
-  lend-short : (c : Lending) (l : Layout) → layoutOk l ≡ true → short (roomOf (front c m)) ≡ true
-      → lend c (store l m) ≡ shown m (c .corners) (told m c l)
-  unfolding lend shown told answersIn cornersAll cornersAfter
-  lend-short c l g e =
-      let reply : Reply = answered (refused (shortNumber (c .call))) in
-      rw (
-        call-short (c .call) (front c (store l m)) (ap short (room-front c l g) ∙ e),
-        told-short (roomOf (front c m)) (c .call) l e,
-      )
-      (ap {A = Lent} {B = After Reply Lent} (λ n. record { answer = reply; state = n }) (back-front c (store l m)))
-
-  lend-long : (c : Lending) (l : Layout) → layoutOk l ≡ true → LongFront c m
-      → lend c (store l m) ≡ shown m (c .corners) (told m c l)
-  unfolding told
-  lend-long c l g n =
-      let t : After Reply Layout = told m c l in
-      let ht : 640 ≤ c .tableFront = omega (arith, n .table) in
-      let hs : 16384 ≤ c .stripFront = omega (arith, n .strips) in
-      lend-shown c (store l m) m t
-      (unfold front in ap (callOn (c .call)) (front-store c m ht hs l g)
-      ∙ call-is (c .call) l (front c m) (lent-long c m n) g)
-      (unfold shown in back-store c m ht hs l (t .state) (cornersAll (answersIn (t .answer)) (c .corners)) g
-      (call-kept (roomOf (front c m)) (c .call) l g))
-
-  lend-is : (c : Lending) (l : Layout) → layoutOk l ≡ true → lend c (store l m) ≡ shown m (c .corners) (told m c l)
-  lend-is c l g =
-      both (short (roomOf (front c m))) (λ e. lend-short c l g e) (λ e. lend-long c l g (long-front c m e))
-
-  -- only the record and the lists go on to the next call, and no corner list
-  run-again : (c : Lending) (cs : List Lending) (l : Layout)
-      → runLent (shown m (c .corners) (told m c l) .state) cs ≡ runLent (store (told m c l .state) m) cs
-  unfolding runLent shown
-  run-again c [] l = refl
-  run-again c (d ∷ cs) l = unfold lend front back in refl
-
-  -- the calls after the first
-  run-is : (cs : List Lending) (l : Layout) → layoutOk l ≡ true → runLent (store l m) cs ≡ runLedger m l cs
-  unfolding runLent runLedger
-  run-is [] l g = refl
-  run-is (c ∷ cs) l g =
-      rw (lend-is c l g)
-      (ap (λ (os : List (After Reply Lent)). shown m (c .corners) (told m c l) ∷ os)
-      (run-again c cs l ∙ run-is cs (told m c l .state) (unfold told in call-kept (roomOf (front c m)) (c .call) l g)))
-
--- ---- the call that begins a foil
-
--- it is not short, it goes as on the ledger, and leaves a layout that keeps the rules
-pub record Begun (c : Call) (l : Layout) (m : Lent) : Type 0 where
-  pub long : short (roomOf m) ≡ false
-  pub kept : layoutOk (ledgerCall (roomOf m) c l .state) ≡ true
-  pub is : callOn c m ≡ shown m (m .corners) (ledgerCall (roomOf m) c l)
-
-module _ (W H d : ℕ) where
-  settled-new : (o : Option ℕ) (l : Layout) → settle o (newFoil W H d) l .answer ≡ accepted → o ≡ none
-  unfolding settle
-  settled-new none l e = refl
-  settled-new (some n) l e = absurd (let z : _≡_ {A = ℕ} 0 1 = cc in omega arith)
-
-  unrefused : (r : Room) (l : Layout) → ledgerStep r (newFoil W H d) l .answer ≡ accepted
-      → first (refusals (newFoil W H d) r false l) ≡ none
-  unfolding ledgerStep
-  unrefused r l e = settled-new (first (refusals (newFoil W H d) r false l)) l e
-
-  not-short : (r : Room) (l : Layout) → first (refusals (newFoil W H d) r false l) ≡ none → short r ≡ false
-  unfolding refusals
-  not-short r l e = search none-applies
-
-  -- a new foil reads nothing of what is lent
-  new-is : (l : Layout) (m : Lent) → first (refusals (newFoil W H d) (roomOf m) false l) ≡ none
-      → stepOn (newFoil W H d) m ≡ shownStep m (ledgerStep (roomOf m) (newFoil W H d) l)
-  unfolding stepOn refusals first finish says next cornersAfter shownStep ledgerStep settle
-  new-is l m e = rw e refl
-
-  new-state : (r : Room) (l : Layout) → first (refusals (newFoil W H d) r false l) ≡ none
-      → layoutOk (ledgerStep r (newFoil W H d) l .state) ≡ true
-  unfolding ledgerStep settle
-  new-state r l e = rw e (new-kept W H d r false l e)
-
-  begun-call : (l : Layout) (m : Lent) → ledgerCall (roomOf m) (step (newFoil W H d)) l .answer ≡ answered accepted
-      → Begun (step (newFoil W H d)) l m
-  unfolding ledgerCall callOn shown answersIn cornersAll shownStep
-  begun-call l m e =
-      let a : ledgerStep (roomOf m) (newFoil W H d) l .answer ≡ accepted = cc in
-      let n = unrefused (roomOf m) l a in
-      record {
-        long = not-short (roomOf m) l n;
-        kept = new-state (roomOf m) l n;
-        is = rw (new-is l m n) refl;
-      }
-
-  -- the steps of a record whose first one is a new foil that is accepted
-  begun-steps : (ss : List Step) (l : Layout) (m : Lent) → first (refusals (newFoil W H d) (roomOf m) false l) ≡ none
-      → actAll stepOn (newFoil W H d ∷ ss) m ≡ shownSteps m (actAll (ledgerStep (roomOf m)) (newFoil W H d ∷ ss) l)
-  begun-steps ss l m n =
-      cons-is m m (newFoil W H d) ss l (long-lists m (not-short (roomOf m) l n)) (new-is l m n)
-      (λ k h. steps-are ss (ledgerStep (roomOf m) (newFoil W H d) l .state) k h (new-state (roomOf m) l n))
-
-  begun-state : (r : Room) (ss : List Step) (l : Layout) → first (refusals (newFoil W H d) r false l) ≡ none
-      → layoutOk (actAll (ledgerStep r) (newFoil W H d ∷ ss) l .state) ≡ true
-  unfolding actAll
-  begun-state r ss l n =
-      then-kept (ledgerStep r (newFoil W H d) l) _ (new-state r l n)
-      (steps-kept r ss (ledgerStep r (newFoil W H d) l .state) (new-state r l n))
-
--- what a reply of steps says of the record's checks and of its first step
-record RanFirst (o : Option ℕ) (e : Bool) (r : Room) (ss : List Step) (l : Layout) (x : Answer) : Type 0 where
-  unrefused : o ≡ none
-  not-end : e ≡ false
-  answers : List Answer
-  are : actAll (ledgerStep r) ss l .answer ≡ x ∷ answers
-
-of-ran : (o : Option ℕ) (e : Bool) (r : Room) (ss : List Step) (p : ℕ) (l : Layout) (x : Answer) (xs : List Answer)
-    (n : Option ℕ) → actRecord (ledgerStep r) o e ss p l .answer ≡ ran (x ∷ xs) n → RanFirst o e r ss l x
-unfolding actRecord
-of-ran (some k) e r ss p l x xs n h = absurd (let z : _≡_ {A = ℕ} 0 1 = cc in omega arith)
-of-ran none true r ss p l x xs n h = absurd (let z : _≡_ {A = ℕ} 0 1 = cc in omega arith)
-of-ran none false r ss p l x xs n h = record { unrefused = refl; not-end = refl; answers = xs; are = cc }
-
-then-head : (a : After Answer Layout) (b : After (List Answer) Layout) (x : Answer) (xs : List Answer)
-    → andThen a b .answer ≡ x ∷ xs → a .answer ≡ x
-unfolding andThen
-then-head a b x xs h = go (endsJob (a .answer)) h
-  where
-    go : (t : Bool)
-        → cond {A = After (List Answer) Layout} t
-        (record { answer = a .answer ∷ []; state = a .state })
-        (record { answer = a .answer ∷ b .answer; state = b .state }) .answer
-        ≡ x ∷ xs → a .answer ≡ x
-    go true k = cc
-    go false k = cc
-
-first-answer : (r : Room) (s : Step) (ss : List Step) (l : Layout) (x : Answer) (xs : List Answer)
-    → actAll (ledgerStep r) (s ∷ ss) l .answer ≡ x ∷ xs → ledgerStep r s l .answer ≡ x
-unfolding actAll
-first-answer r s ss l x xs h = then-head (ledgerStep r s l) _ x xs h
-
--- a record at place 0 that passes its checks opens with a board
-pub record Opens (ss : List Step) : Type 0 where
-  pub W : ℕ
-  pub H : ℕ
-  pub d : ℕ
-  pub later : List Step
-  pub is : ss ≡ newFoil W H d ∷ later
-
-opens-with : (t : Bool) (W H d : ℕ) (ss : List Step) → t ≡ true → Opens (consIf t (newFoil W H d) ss)
-opens-with true W H d ss e = record { W = W; H = H; d = d; later = ss; is = refl }
-opens-with false W H d ss e = clash e refl
-
-only-true : (t : Bool) → xor true t ≡ false → t ≡ true
-unfolding xor
-only-true true e = refl
-only-true false e = clash refl e
-
-pub opens : (bs : List ℕ) → first (recordChecks bs 0) ≡ none → Opens (steps bs 0)
-unfolding recordChecks steps
-opens bs h =
-    let x : xor true (has bs 0 0) ≡ false = search none-applies in
-    opens-with (has bs 0 0) _ _ _ _ (only-true (has bs 0 0) x)
-
-ran-state : (r : Room) (ss : List Step) (p : ℕ) (l : Layout)
-    → actRecord (ledgerStep r) none false ss p l .state ≡ actAll (ledgerStep r) ss l .state
-unfolding actRecord
-ran-state r ss p l = refl
-
-pub begun-record : (bs : List ℕ) (xs : List Answer) (n : Option ℕ) (l : Layout) (m : Lent)
-    → ledgerCall (roomOf m) (runRecord bs 0) l .answer ≡ ran (accepted ∷ xs) n → Begun (runRecord bs 0) l m
-unfolding ledgerCall callOn
-begun-record bs xs n l m e =
-    let r : Room = roomOf m in
-    let o : Option ℕ = first ((tooLarge bs ⇒ 18) ∷ (short r ⇒ 12) ∷ recordChecks bs 0) in
-    let a = of-ran o (isEnd bs 0) r (steps bs 0) (recordEnd bs 0) l accepted xs n e in
-    let rest = no-more (tooLarge bs) 18 ((short r ⇒ 12) ∷ recordChecks bs 0) (a .unrefused) in
-    let b = opens bs (no-more (short r) 12 (recordChecks bs 0) rest) in
-    let new : Step = newFoil (b .W) (b .H) (b .d) in
-    let h = first-answer r new (b .later) l accepted (a .answers)
-    (subst (λ (ss : List Step). actAll (ledgerStep r) ss l .answer ≡ accepted ∷ a .answers) (b .is) (a .are)) in
-    let u = unrefused (b .W) (b .H) (b .d) r l h in
-    record {
-      long = no-rule (short r) 12 (recordChecks bs 0) rest;
-      kept =
-          subst₂
-          (λ (t : Option ℕ) (q : Bool).
-          layoutOk (actRecord (ledgerStep r) t q (steps bs 0) (recordEnd bs 0) l .state) ≡ true)
-          (sym (a .unrefused)) (sym (a .not-end))
-          (ap layoutOk (ran-state r (steps bs 0) (recordEnd bs 0) l)
-          ∙ subst (λ (ss : List Step). layoutOk (actAll (ledgerStep r) ss l .state) ≡ true) (sym (b .is))
-          (begun-state (b .W) (b .H) (b .d) r (b .later) l u));
-      is =
-          rw (no-13 (tooLarge bs) (short r) (not (eqb 0 0) && not (sound m)) (recordChecks bs 0) refl)
-          (subst₂
-          (λ (t : Option ℕ) (q : Bool). actRecord stepOn t q (steps bs 0) (recordEnd bs 0) m
-          ≡ shown m (m .corners) (actRecord (ledgerStep r) t q (steps bs 0) (recordEnd bs 0) l))
-          (sym (a .unrefused)) (sym (a .not-end))
-          (ran-is (steps bs 0) (recordEnd bs 0) l m m r
-          (subst (λ (ss : List Step). actAll stepOn ss m ≡ shownSteps m (actAll (ledgerStep r) ss l)) (sym (b .is))
-          (begun-steps (b .W) (b .H) (b .d) (b .later) l m u))));
-    }
-
-begun : (c : Call) (l : Layout) (m : Lent) → Begins c (ledgerCall (roomOf m) c l .answer) → Begun c l m
-begun c l m (inl (W, H, d, e, h)) =
-    subst (λ (x : Call). ledgerCall (roomOf m) x l .answer ≡ answered accepted → Begun x l m) (sym e)
-    (begun-call W H d l m) h
-begun c l m (inr (bs, xs, n, e, h)) =
-    subst (λ (x : Call). ledgerCall (roomOf m) x l .answer ≡ ran (accepted ∷ xs) n → Begun x l m) (sym e)
-    (begun-record bs xs n l m) h
-
-lend-begun : (c : Lending) (l : Layout) (m : Lent) → Begun (c .call) l (front c m)
-    → lend c m ≡ shown m (c .corners) (told m c l)
-unfolding told
-lend-begun c l m b =
-    let n = long-front c m (b .long) in
-    let t : After Reply Layout = told m c l in
-    lend-shown c m m t (unfold front in b .is)
-    (unfold shown in back-new c m (omega (arith, n .table)) (omega (arith, n .strips)) (t .state)
-    (cornersAll (answersIn (t .answer)) (c .corners)) (b .kept))
+-- the calls after the first
+run-is : (m : Lent) → Long m → (cs : List Lending) (l : Layout) → layoutOk l ≡ true
+    → runLent (store l m) cs ≡ runLedger m l cs
+unfolding runLent runLedger
+run-is m long [] l g = refl
+run-is m long (c ∷ cs) l g =
+    let kept : layoutOk (told m c l .state) ≡ true = unfold told in call-kept (roomOf (front c m)) (c .call) l g in
+    rw (lend-is m long c l g)
+    (ap (λ (os : List (After Reply Lent)). shown m (c .corners) (told m c l) ∷ os)
+    (run-again m c cs l ∙ run-is m long cs (told m c l .state) kept))
 
 pub behaves-as-ledger : BehavesAsLedger
 unfolding runLent runLedger told
 behaves-as-ledger m l c cs h =
     let b = begun (c .call) l (front c m) h in
-    let n = long-front c m (b .long) in
-    let k : Long m = record { table = omega (arith, n .table); strips = omega (arith, n .strips) } in
+    let k = long-whole c m (long-front c m (b .long)) in
     rw (lend-begun c l m b)
     (ap (λ (os : List (After Reply Lent)). shown m (c .corners) (told m c l) ∷ os)
-    (run-again m k c cs l ∙ run-is m k cs (told m c l .state) (b .kept)))
+    (run-again m c cs l ∙ run-is m k cs (told m c l .state) (b .kept)))
+
+-- ---- each lay, and the lift after it
+
+-- a lay is not the new foil that begins the list
+lay-goes : (m : Lent) (k : Moment) (later : List Moment) (net : ℕ) (S T : Point) → Standing m k later
+    → k .step ≡ lay net S T → Goes m k × Onward m (k .ledgerAfter) later
+lay-goes m k later net S T (opens W H d new after) e = absurd (let z : _≡_ {A = ℕ} 0 1 = cc in omega arith)
+lay-goes m k later net S T (runs-on g o) e = (g, o)
+
+-- what it answers
+lay-answer : (m : Lent) (k : Moment) (net : ℕ) (S T : Point) → Goes m k → k .step ≡ lay net S T
+    → k .answer ≡ ledgerStep (k .room) (lay net S T) (k .ledgerBefore) .answer
+lay-answer m k net S T g e = g .answer ∙ ap (λ (s : Step). ledgerStep (k .room) s (k .ledgerBefore) .answer) e
+
+pub no-way : NoWay
+no-way m l c cs b earlier k later e net S T s long may =
+    let g = lay-goes m k later net S T (at-every m l c cs b earlier k later e) s .0 in
+    subst
+    (λ (x : Answer). (x ≡ refused 9) ↔ ((ds : List Point) → isPath (free (k .ledgerBefore)) S T ds ≡ true → ⊥))
+    (sym (lay-answer m k net S T g s)) (ledger-9 (k .room) (k .ledgerBefore) net S T long may)
+
+-- the corners of an accepted lay are read from the front of the corner list
+corners-front : (m : Lent) (k : Moment) (cs : List Point) (n : ℕ) → Goes m k → k .answer ≡ laid cs n
+    → cornersIn (k .after .corners) (length cs) ≡ cs
+unfolding cornersAfter
+corners-front m k cs n g h =
+    ap (λ (ks : List ℕ). cornersIn ks (length cs))
+    (g .corners ∙ ap (λ (x : Answer). cornersAfter x (g .lent)) h)
+    ∙ corners-read cs (drop (length (each pointNumbers cs)) (g .lent))
+
+pub lays-first : LaysFirst
+lays-first m l c cs b earlier k later e net S T ds n s h =
+    let g = lay-goes m k later net S T (at-every m l c cs b earlier k later e) s .0 in
+    let f = ledger-first (k .room) (k .ledgerBefore) net S T ds n (sym (lay-answer m k net S T g s) ∙ h) in
+    (f .0, f .1, corners-front m k ds n g h)
+
+-- what the ledger makes of the lift after it
+lift-line : (k next : Moment) (net : ℕ) (S T : Point) (cs : List Point) (n : ℕ) (m : Lent) → Goes m k
+    → k .step ≡ lay net S T → k .answer ≡ laid cs n → next .ledgerBefore ≡ k .ledgerAfter → next .step ≡ lift net
+    → short (next .room) ≡ false
+    → ledgerStep (next .room) (next .step) (next .ledgerBefore) ≡ record { answer = accepted; state = k .ledgerBefore }
+lift-line k next net S T cs n m g s h q u long =
+    let laid-on : next .ledgerBefore ≡ ledgerStep (k .room) (lay net S T) (k .ledgerBefore) .state =
+    q ∙ g .left ∙ ap (λ (x : Step). ledgerStep (k .room) x (k .ledgerBefore) .state) s in
+    ap₂ (λ (x : Step) (y : Layout). ledgerStep (next .room) x y) u laid-on
+    ∙ ledger-lifts (k .room) (next .room) (k .ledgerBefore) net S T cs n
+    (of-ok (k .ledgerBefore) (g .before .kept) .fine) (sym (lay-answer m k net S T g s) ∙ h) long
+
+-- two lists that hold one layout have the same record, table and strips
+same-lists : (m : Lent) (l : Layout) (x y : Lent) → Shows m l x → Shows m l y
+    → (x .board ≡ y .board) × (x .table ≡ y .table) × (x .strips ≡ y .strips)
+same-lists m l x y a b = (a .board ∙ sym (b .board), a .table ∙ sym (b .table), a .strips ∙ sym (b .strips))
+
+pub lifts-back : LiftsBack
+lifts-back m l c cs b earlier k later e net S T ds n s h next rest q u long =
+    let p = lay-goes m k later net S T (at-every m l c cs b earlier k later e) s in
+    let w = subst (λ (js : List Moment). Chain m (k .ledgerAfter) js (p .1 .end)) q (p .1 .chain) in
+    let line = lift-line k next net S T ds n m (p .0) s h (w .0) u long in
+    let back-is : next .ledgerAfter ≡ k .ledgerBefore =
+    w .1 .left ∙ ap (λ (a : After Answer Layout). a .state) line in
+    let same = same-lists m (k .ledgerBefore) (next .after) (k .before)
+    (subst (λ (x : Layout). Shows m x (next .after)) back-is (w .1 .after)) (p .0 .before) in
+    (w .1 .answer ∙ ap (λ (a : After Answer Layout). a .answer) line, same .0, same .1, same .2)

@@ -1,10 +1,11 @@
--- Lay answers 9 exactly where there is no path, lays the first one, and lift takes it back.
+-- On the ledger lay answers 9 exactly where there is no path, lays the first one, and lift takes it back.
 use Prim.Native.Nat.{ℕ, _≤_}
 use native.Mathlib.Omega.{arith}
 use mathlib.Core.Path.{_≡_, refl, sym, ap, _∙_, subst}
 use mathlib.Core.Bool.{Bool, true, false, not}
 use mathlib.Core.List.{List, [], _∷_, _++_, append-nil}
 use mathlib.Core.Option.{Option, none, some, Option·getD}
+use mathlib.Core.Logic.{_↔_}
 use lib.Dec.{ltb}
 use borrow.Author.Tests.{eq-eqb, lt-leb, ltb-false}
 use lib.ListN.{length}
@@ -15,20 +16,13 @@ use Rattle.foil_spec.specs.Ledger.{pathOf, noPath, cornersOf, leg, legsFrom, le
 use Rattle.foil_spec.specs.Ledger.{offFoil, blocked}
 use Rattle.foil_spec.specs.Ledger.{tooLong, tooFine, next, says, _⇒_, first, Room, short, refusals, settle, ledgerStep}
 use Rattle.foil_spec.specs.Ledger.{Step, lay, lift, refused, accepted, laid}
-use Rattle.foil_spec.specs.Lent.{Lent, withCorners, store, held, layoutOk, sound, roomOf, cornersAfter, finish, stepOn}
+use Rattle.foil_spec.specs.Lent.{Lent, held, sound, roomOf, finish, stepOn}
 use Rattle.list_laws.proofs.Tests.{clash, or-l, or-r, or-ir, not-ff}
-use Rattle.path_laws.proofs.Laws.{IsFirst, gives-first, gives-none, none-is}
-use Rattle.ledger_laws.specs.Demand3.{MayLay, NoWay, LaysFirst, LiftsBack}
+use Rattle.path_laws.specs.First.{IsFirst}
+use Rattle.path_laws.proofs.Laws.{gives-first, gives-none, none-is}
+use Rattle.ledger_laws.specs.Demand3.{MayLay}
 use Rattle.ledger_laws.proofs.Refusals.{none-applies}
 use Rattle.ledger_laws.proofs.Legs.{free-inside}
-use Rattle.ledger_laws.proofs.Stored.{Long}
-use Rattle.ledger_laws.proofs.Kept.{of-ok, next-kept}
-use Rattle.ledger_laws.proofs.Steps.{shownStep, step-is, long-lists, room-store}
-use Rattle.ledger_laws.proofs.Sound.{of-sound, sound-store-is}
-
--- the number that a step is refused by
-abbrev refusal : Step → Lent → Option ℕ
-refusal c m = first (refusals c (roomOf m) (not (sound m)) (held m))
 
 -- ---- 9
 
@@ -38,33 +32,35 @@ free-on l p h =
     let i = free-inside l (p .x) (p .y) h in
     rw (lt-leb (l .width) (p .x) (i .0), lt-leb (l .height) (p .y) (i .1)) refl
 
--- the refusals of such a lay are those from 9 on
-pub lay-from-9 : (m : Lent) (net : ℕ) (S T : Point) → MayLay m net S T
-    → first (refusals (lay net S T) (roomOf m) (not (sound m)) (held m))
+-- where the table and the strip list are long enough and the state keeps the rules, the refusals of such a lay are
+-- those from 9 on
+pub lay-from-9 : (r : Room) (broken : Bool) (l : Layout) (net : ℕ) (S T : Point) → short r ≡ false → broken ≡ false
+    → MayLay l net S T
+    → first (refusals (lay net S T) r broken l)
     ≡ first (
-    (noPath (pathOf (held m) S T) ⇒ 9)
-    ∷ (ltb (roomOf m .corners) (length (cornersOf (held m) S T)) ⇒ 12)
-    ∷ (tooLong (next (lay net S T) (held m)) ⇒ 10)
-    ∷ (tooFine (next (lay net S T) (held m)) ⇒ 11)
+    (noPath (pathOf l S T) ⇒ 9)
+    ∷ (ltb (r .corners) (length (cornersOf l S T)) ⇒ 12)
+    ∷ (tooLong (next (lay net S T) l) ⇒ 10)
+    ∷ (tooFine (next (lay net S T) l) ⇒ 11)
     ∷ [])
 unfolding refusals first blocked
-lay-from-9 m net S T k =
+lay-from-9 r broken l net S T long fine k =
     rw (
-      k .long,
-      k .fine,
+      long,
+      fine,
       k .allowed,
       k .unused,
-      free-on (held m) S (k .start-free),
-      free-on (held m) T (k .end-free),
+      free-on l S (k .start-free),
+      free-on l T (k .end-free),
       k .start-free,
       k .end-free,
     ) refl
 
-finished-9 : (o : Option ℕ) (net : ℕ) (S T : Point) (m : Lent) → finish o (lay net S T) m .answer ≡ refused 9
+settled-9 : (o : Option ℕ) (net : ℕ) (S T : Point) (l : Layout) → settle o (lay net S T) l .answer ≡ refused 9
     → o ≡ some 9
-unfolding finish says
-finished-9 none net S T m h = absurd (let z : _≡_ {A = ℕ} 0 1 = cc in omega arith)
-finished-9 (some n) net S T m h = let e : n ≡ 9 = cc in ap {A = ℕ} {B = Option ℕ} some e
+unfolding settle says
+settled-9 none net S T l h = absurd (let z : _≡_ {A = ℕ} 0 1 = cc in omega arith)
+settled-9 (some n) net S T l h = let e : n ≡ 9 = cc in ap {A = ℕ} {B = Option ℕ} some e
 
 after-9 : (a b c : Bool) → first ((a ⇒ 12) ∷ (b ⇒ 10) ∷ (c ⇒ 11) ∷ []) ≡ some 9 → ⊥
 unfolding first
@@ -80,47 +76,60 @@ unfolding noPath first
 only-9 none a b c h = refl
 only-9 (some cs) a b c h = absurd (after-9 a b c h)
 
-answers-9 : (m : Lent) (net : ℕ) (S T : Point) → MayLay m net S T → pathOf (held m) S T ≡ none
-    → stepOn (lay net S T) m .answer ≡ refused 9
-unfolding stepOn finish first noPath
-answers-9 m net S T k e = rw (lay-from-9 m net S T k, e) refl
+answers-9 : (r : Room) (l : Layout) (net : ℕ) (S T : Point) → short r ≡ false → MayLay l net S T
+    → pathOf l S T ≡ none → ledgerStep r (lay net S T) l .answer ≡ refused 9
+unfolding ledgerStep settle first noPath
+answers-9 r l net S T long k e = rw (lay-from-9 r false l net S T long refl k, e) refl
 
-pub no-way : NoWay
-unfolding pathOf stepOn
-no-way m net S T k = (only-where, where-none)
-  where
-    only-where : stepOn (lay net S T) m .answer ≡ refused 9
-        → (cs : List Point) → isPath (free (held m)) S T cs ≡ true → ⊥
-    only-where h cs p =
-        let e : refusal (lay net S T) m ≡ some 9 = finished-9 (refusal (lay net S T) m) net S T m h in
-        gives-none (free (held m)) (held m .width) (held m .height) (free-inside (held m)) S T
-        (only-9 (pathOf (held m) S T) _ _ _ (sym (lay-from-9 m net S T k) ∙ e)) cs p
-
-    where-none : ((cs : List Point) → isPath (free (held m)) S T cs ≡ true → ⊥)
-        → stepOn (lay net S T) m .answer ≡ refused 9
-    where-none h =
-        answers-9 m net S T k (none-is (free (held m)) (held m .width) (held m .height) (free-inside (held m)) S T h)
+-- the ledger answers 9 exactly when there is no path
+pub ledger-9 : (r : Room) (l : Layout) (net : ℕ) (S T : Point) → short r ≡ false → MayLay l net S T
+    → (ledgerStep r (lay net S T) l .answer ≡ refused 9)
+    ↔ ((cs : List Point) → isPath (free l) S T cs ≡ true → ⊥)
+unfolding pathOf ledgerStep
+ledger-9 r l net S T long k = (
+  λ h.
+      let e = settled-9 (first (refusals (lay net S T) r false l)) net S T l h in
+      gives-none (free l) (l .width) (l .height) (free-inside l) S T
+      (only-9 (pathOf l S T) _ _ _ (sym (lay-from-9 r false l net S T long refl k) ∙ e)),
+  λ h. answers-9 r l net S T long k (none-is (free l) (l .width) (l .height) (free-inside l) S T h),
+)
 
 -- ---- the track
 
 -- a lay that is answered with corners was not refused, and they are those of the first path
-record Laid (m : Lent) (net : ℕ) (S T : Point) (cs : List Point) (n : ℕ) : Type 0 where
-  unrefused : first (refusals (lay net S T) (roomOf m) (not (sound m)) (held m)) ≡ none
-  corners : cs ≡ cornersOf (held m) S T
-  bent : n ≡ bends (cornersOf (held m) S T)
+pub record Laid (r : Room) (broken : Bool) (l : Layout) (net : ℕ) (S T : Point) (cs : List Point) (n : ℕ)
+    : Type 0 where
+  pub unrefused : first (refusals (lay net S T) r broken l) ≡ none
+  pub corners : cs ≡ cornersOf l S T
+  pub bent : n ≡ bends (cornersOf l S T)
 
-finished-laid : (o : Option ℕ) (net : ℕ) (S T : Point) (m : Lent) (cs : List Point) (n : ℕ)
-    → finish o (lay net S T) m .answer ≡ laid cs n
-    → (o ≡ none) × (cs ≡ cornersOf (held m) S T) × (n ≡ bends (cornersOf (held m) S T))
-unfolding finish says
-finished-laid none net S T m cs n h = (refl, cc, cc)
-finished-laid (some k) net S T m cs n h = absurd (let z : _≡_ {A = ℕ} 0 1 = cc in omega arith)
+settled-laid : (o : Option ℕ) (net : ℕ) (S T : Point) (l : Layout) (cs : List Point) (n : ℕ)
+    → settle o (lay net S T) l .answer ≡ laid cs n
+    → (o ≡ none) × (cs ≡ cornersOf l S T) × (n ≡ bends (cornersOf l S T))
+unfolding settle says
+settled-laid none net S T l cs n h = (refl, cc, cc)
+settled-laid (some k) net S T l cs n h = absurd (let z : _≡_ {A = ℕ} 0 1 = cc in omega arith)
 
-of-laid : (m : Lent) (net : ℕ) (S T : Point) (cs : List Point) (n : ℕ)
-    → stepOn (lay net S T) m .answer ≡ laid cs n → Laid m net S T cs n
+of-laid : (r : Room) (l : Layout) (net : ℕ) (S T : Point) (cs : List Point) (n : ℕ)
+    → ledgerStep r (lay net S T) l .answer ≡ laid cs n → Laid r false l net S T cs n
+unfolding ledgerStep
+of-laid r l net S T cs n h =
+    let a = settled-laid (first (refusals (lay net S T) r false l)) net S T l cs n h in
+    record { unrefused = a .0; corners = a .1; bent = a .2 }
+
+-- a step on lists answers as its refusals settle it on the ledger
+finished-answer : (o : Option ℕ) (s : Step) (m : Lent) → finish o s m .answer ≡ settle o s (held m) .answer
+unfolding finish settle
+finished-answer (some n) s m = refl
+finished-answer none s m = refl
+
+-- the same of a lay on lists that hold anything
+pub laid-on : (m : Lent) (net : ℕ) (S T : Point) (cs : List Point) (n : ℕ) → stepOn (lay net S T) m .answer ≡ laid cs n
+    → Laid (roomOf m) (not (sound m)) (held m) net S T cs n
 unfolding stepOn
-of-laid m net S T cs n h =
-    let a = finished-laid (refusal (lay net S T) m) net S T m cs n h in
+laid-on m net S T cs n h =
+    let o : Option ℕ = first (refusals (lay net S T) (roomOf m) (not (sound m)) (held m)) in
+    let a = settled-laid o net S T (held m) cs n (sym (finished-answer o (lay net S T) m) ∙ h) in
     record { unrefused = a .0; corners = a .1; bent = a .2 }
 
 -- its corners fit the corner list that is lent
@@ -128,7 +137,7 @@ pub laid-fits : (m : Lent) (net : ℕ) (S T : Point) (cs : List Point) (n : ℕ)
     → stepOn (lay net S T) m .answer ≡ laid cs n → length cs ≤ roomOf m .corners
 unfolding refusals
 laid-fits m net S T cs n h =
-    let a = of-laid m net S T cs n h in
+    let a = laid-on m net S T cs n h in
     let e = a .unrefused in
     let f : ltb (roomOf m .corners) (length (cornersOf (held m) S T)) ≡ false = search none-applies depth 12 in
     omega (arith, ltb-false (roomOf m .corners) (length (cornersOf (held m) S T)) f, ap length (a .corners))
@@ -144,13 +153,14 @@ unfolding noPath
 path-is l S T none e h = clash refl h
 path-is l S T (some cs) e h = rw e refl
 
-pub lays-first : LaysFirst
+-- the corners that the ledger answers are those of the first path of fewest bends, and so are the bends
+pub ledger-first : (r : Room) (l : Layout) (net : ℕ) (S T : Point) (cs : List Point) (n : ℕ)
+    → ledgerStep r (lay net S T) l .answer ≡ laid cs n → IsFirst (free l) S T cs × (n ≡ bends cs)
 unfolding pathOf cornersOf
-lays-first m net S T cs n h =
-    let a = of-laid m net S T cs n h in
-    let l = held m in
-    let e = path-is l S T (pathOf l S T) refl (has-path _ _ l net S T (a .unrefused)) in (
-      subst (λ (ds : List Point). IsFirst (free (held m)) S T ds) (sym (a .corners))
+ledger-first r l net S T cs n h =
+    let a = of-laid r l net S T cs n h in
+    let e = path-is l S T (pathOf l S T) refl (has-path r false l net S T (a .unrefused)) in (
+      subst (λ (ds : List Point). IsFirst (free l) S T ds) (sym (a .corners))
           (gives-first (free l) (l .width) (l .height) (free-inside l) S T (cornersOf l S T) e),
       a .bent ∙ ap bends (sym (a .corners)),
     )
@@ -209,61 +219,30 @@ lifted r l net cs ok unused used fine long =
     (ap (λ (es : List Entry). record { answer = accepted; state = withEntries l es }) e)
 
 -- what a lay that is not refused has passed
-record Passed (r : Room) (broken : Bool) (l : Layout) (net : ℕ) : Type 0 where
-  long : short r ≡ false
-  fine : broken ≡ false
+record Passed (l : Layout) (net : ℕ) : Type 0 where
   allowed : netOk net ≡ true
   unused : inUse net (l .entries) ≡ false
 
-passed : (r : Room) (b : Bool) (l : Layout) (net : ℕ) (S T : Point) → first (refusals (lay net S T) r b l) ≡ none
-    → Passed r b l net
+passed : (r : Room) (l : Layout) (net : ℕ) (S T : Point) → first (refusals (lay net S T) r false l) ≡ none
+    → Passed l net
 unfolding refusals
-passed r b l net S T h =
-    record {
-      long = search none-applies;
-      fine = search none-applies;
-      allowed = not-ff (netOk net) (search none-applies);
-      unused = search none-applies;
-    }
+passed r l net S T h =
+    record { allowed = not-ff (netOk net) (search none-applies); unused = search none-applies }
 
--- the lists after a lay, lent again with another corner list
-laid-state : (m : Lent) (net : ℕ) (S T : Point) (ks : List ℕ) → refusal (lay net S T) m ≡ none
-    → withCorners (stepOn (lay net S T) m .state) ks ≡ store (next (lay net S T) (held m)) (withCorners m ks)
-unfolding stepOn finish store
-laid-state m net S T ks h = rw h refl
+laid-state : (r : Room) (l : Layout) (net : ℕ) (S T : Point) → first (refusals (lay net S T) r false l) ≡ none
+    → ledgerStep r (lay net S T) l .state ≡ withEntries l (l .entries ++ legs net (cornersOf l S T))
+unfolding ledgerStep settle next
+laid-state r l net S T h = rw h refl
 
--- 12 (table, strips) does not look at the corner list
-room-apart : (m : Lent) (ks : List ℕ) → short (roomOf (withCorners m ks)) ≡ short (roomOf m)
-unfolding short roomOf
-room-apart m ks = refl
-
--- lists that hold a layout with the legs of an unused net, where the net is lifted
-lifted-lists : (m : Lent) (l : Layout) (net : ℕ) (cs : List Point) → Long m → short (roomOf m) ≡ false
-    → layoutOk (withEntries l (l .entries ++ legs net cs)) ≡ true → netOk net ≡ true
-    → inUse net (l .entries) ≡ false → inUse net (legs net cs) ≡ true → tooFine l ≡ false
-    → stepOn (lift net) (store (withEntries l (l .entries ++ legs net cs)) m)
-    ≡ record { answer = accepted; state = store l m }
-unfolding shownStep cornersAfter store
-lifted-lists m l net cs long room g ok unused used fine =
-    let l′ : Layout = withEntries l (l .entries ++ legs net cs) in
-    step-is (lift net) l′ m g
-    ∙ ap (shownStep m)
-    (lifted (roomOf (store l′ m)) l net cs ok unused used fine
-    (ap short (room-store l′ m long g) ∙ room))
-
-pub lifts-back : LiftsBack
-unfolding next store
-lifts-back m net S T cs n ks h =
-    let a = of-laid m net S T cs n h in
-    let q = passed (roomOf m) (not (sound m)) (held m) net S T (a .unrefused) in
-    let fine : sound m ≡ true = not-ff (sound m) (q .fine) in
-    let k = of-sound m fine in
-    let p = lays-first m net S T cs n h .0 .path in
-    let used : inUse net (legs net (cornersOf (held m) S T)) ≡ true =
-    ap (λ (ds : List Point). inUse net (legs net ds)) (sym (a .corners)) ∙ path-used (free (held m)) S T net cs p in
-    ap (stepOn (lift net)) (laid-state m net S T ks (a .unrefused))
-    ∙ lifted-lists (withCorners m ks) (held m) net (cornersOf (held m) S T)
-    (long-lists (withCorners m ks) (room-apart m ks ∙ q .long)) (room-apart m ks ∙ q .long)
-    (next-kept (lay net S T) (roomOf m) (not (sound m)) (held m) (k .kept) (a .unrefused))
-    (q .allowed) (q .unused) used (of-ok (held m) (k .kept) .fine)
-    ∙ ap (λ (x : Lent). record { answer = accepted; state = withCorners x ks }) (sound-store-is m k)
+-- a lift of the net that was laid last is accepted and gives the layout back
+pub ledger-lifts : (r r′ : Room) (l : Layout) (net : ℕ) (S T : Point) (cs : List Point) (n : ℕ) → tooFine l ≡ false
+    → ledgerStep r (lay net S T) l .answer ≡ laid cs n → short r′ ≡ false
+    → ledgerStep r′ (lift net) (ledgerStep r (lay net S T) l .state) ≡ record { answer = accepted; state = l }
+ledger-lifts r r′ l net S T cs n fine h long =
+    let a = of-laid r l net S T cs n h in
+    let q = passed r l net S T (a .unrefused) in
+    let p = ledger-first r l net S T cs n h .0 .path in
+    let used : inUse net (legs net (cornersOf l S T)) ≡ true =
+    ap (λ (ds : List Point). inUse net (legs net ds)) (sym (a .corners)) ∙ path-used (free l) S T net cs p in
+    ap (ledgerStep r′ (lift net)) (laid-state r l net S T (a .unrefused))
+    ∙ lifted r′ l net (cornersOf l S T) (q .allowed) (q .unused) used fine long

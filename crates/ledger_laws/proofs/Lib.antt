@@ -7,5 +7,9 @@ pub mod Kept
 pub mod Steps
 pub mod Sound
 pub mod Lay
+pub mod Lending
+pub mod Moments
+pub mod Told
+pub mod Demand2
 pub mod Demand3
 pub mod Opening

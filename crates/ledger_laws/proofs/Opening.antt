@@ -19,7 +19,7 @@ use Rattle.foil_spec.specs.Calls.{tooLarge, ledgerCall, callOn}
 use Rattle.list_laws.proofs.Tests.{both, clash}
 use Rattle.ledger_laws.proofs.Refusals.{no-more, none-applies}
 use Rattle.ledger_laws.proofs.Steps.{no-13}
-use Rattle.ledger_laws.proofs.Demand3.{Begun, Opens, opens, begun-record}
+use Rattle.ledger_laws.proofs.Lending.{Begun, Opens, opens, begun-record}
 
 -- a reply after which there is no next place, and no strip is told
 abbrev pub Over : Reply → Type 0

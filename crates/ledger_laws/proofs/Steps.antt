@@ -88,7 +88,7 @@ corners-fit r (lay net S T) l ks none e f =
 corners-fit r (lift net) l ks none e f = refl
 corners-fit r (lookUp p) l ks none e f = refl
 
-room-after : (m : Lent) (s : Step) (l : Layout)
+pub room-after : (m : Lent) (s : Step) (l : Layout)
     → roomOf (withCorners m (cornersAfter (ledgerStep (roomOf m) s l .answer) (m .corners))) ≡ roomOf m
 unfolding roomOf ledgerStep
 room-after m s l = simp (corners-fit (roomOf m) s l (m .corners) (first (refusals s (roomOf m) false l)) refl refl)

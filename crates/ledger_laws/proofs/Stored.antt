@@ -1,5 +1,5 @@
 -- What is lent after a layout is stored in it: it reads back, it is sound, and a front part of it goes the same way.
-use Prim.Native.Nat.{ℕ, zero, suc, _+_, _-_, _*_, _≤_}
+use Prim.Native.Nat.{ℕ, suc, _+_, _-_, _*_, _≤_}
 use native.Mathlib.Omega.{arith}
 use mathlib.Core.Path.{_≡_, refl, ap, ap₂, _∙_, fun-ext}
 use mathlib.Core.Bool.{true, false}
@@ -16,6 +16,7 @@ use Rattle.foil_spec.specs.Lent.{entryAt, layoutOf, held, layoutOk, sameNumbers
 use Rattle.foil_spec.specs.Sequence.{Lending, front, back}
 use Rattle.foil_spec.proofs.Written.{written-again, take-written, written-back, drop-past}
 use Rattle.list_laws.proofs.Tests.{parts}
+use Rattle.list_laws.proofs.Members.{map-later}
 
 -- ---- how long the flat lists are
 
@@ -53,10 +54,6 @@ strips-fit l g =
     omega (arith, length-strips (stripsOf l), ltb-false 4096 (length (stripsOf l)) h)
 
 -- ---- reading back
-
-map-later : {A : Type 0} (g : ℕ → A) (a n : ℕ) → map g (range (suc a) n) ≡ map (λ (k : ℕ). g (suc k)) (range a n)
-map-later g a zero = refl
-map-later {A} g a (suc n) = ap (λ (xs : List A). g (suc a) ∷ xs) (map-later g (suc a) n)
 
 entry-later : (e : Entry) (t : List ℕ) (k : ℕ) → entryAt (entryNumbers e ++ t) (suc k) ≡ entryAt t k
 unfolding entryAt entryNumbers

@@ -1,15 +1,17 @@
--- Demand 3, as it is stated: a whole list of calls behaves as the ledger, and what lay and lift promise.
+-- Demand 3, as it is stated: a whole list of calls behaves as the ledger, and what lay and lift promise in it.
 use Prim.Native.Nat.{ℕ}
 use mathlib.Core.Path.{_≡_}
 use mathlib.Core.Bool.{true, false}
 use mathlib.Core.Logic.{_↔_}
 use mathlib.Core.List.{List, _∷_}
+use lib.ListN.{length}
 use Rattle.foil_spec.specs.Foil.{Point, Layout, netOk, free}
 use Rattle.foil_spec.specs.Paths.{isPath, bends}
 use Rattle.foil_spec.specs.Ledger.{inUse, lay, lift, refused, accepted, laid, short}
-use Rattle.foil_spec.specs.Lent.{Lent, withCorners, held, sound, roomOf, stepOn}
+use Rattle.foil_spec.specs.Lent.{Lent, cornersIn}
 use Rattle.foil_spec.specs.Sequence.{Lending, Begins, runLent, told, runLedger}
-use Rattle.path_laws.proofs.Laws.{IsFirst}
+use Rattle.path_laws.specs.First.{IsFirst}
+use Rattle.ledger_laws.specs.Moments.{Moment, AtEvery}
 
 -- m is what the lists hold at first and l what the ledger held before, both anything. From a call that begins a foil
 -- on, all replies, the record, the table, the strips and the corner lists are the ledger's.
@@ -18,31 +20,35 @@ BehavesAsLedger =
     (m : Lent) (l : Layout) (c : Lending) (cs : List Lending) → Begins (c .call) (told m c l .answer)
     → runLent m (c ∷ cs) ≡ runLedger m l (c ∷ cs)
 
--- a lay on lists that keep the rules and are long enough, of a net that is allowed and not in use, between free points
-pub record MayLay (m : Lent) (net : ℕ) (S T : Point) : Type 0 where
-  pub long : short (roomOf m) ≡ false
-  pub fine : sound m ≡ true
+-- by the layout l the net is allowed and not in use, and S and T are free
+pub record MayLay (l : Layout) (net : ℕ) (S T : Point) : Type 0 where
   pub allowed : netOk net ≡ true
-  pub unused : inUse net (held m .entries) ≡ false
-  pub start-free : free (held m) (S .x) (S .y) ≡ true
-  pub end-free : free (held m) (T .x) (T .y) ≡ true
+  pub unused : inUse net (l .entries) ≡ false
+  pub start-free : free l (S .x) (S .y) ≡ true
+  pub end-free : free l (T .x) (T .y) ≡ true
 
--- it answers 9 exactly when no path joins S and T
+-- a lay between points that are free by the ledger as it stands before the lay, its net allowed and not in use, the
+-- table and the strip list long enough, answers 9 exactly when no path joins the points
 abbrev pub NoWay : Type 0
 NoWay =
-    (m : Lent) (net : ℕ) (S T : Point) → MayLay m net S T
-    → (stepOn (lay net S T) m .answer ≡ refused 9) ↔ ((cs : List Point) → isPath (free (held m)) S T cs ≡ true → ⊥)
+    AtEvery (λ k later.
+    (net : ℕ) (S T : Point) → k .step ≡ lay net S T → short (k .room) ≡ false → MayLay (k .ledgerBefore) net S T
+    → (k .answer ≡ refused 9) ↔ ((cs : List Point) → isPath (free (k .ledgerBefore)) S T cs ≡ true → ⊥))
 
--- a track that is laid is the first path of fewest bends, with the bends that are answered
+-- a track that is laid is the first path of fewest bends over the points that are free before the lay, with the bends
+-- that are answered, and its corners stand at the front of the corner list
 abbrev pub LaysFirst : Type 0
 LaysFirst =
-    (m : Lent) (net : ℕ) (S T : Point) (cs : List Point) (n : ℕ) → stepOn (lay net S T) m .answer ≡ laid cs n
-    → IsFirst (free (held m)) S T cs × (n ≡ bends cs)
+    AtEvery (λ k later.
+    (net : ℕ) (S T : Point) (cs : List Point) (n : ℕ) → k .step ≡ lay net S T → k .answer ≡ laid cs n
+    → IsFirst (free (k .ledgerBefore)) S T cs × (n ≡ bends cs) × (cornersIn (k .after .corners) (length cs) ≡ cs))
 
--- lifting it as the next step, with any corner list lent, is accepted and gives back the record, the table and the strips
+-- lifting it as the next step, in the same record or by another call, lent any front parts that are long enough and any
+-- corner list, is accepted and gives back the record, the table and the strips
 abbrev pub LiftsBack : Type 0
 LiftsBack =
-    (m : Lent) (net : ℕ) (S T : Point) (cs : List Point) (n : ℕ) (ks : List ℕ)
-    → stepOn (lay net S T) m .answer ≡ laid cs n
-    → stepOn (lift net) (withCorners (stepOn (lay net S T) m .state) ks)
-    ≡ record { answer = accepted; state = withCorners m ks }
+    AtEvery (λ k later.
+    (net : ℕ) (S T : Point) (cs : List Point) (n : ℕ) → k .step ≡ lay net S T → k .answer ≡ laid cs n
+    → (next : Moment) (rest : List Moment) → later ≡ next ∷ rest → next .step ≡ lift net → short (next .room) ≡ false
+    → (next .answer ≡ accepted) × (next .after .board ≡ k .before .board) × (next .after .table ≡ k .before .table)
+    × (next .after .strips ≡ k .before .strips))

@@ -1,2 +1,4 @@
 -- The statements that are proved of the ledger.
+pub mod Moments
+pub mod Demand2
 pub mod Demand3

@@ -148,6 +148,11 @@ module _ {A B : Type 0} where
   sorted-map q r f (x ∷ xs) s k =
       (λ v hv. let w = of-map f v xs hv in rw (w .2) (k x (w .0) (s .0 (w .0) (w .1))), sorted-map q r f xs (s .1) k)
 
+-- the places from a + 1 on, counted from a on
+pub map-later : {A : Type 0} (g : ℕ → A) (a n : ℕ) → map g (range (suc a) n) ≡ map (λ (k : ℕ). g (suc k)) (range a n)
+map-later g a zero = refl
+map-later {A} g a (suc n) = ap (λ (xs : List A). g (suc a) ∷ xs) (map-later g (suc a) n)
+
 pub length-range : (a n : ℕ) → length (range a n) ≡ n
 length-range a zero = refl
 length-range a (suc n) = ap suc (length-range (suc a) n)
@@ -165,6 +170,16 @@ of-range k a (suc n) (inr h) = let r = of-range k (suc a) n h in omega arith
 pub sorted-range : (a n : ℕ) → Sorted ltb (range a n)
 sorted-range a zero = tt
 sorted-range a (suc n) = (λ k h. lt-ltb a k (of-range k (suc a) n h .0), sorted-range (suc a) n)
+
+-- of a list in order, what an earlier place gives comes before what a later one gives
+pub sorted-places : {A : Type 0} (r : A → A → Bool) (g : ℕ → A) (a n : ℕ) → Sorted r (map g (range a n)) → (j k : ℕ)
+    → a ≤ j → j < k → k < a + n → r (g j) (g k) ≡ true
+sorted-places r g a zero s j k h l m = absurd (let z : k < a = omega arith in omega arith)
+sorted-places r g a (suc n) s j k h l m =
+    by-cases (ℕ-discrete j a)
+    (λ e.
+    rw e (s .0 (g k) (in-map g k (range (suc a) n) (in-range k (suc a) n (omega arith) (omega arith)))))
+    (λ ne. sorted-places r g (suc a) n (s .1) j k (omega arith) l (omega arith))
 
 -- a test of all that the places below n give
 module _ {A : Type 0} (p : A → Bool) (g : ℕ → A) (n : ℕ) where

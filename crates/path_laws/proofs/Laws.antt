@@ -1,23 +1,17 @@
 -- What `firstPath` gives, in document 01's words, for every test f of free points that passes on the foil only.
-use Prim.Native.Nat.{ℕ, _≤_, _<_}
+use Prim.Native.Nat.{ℕ, _<_}
 use native.Mathlib.Omega.{arith}
 use mathlib.Core.Path.{_≡_, refl, sym, ap}
 use mathlib.Core.Bool.{Bool, true}
 use mathlib.Core.List.{List}
 use mathlib.Core.Option.{Option, none, some}
-use mathlib.Core.Logic.{_⊎_, ⊎-elim}
+use mathlib.Core.Logic.{⊎-elim}
 use Rattle.foil_spec.specs.Foil.{Point}
 use Rattle.foil_spec.specs.Paths.{isPath, bends, before, firstPath}
+use Rattle.path_laws.specs.First.{IsFirst}
 use Rattle.path_laws.proofs.FirstPath.{nothing-missed, given-path, given-fewest, given-first, before-both}
 
--- "the first way of fewest bends": it is a way from S to T, no way has fewer bends, and among the ways with equally
--- few bends it comes first in the order
-pub record IsFirst (f : ℕ → ℕ → Bool) (S T : Point) (cs : List Point) : Type 0 where
-  pub path : isPath f S T cs ≡ true
-  pub fewest : (ds : List Point) → isPath f S T ds ≡ true → bends cs ≤ bends ds
-  pub first : (ds : List Point) → isPath f S T ds ≡ true → bends ds ≡ bends cs → (cs ≡ ds) ⊎ (before cs ds ≡ true)
-
--- there is only one such list
+-- there is only one first way of fewest bends
 pub unique : (f : ℕ → ℕ → Bool) (S T : Point) (cs ds : List Point) → IsFirst f S T cs → IsFirst f S T ds → cs ≡ ds
 unique f S T cs ds a b =
     let ab = a .fewest ds (b .path) in

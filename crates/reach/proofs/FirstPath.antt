@@ -10,7 +10,8 @@ use Rattle.foil_spec.specs.Foil.{Point}
 use Rattle.foil_spec.specs.Paths.{either, leads, isPath, bends, firstPath}
 use Rattle.path_laws.proofs.Segments.{leads-either}
 use Rattle.path_laws.proofs.FirstPath.{of-path, to-path, same-bends}
-use Rattle.path_laws.proofs.Laws.{IsFirst, gives-first, gives-none, first-is, none-is}
+use Rattle.path_laws.specs.First.{IsFirst}
+use Rattle.path_laws.proofs.Laws.{gives-first, gives-none, first-is, none-is}
 use Rattle.reach.specs.Best.{PathD, Best, corners, At}
 use Rattle.reach.proofs.Best.{Fewest}
 use Rattle.reach.proofs.Corners.{corners-length, heading, path-leads, either-path}

@@ -10,15 +10,16 @@ use lib.ListN.{length, getD}
 use borrow.Author.Tests.{lt-ltb, ltb-true}
 use Rattle.foil_spec.specs.Lists.{keep}
 use Rattle.foil_spec.specs.Foil.{Point, point}
-use Rattle.foil_spec.specs.Strips.{Run, run, runs, starts, isRun, rowOf, Strip, strips, holds, placeOf}
+use Rattle.foil_spec.specs.Strips.{Run, runs, starts, isRun, rowOf, Strip, strips, holds, placeOf}
 use Rattle.list_laws.proofs.Tests.{both, clash, and-i, parts}
 use Rattle.list_laws.proofs.Members.{In, in-keep, of-keep, Sorted, sorted-keep}
+use Rattle.strip_laws.specs.Rules.{IsRun, columns, IsStrip, stripBefore}
 use Rattle.strip_laws.proofs.Stop.{Stop, stop-of, starts-zero, starts-after, starts-not}
 use Rattle.strip_laws.proofs.Runs.{isRun-yes, run-starts, run-lt, run-Stop}
 use Rattle.strip_laws.proofs.Runs.{of-runs, in-runs, fromBefore, sorted-runs}
-use Rattle.strip_laws.proofs.Strips.{columns, Begun, of-strips, in-strips, rows-of, ends-later, top-starts}
+use Rattle.strip_laws.proofs.Strips.{Begun, of-strips, in-strips, rows-of, ends-later, top-starts}
 use Rattle.strip_laws.proofs.Strips.{Held, of-holds, to-holds, stripOf, strip-only, strip-begun, strip-held}
-use Rattle.strip_laws.proofs.Strips.{stripBefore, none-stands, stands-alone, sorted-strips, place-in}
+use Rattle.strip_laws.proofs.Strips.{none-stands, stands-alone, sorted-strips, place-in}
 
 -- nothing that passes stands just before place a
 first-place : (g : ℕ → Bool) (a : ℕ) → starts g a ≡ true → (a ≡ 0) ⊎ (g (pred a) ≡ false)
@@ -29,14 +30,6 @@ is-first : (g : ℕ → Bool) (a : ℕ) → (a ≡ 0) ⊎ (g (pred a) ≡ false)
 is-first g zero h = starts-zero g
 is-first g (suc a) (inl e) = absurd (omega arith)
 is-first g (suc a) (inr e) = starts-after g a e
-
--- a run: a longest unbroken row of free points, where g tests the points of one row
-pub record IsRun (g : ℕ → Bool) (W : ℕ) (r : Run) : Type 0 where
-  pub not-empty : r .from < r .to
-  pub on-board : r .to ≤ W
-  pub all-free : (x : ℕ) → r .from ≤ x → x < r .to → g x ≡ true
-  pub left : (r .from ≡ 0) ⊎ (g (pred (r .from)) ≡ false)
-  pub right : (r .to ≡ W) ⊎ (g (r .to) ≡ false)
 
 module _ (g : ℕ → Bool) (W : ℕ) (r : Run) where
   -- the test isRun passes for runs
@@ -59,6 +52,15 @@ module _ (g : ℕ → Bool) (W : ℕ) (r : Run) where
       (stop-of g W (r .from) (r .to)
       (record { ge = omega arith; le = h .on-board; passes = h .all-free; ends = h .right }))
 
+  -- where the test fails, it is no run
+  no-run : {A : Type 0} → A ⊎ (isRun g W r ≡ false) → A ⊎ (IsRun g W r → ⊥)
+  no-run (inl a) = inl a
+  no-run (inr e) = inr (λ h. clash (run-is h) e)
+
+  run-no : {A : Type 0} → A ⊎ (IsRun g W r → ⊥) → A ⊎ (isRun g W r ≡ false)
+  run-no (inl a) = inl a
+  run-no (inr n) = inr (both (isRun g W r) (λ e. absurd (n (run-means e))) (λ e. e))
+
   -- the listed runs of a row are its runs
   pub listed-run : In r (runs g W) → isRun g W r ≡ true
   listed-run = of-runs g W r
@@ -72,44 +74,45 @@ pub runs-in-order : (g : ℕ → Bool) (W : ℕ) → Sorted fromBefore (runs g W
 runs-in-order g W = sorted-runs g W
 
 module _ (f : ℕ → ℕ → Bool) (W H : ℕ) where
-  -- a strip: equal runs on neighbouring rows, joined as far as they go
-  pub record IsStrip (s : Strip) : Type 0 where
-    pub not-empty : s .y0 < s .y1
-    pub on-board : s .y1 ≤ H
-    pub are-runs : (y : ℕ) → s .y0 ≤ y → y < s .y1 → isRun (rowOf f y) W (columns s) ≡ true
-    pub above : (s .y0 ≡ 0) ⊎ (isRun (rowOf f (pred (s .y0))) W (columns s) ≡ false)
-    pub below : (s .y1 ≡ H) ⊎ (isRun (rowOf f (s .y1)) W (columns s) ≡ false)
-
   -- the listed strips are strips
-  pub listed-strip : (s : Strip) → In s (strips f W H) → IsStrip s
+  pub listed-strip : (s : Strip) → In s (strips f W H) → IsStrip f W H s
   listed-strip s i =
       let b : Begun f W H s = of-strips f W H s i in
       let rows : Stop (λ v. isRun (rowOf f v) W (columns s)) H (s .y0) (s .y1) = rows-of f W H s b in
       record {
         not-empty = ends-later f W H s b;
         on-board = rows .le;
-        are-runs = rows .passes;
+        are-runs = λ y l m. run-means (rowOf f y) W (columns s) (rows .passes y l m);
         above =
-            first-place (λ v. isRun (rowOf f v) W (columns s)) (s .y0)
-            (sym (top-starts f W (s .y0) (columns s)) ∙ b .is-top);
-        below = rows .ends;
+            no-run (rowOf f (pred (s .y0))) W (columns s)
+            (first-place (λ v. isRun (rowOf f v) W (columns s)) (s .y0)
+            (sym (top-starts f W (s .y0) (columns s)) ∙ b .is-top));
+        below = no-run (rowOf f (s .y1)) W (columns s) (rows .ends);
       }
 
   -- and all of them
-  pub strip-listed : (s : Strip) → IsStrip s → In s (strips f W H)
+  pub strip-listed : (s : Strip) → IsStrip f W H s → In s (strips f W H)
   strip-listed s h =
       let l = h .not-empty in
       let m = h .on-board in
+      let has : (y : ℕ) → s .y0 ≤ y → y < s .y1 → isRun (rowOf f y) W (columns s) ≡ true =
+      λ y a b. run-is (rowOf f y) W (columns s) (h .are-runs y a b) in
       in-strips f W H s
       (record {
         on-board = omega arith;
-        is-run = h .are-runs (s .y0) (omega arith) l;
+        is-run = has (s .y0) (omega arith) l;
         is-top =
             top-starts f W (s .y0) (columns s)
-            ∙ is-first (λ v. isRun (rowOf f v) W (columns s)) (s .y0) (h .above);
+            ∙ is-first (λ v. isRun (rowOf f v) W (columns s)) (s .y0)
+            (run-no (rowOf f (pred (s .y0))) W (columns s) (h .above));
         is-end =
             sym (stop-of (λ v. isRun (rowOf f v) W (columns s)) H (s .y0) (s .y1)
-            (record { ge = omega arith; le = m; passes = h .are-runs; ends = h .below }));
+            (record {
+              ge = omega arith;
+              le = m;
+              passes = has;
+              ends = run-no (rowOf f (s .y1)) W (columns s) (h .below);
+            }));
       })
 
   -- the strips are listed by y0, then x0
@@ -136,10 +139,9 @@ module _ (f : ℕ → ℕ → Bool) (W H : ℕ) where
   pub only-free : (p : Point) (s : Strip) → In s (strips f W H) → holds p s ≡ true
       → (p .x < W) × (p .y < H) × (f (p .x) (p .y) ≡ true)
   only-free p s i h =
-      let a : IsStrip s = listed-strip s i in
+      let a : IsStrip f W H s = listed-strip s i in
       let k : Held p s = of-holds p s h in
-      let r : IsRun (rowOf f (p .y)) W (columns s) =
-      run-means (rowOf f (p .y)) W (columns s) (a .are-runs (p .y) (k .below) (k .above)) in (
+      let r : IsRun (rowOf f (p .y)) W (columns s) = a .are-runs (p .y) (k .below) (k .above) in (
         omega (arith, k .left, r .on-board),
         omega (arith, k .above, a .on-board),
         r .all-free (p .x) (k .right) (k .left),
@@ -190,11 +192,11 @@ module _ (f : ℕ → ℕ → Bool) (W H : ℕ) where
   -- a strip holds its first point
   holds-first : (s : Strip) → In s (strips f W H) → holds (point (s .x0) (s .y0)) s ≡ true
   holds-first s i =
-      let a : IsStrip s = listed-strip s i in
+      let a : IsStrip f W H s = listed-strip s i in
       to-holds (point (s .x0) (s .y0)) s
       (record {
         right = omega arith;
-        left = run-lt (rowOf f (s .y0)) W (columns s) (a .are-runs (s .y0) (omega arith) (a .not-empty));
+        left = a .are-runs (s .y0) (omega arith) (a .not-empty) .not-empty;
         below = omega arith;
         above = a .not-empty;
       })
@@ -213,14 +215,13 @@ module _
         not-empty = h;
         on-board = omega arith;
         are-runs = λ y a b.
-            run-is (rowOf f y) W (run 0 W)
-            (record {
+            record {
               not-empty = w;
               on-board = omega arith;
               all-free = λ x c d. free x y d b;
               left = inl refl;
               right = inl refl;
-            });
+            };
         above = inl refl;
         below = inl refl;
       })

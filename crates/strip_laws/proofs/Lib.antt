@@ -2,4 +2,5 @@
 pub mod Stop
 pub mod Runs
 pub mod Strips
+pub mod Listed
 pub mod Laws

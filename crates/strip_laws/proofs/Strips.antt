@@ -3,7 +3,7 @@ use Prim.Native.Nat.{ℕ, zero, suc, _+_, _-_, _≤_, _<_}
 use native.Mathlib.Nat.{add-zero, eq-or-lt-of-le}
 use native.Mathlib.Omega.{arith}
 use mathlib.Core.Path.{_≡_, refl, sym, ap, _∙_, subst}
-use mathlib.Core.Bool.{Bool, true, false, _&&_, _||_}
+use mathlib.Core.Bool.{Bool, true, false, _&&_}
 use mathlib.Core.List.{List, [], _∷_, _++_}
 use mathlib.Core.Logic.{⊎-elim, inl, inr}
 use lib.Dec.{leb, ltb, eqb}
@@ -11,11 +11,12 @@ use lib.ListN.{length, getD}
 use borrow.Author.Tests.{lt-ltb, le-leb, eq-eqb, ltb-true, leb-true}
 use Rattle.foil_spec.specs.Lists.{range, keep, each}
 use Rattle.foil_spec.specs.Foil.{Point}
-use Rattle.foil_spec.specs.Strips.{stop, Run, run, runs, starts, isRun, rowOf, isTop, Strip, until, stripAt}
+use Rattle.foil_spec.specs.Strips.{stop, Run, runs, starts, isRun, rowOf, isTop, Strip, until, stripAt}
 use Rattle.foil_spec.specs.Strips.{begun, rowStrips, stripsFrom, strips, holds, placeOf}
 use Rattle.list_laws.proofs.Tests.{clash, parts, lt-or-le, and-i, and-r, or-cases, or-il, or-ir, true-or-false}
 use Rattle.list_laws.proofs.Members.{In, in-range, of-range, in-map, of-map, in-keep, of-keep, in-each, of-each}
 use Rattle.list_laws.proofs.Members.{Sorted, sorted-range, sorted-keep, sorted-map, sorted-each}
+use Rattle.strip_laws.specs.Rules.{columns, stripBefore}
 use Rattle.strip_laws.proofs.Stop.{Stop, stop-is-stop, stop-gt, Start, startOf, start-is, start-of}
 use Rattle.strip_laws.proofs.Runs.{runOf, runOf-is, runOf-from, runOf-to, runOf-isRun}
 use Rattle.strip_laws.proofs.Runs.{of-runs, in-runs, fromBefore, sorted-runs}
@@ -79,10 +80,6 @@ module _ (f : ℕ → ℕ → Bool) (W H : ℕ) where
       ∙ rows-same m (suc y) (omega arith)
       (λ u a b. h u (omega arith) (omega arith) ∙ sym (h (suc y) (omega arith) (omega arith)))
       ∙ ap (stripsFrom f W H) (sym q)
-
--- the columns of a strip
-abbrev pub columns : Strip → Run
-columns s = run (s .x0) (s .x1)
 
 -- what is in the list
 module _ (f : ℕ → ℕ → Bool) (W H : ℕ) where
@@ -232,10 +229,6 @@ module _ (f : ℕ → ℕ → Bool) (W H : ℕ) (p : Point) where
           below = begins .le;
           above = goes-on;
         }
-
--- smaller y0 first, then smaller x0
-unfoldable pub stripBefore : Strip → Strip → Bool
-stripBefore s t = ltb (s .y0) (t .y0) || eqb (s .y0) (t .y0) && ltb (s .x0) (t .x0)
 
 not-before-itself : (s : Strip) → stripBefore s s ≡ true → ⊥
 unfolding stripBefore

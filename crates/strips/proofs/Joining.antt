@@ -10,16 +10,16 @@ use borrow.Author.Tests.{lt-ltb, le-ltb}
 use lib.ListN.{length, getD, set, take, drop, length-set, length-append, List·getD-append}
 use lib.Seq.{getD-set-same, getD-set-other, getD-append-seam, ext-getD}
 use Rattle.foil_spec.specs.Lists.{each}
-use Rattle.foil_spec.specs.Lent.{stripNumbers}
+use Rattle.foil_spec.specs.Lent.{stripNumbers, listedStrip}
 use Rattle.foil_spec.specs.Strips.{Run, run, starts, isRun, rowOf, isTop, Strip, until, stripAt, stripsFrom, strips}
 use Rattle.list_laws.proofs.Tests.{both, clash, lt-or-le, not-f}
 use Rattle.strip_laws.proofs.Stop.{Stop, stop-of, stop-is-stop, starts-zero, starts-after}
 use Rattle.strip_laws.proofs.Runs.{isRun-yes, run-lt, run-free, runOf-is}
-use Rattle.strip_laws.proofs.Strips.{columns, strips-end}
+use Rattle.strip_laws.specs.Rules.{columns}
+use Rattle.strip_laws.proofs.Strips.{strips-end}
 use Rattle.strips.specs.Rows.{Change}
 use Rattle.strips.specs.Built.{Listed}
 use Rattle.strips.specs.Join.{bound, noStrip, at, Placed, Open, Joined, RowJoined, Opened}
-use Rattle.strips.specs.Places.{listedStrip}
 use Rattle.strips.proofs.Listing.{withTop, listed-at, set-top, put-strip}
 
 module _ (v z x a : ℕ) where

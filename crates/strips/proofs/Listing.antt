@@ -10,10 +10,9 @@ use lib.ListN.{replicate-append-replicate, take-append-drop}
 use lib.Seq.{set-at, sets-eq, append-snoc, take-at, length-take-le, drop-cons, drop-drop, drop-append-add}
 use Rattle.foil_spec.specs.Lists.{each}
 use Rattle.foil_spec.specs.Strips.{Strip}
-use Rattle.foil_spec.specs.Lent.{stripNumbers, written}
+use Rattle.foil_spec.specs.Lent.{stripNumbers, written, listedStrip}
 use Rattle.strips.specs.Built.{Listed, Rebuilt}
 use Rattle.strips.specs.Join.{at}
-use Rattle.strips.specs.Places.{listedStrip}
 use Rattle.strips.specs.declared.Built.the-variants.{Strips}
 
 pub length-strips : (ss : List Strip) → length (each stripNumbers ss) ≡ length ss * 4

@@ -1,23 +1,20 @@
 -- The place of a point's strip: along the list, and for the strips of a board.
-use Prim.Native.Nat.{ℕ, zero, suc, _+_, _-_, _≤_, _<_}
+use Prim.Native.Nat.{ℕ, zero, suc, _+_, _≤_, _<_}
 use native.Mathlib.Omega.{arith}
-use mathlib.Core.Path.{_≡_, refl, sym, ap, ap₂, _∙_}
+use mathlib.Core.Path.{_≡_, refl, ap, _∙_}
 use mathlib.Core.Bool.{Bool, true, false}
-use mathlib.Core.List.{List, [], _∷_, _++_, map}
+use mathlib.Core.List.{List, map}
 use lib.Dec.{leb, ltb}
-use lib.ListN.{length, drop, replicate}
 use borrow.Author.Tests.{lt-leb, le-ltb}
-use Rattle.foil_spec.specs.Lists.{range, any, each}
+use Rattle.foil_spec.specs.Lists.{range, any}
 use Rattle.foil_spec.specs.Foil.{Point}
 use Rattle.foil_spec.specs.Strips.{Strip, strips, holds, placeOf}
-use Rattle.foil_spec.specs.Lent.{stripNumbers, written}
+use Rattle.foil_spec.specs.Lent.{listedStrip, listedStrips}
 use Rattle.list_laws.proofs.Tests.{both, clash, and-no-r}
 use Rattle.list_laws.proofs.Members.{in-any, none-of}
 use Rattle.strip_laws.proofs.Laws.{in-a-strip, only-free}
-use Rattle.strips.specs.Join.{at}
-use Rattle.strips.specs.Places.{listedStrip, listedStrips, placeIn}
+use Rattle.strips.specs.Places.{placeIn}
 use Rattle.strips.specs.declared.Place.the-variants.{At, Nowhere}
-use Rattle.strips.proofs.Listing.{listed-at}
 
 -- a point beside a strip
 module _ (p : Point) (s : Strip) where
@@ -86,33 +83,6 @@ module _ (p : Point) where
         let q : 0 + k ≡ k = omega arith in
         let r = first-holds (listedStrip l) count k 0 lt (λ i a b. h i (omega arith)) (rw q e) in
         place-yes (map (listedStrip l) (range 0 count)) (r .0) ∙ ap At (r .1)
-
--- the strips that were written are those that are read
-numbered : (g : ℕ → Strip) (a : ℕ) (ss : List Strip) → ((k : ℕ) → k < length ss → g (a + k) ≡ at ss k)
-    → map g (range a (length ss)) ≡ ss
-numbered g a [] h = refl
-numbered g a (s ∷ ss) h =
-    let q : a + 0 ≡ a = omega arith in
-    ap₂ (λ (t : Strip) (ts : List Strip). t ∷ ts) (ap g (sym q) ∙ h 0 (omega arith))
-    (numbered g (suc a) ss (λ k l. ap g (shift k) ∙ h (suc k) (omega arith)))
-  where
-    shift : (k : ℕ) → suc a + k ≡ a + suc k
-    shift k = omega arith
-
-listed-strips : (ss : List Strip) (r : List ℕ) → listedStrips (each stripNumbers ss ++ r) (length ss) ≡ ss
-unfolding listedStrips
-listed-strips ss r =
-    numbered (listedStrip (each stripNumbers ss ++ r)) 0 ss
-    (λ k l. ap (listedStrip (each stripNumbers ss ++ r)) (from-zero k) ∙ listed-at r ss k l)
-  where
-    from-zero : (k : ℕ) → 0 + k ≡ k
-    from-zero k = omega arith
-
-pub listed-written : (n : ℕ) (ss : List Strip) (old : List ℕ)
-    → listedStrips (written n (each stripNumbers ss) old) (length ss) ≡ ss
-unfolding written
-listed-written n ss old =
-    listed-strips ss (replicate (n - length (each stripNumbers ss)) 0 ++ drop n old)
 
 -- on a board a free point has a place, and no other point has
 module _ (f : ℕ → ℕ → Bool) (W H : ℕ) (p : Point) where

@@ -9,7 +9,7 @@ use Rattle.foil_spec.specs.Lists.{each}
 use Rattle.foil_spec.specs.Strips.{run, isRun, rowOf, Strip, stripsFrom, strips}
 use Rattle.foil_spec.specs.Lent.{stripNumbers}
 use Rattle.strip_laws.proofs.Stop.{Stop}
-use Rattle.strip_laws.proofs.Strips.{columns}
+use Rattle.strip_laws.specs.Rules.{columns}
 
 -- the row up to which a strip that begins at column a is known: z for the columns before x, v for the others
 unfoldable pub bound : ℕ → ℕ → ℕ → ℕ → ℕ

@@ -11,10 +11,10 @@ ghost use lib.ListN.{length, take, drop, replicate};
 ghost use Rattle.foil_spec.specs.Foil.{point};
 ghost use Rattle.foil_spec.specs.Strips.{holds};
 ghost use Rattle.foil_spec.specs.Ledger.{stripsOf};
-ghost use Rattle.foil_spec.specs.Lent.{layoutOf};
+ghost use Rattle.foil_spec.specs.Lent.{layoutOf, listedStrip, listedStrips};
 ghost use Rattle.strips.specs.Table.{Table};
 ghost use Rattle.strips.specs.Built.{Rebuilt};
-ghost use Rattle.strips.specs.Places.{listedStrip, listedStrips, placeIn};
+ghost use Rattle.strips.specs.Places.{placeIn};
 
 // How many strips there are, or that there are more than the list has places.
 pub enum Built {

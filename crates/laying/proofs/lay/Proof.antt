@@ -2,7 +2,7 @@ use mathlib.Core.List.{[]}
 use Rattle.foil_spec.specs.Foil.{point}
 use Rattle.foil.proofs.Refusing.{short-done, broken-done, ready}
 use Rattle.laying.proofs.Checking.{on-foil, entries-long, no-net, used, s-off, t-off, s-blocked, t-blocked}
-use Rattle.laying.proofs.Checking.{may-lay}
+use Rattle.laying.proofs.Checking.{ready-to-lay}
 use borrow.Author.Needs.{needs}
 use Rattle.laying.proofs.lay.Statement.{statement}
 use Rattle.laying.proofs.lay.Tie as tie
@@ -268,7 +268,7 @@ returns-8 c =
 -- src/lib.rt:66:5
 lay-between-requires : tie.Need-lay-between-requires
 lay-between-requires c κs =
-    may-lay _ _ _ _ _ _ _ (ready _ _ _ _ _ (c .before .before .before .before .before .before .before .before .before .before .before .before .before .before .before .before .before .before .before .before .before .before .before .before .before .lists-short .ensures) (c .before .before .before .before .before .before .before .before .before .before .before .before .before .before .before .before .before .before .before .before .before .before .before .before .if1 .left) _ (c .before .before .before .before .before .before .before .before .before .before .before .before .before .before .before .before .before .before .before .before .before .is-sound .ensures) (c .before .before .before .before .before .before .before .before .before .before .before .before .before .before .before .before .before .before .before .before .if2 .left)) _ (c .before .before .before .before .before .before .before .before .before .before .before .before .before .before .before .before .before .before .before .net-ok .ensures) (c .before .before .before .before .before .before .before .before .before .before .before .before .before .before .before .before .before .before .if3 .left) _ (c .before .before .before .before .before .before .before .before .before .before .before .before .before .before .before .before .in-use .ensures) (c .before .before .before .before .before .before .before .before .before .before .before .before .before .before .before .if4 .left) _ (c .before .before .before .before .before .before .before .before .is-blocked .ensures) (c .before .before .before .before .before .before .before .if7 .left) _ (c .before .before .before .before .is-blocked2 .ensures) (c .before .before .before .if8 .left)
+    ready-to-lay _ _ _ _ _ _ _ (ready _ _ _ _ _ (c .before .before .before .before .before .before .before .before .before .before .before .before .before .before .before .before .before .before .before .before .before .before .before .before .before .lists-short .ensures) (c .before .before .before .before .before .before .before .before .before .before .before .before .before .before .before .before .before .before .before .before .before .before .before .before .if1 .left) _ (c .before .before .before .before .before .before .before .before .before .before .before .before .before .before .before .before .before .before .before .before .before .is-sound .ensures) (c .before .before .before .before .before .before .before .before .before .before .before .before .before .before .before .before .before .before .before .before .if2 .left)) _ (c .before .before .before .before .before .before .before .before .before .before .before .before .before .before .before .before .before .before .before .net-ok .ensures) (c .before .before .before .before .before .before .before .before .before .before .before .before .before .before .before .before .before .before .if3 .left) _ (c .before .before .before .before .before .before .before .before .before .before .before .before .before .before .before .before .in-use .ensures) (c .before .before .before .before .before .before .before .before .before .before .before .before .before .before .before .if4 .left) _ (c .before .before .before .before .before .before .before .before .is-blocked .ensures) (c .before .before .before .before .before .before .before .if7 .left) _ (c .before .before .before .before .is-blocked2 .ensures) (c .before .before .before .if8 .left)
 
 -- src/lib.rt:27:1
 same-length-17 : tie.Need-same-length-17

@@ -2,7 +2,7 @@
 use mathlib.Core.Path.{sym}
 use native.Mathlib.Omega.{arith}
 use Rattle.strip_laws.proofs.Strips.{to-holds}
-use Rattle.strips.specs.Places.{listedStrip}
+use Rattle.foil_spec.specs.Lent.{listedStrip}
 use Rattle.strips.proofs.Placing.{left-of, right-of, above, below}
 use Rattle.strips.proofs.holds_at.Statement.{statement}
 use Rattle.strips.proofs.holds_at.Tie as tie

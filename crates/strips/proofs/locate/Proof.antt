@@ -6,7 +6,7 @@ use borrow.Author.Count.{below-more}
 use native.Mathlib.Omega.{arith}
 use Rattle.foil_spec.specs.Foil.{point}
 use Rattle.foil_spec.specs.Strips.{holds}
-use Rattle.strips.specs.Places.{listedStrip}
+use Rattle.foil_spec.specs.Lent.{listedStrip}
 use Rattle.strips.proofs.Placing.{place-at, place-none}
 use Rattle.strips.proofs.locate.Statement.{statement}
 use Rattle.strips.proofs.locate.Tie as tie

@@ -1,0 +1,85 @@
+-- No step is left out: the answers at the steps that a call runs are those of its reply.
+use Prim.Native.Nat.{ℕ}
+use native.Mathlib.Omega.{arith}
+use mathlib.Core.Path.{_≡_, refl, sym, ap, _∙_, subst}
+use mathlib.Core.Bool.{Bool, true, false, cond}
+use mathlib.Core.List.{List, [], _∷_, map, append-nil}
+use mathlib.Core.Option.{Option, none, some}
+use Rattle.foil_spec.specs.Foil.{Layout}
+use Rattle.foil_spec.specs.Ledger.{Step, Answer, After}
+use Rattle.foil_spec.specs.Lent.{Lent, stepOn}
+use Rattle.foil_spec.specs.Job.{steps}
+use Rattle.foil_spec.specs.Calls.{Call, step, runRecord, ran, endsJob, andThen, actAll, actRecord, callOn}
+use Rattle.foil_spec.specs.Sequence.{Lending, front, lend, answersIn}
+use Rattle.ledger_laws.specs.Moments.{Moment, momentOf, momentsOf, stepsRun, moments}
+
+-- the answers at some steps
+abbrev answers : List Moment → List Answer
+answers ks = map (λ (k : Moment). k .answer) ks
+
+module _ (c : Lending) (m : Lent) where
+  then-answers : (t : Bool) (a : Answer) (x : Lent) (ks : List Moment) (b : After (List Answer) Lent)
+      → answers ks ≡ b .answer
+      → a ∷ answers (cond t [] ks)
+      ≡ cond {A = After (List Answer) Lent} t
+      (record { answer = a ∷ []; state = x })
+      (record { answer = a ∷ b .answer; state = b .state }) .answer
+  then-answers true a x ks b e = refl
+  then-answers false a x ks b e = ap (λ (given : List Answer). a ∷ given) e
+
+  steps-answers : (ss : List Step) (n : Lent) (l : Layout) → answers (momentsOf c m ss n l) ≡ actAll stepOn ss n .answer
+  unfolding momentsOf momentOf actAll andThen
+  steps-answers [] n l = refl
+  steps-answers (s ∷ ss) n l =
+      then-answers (endsJob (stepOn s n .answer)) (stepOn s n .answer) (stepOn s n .state) _
+      (actAll stepOn ss (stepOn s n .state)) (steps-answers ss (stepOn s n .state) _)
+
+  module _ (n : Lent) (l : Layout) where
+    -- the answers at the steps of a call, where k is what it calls and n what it is lent
+    abbrev stepAnswers : Call → List Answer
+    stepAnswers k = answers (momentsOf c m (stepsRun k (callOn k n .answer)) n l)
+
+    of-step : (s : Step) → stepAnswers (step s) ≡ answersIn (callOn (step s) n .answer)
+    unfolding callOn stepsRun answersIn momentsOf momentOf
+    of-step s = go (endsJob (stepOn s n .answer))
+      where
+        go : (t : Bool) → stepOn s n .answer ∷ answers (cond t [] []) ≡ stepOn s n .answer ∷ []
+        go true = refl
+        go false = refl
+
+    of-record : (o : Option ℕ) (e : Bool) (bs : List ℕ) (at p : ℕ) (given : List Answer) (place : Option ℕ)
+        → actRecord stepOn o e (steps bs at) p n .answer ≡ ran given place
+        → answers (momentsOf c m (stepsRun (runRecord bs at) (actRecord stepOn o e (steps bs at) p n .answer)) n l)
+        ≡ given
+    unfolding actRecord stepsRun
+    of-record (some j) e bs at p given place h = absurd (let z : _≡_ {A = ℕ} 0 1 = cc in omega arith)
+    of-record none true bs at p given place h = absurd (let z : _≡_ {A = ℕ} 0 1 = cc in omega arith)
+    of-record none false bs at p given place h =
+        let q : actAll stepOn (steps bs at) n .answer ≡ given = cc in
+        steps-answers (steps bs at) n l ∙ q
+
+    of-call : (k : Call) (given : List Answer) (place : Option ℕ) → callOn k n .answer ≡ ran given place
+        → stepAnswers k ≡ given
+    unfolding callOn
+    of-call (step s) given place h = absurd (let z : _≡_ {A = ℕ} 0 1 = cc in omega arith)
+    of-call (runRecord bs at) given place h = of-record _ _ bs at _ given place h
+
+  one-call : (l : Layout) → answers (moments m l (c ∷ [])) ≡ stepAnswers (front c m) l (c .call)
+  unfolding moments lend
+  one-call l =
+      ap answers (append-nil (momentsOf c m (stepsRun (c .call) (callOn (c .call) (front c m) .answer)) (front c m) l))
+
+  -- a call that is one step runs that step
+  pub step-told : (l : Layout) (s : Step) → c .call ≡ step s
+      → answers (moments m l (c ∷ [])) ≡ answersIn (lend c m .answer)
+  unfolding lend
+  step-told l s e =
+      one-call l
+      ∙ subst (λ (k : Call). stepAnswers (front c m) l k ≡ answersIn (callOn k (front c m) .answer)) (sym e)
+      (of-step (front c m) l s)
+
+  -- a record that is not refused as a whole runs the steps that it answers
+  pub record-told : (l : Layout) (given : List Answer) (place : Option ℕ) → lend c m .answer ≡ ran given place
+      → answers (moments m l (c ∷ [])) ≡ given
+  unfolding lend
+  record-told l given place h = one-call l ∙ of-call (front c m) l (c .call) given place h

@@ -1,0 +1,66 @@
+-- The steps that a list of calls runs, by calls of their own or inside records, each with the ledger's layout.
+use mathlib.Core.Path.{_≡_}
+use mathlib.Core.Bool.{cond}
+use mathlib.Core.List.{List, [], _∷_, _++_}
+use Rattle.foil_spec.specs.Foil.{Layout}
+use Rattle.foil_spec.specs.Ledger.{Step, Answer, Room, ledgerStep}
+use Rattle.foil_spec.specs.Lent.{Lent, roomOf, stepOn}
+use Rattle.foil_spec.specs.Job.{steps}
+use Rattle.foil_spec.specs.Calls.{Call, step, runRecord, Reply, answered, ran, atEnd, endsJob}
+use Rattle.foil_spec.specs.Sequence.{Lending, Begins, front, back, lend, told}
+
+-- a step that is run: how many places it is lent, what it answers, the record and the whole lists before it and after
+-- it, and the ledger's layout before it and after it
+pub record Moment : Type 0 where
+  pub step : Step
+  pub room : Room
+  pub answer : Answer
+  pub before : Lent
+  pub after : Lent
+  pub ledgerBefore : Layout
+  pub ledgerAfter : Layout
+
+-- the call c, on the whole lists m
+module _ (c : Lending) (m : Lent) where
+  -- one of its steps, lent n, where the ledger holds l
+  unfoldable pub momentOf : Step → Lent → Layout → Moment
+  momentOf s n l =
+      record {
+        step = s;
+        room = roomOf (front c m);
+        answer = stepOn s n .answer;
+        before = back c m n;
+        after = back c m (stepOn s n .state);
+        ledgerBefore = l;
+        ledgerAfter = ledgerStep (roomOf (front c m)) s l .state;
+      }
+
+  -- its steps one after the other, the first lent n; one that ends the job is the last
+  unfoldable pub momentsOf : List Step → Lent → Layout → List Moment
+  momentsOf [] n l = []
+  momentsOf (s ∷ ss) n l =
+      momentOf s n l
+      ∷ cond (endsJob (stepOn s n .answer)) []
+      (momentsOf ss (stepOn s n .state) (ledgerStep (roomOf (front c m)) s l .state))
+
+-- the steps that a call runs, by its reply: none of a record that is refused as a whole or is the end mark
+unfoldable pub stepsRun : Call → Reply → List Step
+stepsRun (step s) r = s ∷ []
+stepsRun (runRecord bs at) (answered a) = []
+stepsRun (runRecord bs at) (ran given place) = steps bs at
+stepsRun (runRecord bs at) atEnd = []
+
+-- the steps that a list of calls runs, on the whole lists m, where the ledger holds l before them
+unfoldable pub moments : Lent → Layout → List Lending → List Moment
+moments m l [] = []
+moments m l (c ∷ cs) =
+    momentsOf c m (stepsRun (c .call) (lend c m .answer)) (front c m) l
+    ++ moments (lend c m .state) (told m c l .state) cs
+
+-- P holds of each step k that a list of calls runs from a call that begins a foil on, and of the steps run after it;
+-- m is what the lists hold at first and l what the ledger held before, both anything
+abbrev pub AtEvery : (Moment → List Moment → Type 0) → Type 0
+AtEvery P =
+    (m : Lent) (l : Layout) (c : Lending) (cs : List Lending) → Begins (c .call) (told m c l .answer)
+    → (earlier : List Moment) (k : Moment) (later : List Moment) → moments m l (c ∷ cs) ≡ earlier ++ (k ∷ later)
+    → P k later

@@ -1,0 +1,2 @@
+-- What the laws of paths say.
+pub mod First

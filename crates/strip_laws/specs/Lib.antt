@@ -1,0 +1,2 @@
+-- What the laws of runs and strips say.
+pub mod Rules

@@ -1,0 +1,31 @@
+-- Document 01's rules for runs and strips, in its words, for any test f of free points, width W and height H.
+use Prim.Native.Nat.{ℕ, pred, _≤_, _<_}
+use mathlib.Core.Path.{_≡_}
+use mathlib.Core.Bool.{Bool, true, false, _&&_, _||_}
+use mathlib.Core.Logic.{_⊎_}
+use lib.Dec.{ltb, eqb}
+use Rattle.foil_spec.specs.Strips.{Run, run, rowOf, Strip}
+
+-- a run: a longest unbroken row of free points, where g tests the points of one row
+pub record IsRun (g : ℕ → Bool) (W : ℕ) (r : Run) : Type 0 where
+  pub not-empty : r .from < r .to
+  pub on-board : r .to ≤ W
+  pub all-free : (x : ℕ) → r .from ≤ x → x < r .to → g x ≡ true
+  pub left : (r .from ≡ 0) ⊎ (g (pred (r .from)) ≡ false)
+  pub right : (r .to ≡ W) ⊎ (g (r .to) ≡ false)
+
+-- the columns of a strip
+abbrev pub columns : Strip → Run
+columns s = run (s .x0) (s .x1)
+
+-- a strip: equal runs on neighbouring rows, joined as far as they go
+pub record IsStrip (f : ℕ → ℕ → Bool) (W H : ℕ) (s : Strip) : Type 0 where
+  pub not-empty : s .y0 < s .y1
+  pub on-board : s .y1 ≤ H
+  pub are-runs : (y : ℕ) → s .y0 ≤ y → y < s .y1 → IsRun (rowOf f y) W (columns s)
+  pub above : (s .y0 ≡ 0) ⊎ (IsRun (rowOf f (pred (s .y0))) W (columns s) → ⊥)
+  pub below : (s .y1 ≡ H) ⊎ (IsRun (rowOf f (s .y1)) W (columns s) → ⊥)
+
+-- smaller y0 first, then smaller x0
+unfoldable pub stripBefore : Strip → Strip → Bool
+stripBefore s t = ltb (s .y0) (t .y0) || eqb (s .y0) (t .y0) && ltb (s .x0) (t .x0)
