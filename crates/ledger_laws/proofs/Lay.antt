@@ -104,10 +104,10 @@ no-way m net S T k = (only-where, where-none)
 -- ---- the track
 
 -- a lay that is answered with corners was not refused, and they are those of the first path
-record Laid (m : Lent) (net : ℕ) (S T : Point) (cs : List Point) (n : ℕ) : Type 0 where
-  unrefused : first (refusals (lay net S T) (roomOf m) (not (sound m)) (held m)) ≡ none
-  corners : cs ≡ cornersOf (held m) S T
-  bent : n ≡ bends (cornersOf (held m) S T)
+pub record Laid (m : Lent) (net : ℕ) (S T : Point) (cs : List Point) (n : ℕ) : Type 0 where
+  pub unrefused : first (refusals (lay net S T) (roomOf m) (not (sound m)) (held m)) ≡ none
+  pub corners : cs ≡ cornersOf (held m) S T
+  pub bent : n ≡ bends (cornersOf (held m) S T)
 
 finished-laid : (o : Option ℕ) (net : ℕ) (S T : Point) (m : Lent) (cs : List Point) (n : ℕ)
     → finish o (lay net S T) m .answer ≡ laid cs n
@@ -116,7 +116,7 @@ unfolding finish says
 finished-laid none net S T m cs n h = (refl, cc, cc)
 finished-laid (some k) net S T m cs n h = absurd (let z : _≡_ {A = ℕ} 0 1 = cc in omega arith)
 
-of-laid : (m : Lent) (net : ℕ) (S T : Point) (cs : List Point) (n : ℕ)
+pub of-laid : (m : Lent) (net : ℕ) (S T : Point) (cs : List Point) (n : ℕ)
     → stepOn (lay net S T) m .answer ≡ laid cs n → Laid m net S T cs n
 unfolding stepOn
 of-laid m net S T cs n h =
@@ -199,13 +199,13 @@ lifted r l net cs ok unused used fine long =
     (ap (λ (es : List Entry). record { answer = accepted; state = withEntries l es }) e)
 
 -- what a lay that is not refused has passed
-record Passed (r : Room) (broken : Bool) (l : Layout) (net : ℕ) : Type 0 where
-  long : short r ≡ false
-  fine : broken ≡ false
-  allowed : netOk net ≡ true
-  unused : inUse net (l .entries) ≡ false
+pub record Passed (r : Room) (broken : Bool) (l : Layout) (net : ℕ) : Type 0 where
+  pub long : short r ≡ false
+  pub fine : broken ≡ false
+  pub allowed : netOk net ≡ true
+  pub unused : inUse net (l .entries) ≡ false
 
-passed : (r : Room) (b : Bool) (l : Layout) (net : ℕ) (S T : Point) → first (refusals (lay net S T) r b l) ≡ none
+pub passed : (r : Room) (b : Bool) (l : Layout) (net : ℕ) (S T : Point) → first (refusals (lay net S T) r b l) ≡ none
     → Passed r b l net
 unfolding refusals
 passed r b l net S T h =

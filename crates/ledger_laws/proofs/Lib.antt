@@ -8,3 +8,4 @@ pub mod Steps
 pub mod Sound
 pub mod Lay
 pub mod Demand3
+pub mod Numbers
