@@ -23,7 +23,7 @@ use Rattle.foil_spec.specs.Sequence.{runLedger, Begins}
 use Rattle.foil_spec.proofs.Written.{length-written}
 use Rattle.list_laws.proofs.Tests.{clash, both}
 use Rattle.ledger_laws.specs.Demand3.{BehavesAsLedger}
-use Rattle.ledger_laws.proofs.Refusals.{no-rule, no-more, none-applies, short-refused}
+use Rattle.ledger_laws.proofs.Refusals.{no-more, none-applies, short-refused}
 use Rattle.ledger_laws.proofs.Stored.{Long, entries-fit, strips-fit, front-store, back-new, back-store}
 use Rattle.ledger_laws.proofs.Kept.{new-kept, then-kept, steps-kept, call-kept}
 use Rattle.ledger_laws.proofs.Steps.{shownStep, shownSteps, long-lists, cons-is, steps-are, ran-is}

@@ -1,21 +1,23 @@
 -- A test that the numbers of all steps and records pass is passed by all numbers that a list of calls answers.
 use Prim.Native.Nat.{ℕ}
 use mathlib.Core.Path.{_≡_, refl, ap, _∙_}
-use mathlib.Core.Bool.{Bool, true, false, not, cond, or-true}
+use mathlib.Core.Bool.{Bool, true, false, not, _||_, cond, or-true}
 use mathlib.Core.List.{List, [], _∷_, map}
 use mathlib.Core.Logic.{inl, inr}
 use mathlib.Core.Option.{Option, none, some}
 use lib.Dec.{eqb}
+use borrow.Author.Tests.{eqb-true}
 use Rattle.foil_spec.specs.Lists.{all}
 use Rattle.foil_spec.specs.Foil.{Layout}
 use Rattle.foil_spec.specs.Ledger.{Step, newFoil, draw, lay, lift, lookUp, Answer, numberOf, says, next}
 use Rattle.foil_spec.specs.Ledger.{Refusal, _⇒_, first, Room, short, refusals, After, settle, ledgerStep}
 use Rattle.foil_spec.specs.Lent.{Lent, roomOf}
 use Rattle.foil_spec.specs.Job.{isEnd, steps, recordEnd, recordChecks}
-use Rattle.foil_spec.specs.Calls.{Call, step, runRecord, endsJob, andThen, actAll, actRecord, tooLarge, ledgerCall}
+use Rattle.foil_spec.specs.Calls.{Call, step, runRecord, Reply, endsJob, andThen, actAll, actRecord, tooLarge}
+use Rattle.foil_spec.specs.Calls.{ledgerCall}
 use Rattle.foil_spec.specs.Sequence.{Lending, front, told, answersIn, shown, runLedger}
 use Rattle.list_laws.proofs.Tests.{and-i, not-t, all-append}
-use Rattle.list_laws.proofs.Members.{In, of-all, none-of}
+use Rattle.list_laws.proofs.Members.{In, of-all, of-any, none-of}
 use Rattle.ledger_laws.specs.Numbers.{numbersIn, numbersOf, among, NeverBroken}
 use Rattle.ledger_laws.proofs.Refusals.{first-passes}
 use Rattle.ledger_laws.proofs.Kept.{step-keeps}
@@ -99,39 +101,51 @@ module _ (p : ℕ → Bool) (Q : Layout → Type 0) (m : Lent) where
       all-append p (numbersIn (told m c l .answer)) _ (k .answers l g)
       (run-passes cs (told m c l .state) (k .keeps l g) (λ d i. h d (inr i)))
 
--- a number that the test leaves out is not among them
-pub not-among : (n : ℕ) (ns : List ℕ) → all (λ (k : ℕ). not (eqb n k)) ns ≡ true → among n ns ≡ false
+-- every number but n
+unfoldable pub but : ℕ → ℕ → Bool
+but n k = not (eqb n k)
+
+-- where all numbers of a list are others than n, it is not among them
+pub not-among : (n : ℕ) (ns : List ℕ) → all (but n) ns ≡ true → among n ns ≡ false
+unfolding among but
+not-among n ns h = none-of (eqb n) ns (λ k i. not-t (eqb n k) (of-all (but n) k ns h i))
+
+-- a test that all numbers of a list pass is passed by each that is among them
+pub among-passes : (p : ℕ → Bool) (ns : List ℕ) (n : ℕ) → all p ns ≡ true → among n ns ≡ true → p n ≡ true
 unfolding among
-not-among n ns h = none-of (eqb n) ns (λ k i. not-t (eqb n k) (of-all (λ (k : ℕ). not (eqb n k)) k ns h i))
+among-passes p ns n h k =
+    let r = of-any (eqb n) ns k in
+    ap p (eqb-true n (r .0) (r .2)) ∙ of-all p (r .0) ns h (r .1)
 
 -- ---- 13
 
--- every number but 13
-other : ℕ → Bool
-other n = not (eqb 13 n)
+all-but-13 : (r : Room) (s : Step) (l : Layout)
+    → all (λ (c : Refusal). not (c .applies) || but 13 (c .number)) (refusals s r false l) ≡ true
+unfolding refusals but
+all-but-13 r (newFoil W H d) l = simp or-true
+all-but-13 r (draw x0 y0 x1 y1) l = simp or-true
+all-but-13 r (lay net S T) l = simp or-true
+all-but-13 r (lift net) l = simp or-true
+all-but-13 r (lookUp p) l = simp or-true
 
-step-other : (r : Room) (s : Step) (l : Layout) (n : ℕ) → first (refusals s r false l) ≡ some n → other n ≡ true
-unfolding refusals other
-step-other r (newFoil W H d) l = first-passes other _ (simp or-true)
-step-other r (draw x0 y0 x1 y1) l = first-passes other _ (simp or-true)
-step-other r (lay net S T) l = first-passes other _ (simp or-true)
-step-other r (lift net) l = first-passes other _ (simp or-true)
-step-other r (lookUp p) l = first-passes other _ (simp or-true)
+step-but-13 : (r : Room) (s : Step) (l : Layout) (n : ℕ) → first (refusals s r false l) ≡ some n → but 13 n ≡ true
+step-but-13 r s l = first-passes (but 13) (refusals s r false l) (all-but-13 r s l)
 
-file-other : (r : Room) (bs : List ℕ) (at n : ℕ) → first (fileChecks r bs at) ≡ some n → other n ≡ true
-unfolding recordChecks other
-file-other r bs at = first-passes other _ (simp or-true)
+file-but-13 : (r : Room) (bs : List ℕ) (at n : ℕ) → first (fileChecks r bs at) ≡ some n → but 13 n ≡ true
+unfolding recordChecks but
+file-but-13 r bs at = first-passes (but 13) _ (simp or-true)
 
 pub never-broken : NeverBroken
-unfolding told other
+unfolding told but
 never-broken m l c cs h =
+    let any : Layout → Type 0 = λ k. Unit {0} in
     not-among 13 _
-    (ap (λ (os : List (After _ Lent)). all other (numbersOf os)) (behaves-as-ledger m l c cs h)
-    ∙ run-passes other (λ k. Unit {0}) m (c ∷ cs) l tt
+    (ap (λ (os : List (After Reply Lent)). all (but 13) (numbersOf os)) (behaves-as-ledger m l c cs h)
+    ∙ run-passes (but 13) any m (c ∷ cs) l tt
     (λ d i.
+    let r : Room = roomOf (front d m) in
     record {
-      answers = λ k g.
-          call-passes other refl (λ k. Unit {0}) (roomOf (front d m)) (λ s j u. step-other _ s j) (λ s j u e. tt)
-          (file-other _) (d .call) k tt;
+      answers =
+          call-passes (but 13) refl any r (λ s k g. step-but-13 r s k) (λ s k g e. tt) (file-but-13 r) (d .call);
       keeps = λ k g. tt;
     }))
