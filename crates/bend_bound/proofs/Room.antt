@@ -43,7 +43,7 @@ track-corners l S T cs h =
     by-cases (ℕ-discrete K 1) (λ e. omega (arith, rw (eq-eqb K 1 e) at b)) (λ e. omega (arith, rw (ne-eqb K 1 e) at b))
 
 -- the corners of a track on a foil that is not too fine
-corners-few : (l : Layout) (S T : Point) → tooFine l ≡ false → length (cornersOf l S T) ≤ 8192
+pub corners-few : (l : Layout) (S T : Point) → tooFine l ≡ false → length (cornersOf l S T) ≤ 8192
 unfolding cornersOf tooFine
 corners-few l S T h = go (pathOf l S T) refl
   where
@@ -149,10 +149,10 @@ enough-corners s m room = (only-short, where-short)
 -- ---- a list of calls
 
 -- what every call keeps
-abbrev Fine : Layout → Type 0
+abbrev pub Fine : Layout → Type 0
 Fine l = tooFine l ≡ false
 
-fine-kept : (r : Room) (s : Step) (l : Layout) → Fine l → first (refusals s r false l) ≡ none → Fine (next s l)
+pub fine-kept : (r : Room) (s : Step) (l : Layout) → Fine l → first (refusals s r false l) ≡ none → Fine (next s l)
 fine-kept r s l = next-fine s r false l
 
 fine-passes : (m : Lent) (c : Lending) → lentEnough m c ≡ true → Passes (but 12) Fine m c
