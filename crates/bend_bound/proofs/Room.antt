@@ -21,7 +21,7 @@ use Rattle.foil_spec.specs.Lent.{Lent, held, sound, roomOf, finish, stepOn}
 use Rattle.foil_spec.specs.Job.{recordChecks}
 use Rattle.foil_spec.specs.Calls.{Reply}
 use Rattle.foil_spec.specs.Sequence.{Lending, front, told, shown, runLent, runLedger}
-use Rattle.list_laws.proofs.Tests.{both, and-l, and-r, not-t, not-ff}
+use Rattle.list_laws.proofs.Tests.{both, not-ff, parts}
 use Rattle.list_laws.proofs.Members.{of-all}
 use Rattle.ledger_laws.specs.Numbers.{numbersOf, among}
 use Rattle.ledger_laws.proofs.Refusals.{first-passes, short-refused, Reads, broken-refused}
@@ -30,7 +30,7 @@ use Rattle.ledger_laws.proofs.Sound.{of-sound}
 use Rattle.ledger_laws.proofs.Demand3.{behaves-as-ledger, begins-anew}
 use Rattle.ledger_laws.proofs.Numbers.{fileChecks, call-passes, Passes, run-passes, but, not-among, among-passes}
 use Rattle.bend_bound.specs.Bound.{bendBound}
-use Rattle.bend_bound.specs.Room.{TrackCorners, EnoughCorners, lentEnough, NeverShort}
+use Rattle.bend_bound.specs.Room.{TrackCorners, cornerPlaces, EnoughCorners, lentEnough, NeverShort}
 use Rattle.bend_bound.proofs.Bound.{track-bends}
 
 -- ---- corners
@@ -61,7 +61,7 @@ ownNumbers (lay net S T) = 4 ∷ 5 ∷ 7 ∷ 8 ∷ 9 ∷ 10 ∷ 11 ∷ []
 ownNumbers (lift net) = 4 ∷ 6 ∷ 11 ∷ []
 ownNumbers (lookUp p) = 7 ∷ 8 ∷ []
 
-module _ (r : Room) (long : short r ≡ false) (room : 8192 ≤ r .corners) where
+module _ (r : Room) (long : short r ≡ false) (room : cornerPlaces ≤ r .corners) where
   -- 12 (corners) does not apply
   corners-fit : (l : Layout) (S T : Point) → tooFine l ≡ false → ltb (r .corners) (length (cornersOf l S T)) ≡ false
   corners-fit l S T fine = le-ltb (r .corners) (length (cornersOf l S T)) (omega (arith, corners-few l S T fine))
@@ -89,7 +89,7 @@ own-but-12 (lay net S T) = refl
 own-but-12 (lift net) = refl
 own-but-12 (lookUp p) = refl
 
-step-but-12 : (r : Room) → short r ≡ false → 8192 ≤ r .corners → (s : Step) (l : Layout) → tooFine l ≡ false
+step-but-12 : (r : Room) → short r ≡ false → cornerPlaces ≤ r .corners → (s : Step) (l : Layout) → tooFine l ≡ false
     → (n : ℕ) → first (refusals s r false l) ≡ some n → but 12 n ≡ true
 step-but-12 r long room s l fine n e =
     among-passes (but 12) (ownNumbers s) n (own-but-12 s) (own-number r long room s l fine n e)
@@ -120,7 +120,7 @@ finished none (lookUp p) m n h = absurd (let z : _≡_ {A = ℕ} 0 1 = cc in ome
 broken-12 : (s : Step) (r : Room) (l : Layout) → Reads s → short r ≡ false → first (refusals s r true l) ≡ some 12 → ⊥
 broken-12 s r l reads long h = let e : _≡_ {A = ℕ} 13 12 = cc (broken-refused s r l reads long) in omega arith
 
-not-12 : (r : Room) → short r ≡ false → 8192 ≤ r .corners → (s : Step) (broken : Bool) (l : Layout)
+not-12 : (r : Room) → short r ≡ false → cornerPlaces ≤ r .corners → (s : Step) (broken : Bool) (l : Layout)
     → (broken ≡ false → tooFine l ≡ false) → first (refusals s r broken l) ≡ some 12 → ⊥
 unfolding refusals but
 not-12 r long room s false l fine h = true≢false (sym (step-but-12 r long room s l (fine refl) 12 h))
@@ -159,8 +159,9 @@ fine-passes : (m : Lent) (c : Lending) → lentEnough m c ≡ true → Passes (b
 unfolding lentEnough told but
 fine-passes m c e =
     let r : Room = roomOf (front c m) in
-    let long : short r ≡ false = not-t (short r) (and-l (not (short r)) (leb 8192 (r .corners)) e) in
-    let room : 8192 ≤ r .corners = leb-true 8192 (r .corners) (and-r (not (short r)) (leb 8192 (r .corners)) e) in
+    let long : short r ≡ false = search parts in
+    let places : leb cornerPlaces (r .corners) ≡ true = search parts in
+    let room : cornerPlaces ≤ r .corners = leb-true cornerPlaces (r .corners) places in
     record {
       answers =
           call-passes (but 12) refl Fine r (step-but-12 r long room) (fine-kept r) (file-but-12 r long) (c .call);

@@ -1,5 +1,5 @@
 -- With 8,192 corner places lent no track lacks room for its corners, as it is stated: K is at most 4,096.
-use Prim.Native.Nat.{_*_, _≤_, max}
+use Prim.Native.Nat.{ℕ, _*_, _≤_, max}
 use mathlib.Core.Path.{_≡_}
 use mathlib.Core.Bool.{Bool, true, false, not, _&&_}
 use mathlib.Core.Logic.{_↔_}
@@ -19,15 +19,20 @@ abbrev pub TrackCorners : Type 0
 TrackCorners =
     (l : Layout) (S T : Point) (cs : List Point) → pathOf l S T ≡ some cs → length cs ≤ max 3 (2 * length (stripsOf l))
 
--- a step that is lent 8,192 corner places, on lists that hold anything, answers 12 exactly when the table or the strip
+-- two for each of 4,096 strips
+abbrev pub cornerPlaces : ℕ
+cornerPlaces = 8192
+
+-- a step that is lent so many corner places, on lists that hold anything, answers 12 exactly when the table or the strip
 -- list is too short
 abbrev pub EnoughCorners : Type 0
 EnoughCorners =
-    (s : Step) (m : Lent) → 8192 ≤ roomOf m .corners → (stepOn s m .answer ≡ refused 12) ↔ (short (roomOf m) ≡ true)
+    (s : Step) (m : Lent) → cornerPlaces ≤ roomOf m .corners
+    → (stepOn s m .answer ≡ refused 12) ↔ (short (roomOf m) ≡ true)
 
--- the call is lent a table and strips that are long enough and 8,192 corner places; m is what the lists hold at first
+-- the call is lent a table and strips that are long enough and so many corner places; m is what was lent at first
 unfoldable pub lentEnough : Lent → Lending → Bool
-lentEnough m c = not (short (roomOf (front c m))) && leb 8192 (roomOf (front c m) .corners)
+lentEnough m c = not (short (roomOf (front c m))) && leb cornerPlaces (roomOf (front c m) .corners)
 
 -- from a call that begins a foil on, calls that are all lent enough never answer 12, by themselves or in a record
 abbrev pub NeverShort : Type 0

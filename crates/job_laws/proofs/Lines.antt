@@ -1,20 +1,19 @@
 -- The output record by record: each step's line has a number of its own, and the file's has one of 14 to 18.
 use Prim.Native.Nat.{ℕ, zero, suc, _≤_}
 use native.Mathlib.Omega.{arith}
-use mathlib.Core.Path.{_≡_, refl, sym, ap, _∙_, subst}
-use mathlib.Core.Bool.{Bool, true, false, not, cond, _||_, or-true}
-use mathlib.Core.List.{List, [], _∷_, _++_, map, append-assoc, append-nil}
+use mathlib.Core.Path.{_≡_, refl, sym, ap, _∙_}
+use mathlib.Core.Bool.{Bool, true, false, cond, or-true}
+use mathlib.Core.List.{List, [], _∷_, _++_, append-nil}
 use mathlib.Core.Option.{Option, none, some, Option·getD}
-use lib.Dec.{leb, eqb}
 use lib.ListN.{length}
 use borrow.Author.Tests.{le-leb, eq-eqb}
 use Rattle.foil_spec.specs.Lists.{all, any, each}
 use Rattle.foil_spec.specs.Foil.{Point, Layout, free}
 use Rattle.foil_spec.specs.Strips.{Strip}
 use Rattle.foil_spec.specs.Paths.{bends}
-use Rattle.foil_spec.specs.Ledger.{stripsOf, pathOf, noPath, cornersOf, tooFine, says, first, Room, short, refusals}
-use Rattle.foil_spec.specs.Ledger.{Step, newFoil, draw, lay, lift, lookUp, Answer, numberOf, refused, accepted, laid}
-use Rattle.foil_spec.specs.Ledger.{After, settle, ledgerStep}
+use Rattle.foil_spec.specs.Ledger.{stripsOf, pathOf, noPath, cornersOf, tooFine, says, first, short, refusals}
+use Rattle.foil_spec.specs.Ledger.{Step, newFoil, draw, lay, lift, lookUp, Answer, numberOf, After, settle}
+use Rattle.foil_spec.specs.Ledger.{ledgerStep}
 use Rattle.foil_spec.specs.Job.{steps, isEnd, recordEnd, recordChecks}
 use Rattle.foil_spec.specs.Calls.{runRecord, ran, endsJob, andThen, actAll, actRecord, ledgerCall}
 use Rattle.list_laws.proofs.Tests.{clash, and-i, all-append}
@@ -26,6 +25,7 @@ use Rattle.ledger_laws.proofs.Refusals.{none-applies, first-passes}
 use Rattle.ledger_laws.proofs.Legs.{free-inside}
 use Rattle.ledger_laws.proofs.Kept.{step-keeps, call-keeps}
 use Rattle.ledger_laws.proofs.Numbers.{fileChecks, among-passes}
+use Rattle.bend_bound.specs.Room.{cornerPlaces}
 use Rattle.bend_bound.proofs.Room.{ownNumbers, own-number, corners-few, bare-fine, Fine, fine-kept}
 use Rattle.lines.specs.Lines.{stripLine}
 use Rattle.lines.specs.Output.{trackLine, stepLine, stepLines, jobRoom, noFoil, replyLines, outputFrom, output}
@@ -55,7 +55,7 @@ job-long : short jobRoom ≡ false
 unfolding short jobRoom
 job-long = refl
 
-job-room : 8192 ≤ jobRoom .corners
+job-room : cornerPlaces ≤ jobRoom .corners
 unfolding jobRoom
 job-room = omega arith
 
@@ -86,7 +86,7 @@ laid-possible l net S T fine e =
     let way : noPath (pathOf l S T) ≡ false = search none-applies depth 12 in
     simp (
       le-leb 1 (length cs) (corner-there l S T way),
-      le-leb (length cs) 8192 (corners-few l S T fine),
+      le-leb (length cs) 8192 (omega (arith, corners-few l S T fine)),
       eq-eqb (bends cs) (bends cs) refl,
     )
 
