@@ -23,8 +23,8 @@ TrackCorners =
 abbrev pub cornerPlaces : ℕ
 cornerPlaces = 8192
 
--- a step that is lent so many corner places, on lists that hold anything, answers 12 exactly when the table or the strip
--- list is too short
+-- a step that is lent so many corner places, on lists that hold anything, answers 12 exactly when the table or the
+-- strip list is too short
 abbrev pub EnoughCorners : Type 0
 EnoughCorners =
     (s : Step) (m : Lent) → cornerPlaces ≤ roomOf m .corners

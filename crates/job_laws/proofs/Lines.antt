@@ -18,9 +18,9 @@ use Rattle.foil_spec.specs.Job.{steps, isEnd, recordEnd, recordChecks}
 use Rattle.foil_spec.specs.Calls.{runRecord, ran, endsJob, andThen, actAll, actRecord, ledgerCall}
 use Rattle.list_laws.proofs.Tests.{clash, and-i, all-append}
 use Rattle.list_laws.proofs.Members.{each-append}
-use Rattle.ledger_laws.specs.Numbers.{among}
 use Rattle.path_laws.proofs.FirstPath.{of-path}
 use Rattle.path_laws.proofs.Laws.{gives-first}
+use Rattle.ledger_laws.specs.Numbers.{among}
 use Rattle.ledger_laws.proofs.Refusals.{none-applies, first-passes}
 use Rattle.ledger_laws.proofs.Legs.{free-inside}
 use Rattle.ledger_laws.proofs.Kept.{step-keeps, call-keeps}
@@ -83,9 +83,9 @@ laid-possible : (l : Layout) (net : ℕ) (S T : Point) → tooFine l ≡ false
 unfolding possible refusals
 laid-possible l net S T fine e =
     let cs : List Point = cornersOf l S T in
-    let way : noPath (pathOf l S T) ≡ false = search none-applies depth 12 in
+    let joined : noPath (pathOf l S T) ≡ false = search none-applies depth 12 in
     simp (
-      le-leb 1 (length cs) (corner-there l S T way),
+      le-leb 1 (length cs) (corner-there l S T joined),
       le-leb (length cs) 8192 (omega (arith, corners-few l S T fine)),
       eq-eqb (bends cs) (bends cs) refl,
     )

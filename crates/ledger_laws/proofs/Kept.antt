@@ -182,13 +182,13 @@ module _ (Q : Layout → Type 0) where
       go true c e = g
       go false c e = subst Q (sym e) h
 
-  module _ (r : Room) (next-keeps : (s : Step) (l : Layout) → Q l → first (refusals s r false l) ≡ none → Q (next s l))
-      where
+  module _ (r : Room)
+      (keeps : (s : Step) (l : Layout) → Q l → first (refusals s r false l) ≡ none → Q (next s l)) where
     settle-keeps : (o : Option ℕ) (s : Step) (l : Layout) → first (refusals s r false l) ≡ o → Q l
         → Q (settle o s l .state)
     unfolding settle
     settle-keeps (some n) s l e g = g
-    settle-keeps none s l e g = next-keeps s l g e
+    settle-keeps none s l e g = keeps s l g e
 
     pub step-keeps : (s : Step) (l : Layout) → Q l → Q (ledgerStep r s l .state)
     unfolding ledgerStep
@@ -198,7 +198,8 @@ module _ (Q : Layout → Type 0) where
     unfolding actAll
     steps-keep [] l g = g
     steps-keep (s ∷ ss) l g =
-        then-keeps (ledgerStep r s l) _ (step-keeps s l g) (steps-keep ss (ledgerStep r s l .state) (step-keeps s l g))
+        let h = step-keeps s l g in
+        then-keeps (ledgerStep r s l) _ h (steps-keep ss (ledgerStep r s l .state) h)
 
     record-keeps : (o : Option ℕ) (e : Bool) (ss : List Step) (p : ℕ) (l : Layout) → Q l
         → Q (actRecord (ledgerStep r) o e ss p l .state)
