@@ -12,7 +12,7 @@ use Rattle.foil_spec.specs.Lists.{range, keep, each}
 use Rattle.foil_spec.specs.Foil.{Entry, entry}
 use Rattle.foil_spec.specs.Ledger.{ofNet}
 use Rattle.foil_spec.specs.Lent.{entryNumbers, written, entryAt}
-use Rattle.list_laws.proofs.Members.{keep-append, map-last}
+use Rattle.list_laws.proofs.Members.{each-append, keep-append, map-last}
 use Rattle.ledger_laws.proofs.Stored.{length-entries}
 use Rattle.booking.specs.Rows.{rowsOf, Appended, otherNets, Kept}
 
@@ -21,12 +21,6 @@ set-later [] ys i v = ap (λ (k : ℕ). set ys k v) (zero-add i)
 set-later (x ∷ xs) ys i v =
     ap (λ (k : ℕ). set (x ∷ (xs ++ ys)) k v) (suc-add (length xs) i)
     ∙ ap (λ (l : List ℕ). x ∷ l) (set-later xs ys i v)
-
-pub each-append : (es ds : List Entry) → each entryNumbers (es ++ ds) ≡ each entryNumbers es ++ each entryNumbers ds
-each-append [] ds = refl
-each-append (e ∷ es) ds =
-    ap (λ (l : List ℕ). entryNumbers e ++ l) (each-append es ds)
-    ∙ sym (append-assoc (entryNumbers e) (each entryNumbers es) (each entryNumbers ds))
 
 pub length-rows : (es : List Entry) → length es ≤ 128 → 640 ≡ length (rowsOf es)
 unfolding rowsOf written
@@ -56,7 +50,7 @@ module _ (net x0 y0 x1 y1 : ℕ) where
   grown es k l q =
       let ns : List ℕ = each entryNumbers es in
       let ms : List ℕ = each entryNumbers (es ++ entry net x0 y0 x1 y1 ∷ []) in
-      let e : ms ≡ ns ++ (net ∷ x0 ∷ y0 ∷ x1 ∷ y1 ∷ []) = each-append es (entry net x0 y0 x1 y1 ∷ []) in
+      let e : ms ≡ ns ++ (net ∷ x0 ∷ y0 ∷ x1 ∷ y1 ∷ []) = each-append entryNumbers es (entry net x0 y0 x1 y1 ∷ []) in
       let a : length ns ≡ k = omega (arith, length-entries es) in
       let b : length ms ≡ length ns + 5 = ap length e ∙ length-append ns (net ∷ x0 ∷ y0 ∷ x1 ∷ y1 ∷ []) in
       let r : ℕ = 640 - length ms in

@@ -13,8 +13,8 @@ use Rattle.foil_spec.specs.Ledger.{Step, lookUp}
 use Rattle.foil_spec.specs.Lent.{lent, entryNumbers, entryAt}
 use Rattle.foil_spec.specs.declared.Board.{Board}
 use Rattle.list_laws.proofs.Tests.{lt-or-le}
+use Rattle.list_laws.proofs.Members.{each-append}
 use Rattle.ledger_laws.proofs.Stored.{length-entries, read-back}
-use Rattle.booking.proofs.Filling.{each-append}
 use Rattle.foil.specs.Contract.{StepDone, Looked, answerOf}
 use Rattle.foil.specs.declared.Answer.{Answer}
 use Rattle.foil.specs.declared.Done.{Done}
@@ -42,7 +42,7 @@ numbers-same es es′ e =
 
 -- a table's numbers are those of its first 128 places, then the others
 fronts : (es : List Entry) → numbers (take 128 es) ++ numbers (drop 128 es) ≡ numbers es
-fronts es = sym (each-append (take 128 es) (drop 128 es)) ∙ ap numbers (take-append-drop 128 es)
+fronts es = sym (each-append entryNumbers (take 128 es) (drop 128 es)) ∙ ap numbers (take-append-drop 128 es)
 
 -- the numbers of a call, written to the front of those that it was lent
 abbrev pub written-over : Flat → List ℕ → ℕ → Flat
@@ -85,7 +85,7 @@ module _ (P : List ℕ → List ℕ → Type 0) where
         → P (numbers es) (numbers es′)
     on-table es es′ f l e d =
         subst₂ P (fronts es)
-        (sym (each-append (entriesOf f) (drop 128 es))
+        (sym (each-append entryNumbers (entriesOf f) (drop 128 es))
         ∙ ap numbers (sym (e ∙ stored f es (l ∙ load-places es (length es)))))
         (on-whole es (entriesOf f) (subst (λ (x : List Entry). P (numbers x) (numbers (entriesOf f))) (loaded es) d))
 

@@ -1,7 +1,7 @@
 -- An accepted step, and so every call, leaves a layout that keeps the rules.
 use Prim.Native.Nat.{ℕ, suc, _≤_, _<_}
 use native.Mathlib.Omega.{arith}
-use mathlib.Core.Path.{_≡_, refl, ap, _∙_}
+use mathlib.Core.Path.{_≡_, refl, sym, subst}
 use mathlib.Core.Bool.{Bool, true, false, not, cond, _&&_}
 use mathlib.Core.List.{List, [], _∷_}
 use mathlib.Core.Option.{Option, none, some, Option·getD}
@@ -156,43 +156,83 @@ next-kept (lift net) r b l g h =
     })
 next-kept (lookUp p) r b l g h = g
 
+-- an accepted step leaves no more strips than are held, whatever else the layout breaks
+pub next-fine : (s : Step) (r : Room) (b : Bool) (l : Layout) → tooFine l ≡ false → first (refusals s r b l) ≡ none
+    → tooFine (next s l) ≡ false
+unfolding refusals next
+next-fine (newFoil W H d) r b l g h =
+    let s : (sizeOk W && sizeOk H) ≡ true = not-ff _ (search none-applies) in
+    new-fine W H d (and-l (sizeOk W) (sizeOk H) s) (and-r (sizeOk W) (sizeOk H) s)
+next-fine (draw x0 y0 x1 y1) r b l g h = search none-applies depth 9
+next-fine (lay net S T) r b l g h = search none-applies depth 12
+next-fine (lift net) r b l g h = search none-applies depth 9
+next-fine (lookUp p) r b l g h = g
+
 -- ---- every call
 
-settle-kept : (o : Option ℕ) (s : Step) (r : Room) (l : Layout) → first (refusals s r false l) ≡ o → layoutOk l ≡ true
-    → layoutOk (settle o s l .state) ≡ true
-unfolding settle
-settle-kept (some n) s r l e g = g
-settle-kept none s r l e g = next-kept s r false l g e
+-- what accepted steps keep, every call keeps
+module _ (Q : Layout → Type 0) where
+  then-keeps : (a : After Answer Layout) (b : After (List Answer) Layout) → Q (a .state) → Q (b .state)
+      → Q (andThen a b .state)
+  unfolding andThen
+  then-keeps a b g h = go (endsJob (a .answer)) _ refl
+    where
+      go : (t : Bool) (c : After (List Answer) Layout) → c .state ≡ b .state
+          → Q (cond t (record { answer = a .answer ∷ []; state = a .state }) c .state)
+      go true c e = g
+      go false c e = subst Q (sym e) h
 
-pub step-kept : (r : Room) (s : Step) (l : Layout) → layoutOk l ≡ true → layoutOk (ledgerStep r s l .state) ≡ true
-unfolding ledgerStep
-step-kept r s l g = settle-kept (first (refusals s r false l)) s r l refl g
+  module _ (r : Room)
+      (keeps : (s : Step) (l : Layout) → Q l → first (refusals s r false l) ≡ none → Q (next s l)) where
+    settle-keeps : (o : Option ℕ) (s : Step) (l : Layout) → first (refusals s r false l) ≡ o → Q l
+        → Q (settle o s l .state)
+    unfolding settle
+    settle-keeps (some n) s l e g = g
+    settle-keeps none s l e g = keeps s l g e
+
+    pub step-keeps : (s : Step) (l : Layout) → Q l → Q (ledgerStep r s l .state)
+    unfolding ledgerStep
+    step-keeps s l g = settle-keeps (first (refusals s r false l)) s l refl g
+
+    pub steps-keep : (ss : List Step) (l : Layout) → Q l → Q (actAll (ledgerStep r) ss l .state)
+    unfolding actAll
+    steps-keep [] l g = g
+    steps-keep (s ∷ ss) l g =
+        let h = step-keeps s l g in
+        then-keeps (ledgerStep r s l) _ h (steps-keep ss (ledgerStep r s l .state) h)
+
+    record-keeps : (o : Option ℕ) (e : Bool) (ss : List Step) (p : ℕ) (l : Layout) → Q l
+        → Q (actRecord (ledgerStep r) o e ss p l .state)
+    unfolding actRecord
+    record-keeps (some n) e ss p l g = g
+    record-keeps none true ss p l g = g
+    record-keeps none false ss p l g = steps-keep ss l g
+
+    pub call-keeps : (c : Call) (l : Layout) → Q l → Q (ledgerCall r c l .state)
+    unfolding ledgerCall
+    call-keeps (step s) l g = step-keeps s l g
+    call-keeps (runRecord bs at) l g = record-keeps _ _ _ _ l g
+
+-- ---- the rules
+
+abbrev Kept : Layout → Type 0
+Kept l = layoutOk l ≡ true
 
 pub then-kept : (a : After Answer Layout) (b : After (List Answer) Layout) → layoutOk (a .state) ≡ true
     → layoutOk (b .state) ≡ true → layoutOk (andThen a b .state) ≡ true
-unfolding andThen
-then-kept a b g h = go (endsJob (a .answer)) _ refl
-  where
-    go : (t : Bool) (c : After (List Answer) Layout) → c .state ≡ b .state
-        → layoutOk (cond t (record { answer = a .answer ∷ []; state = a .state }) c .state) ≡ true
-    go true c e = g
-    go false c e = ap layoutOk e ∙ h
+then-kept = then-keeps Kept
 
-pub steps-kept : (r : Room) (ss : List Step) (l : Layout) → layoutOk l ≡ true
-    → layoutOk (actAll (ledgerStep r) ss l .state) ≡ true
-unfolding actAll
-steps-kept r [] l g = g
-steps-kept r (s ∷ ss) l g =
-    then-kept (ledgerStep r s l) _ (step-kept r s l g) (steps-kept r ss (ledgerStep r s l .state) (step-kept r s l g))
+module _ (r : Room) where
+  next-keeps : (s : Step) (l : Layout) → layoutOk l ≡ true → first (refusals s r false l) ≡ none
+      → layoutOk (next s l) ≡ true
+  next-keeps s l g e = next-kept s r false l g e
 
-record-kept : (r : Room) (o : Option ℕ) (e : Bool) (ss : List Step) (p : ℕ) (l : Layout) → layoutOk l ≡ true
-    → layoutOk (actRecord (ledgerStep r) o e ss p l .state) ≡ true
-unfolding actRecord
-record-kept r (some n) e ss p l g = g
-record-kept r none true ss p l g = g
-record-kept r none false ss p l g = steps-kept r ss l g
+  pub step-kept : (s : Step) (l : Layout) → layoutOk l ≡ true → layoutOk (ledgerStep r s l .state) ≡ true
+  step-kept = step-keeps Kept r next-keeps
 
-pub call-kept : (r : Room) (c : Call) (l : Layout) → layoutOk l ≡ true → layoutOk (ledgerCall r c l .state) ≡ true
-unfolding ledgerCall
-call-kept r (step s) l g = step-kept r s l g
-call-kept r (runRecord bs at) l g = record-kept r _ _ _ _ l g
+  pub steps-kept : (ss : List Step) (l : Layout) → layoutOk l ≡ true
+      → layoutOk (actAll (ledgerStep r) ss l .state) ≡ true
+  steps-kept = steps-keep Kept r next-keeps
+
+  pub call-kept : (c : Call) (l : Layout) → layoutOk l ≡ true → layoutOk (ledgerCall r c l .state) ≡ true
+  call-kept = call-keeps Kept r next-keeps

@@ -154,16 +154,26 @@ path-is l S T none e h = clash refl h
 path-is l S T (some cs) e h = rw e refl
 
 -- the corners that the ledger answers are those of the first path of fewest bends, and so are the bends
-pub ledger-first : (r : Room) (l : Layout) (net : ℕ) (S T : Point) (cs : List Point) (n : ℕ)
-    → ledgerStep r (lay net S T) l .answer ≡ laid cs n → IsFirst (free l) S T cs × (n ≡ bends cs)
+-- a track that was laid is the first path, with the bends that are answered
+pub first-laid : (r : Room) (b : Bool) (l : Layout) (net : ℕ) (S T : Point) (cs : List Point) (n : ℕ)
+    → Laid r b l net S T cs n → IsFirst (free l) S T cs × (n ≡ bends cs)
 unfolding pathOf cornersOf
-ledger-first r l net S T cs n h =
-    let a = of-laid r l net S T cs n h in
-    let e = path-is l S T (pathOf l S T) refl (has-path r false l net S T (a .unrefused)) in (
+first-laid r b l net S T cs n a =
+    let e = path-is l S T (pathOf l S T) refl (has-path r b l net S T (a .unrefused)) in (
       subst (λ (ds : List Point). IsFirst (free l) S T ds) (sym (a .corners))
           (gives-first (free l) (l .width) (l .height) (free-inside l) S T (cornersOf l S T) e),
       a .bent ∙ ap bends (sym (a .corners)),
     )
+
+pub ledger-first : (r : Room) (l : Layout) (net : ℕ) (S T : Point) (cs : List Point) (n : ℕ)
+    → ledgerStep r (lay net S T) l .answer ≡ laid cs n → IsFirst (free l) S T cs × (n ≡ bends cs)
+ledger-first r l net S T cs n h = first-laid r false l net S T cs n (of-laid r l net S T cs n h)
+
+-- and the state was not broken
+pub laid-unbroken : (r : Room) (b : Bool) (l : Layout) (net : ℕ) (S T : Point) (cs : List Point) (n : ℕ)
+    → Laid r b l net S T cs n → b ≡ false
+unfolding refusals
+laid-unbroken r b l net S T cs n a = let e = a .unrefused in search none-applies
 
 -- ---- lifting it
 

@@ -293,19 +293,40 @@ ran-state : (r : Room) (ss : List Step) (p : ℕ) (l : Layout)
 unfolding actRecord
 ran-state r ss p l = refl
 
+-- what a record that begins a foil has passed
+record Opened (r : Room) (bs : List ℕ) (l : Layout) : Type 0 where
+  unrefused : first ((tooLarge bs ⇒ 18) ∷ (short r ⇒ 12) ∷ recordChecks bs 0) ≡ none
+  not-end : isEnd bs 0 ≡ false
+  board : Opens (steps bs 0)
+  taken : first (refusals (newFoil (board .W) (board .H) (board .d)) r false l) ≡ none
+
+opened : (r : Room) (bs : List ℕ) (xs : List Answer) (n : Option ℕ) (l : Layout)
+    → ledgerCall r (runRecord bs 0) l .answer ≡ ran (accepted ∷ xs) n → Opened r bs l
+unfolding ledgerCall
+opened r bs xs n l e =
+    let o : Option ℕ = first ((tooLarge bs ⇒ 18) ∷ (short r ⇒ 12) ∷ recordChecks bs 0) in
+    let a = of-ran o (isEnd bs 0) r (steps bs 0) (recordEnd bs 0) l accepted xs n e in
+    let rest = no-more (tooLarge bs) 18 ((short r ⇒ 12) ∷ recordChecks bs 0) (a .unrefused) in
+    let b = opens bs (no-more (short r) 12 (recordChecks bs 0) rest) in
+    let h = first-answer r (newFoil (b .W) (b .H) (b .d)) (b .later) l accepted (a .answers)
+    (subst (λ (ss : List Step). actAll (ledgerStep r) ss l .answer ≡ accepted ∷ a .answers) (b .is) (a .are)) in
+    record {
+      unrefused = a .unrefused;
+      not-end = a .not-end;
+      board = b;
+      taken = unrefused (b .W) (b .H) (b .d) r l h;
+    }
+
 pub begun-record : (bs : List ℕ) (xs : List Answer) (n : Option ℕ) (l : Layout) (m : Lent)
     → ledgerCall (roomOf m) (runRecord bs 0) l .answer ≡ ran (accepted ∷ xs) n → Begun (runRecord bs 0) l m
 unfolding ledgerCall callOn stepsRun
 begun-record bs xs n l m e =
     let r : Room = roomOf m in
     let o : Option ℕ = first ((tooLarge bs ⇒ 18) ∷ (short r ⇒ 12) ∷ recordChecks bs 0) in
-    let a = of-ran o (isEnd bs 0) r (steps bs 0) (recordEnd bs 0) l accepted xs n e in
-    let rest = no-more (tooLarge bs) 18 ((short r ⇒ 12) ∷ recordChecks bs 0) (a .unrefused) in
-    let b = opens bs (no-more (short r) 12 (recordChecks bs 0) rest) in
+    let a = opened r bs xs n l e in
+    let b = a .board in
     let new : Step = newFoil (b .W) (b .H) (b .d) in
-    let h = first-answer r new (b .later) l accepted (a .answers)
-    (subst (λ (ss : List Step). actAll (ledgerStep r) ss l .answer ≡ accepted ∷ a .answers) (b .is) (a .are)) in
-    let u = unrefused (b .W) (b .H) (b .d) r l h in
+    let u = a .taken in
     let ends : actRecord (ledgerStep r) o (isEnd bs 0) (steps bs 0) (recordEnd bs 0) l .state
     ≡ actAll (ledgerStep r) (new ∷ b .later) l .state =
     ap₂ (λ (t : Option ℕ) (q : Bool). actRecord (ledgerStep r) t q (steps bs 0) (recordEnd bs 0) l .state)
@@ -313,7 +334,7 @@ begun-record bs xs n l m e =
     ∙ ran-state r (steps bs 0) (recordEnd bs 0) l
     ∙ ap (λ (ss : List Step). actAll (ledgerStep r) ss l .state) (b .is) in
     record {
-      long = no-rule (short r) 12 (recordChecks bs 0) rest;
+      long = not-short (b .W) (b .H) (b .d) r l u;
       kept = ap layoutOk ends ∙ begun-state (b .W) (b .H) (b .d) r (b .later) l u;
       is =
           rw (no-13 (tooLarge bs) (short r) (not (eqb 0 0) && not (sound m)) (recordChecks bs 0) refl)
@@ -350,3 +371,35 @@ lend-begun c l m b =
     lend-shown c m m t (unfold front in b .is)
     (unfold shown in back-new c m (omega (arith, n .table)) (omega (arith, n .strips)) (t .state)
     (cornersAll (answersIn (t .answer)) (c .corners)) (b .kept))
+
+-- ---- what the ledger held before a foil is begun makes no difference
+
+module _ (r : Room) (l l′ : Layout) where
+  new-anew : (W H d : ℕ) → first (refusals (newFoil W H d) r false l) ≡ none
+      → ledgerStep r (newFoil W H d) l ≡ ledgerStep r (newFoil W H d) l′
+  unfolding ledgerStep refusals settle says next
+  new-anew W H d e = rw e refl
+
+  call-anew : (W H d : ℕ) → ledgerCall r (step (newFoil W H d)) l .answer ≡ answered accepted
+      → ledgerCall r (step (newFoil W H d)) l ≡ ledgerCall r (step (newFoil W H d)) l′
+  unfolding ledgerCall
+  call-anew W H d e =
+      let a : ledgerStep r (newFoil W H d) l .answer ≡ accepted = cc in
+      rw (new-anew W H d (unrefused W H d r l a)) refl
+
+  record-anew : (bs : List ℕ) (xs : List Answer) (n : Option ℕ)
+      → ledgerCall r (runRecord bs 0) l .answer ≡ ran (accepted ∷ xs) n
+      → ledgerCall r (runRecord bs 0) l ≡ ledgerCall r (runRecord bs 0) l′
+  unfolding ledgerCall actAll actRecord
+  record-anew bs xs n e =
+      let a = opened r bs xs n l e in
+      let b = a .board in
+      rw (a .unrefused, a .not-end, b .is, new-anew (b .W) (b .H) (b .d) (a .taken)) refl
+
+  pub begins-anew : (c : Call) → Begins c (ledgerCall r c l .answer) → ledgerCall r c l ≡ ledgerCall r c l′
+  begins-anew c (inl (W, H, d, e, h)) =
+      subst (λ (x : Call). ledgerCall r x l .answer ≡ answered accepted → ledgerCall r x l ≡ ledgerCall r x l′) (sym e)
+      (call-anew W H d) h
+  begins-anew c (inr (bs, xs, n, e, h)) =
+      subst (λ (x : Call). ledgerCall r x l .answer ≡ ran (accepted ∷ xs) n → ledgerCall r x l ≡ ledgerCall r x l′)
+      (sym e) (record-anew bs xs n) h

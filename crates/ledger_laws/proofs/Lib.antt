@@ -13,3 +13,4 @@ pub mod Told
 pub mod Demand2
 pub mod Demand3
 pub mod Opening
+pub mod Numbers

@@ -4,7 +4,7 @@ use native.Mathlib.Omega.{arith}
 use native.Mathlib.Nat.{add-zero}
 use mathlib.Core.Path.{_≡_, refl, sym, ap, _∙_, subst}
 use mathlib.Core.Bool.{Bool, true, false}
-use mathlib.Core.List.{List, [], _∷_, _++_, map}
+use mathlib.Core.List.{List, [], _∷_, _++_, map, append-assoc}
 use mathlib.Core.Logic.{_⊎_, inl, inr, ⊎-elim, by-cases}
 use native.Mathlib.Decide.{ℕ-discrete}
 use lib.Dec.{ltb}
@@ -131,6 +131,11 @@ module _ {A B : Type 0} where
       (λ (k : In z (f y)). (y, inl refl, k))
       (λ (k : In z (each f ys)). let r = of-each f z ys k in (r .0, inr (r .1), r .2))
       (in-cases z (f y) (each f ys) h)
+
+  pub each-append : (f : A → List B) (xs ys : List A) → each f (xs ++ ys) ≡ each f xs ++ each f ys
+  each-append f [] ys = refl
+  each-append f (x ∷ xs) ys =
+      ap (λ (l : List B). f x ++ l) (each-append f xs ys) ∙ sym (append-assoc (f x) (each f xs) (each f ys))
 
   -- lists in order one after the other are in order, where what earlier elements give comes before the rest
   pub sorted-each : (q : A → A → Bool) (r : B → B → Bool) (f : A → List B) (xs : List A) → Sorted q xs

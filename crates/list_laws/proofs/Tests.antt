@@ -2,11 +2,11 @@
 use Prim.Native.Nat.{ℕ, _≤_, _<_}
 use native.Mathlib.Omega.{arith}
 use native.Mathlib.Decide.{decLt}
-use mathlib.Core.Path.{_≡_, refl, sym, _∙_}
-use mathlib.Core.Bool.{Bool, true, false, not, _&&_, _||_, true≢false}
+use mathlib.Core.Path.{_≡_, refl, sym, ap, _∙_}
+use mathlib.Core.Bool.{Bool, true, false, not, _&&_, _||_, true≢false, or-assoc}
 use mathlib.Core.Logic.{_⊎_, inl, inr}
 use mathlib.Core.List.{List, [], _∷_, _++_}
-use Rattle.foil_spec.specs.Lists.{all, keep, consIf}
+use Rattle.foil_spec.specs.Lists.{all, any, keep, consIf}
 
 pub clash : {A : Type 0} {b : Bool} → b ≡ true → b ≡ false → A
 clash p q = absurd (true≢false (sym p ∙ q))
@@ -79,6 +79,11 @@ module _ {A : Type 0} (p : A → Bool) where
   pub all-append : (xs ys : List A) → all p xs ≡ true → all p ys ≡ true → all p (xs ++ ys) ≡ true
   all-append [] ys h k = k
   all-append (x ∷ xs) ys h k = and-i {a = p x} (and-l (p x) _ h) (all-append xs ys (and-r (p x) _ h) k)
+
+  pub any-append : (xs ys : List A) → any p (xs ++ ys) ≡ (any p xs || any p ys)
+  any-append [] ys = refl
+  any-append (x ∷ xs) ys =
+      ap (λ (t : Bool). p x || t) (any-append xs ys) ∙ sym (or-assoc (p x) (any p xs) (any p ys))
 
   all-consIf : (b : Bool) (x : A) (xs : List A) → p x ≡ true → all p xs ≡ true → all p (consIf b x xs) ≡ true
   all-consIf true x xs h k = and-i {a = p x} h k

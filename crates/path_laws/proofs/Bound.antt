@@ -13,11 +13,11 @@ use Rattle.foil_spec.specs.Foil.{Point, point, same}
 use Rattle.foil_spec.specs.Paths.{Heading, either, level, upright, between, levelFree, uprightFree, segment}
 use Rattle.foil_spec.specs.Paths.{after, leads, points}
 use Rattle.list_laws.proofs.Tests.{and-l, and-r, and-i, or-cases, or-il, or-ir, not-t, not-ff, true-or-false}
-use Rattle.path_laws.proofs.Segments.{same-eq, same-self, end-free, start-free, in-points, between-join}
-use Rattle.path_laws.proofs.Segments.{Level, Upright, to-level, to-upright, of-segment, either-segment}
 use Rattle.list_laws.proofs.Members.{in-any, of-any, not-any}
-use Rattle.path_laws.proofs.Segments.{leads-either, after-level, after-upright}
-use Rattle.path_laws.proofs.Counting.{count, count-lt, count-length, length-points}
+use Rattle.list_laws.proofs.Counting.{count, count-lt, count-length}
+use Rattle.path_laws.proofs.Segments.{same-eq, same-self, end-free, start-free, in-points, length-points}
+use Rattle.path_laws.proofs.Segments.{Level, Upright, to-level, to-upright, of-segment, either-segment}
+use Rattle.path_laws.proofs.Segments.{between-join, leads-either, after-level, after-upright}
 
 -- from p to q by one free segment, or standing still
 unfoldable linked : (ℕ → ℕ → Bool) → Point → Point → Bool

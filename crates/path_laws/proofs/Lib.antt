@@ -1,7 +1,6 @@
 -- Laws of paths; Laws.antt has the main ones, to be read alone.
 pub mod Segments
 pub mod Goings
-pub mod Counting
 pub mod Bound
 pub mod FirstPath
 pub mod Laws

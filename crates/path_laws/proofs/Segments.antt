@@ -1,20 +1,21 @@
 -- Points and segments: what the tests of a segment say, and the points of the foil in their order.
-use Prim.Native.Nat.{ℕ, suc, _-_, _≤_, _<_, min, max}
+use Prim.Native.Nat.{ℕ, suc, _-_, _*_, _≤_, _<_, min, max}
 use native.Mathlib.Omega.{arith}
 use native.Mathlib.Decide.{decLe}
-use mathlib.Core.Path.{_≡_, refl, subst}
+use mathlib.Core.Path.{_≡_, refl, ap, _∙_, subst}
 use mathlib.Core.Bool.{Bool, true, false, _&&_}
 use mathlib.Core.List.{List, [], _∷_, map}
 use mathlib.Core.Logic.{_⊎_, inl, inr, ⊎-elim, by-cases}
 use lib.Dec.{ltb, eqb}
+use lib.ListN.{length, length-append, length-map}
 use borrow.Author.Tests.{eqb-true, eqb-false, eq-eqb, ne-eqb, lt-ltb, ltb-true}
-use Rattle.foil_spec.specs.Lists.{range}
+use Rattle.foil_spec.specs.Lists.{range, each}
 use Rattle.foil_spec.specs.Foil.{Point, point, same}
 use Rattle.foil_spec.specs.Paths.{Heading, either, level, upright, between, levelFree, uprightFree, segment}
 use Rattle.foil_spec.specs.Paths.{after, leads, pointBefore, points}
 use Rattle.list_laws.proofs.Tests.{and-l, and-r, and-i, or-cases, or-il, or-ir, parts}
 use Rattle.list_laws.proofs.Members.{In, Sorted, in-range, of-range, in-map, of-map, in-each, of-all, to-all}
-use Rattle.list_laws.proofs.Members.{sorted-range, sorted-map, sorted-each}
+use Rattle.list_laws.proofs.Members.{length-range, sorted-range, sorted-map, sorted-each}
 
 pub same-eq : (p q : Point) → same p q ≡ true → p ≡ q
 same-eq p q h =
@@ -138,12 +139,27 @@ module _ (f : ℕ → ℕ → Bool) where
       (either-segment h p q (and-l (segment f h p q) (leads f T (after p q) q cs) l))
       (and-r (segment f h p q) (leads f T (after p q) q cs) l)
 
+-- the points of row y
+abbrev row : ℕ → ℕ → List Point
+row W y = map (λ (x : ℕ). point x y) (range 0 W)
+
 pub in-points : (W H : ℕ) (p : Point) → p .x < W → p .y < H → In p (points W H)
 unfolding points
 in-points W H p hx hy =
-    in-each (λ (y : ℕ). map (λ (x : ℕ). point x y) (range 0 W)) p (p .y) (range 0 H)
+    in-each (row W) p (p .y) (range 0 H)
     (in-range (p .y) 0 H (omega arith) (omega arith))
     (in-map (λ (x : ℕ). point x (p .y)) (p .x) (range 0 W) (in-range (p .x) 0 W (omega arith) (omega arith)))
+
+-- how many points the foil has
+length-rows : (W : ℕ) (ys : List ℕ) → length (each (row W) ys) ≡ length ys * W
+length-rows W [] = omega arith
+length-rows W (y ∷ ys) =
+    length-append (row W y) (each (row W) ys)
+    ∙ omega (arith, length-map (range 0 W) (λ (x : ℕ). point x y), length-range 0 W, length-rows W ys)
+
+pub length-points : (W H : ℕ) → length (points W H) ≡ W * H
+unfolding points
+length-points W H = omega (arith, length-rows W (range 0 H), ap (λ (n : ℕ). n * W) (length-range 0 H))
 
 pub before-row : (p q : Point) → p .y ≡ q .y → p .x < q .x → pointBefore p q ≡ true
 unfolding pointBefore
@@ -158,7 +174,7 @@ before-rows p q l = or-il (eqb (p .y) (q .y) && ltb (p .x) (q .x)) (lt-ltb (p .y
 pub sorted-points : (W H : ℕ) → Sorted pointBefore (points W H)
 unfolding points
 sorted-points W H =
-    sorted-each ltb pointBefore (λ (y : ℕ). map (λ (x : ℕ). point x y) (range 0 W)) (range 0 H) (sorted-range 0 H)
+    sorted-each ltb pointBefore (row W) (range 0 H) (sorted-range 0 H)
     (λ y h.
     sorted-map ltb pointBefore (λ (x : ℕ). point x y) (range 0 W) (sorted-range 0 W)
     (λ a b l. before-row (point a y) (point b y) refl (ltb-true a b l)))

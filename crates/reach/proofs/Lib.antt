@@ -5,3 +5,4 @@ pub mod Greedy
 pub mod Best
 pub mod Corners
 pub mod FirstPath
+pub mod Bends

@@ -1,0 +1,2 @@
+-- What the job program can write.
+pub mod JobLines

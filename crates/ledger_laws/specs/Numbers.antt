@@ -1,0 +1,30 @@
+-- The numbers that a list of calls answers, and that 13 is none of them, as it is stated.
+use Prim.Native.Nat.{ℕ}
+use mathlib.Core.Path.{_≡_}
+use mathlib.Core.Bool.{Bool, false}
+use mathlib.Core.List.{List, _∷_, map}
+use lib.Dec.{eqb}
+use Rattle.foil_spec.specs.Lists.{any, each}
+use Rattle.foil_spec.specs.Foil.{Layout}
+use Rattle.foil_spec.specs.Ledger.{numberOf, After}
+use Rattle.foil_spec.specs.Lent.{Lent}
+use Rattle.foil_spec.specs.Calls.{Reply}
+use Rattle.foil_spec.specs.Sequence.{Lending, Begins, runLent, told, answersIn}
+
+-- the numbers in a reply: that of each answer, 0 if accepted
+unfoldable pub numbersIn : Reply → List ℕ
+numbersIn r = map numberOf (answersIn r)
+
+-- the numbers in the replies to a list of calls
+unfoldable pub numbersOf : List (After Reply Lent) → List ℕ
+numbersOf os = each (λ (o : After Reply Lent). numbersIn (o .answer)) os
+
+-- the number stands in the list
+unfoldable pub among : ℕ → List ℕ → Bool
+among n ns = any (eqb n) ns
+
+-- document 01: 13 never applies to a foil begun in the list
+abbrev pub NeverBroken : Type 0
+NeverBroken =
+    (m : Lent) (l : Layout) (c : Lending) (cs : List Lending) → Begins (c .call) (told m c l .answer)
+    → among 13 (numbersOf (runLent m (c ∷ cs))) ≡ false
