@@ -41,8 +41,8 @@ TYPES = {
 }
 ENUMS = ('Answer', 'Reply')
 LOAD, STORE = 'table.load', 'table.store'
-LOADED = 'loadTo y0 (length y0)'
-STORED = 'storeTo (r .table) y0 (length y0)'
+LOADED = 'frontOf y0'
+STORED = 'overFront (r .table) y0'
 DIGITS = str.maketrans('0123456789', '₀₁₂₃₄₅₆₇₈₉')
 
 
@@ -718,7 +718,7 @@ def inner(function, core, out, slices, shared, numbers, core_post, post, made, t
         'denote.Plain': 'Nothing',
         'denote.Slice': 'MutSlice, ShrSlice, finally, mut-slice-tells',
         'denote.Triple.Walked': 'gave-slice, goes-gave-slice',
-        'Rattle.host.specs.Flats': 'loadTo, storeTo',
+        'Rattle.host.specs.Flats': 'frontOf, overFront',
         'Rattle.host.proofs.Shared': 'LentShared, lends-shared, shared-back',
     }, numbers, slices + shared)
     if shared:
@@ -973,7 +973,7 @@ def look(function, core, answer, slices, numbers, core_post, post, made, terms):
         'denote.Steps': 'looks, shuts',
         'denote.Struct.Steps': 'spelt',
         'denote.Triple.Walked': 'stay-none-ref, stay-none-slice, goes-none-ref, goes-none-slice',
-        'Rattle.host.specs.Flats': 'loadTo',
+        'Rattle.host.specs.Flats': 'frontOf',
     }, numbers, slices)
     if law == 'LE':
         lines += ['use denote.Enum.Laws as LE']

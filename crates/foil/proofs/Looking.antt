@@ -14,11 +14,10 @@ use Rattle.foil_spec.specs.Lent.{Lent, lent, withCorners, store, layoutOf, held
 use Rattle.foil_spec.specs.Lent.{listedStrips, finish, stepOn}
 use Rattle.foil_spec.specs.declared.Board.{Board}
 use Rattle.list_laws.proofs.Tests.{both}
-use Rattle.strip_laws.proofs.Listed.{listed-written}
 use Rattle.ledger_laws.proofs.Refusals.{short-refused, broken-refused}
 use Rattle.ledger_laws.proofs.Stored.{strips-fit, length-strips}
 use Rattle.ledger_laws.proofs.Steps.{long-lists}
-use Rattle.ledger_laws.proofs.Sound.{Sound, of-sound, sound-store-is}
+use Rattle.ledger_laws.proofs.Sound.{Sound, of-sound, sound-store-is, strips-listed}
 use Rattle.strips.specs.Places.{placeIn}
 use Rattle.strips.specs.declared.Place.the-variants.{At, Nowhere}
 use Rattle.strips.proofs.Placing.{place-free, place-blocked}
@@ -85,10 +84,7 @@ module _ (b : Board) (t s : List ℕ) (p : Point) where
         )
 
     listed : listedStrips s (b .strips) ≡ stripsOf (held m)
-    unfolding store
-    listed =
-        ap₂ (λ (x : List ℕ) (n : ℕ). listedStrips x n) (facts .strips-are) (facts .counted)
-        ∙ listed-written 16384 (stripsOf (held m)) s
+    listed = strips-listed m facts
 
     module _ (wide : p .x < b .width) (high : p .y < b .height) where
       on-foil : offFoil (held m) p ≡ false

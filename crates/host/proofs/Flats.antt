@@ -1,50 +1,45 @@
 -- The numbers of a table's first 128 places: what is loaded is the table's front, and what is stored goes over it.
-use Prim.Native.Nat.{ℕ, zero, suc, _+_, _*_, _-_, _<_, _≤_, min}
+use Prim.Native.Nat.{ℕ, zero, suc, _+_, _*_, _<_, _≤_, min}
 use native.Mathlib.Nat.{not-suc-le-zero}
-use native.Mathlib.Decide.{ℕ-discrete, decLe}
+use native.Mathlib.Decide.{ℕ-discrete}
 use native.Mathlib.Omega.{arith}
 use mathlib.Core.Path.{_≡_, refl, sym, ap, ap₂, _∙_}
-use mathlib.Core.Bool.{true, false}
+use mathlib.Core.Bool.{Bool, true, false}
 use mathlib.Core.Logic.{by-cases, ⊎-elim, _≢_}
 use mathlib.Core.List.{List, [], _∷_, _++_, map}
-use lib.Dec.{ltb}
+use lib.Dec.{eqb}
 use lib.ListN.{length, set, getD, take, drop, length-set, length-replicate, length-drop, take-append-drop}
-use lib.Seq.{getD-set-same, getD-set-other, getD-drop, take-suc, take-all, ext-getD}
-use borrow.Author.Tests.{lt-ltb, le-ltb}
-use lib.ListN.{length-map}
+use lib.Seq.{getD-set-same, getD-set-other, set-getD, set-out, getD-drop, take-suc, take-all, ext-getD}
+use borrow.Author.Tests.{eqb-true, eqb-false}
+use lib.ListN.{length-map, List·getD-eq-default}
 use mir.Val.{Val}
 use denote.Laws.{Is}
 use denote.Struct.Laws as LL
 use Rattle.foil_spec.specs.Lists.{range, each}
 use Rattle.foil_spec.specs.Foil.{Entry}
 use Rattle.foil_spec.specs.Lent.{entryNumbers, entryAt}
+use Rattle.strips.specs.Told.{Told}
 use Rattle.ledger_laws.proofs.Sound.{read-numbers}
 use Rattle.list_laws.proofs.Members.{map-last}
 use Rattle.list_laws.proofs.Tests.{lt-or-le}
 use Rattle.host.specs.declared.flat.Flat.{Flat}
-use Rattle.host.specs.Flats.{zeros, setFive, withEntry, pickEntry, numbersLent, entriesOf, noEntry}
-use Rattle.host.specs.Flats.{loadTo, storeTo}
+use Rattle.host.specs.Flats.{zeros, setFive, withEntry, placesLent, numbersLent, entriesOf, noEntry}
+use Rattle.host.specs.Flats.{loadTo, storeTo, frontOf, overFront}
 use Rattle.host.proofs.flat.Flat as T
 use Rattle.host.proofs.flat.Flat.Laws as T′
 
--- ---- one place
+-- ---- one entry
 
-pub with-in : (f : Flat) (i : ℕ) (e : Entry) → i < 128
-    → record { at = setFive (f .at) (i * 5) e; len = f .len } ≡ withEntry f i e
-unfolding withEntry
-with-in f i e l = let t : ltb i 128 ≡ true = lt-ltb i 128 l in rw (t, withEntry) refl
+-- two entries whose first four numbers are equal are one just if their last numbers are
+module _ (a b : Entry) (net : a .net ≡ b .net) (x0 : a .x0 ≡ b .x0) (y0 : a .y0 ≡ b .y0) (x1 : a .x1 ≡ b .x1) where
+  last-told : (t : Bool) → eqb (a .y1) (b .y1) ≡ t → Told (a ≡ b) t
+  last-told true e =
+      let y1 = eqb-true (a .y1) (b .y1) e in
+      λ i. record { net = net i; x0 = x0 i; y0 = y0 i; x1 = x1 i; y1 = y1 i }
+  last-told false e = λ q. eqb-false (a .y1) (b .y1) e (ap (λ (x : Entry). x .y1) q)
 
-pub with-out : (f : Flat) (i : ℕ) (e : Entry) → 128 ≤ i → f ≡ withEntry f i e
-unfolding withEntry
-with-out f i e l = let t : ltb i 128 ≡ false = le-ltb i 128 l in rw (t, withEntry) refl
-
-pub pick-in : (f : Flat) (i : ℕ) (old : Entry) → i < 128 → entryAt (f .at) i ≡ pickEntry f i old
-unfolding pickEntry
-pick-in f i old l = let t : ltb i 128 ≡ true = lt-ltb i 128 l in rw (t, pickEntry) refl
-
-pub pick-out : (f : Flat) (i : ℕ) (old : Entry) → 128 ≤ i → old ≡ pickEntry f i old
-unfolding pickEntry
-pick-out f i old l = let t : ltb i 128 ≡ false = le-ltb i 128 l in rw (t, pickEntry) refl
+  pub last-tells : Told (a ≡ b) (eqb (a .y1) (b .y1))
+  last-tells = last-told (eqb (a .y1) (b .y1)) refl
 
 -- ---- one place more
 
@@ -57,9 +52,15 @@ unfolding loadTo
 load-none es = refl
 
 pub store-more : (f : Flat) (es : List Entry) (k : ℕ)
-    → set (storeTo f es k) k (pickEntry f k (getD (storeTo f es k) k noEntry)) ≡ storeTo f es (k + 1)
+    → set (storeTo f es k) k (entryAt (f .at) k) ≡ storeTo f es (k + 1)
 unfolding storeTo
 store-more f es k = let e : k + 1 ≡ suc k = omega arith in rw e refl
+
+-- a place that holds the entry already may be left as it is
+pub store-same : (f : Flat) (es : List Entry) (k : ℕ) → getD (storeTo f es k) k noEntry ≡ entryAt (f .at) k
+    → storeTo f es k ≡ storeTo f es (k + 1)
+store-same f es k e =
+    sym (set-getD (storeTo f es k) k noEntry) ∙ ap (set (storeTo f es k) k) e ∙ store-more f es k
 
 pub store-none : (f : Flat) (es : List Entry) → es ≡ storeTo f es 0
 unfolding storeTo
@@ -69,7 +70,7 @@ pub store-length : (f : Flat) (es : List Entry) (k : ℕ) → length (storeTo f 
 unfolding storeTo
 store-length f es zero = refl
 store-length f es (suc k) =
-    length-set (storeTo f es k) k (pickEntry f k (getD (storeTo f es k) k noEntry)) ∙ store-length f es k
+    length-set (storeTo f es k) k (entryAt (f .at) k) ∙ store-length f es k
 
 -- ---- five numbers
 
@@ -101,6 +102,13 @@ module _ (a : List ℕ) (k : ℕ) (e : Entry) where
   five-length : length (setFive a k e) ≡ length a
   unfolding setFive
   five-length = length-set s₄ (k + 4) (e .y1) ∙ len₄
+
+  five-past : length a ≤ k → setFive a k e ≡ a
+  unfolding setFive
+  five-past l =
+      set-out s₄ (k + 4) (e .y1) (omega (arith, len₄, l)) ∙ set-out s₃ (k + 3) (e .x1) (omega (arith, len₃, l))
+      ∙ set-out s₂ (k + 2) (e .y0) (omega (arith, len₂, l)) ∙ set-out s₁ (k + 1) (e .x0) (omega (arith, len₁, l))
+      ∙ set-out a k (e .net) l
 
   -- each number from the i-th on stands as it is laid in: the later ones go elsewhere
   past₁ : (i : ℕ) → i ≢ k + 1 → i ≢ k + 2 → i ≢ k + 3 → i ≢ k + 4 → getD (setFive a k e) i 0 ≡ getD s₁ i 0
@@ -170,46 +178,49 @@ entry-other a i n e ne =
     let p₄ = far (n * 5 + 4) (omega arith) (omega arith) in
     λ t. record { net = p₀ t; x0 = p₁ t; y0 = p₂ t; x1 = p₃ t; y1 = p₄ t }
 
+-- past the numbers there is no entry, and none is laid in
+pub entry-past : (a : List ℕ) (i : ℕ) → length a ≡ 640 → 128 ≤ i → noEntry ≡ entryAt a i
+unfolding entryAt
+entry-past a i full l =
+    let none : (k : ℕ) → 640 ≤ k → 0 ≡ getD a k 0 = λ k m. sym (List·getD-eq-default a 0 (omega (arith, full, m))) in
+    let p₀ = none (i * 5) (omega (arith, l)) in
+    let p₁ = none (i * 5 + 1) (omega (arith, l)) in
+    let p₂ = none (i * 5 + 2) (omega (arith, l)) in
+    let p₃ = none (i * 5 + 3) (omega (arith, l)) in
+    let p₄ = none (i * 5 + 4) (omega (arith, l)) in
+    λ t. record { net = p₀ t; x0 = p₁ t; y0 = p₂ t; x1 = p₃ t; y1 = p₄ t }
+
+pub put-past : (f : Flat) (i : ℕ) (e : Entry) → length (f .at) ≡ 640 → 128 ≤ i → f ≡ withEntry f i e
+unfolding withEntry
+put-past f i e full l =
+    let none : f .at ≡ setFive (f .at) (i * 5) e = sym (five-past (f .at) (i * 5) e (omega (arith, full, l))) in
+    λ j. record { at = none j; len = f .len }
+
 -- ---- what is loaded
 
 load-length : (es : List Entry) (k : ℕ) → length (loadTo es k .at) ≡ 640
-unfolding loadTo zeros
+unfolding loadTo zeros withEntry
 load-length es zero = length-replicate {A = ℕ} 640 0
-load-length es (suc k) =
-    let f : Flat = loadTo es k in
-    by-cases (decLe (suc k) 128)
-    (λ (l : suc k ≤ 128). ap (λ (g : Flat). length (g .at)) (sym (with-in f k (getD es k noEntry) l))
-    ∙ five-length (f .at) (k * 5) (getD es k noEntry) ∙ load-length es k)
-    (λ (n : suc k ≤ 128 → ⊥). ap (λ (g : Flat). length (g .at))
-    (sym (with-out f k (getD es k noEntry) (omega (arith, n)))) ∙ load-length es k)
+load-length es (suc k) = five-length (loadTo es k .at) (k * 5) (getD es k noEntry) ∙ load-length es k
 
-pub load-places : (es : List Entry) (k : ℕ) → loadTo es k .len ≡ length es
-unfolding loadTo zeros
+load-places : (es : List Entry) (k : ℕ) → loadTo es k .len ≡ length es
+unfolding loadTo zeros withEntry
 load-places es zero = refl
-load-places es (suc k) =
-    let f : Flat = loadTo es k in
-    by-cases (decLe (suc k) 128)
-    (λ (l : suc k ≤ 128). ap (λ (g : Flat). g .len) (sym (with-in f k (getD es k noEntry) l)) ∙ load-places es k)
-    (λ (n : suc k ≤ 128 → ⊥). ap (λ (g : Flat). g .len) (sym (with-out f k (getD es k noEntry) (omega (arith, n))))
-    ∙ load-places es k)
+load-places es (suc k) = load-places es k
 
-with-other : (f : Flat) (k n : ℕ) (e : Entry) → n ≢ k → entryAt (withEntry f k e .at) n ≡ entryAt (f .at) n
-with-other f k n e ne =
-    by-cases (decLe (suc k) 128)
-    (λ (l : suc k ≤ 128). ap (λ (g : Flat). entryAt (g .at) n) (sym (with-in f k e l)) ∙ entry-other (f .at) k n e ne)
-    (λ (m : suc k ≤ 128 → ⊥). ap (λ (g : Flat). entryAt (g .at) n) (sym (with-out f k e (omega (arith, m)))))
+pub front-places : (es : List Entry) → frontOf es .len ≡ length es
+front-places es = load-places es (placesLent (length es))
 
 loaded-at : (es : List Entry) (k n : ℕ) → n < k → n < 128 → entryAt (loadTo es k .at) n ≡ getD es n noEntry
-unfolding loadTo
+unfolding loadTo withEntry
 loaded-at es zero n l m = absurd (not-suc-le-zero l)
 loaded-at es (suc k) n l m =
     let f : Flat = loadTo es k in
     let e : Entry = getD es k noEntry in
     by-cases (ℕ-discrete n k)
-    (λ (q : n ≡ k). ap (λ (g : Flat). entryAt (g .at) n) (sym (with-in f k e (omega (arith, q, m))))
-    ∙ ap (λ (j : ℕ). entryAt (setFive (f .at) (k * 5) e) j) q
+    (λ (q : n ≡ k). ap (entryAt (setFive (f .at) (k * 5) e)) q
     ∙ entry-same (f .at) k e (omega (arith, load-length es k, q, m)) ∙ ap (λ (j : ℕ). getD es j noEntry) (sym q))
-    (λ (ne : n ≡ k → ⊥). with-other f k n e ne ∙ loaded-at es k n (omega (arith, ne, l)) m)
+    (λ (ne : n ≡ k → ⊥). entry-other (f .at) k n e ne ∙ loaded-at es k n (omega (arith, ne, l)) m)
 
 -- the first n places, one by one
 places : (g : ℕ → Entry) (es : List Entry) (n : ℕ) → n ≤ length es → ((k : ℕ) → k < n → g k ≡ getD es k noEntry)
@@ -231,14 +242,14 @@ take-least n k es e =
     (lt-or-le n k)
 
 -- what is loaded is the front of the table
-pub loaded : (es : List Entry) → entriesOf (loadTo es (length es)) ≡ take 128 es
+pub loaded : (es : List Entry) → entriesOf (frontOf es) ≡ take 128 es
 unfolding entriesOf
 loaded es =
-    let n : ℕ = min (loadTo es (length es) .len) 128 in
-    let p = load-places es (length es) in
-    places (entryAt (loadTo es (length es) .at)) es n (omega (arith, p))
-    (λ k l. loaded-at es (length es) k (omega (arith, p, l)) (omega (arith, l)))
-    ∙ take-least (loadTo es (length es) .len) 128 es p
+    let f : Flat = frontOf es in
+    let p : f .len ≡ length es = front-places es in
+    places (entryAt (f .at)) es (placesLent (f .len)) (omega (arith, p))
+    (λ k l. loaded-at es (placesLent (length es)) k (omega (arith, p, l)) (omega (arith, l)))
+    ∙ take-least (f .len) 128 es p
 
 -- ---- what is stored
 
@@ -246,43 +257,39 @@ stored-not : (f : Flat) (es : List Entry) (k n : ℕ) → k ≤ n → getD (stor
 unfolding storeTo
 stored-not f es zero n l = refl
 stored-not f es (suc k) n l =
-    getD-set-other (storeTo f es k) k n (pickEntry f k (getD (storeTo f es k) k noEntry)) noEntry
-    (λ q. omega (arith, q, l))
+    getD-set-other (storeTo f es k) k n (entryAt (f .at) k) noEntry (λ q. omega (arith, q, l))
     ∙ stored-not f es k n (omega (arith, l))
 
 stored-at : (f : Flat) (es : List Entry) (k n : ℕ) → n < k → n < length es
-    → getD (storeTo f es k) n noEntry ≡ pickEntry f n (getD es n noEntry)
+    → getD (storeTo f es k) n noEntry ≡ entryAt (f .at) n
 unfolding storeTo
 stored-at f es zero n l m = absurd (not-suc-le-zero l)
 stored-at f es (suc k) n l m =
     let old : List Entry = storeTo f es k in
+    let e : Entry = entryAt (f .at) k in
     by-cases (ℕ-discrete n k)
-    (λ (q : n ≡ k). ap (λ (j : ℕ). getD (set old k (pickEntry f k (getD old k noEntry))) j noEntry) q
-    ∙ getD-set-same old k (pickEntry f k (getD old k noEntry)) noEntry (omega (arith, store-length f es k, q, m))
-    ∙ ap (pickEntry f k) (stored-not f es k k (omega arith))
-    ∙ ap (λ (j : ℕ). pickEntry f j (getD es j noEntry)) (sym q))
-    (λ (ne : n ≡ k → ⊥). getD-set-other old k n (pickEntry f k (getD old k noEntry)) noEntry ne
-    ∙ stored-at f es k n (omega (arith, ne, l)) m)
+    (λ (q : n ≡ k). ap (λ (j : ℕ). getD (set old k e) j noEntry) q
+    ∙ getD-set-same old k e noEntry (omega (arith, store-length f es k, q, m))
+    ∙ ap (entryAt (f .at)) (sym q))
+    (λ (ne : n ≡ k → ⊥). getD-set-other old k n e noEntry ne ∙ stored-at f es k n (omega (arith, ne, l)) m)
 
 -- what is stored goes over the front of the table, and the rest stays
-pub stored : (f : Flat) (es : List Entry) → f .len ≡ length es
-    → storeTo f es (length es) ≡ entriesOf f ++ drop 128 es
+pub stored : (f : Flat) (es : List Entry) → f .len ≡ length es → overFront f es ≡ entriesOf f ++ drop 128 es
 unfolding entriesOf
 stored f es p =
-    let new : List Entry = storeTo f es (length es) in
-    let same : length new ≡ length es = store-length f es (length es) in
+    let n : ℕ = placesLent (length es) in
+    let new : List Entry = overFront f es in
+    let same : length new ≡ length es = store-length f es n in
     let d = length-drop 128 new in
     let d′ = length-drop 128 es in
-    let front : map (entryAt (f .at)) (range 0 (min (f .len) 128)) ≡ take 128 new =
-    places (entryAt (f .at)) new (min (f .len) 128) (omega (arith, p, same))
-    (λ k l. pick-in f k (getD es k noEntry) (omega (arith, l))
-    ∙ sym (stored-at f es (length es) k (omega (arith, p, l)) (omega (arith, p, l))))
+    let front : map (entryAt (f .at)) (range 0 (placesLent (f .len))) ≡ take 128 new =
+    places (entryAt (f .at)) new (placesLent (f .len)) (omega (arith, p, same))
+    (λ k l. sym (stored-at f es n k (omega (arith, p, l)) (omega (arith, p, l))))
     ∙ take-least (f .len) 128 new (p ∙ sym same) in
     let back : drop 128 new ≡ drop 128 es =
     ext-getD noEntry (drop 128 new) (drop 128 es) (omega (arith, d, d′, same))
     (λ i l. getD-drop 128 new i noEntry
-    ∙ stored-at f es (length es) (128 + i) (omega (arith, d, same, l)) (omega (arith, d, same, l))
-    ∙ sym (pick-out f (128 + i) (getD es (128 + i) noEntry) (omega arith))
+    ∙ stored-not f es n (128 + i) (omega arith)
     ∙ sym (getD-drop 128 es i noEntry)) in
     sym (take-append-drop 128 new) ∙ ap₂ (λ (a b : List Entry). a ++ b) (sym front) back
 
@@ -296,4 +303,4 @@ full f is =
 -- the numbers that are lent on are those of the entries
 pub lent-on : (f : Flat) → length (f .at) ≡ 640 → take (numbersLent (f .len)) (f .at) ≡ each entryNumbers (entriesOf f)
 unfolding numbersLent entriesOf
-lent-on f h = sym (read-numbers (f .at) (min (f .len) 128) (omega (arith, h)))
+lent-on f h = sym (read-numbers (f .at) (placesLent (f .len)) (omega (arith, h)))

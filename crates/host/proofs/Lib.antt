@@ -1,5 +1,7 @@
 -- What the proofs of the calls over structs share.
 pub mod Shared
+pub mod Plain
+pub mod Places
 pub mod Flats
 pub mod Fronts
 pub mod Tables

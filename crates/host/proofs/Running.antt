@@ -11,7 +11,7 @@ use Rattle.job.specs.declared.Replied.{Replied}
 use Rattle.job.specs.Contract.{RecordDone, replyOf}
 use Rattle.host.specs.declared.flat.Flat.{Flat}
 use Rattle.host.specs.declared.records.Ran.{Ran}
-use Rattle.host.specs.Flats.{numbersLent, loadTo, storeTo}
+use Rattle.host.specs.Flats.{numbersLent, frontOf, overFront}
 use Rattle.host.specs.Records.{recordSaidOf, ThinRan, FlatRan}
 use Rattle.host.proofs.Fronts.{record-longer}
 use Rattle.host.proofs.Tables.{written-over, on-entries, on-table}
@@ -32,7 +32,7 @@ module _ (bs : List ℕ) (at : ℕ) (b : Board) (s ks : List ℕ) (r : Replied) 
       }
 
 pub whole-ran : (bs : List ℕ) (at : ℕ) (b : Board) (es : List Entry) (s ks : List ℕ) (r : Ran) (es′ : List Entry)
-    (s′ ks′ : List ℕ) → FlatRan bs at b (loadTo es (length es)) s ks r s′ ks′ → es′ ≡ storeTo (r .table) es (length es)
+    (s′ ks′ : List ℕ) → FlatRan bs at b (frontOf es) s ks r s′ ks′ → es′ ≡ overFront (r .table) es
     → ThinRan bs at b es s ks r es′ s′ ks′
 whole-ran bs at b es s ks r es′ s′ ks′ d e =
     let o : Replied = record { reply = r .reply; board = r .board } in

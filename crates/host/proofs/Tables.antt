@@ -21,9 +21,9 @@ use Rattle.foil.specs.declared.Done.{Done}
 use Rattle.host.specs.declared.flat.Flat.{Flat}
 use Rattle.host.specs.declared.flat.Said.{Said}
 use Rattle.host.specs.declared.flat.Left.{Left}
-use Rattle.host.specs.Flats.{numbersLent, entriesOf, loadTo, storeTo}
+use Rattle.host.specs.Flats.{numbersLent, entriesOf, frontOf, overFront}
 use Rattle.host.specs.Calls.{saidOf, HostLooked, LookTold, ThinDone, FlatDone}
-use Rattle.host.proofs.Flats.{load-places, loaded, stored, lent-on}
+use Rattle.host.proofs.Flats.{front-places, loaded, stored, lent-on}
 use Rattle.host.proofs.Fronts.{longer, step-longer}
 
 -- ---- what a call promises of the table's numbers
@@ -80,13 +80,13 @@ module _ (P : List ℕ → List ℕ → Type 0) where
         (lt-or-le (length es) 128)
 
     -- the table is loaded, something is done to the numbers, and these are stored
-    pub on-table : (es es′ : List Entry) (f : Flat) → f .len ≡ loadTo es (length es) .len
-        → es′ ≡ storeTo f es (length es) → P (numbers (entriesOf (loadTo es (length es)))) (numbers (entriesOf f))
+    pub on-table : (es es′ : List Entry) (f : Flat) → f .len ≡ frontOf es .len
+        → es′ ≡ overFront f es → P (numbers (entriesOf (frontOf es))) (numbers (entriesOf f))
         → P (numbers es) (numbers es′)
     on-table es es′ f l e d =
         subst₂ P (fronts es)
         (sym (each-append entryNumbers (entriesOf f) (drop 128 es))
-        ∙ ap numbers (sym (e ∙ stored f es (l ∙ load-places es (length es)))))
+        ∙ ap numbers (sym (e ∙ stored f es (l ∙ front-places es))))
         (on-whole es (entriesOf f) (subst (λ (x : List Entry). P (numbers x) (numbers (entriesOf f))) (loaded es) d))
 
 -- ---- a step
@@ -107,7 +107,7 @@ module _ (c : Step) (b : Board) (s ks : List ℕ) (r : Done) (s′ ks′ : List 
       }
 
 pub whole-done : (c : Step) (b : Board) (es : List Entry) (s ks : List ℕ) (r : Left) (es′ : List Entry)
-    (s′ ks′ : List ℕ) → FlatDone c b (loadTo es (length es)) s ks r s′ ks′ → es′ ≡ storeTo (r .table) es (length es)
+    (s′ ks′ : List ℕ) → FlatDone c b (frontOf es) s ks r s′ ks′ → es′ ≡ overFront (r .table) es
     → ThinDone c b es s ks r es′ s′ ks′
 whole-done c b es s ks r es′ s′ ks′ d e =
     let o : Done = record { answer = r .answer; board = r .board } in
@@ -147,12 +147,12 @@ module _ (p : Point) (b : Board) (s : List ℕ) (a : Answer) where
       }
 
 pub whole-looked : (p : Point) (b : Board) (es : List Entry) (s : List ℕ) (a : Answer)
-    → HostLooked p b (entriesOf (loadTo es (length es))) s a → HostLooked p b es s a
+    → HostLooked p b (entriesOf (frontOf es)) s a → HostLooked p b es s a
 whole-looked p b es s a d =
-    on-table (LooksUp p b s a) (looked-more p b s a) es _ (loadTo es (length es)) refl refl d
+    on-table (LooksUp p b s a) (looked-more p b s a) es _ (frontOf es) refl refl d
 
 pub whole-told : (p : Point) (b : Board) (es : List Entry) (s : List ℕ) (r : Said)
-    → LookTold p b (entriesOf (loadTo es (length es))) s r → LookTold p b es s r
+    → LookTold p b (entriesOf (frontOf es)) s r → LookTold p b es s r
 whole-told p b es s r d =
     record { answer = d .answer; said = d .said; looked = whole-looked p b es s (d .answer) (d .looked) }
 

@@ -1,8 +1,6 @@
 -- The numbers of a table's first 128 places by value: laid in place by place, and stored over a table.
 use Prim.Native.Nat.{ℕ, zero, suc, _+_, _*_, min}
-use mathlib.Core.Bool.{true, false}
 use mathlib.Core.List.{List, map}
-use lib.Dec.{ltb}
 use lib.ListN.{length, set, getD, replicate}
 use Rattle.foil_spec.specs.Lists.{range}
 use Rattle.foil_spec.specs.Foil.{Entry, entry}
@@ -18,21 +16,21 @@ unfoldable pub setFive : List ℕ → ℕ → Entry → List ℕ
 setFive a k e =
     set (set (set (set (set a k (e .net)) (k + 1) (e .x0)) (k + 2) (e .y0)) (k + 3) (e .x1)) (k + 4) (e .y1)
 
--- with the entry e at place i, if that is one of the first 128
+-- with the entry e at place i
 unfoldable pub withEntry : Flat → ℕ → Entry → Flat
-withEntry f i e = elim (ltb i 128) [ true ↦ record { at = setFive (f .at) (i * 5) e; len = f .len } | false ↦ f ]
+withEntry f i e = record { at = setFive (f .at) (i * 5) e; len = f .len }
 
--- the entry at place i, or past the first 128 the old one
-unfoldable pub pickEntry : Flat → ℕ → Entry → Entry
-pickEntry f i old = elim (ltb i 128) [ true ↦ entryAt (f .at) i | false ↦ old ]
+-- how many places are lent on of a table of n: its first 128
+abbrev pub placesLent : ℕ → ℕ
+placesLent n = min n 128
 
--- how many numbers are lent on of a table of n places
+-- how many numbers these are
 unfoldable pub numbersLent : ℕ → ℕ
-numbersLent n = min n 128 * 5
+numbersLent n = placesLent n * 5
 
 -- the entries that the numbers say
 unfoldable pub entriesOf : Flat → List Entry
-entriesOf f = map (entryAt (f .at)) (range 0 (min (f .len) 128))
+entriesOf f = map (entryAt (f .at)) (range 0 (placesLent (f .len)))
 
 -- what stands past the end of a table
 abbrev pub noEntry : Entry
@@ -46,4 +44,12 @@ loadTo es (suc k) = withEntry (loadTo es k) k (getD es k noEntry)
 -- a table with its first k places stored over
 unfoldable pub storeTo : Flat → List Entry → ℕ → List Entry
 storeTo f es zero = es
-storeTo f es (suc k) = set (storeTo f es k) k (pickEntry f k (getD (storeTo f es k) k noEntry))
+storeTo f es (suc k) = set (storeTo f es k) k (entryAt (f .at) k)
+
+-- the numbers of a table's first 128 places
+abbrev pub frontOf : List Entry → Flat
+frontOf es = loadTo es (placesLent (length es))
+
+-- a table with its first 128 places stored over
+abbrev pub overFront : Flat → List Entry → List Entry
+overFront f es = storeTo f es (placesLent (length es))

@@ -7,7 +7,9 @@ ghost use mathlib.Core.Path.{_≡_};
 ghost use mathlib.Core.List.{[]};
 ghost use Rattle.foil_spec.specs.Foil.{point};
 ghost use Rattle.foil_spec.specs.Ledger.{newFoil, draw as draws, lay as lays, lift as lifts};
-ghost use Rattle.host.specs.Flats.{zeros, withEntry, pickEntry, numbersLent, entriesOf};
+ghost use Rattle.foil_spec.specs.Lent.{entryAt};
+ghost use Rattle.strips.specs.Told.{Told};
+ghost use Rattle.host.specs.Flats.{zeros, withEntry, placesLent, numbersLent, entriesOf};
 ghost use Rattle.host.specs.Calls.{saidOf, FlatDone, HostLooked, LookTold};
 
 // The first 128 places of a lent table as numbers, five a place, and how many places are lent.
@@ -59,9 +61,9 @@ pub fn put(f: Flat, i: usize, e: Entry) -> Flat
     }
 }
 
-// The entry at place i; past the first 128 places the old one.
-pub fn pick(f: Flat, i: usize, old: Entry) -> Entry
-    ensures { λ r. ⌜ r ≡ pickEntry f i old ⌝ }
+// The entry at place i; past the first 128 places one of zeros.
+pub fn pick(f: Flat, i: usize) -> Entry
+    ensures { λ r. ⌜ r ≡ entryAt (f .at) i ⌝ }
 {
     if i < 128 {
         let a = f.at;
@@ -73,15 +75,47 @@ pub fn pick(f: Flat, i: usize, old: Entry) -> Entry
             y1: a[i * 5 + 4],
         }
     } else {
-        old
+        Entry {
+            net: 0,
+            x0: 0,
+            y0: 0,
+            x1: 0,
+            y1: 0,
+        }
     }
 }
 
-// How many numbers are lent on of a table of n places: five a place, of 128 places at most.
+// Whether the two entries are one.
+pub fn same(a: Entry, b: Entry) -> bool
+    ensures { λ r. ⌜ Told (a ≡ b) r ⌝ }
+{
+    if a.net != b.net {
+        return false;
+    }
+    if a.x0 != b.x0 {
+        return false;
+    }
+    if a.y0 != b.y0 {
+        return false;
+    }
+    if a.x1 != b.x1 {
+        return false;
+    }
+    a.y1 == b.y1
+}
+
+// How many places are lent on of a table of n: its first 128.
+pub fn places_lent(n: usize) -> usize
+    ensures { λ r. ⌜ r ≡ placesLent n ⌝ }
+{
+    if n < 128 { n } else { 128 }
+}
+
+// How many numbers these places have, five each.
 pub fn numbers_lent(n: usize) -> usize
     ensures { λ r. ⌜ r ≡ numbersLent n ⌝ }
 {
-    if n < 128 { n * 5 } else { 640 }
+    places_lent(n) * 5
 }
 
 // The numbers of an answer.

@@ -5,26 +5,28 @@ use crate::flat::Flat;
 use crate::flat::Left;
 use crate::flat::empty;
 use crate::flat::pick;
+use crate::flat::places_lent;
 use crate::flat::put;
+use crate::flat::same;
 use crate::records;
 use crate::records::Ran;
 use foil_spec::Board;
 use foil_spec::Entry;
 ghost use mathlib.Core.Path.{_≡_};
 ghost use mathlib.Core.List.{[]};
-ghost use lib.ListN.{length};
 ghost use Rattle.foil_spec.specs.Foil.{point};
 ghost use Rattle.foil_spec.specs.Ledger.{newFoil, draw as draws, lay as lays, lift as lifts};
-ghost use Rattle.host.specs.Flats.{loadTo, storeTo};
+ghost use Rattle.host.specs.Flats.{frontOf, overFront};
 ghost use Rattle.host.specs.Calls.{ThinDone};
 ghost use Rattle.host.specs.Records.{ThinRan};
 
-// Takes the numbers of a table's first 128 places out.
+// Takes the numbers of a table's first 128 places out; the places after them are not even read.
 pub fn load(table: &[Entry]) -> Flat
-    ensures { λ r. ⌜ r ≡ loadTo (now (table .entry)) (length (now (table .entry))) ⌝ }
+    ensures { λ r. ⌜ r ≡ frontOf (now (table .entry)) ⌝ }
 {
-    let n = table.len();
-    let mut f = empty(n);
+    let len = table.len();
+    let n = places_lent(len);
+    let mut f = empty(len);
     let mut i = 0;
     while i < n {
         let e = table[i];
@@ -34,16 +36,20 @@ pub fn load(table: &[Entry]) -> Flat
     f
 }
 
-// Puts the numbers of the first 128 places back; the places after them stay as they are.
+// Puts the numbers of the first 128 places back. A place is written only where its numbers change, so
+// that a refused call writes to none; the places after the first 128 are not even read.
 pub fn store(table: &mut [Entry], f: Flat)
-    ensures { λ _. ⌜ now (table .exit) ≡ storeTo f (now (table .entry)) (length (now (table .entry))) ⌝ }
+    ensures { λ _. ⌜ now (table .exit) ≡ overFront f (now (table .entry)) ⌝ }
 {
-    let n = table.len();
+    let len = table.len();
+    let n = places_lent(len);
     let mut i = 0;
     while i < n {
         let old = table[i];
-        let e = pick(f, i, old);
-        table[i] = e;
+        let new = pick(f, i);
+        if !same(old, new) {
+            table[i] = new;
+        }
         i = i + 1;
     }
 }

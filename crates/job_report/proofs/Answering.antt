@@ -10,14 +10,12 @@ use Rattle.foil_spec.specs.Lists.{each, consIf}
 use Rattle.foil_spec.specs.Foil.{Point}
 use Rattle.foil_spec.specs.Ledger.{Step, newFoil, draw, lay, lift, lookUp, stripsOf}
 use Rattle.foil_spec.specs.Ledger.{Answer, refused, accepted, laid, found, numberOf}
-use Rattle.foil_spec.specs.Lent.{Lent, pointNumbers, cornersIn, store, held, cornersAfter, stepOn}
+use Rattle.foil_spec.specs.Lent.{Lent, pointNumbers, cornersIn, held, cornersAfter, stepOn}
 use Rattle.foil_spec.specs.Job.{has, field, steps}
 use Rattle.foil_spec.specs.Calls.{runRecord, Reply, answered, ran, atEnd, actAll, callOn}
 use Rattle.ledger_laws.proofs.CornerLists.{corners-read}
 use Rattle.ledger_laws.proofs.Stored.{strips-fit, length-strips}
 use Rattle.ledger_laws.proofs.Sound.{Sound, of-sound}
-use Rattle.strips.specs.Places.{listedStrips}
-use Rattle.strips.proofs.Placing.{listed-written}
 use Rattle.foil.specs.Contract.{answerOf}
 use Rattle.foil.specs.declared.Answer.{Answer as Answered}
 use Rattle.foil.specs.declared.Answer.the-variants.{Laid}
@@ -153,12 +151,6 @@ module _ (bs : List ℕ) (at : ℕ) (m : Lent) where
 
 -- ---- the strips at the end of a job
 
-module _ (m : Lent) (fine : Sound m) where
-  pub strips-few : m .board .strips ≤ 4096
-  strips-few = omega (arith, fine .counted, length-strips (stripsOf (held m)), strips-fit (held m) (fine .kept))
-
-  pub strips-listed : listedStrips (m .strips) (m .board .strips) ≡ stripsOf (held m)
-  unfolding store
-  strips-listed =
-      ap₂ (λ (x : List ℕ) (n : ℕ). listedStrips x n) (fine .strips-are) (fine .counted)
-      ∙ listed-written 16384 (stripsOf (held m)) (m .strips)
+pub strips-few : (m : Lent) → Sound m → m .board .strips ≤ 4096
+strips-few m fine =
+    omega (arith, fine .counted, length-strips (stripsOf (held m)), strips-fit (held m) (fine .kept))

@@ -4,7 +4,7 @@ use native.Mathlib.Omega.{arith}
 use mathlib.Core.Path.{_≡_}
 use mathlib.Core.List.{List, _++_}
 use Rattle.foil_spec.specs.Lists.{each}
-use Rattle.strips.specs.Places.{listedStrip, listedStrips}
+use Rattle.foil_spec.specs.Lent.{listedStrip, listedStrips}
 use Rattle.lines.specs.Lines.{stripLine}
 use Rattle.lines.specs.Put.{Put}
 use Rattle.lines.proofs.Putting.{put-none, put-then}

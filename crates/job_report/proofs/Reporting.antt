@@ -10,8 +10,8 @@ use Rattle.foil_spec.specs.Ledger.{stripsOf}
 use Rattle.foil_spec.specs.Lent.{Lent, held, stepOn}
 use Rattle.foil_spec.specs.Job.{has, steps}
 use Rattle.foil_spec.specs.Calls.{runRecord, Reply as Outcome, answered, ran, atEnd, actAll, callOn}
-use Rattle.ledger_laws.proofs.Sound.{Sound, of-sound}
-use Rattle.strips.specs.Places.{listedStrips}
+use Rattle.ledger_laws.proofs.Sound.{Sound, of-sound, strips-listed}
+use Rattle.foil_spec.specs.Lent.{listedStrips}
 use Rattle.foil.specs.declared.Answer.{Answer}
 use Rattle.job.specs.Contract.{answersOf, nextOf, RecordDone}
 use Rattle.job.specs.declared.Told.the-variants.{Said}
@@ -27,7 +27,7 @@ use Rattle.lines.specs.Put.{Put}
 use Rattle.job_report.specs.Report.{recordLines, placeAfter, RecordReported}
 use Rattle.job_report.specs.Told.{answerLines, FromBit, InList}
 use Rattle.job_report.specs.declared.Reported.{Reported}
-use Rattle.job_report.proofs.Answering.{corners-there, answers-lines, strips-few, strips-listed}
+use Rattle.job_report.proofs.Answering.{corners-there, answers-lines, strips-few}
 
 module _ (bs : List ℕ) (at : ℕ) (m : Lent) (d : Replied) (t s ks : List ℕ) (done : RecordDone bs at m d t s ks) where
   abbrev reply : Outcome

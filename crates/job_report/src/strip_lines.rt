@@ -3,7 +3,7 @@ use lines::strip_line;
 ghost use Prim.Native.Nat.{_*_, _≤_};
 ghost use lib.ListN.{length};
 ghost use Rattle.foil_spec.specs.Lists.{each};
-ghost use Rattle.strips.specs.Places.{listedStrips};
+ghost use Rattle.foil_spec.specs.Lent.{listedStrips};
 ghost use Rattle.lines.specs.Lines.{stripLine};
 ghost use Rattle.lines.specs.Put.{Put};
 

@@ -12,9 +12,10 @@ use lib.Seq.{ext-getD, take-add, drop-drop, getD-take, getD-drop, length-take-le
 use Rattle.foil_spec.specs.Lists.{range, each}
 use Rattle.foil_spec.specs.Ledger.{stripsOf, tooLong}
 use Rattle.foil_spec.specs.Lent.{Lent, lent, entryNumbers, written, boardOf, store, entryAt, layoutOf, held}
-use Rattle.foil_spec.specs.Lent.{layoutOk, sameNumbers, sound}
+use Rattle.foil_spec.specs.Lent.{layoutOk, sameNumbers, sound, listedStrips}
 use Rattle.list_laws.proofs.Tests.{clash, and-l, and-r, parts}
 use Rattle.list_laws.proofs.Members.{length-range}
+use Rattle.strip_laws.proofs.Listed.{listed-written}
 use Rattle.ledger_laws.proofs.Stored.{same-refl}
 use Rattle.ledger_laws.proofs.Kept.{of-ok}
 
@@ -168,3 +169,10 @@ sound-store-is m s =
     (sym (s .table-is) i)
     (sym (s .strips-are) i)
     (m .corners)
+
+-- the strips that the record counts are those of the layout
+pub strips-listed : (m : Lent) → Sound m → listedStrips (m .strips) (m .board .strips) ≡ stripsOf (held m)
+unfolding store
+strips-listed m s =
+    ap₂ (λ (x : List ℕ) (n : ℕ). listedStrips x n) (s .strips-are) (s .counted)
+    ∙ listed-written 16384 (stripsOf (held m)) (m .strips)

@@ -41,7 +41,7 @@ use denote.Triple.Walked.{stay-none-ref, stay-none-slice, goes-none-ref, goes-no
 use denote.Exit.{yes}
 use denote.Memory.{partAt}
 use denote.Struct.Steps.{spelt}
-use Rattle.host.specs.Flats.{loadTo}
+use Rattle.host.specs.Flats.{frontOf}
 use denote.Struct.Laws as LL
 use denote.Enum.Laws as LE
 use Rattle.foil_spec.specs.declared.Board.{Board}
@@ -113,11 +113,9 @@ module _ {M : Type 1} (𝓤 : URA M) (H : Heap 𝓤) (A : Atoms 𝓤) (mem : Mem
   Core = tripleOf 𝓤 H A core.signature (core.spec 𝓤 H A mem run)
 
   loaded-of : (κ : Lft) (x : RefT (List Entry)) (r : Flat)
-      → ent 𝓤 (ensured 𝓤 H A ld.ended (ld.clauses 𝓤 H A mem run) (κ, tt) (x, tt) tt r) (fact 𝓤 (r ≡ loadTo (x .now)
-      (length (x .now))))
+      → ent 𝓤 (ensured 𝓤 H A ld.ended (ld.clauses 𝓤 H A mem run) (κ, tt) (x, tt) tt r) (fact 𝓤 (r ≡ frontOf (x .now)))
   loaded-of κ x r =
-      exE 𝓤 _ (λ ws. snd∗ 𝓤 (sem 𝓤 H A (lasts ld.ended (κ, tt) (x, tt) ws)) (fact 𝓤 (r ≡ loadTo (x .now) (length (x
-      .now)))))
+      exE 𝓤 _ (λ ws. snd∗ 𝓤 (sem 𝓤 H A (lasts ld.ended (κ, tt) (x, tt) ws)) (fact 𝓤 (r ≡ frontOf (x .now))))
 
 module _ {M : Type 1} (𝓤 : URA M) (H : Heap 𝓤) (A : Atoms 𝓤) (W : Given 𝓤 H A) (at-mem : Memory → SProp 𝓤) (run :
     Routine → Fun 𝓤)
@@ -138,7 +136,7 @@ module _ {M : Type 1} (𝓤 : URA M) (H : Heap 𝓤) (A : Atoms 𝓤) (W : Given
 
   -- what was loaded
   abbrev loaded : Flat
-  loaded = loadTo y₀ (length y₀)
+  loaded = frontOf y₀
 
   abbrev Arg : Type 0
   Arg = RefT Board × (RefT (List Entry) × (RefT (List ℕ) × (ℕ × (ℕ × Unit {0}))))

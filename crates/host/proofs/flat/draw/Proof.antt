@@ -12,11 +12,9 @@ use Rattle.foil.proofs.draw.Reads as draw-reads
 use Rattle.host.proofs.flat.leave.Reads as leave-reads
 use Rattle.host.proofs.flat.numbers_lent.Reads as numbers-lent-reads
 
--- src/flat.rt:149:9
 numbers-lent-requires : tie.Need-numbers-lent-requires
 numbers-lent-requires c κs = search needs
 
--- src/flat.rt:150:27
 array-borrow-prefix-a : tie.Need-array-borrow-prefix-a
 unfolding numbersLent
 array-borrow-prefix-a c = omega (
@@ -26,7 +24,6 @@ array-borrow-prefix-a c = omega (
       .before .before .before .good .1 .0),
 )
 
--- src/flat.rt:150:27
 slice-aggregate-draw : tie.Need-slice-aggregate-draw
 unfolding numbersLent
 slice-aggregate-draw c =
@@ -37,19 +34,15 @@ slice-aggregate-draw c =
       length-take (c .before .numbers-lent .result) (c .before .before .before .before .args .t .at),
     )
 
--- src/flat.rt:150:9
 draw-requires : tie.Need-draw-requires
 draw-requires c κs = search needs
 
--- src/flat.rt:151:5
 leave-requires : tie.Need-leave-requires
 leave-requires c κs = search needs
 
--- src/flat.rt:144:1
 same-length : tie.Need-same-length
 same-length c = search needs
 
--- src/flat.rt:144:1
 returns : tie.Need-returns
 returns c =
     flat-done _ _ _ _ _ _ _ _ _ _ _

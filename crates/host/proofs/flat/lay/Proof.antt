@@ -12,11 +12,9 @@ use Rattle.laying.proofs.lay.Reads as lay-reads
 use Rattle.host.proofs.flat.leave.Reads as leave-reads
 use Rattle.host.proofs.flat.numbers_lent.Reads as numbers-lent-reads
 
--- src/flat.rt:170:9
 numbers-lent-requires : tie.Need-numbers-lent-requires
 numbers-lent-requires c κs = search needs
 
--- src/flat.rt:171:26
 array-borrow-prefix-a : tie.Need-array-borrow-prefix-a
 unfolding numbersLent
 array-borrow-prefix-a c = omega (
@@ -26,7 +24,6 @@ array-borrow-prefix-a c = omega (
       (c .before .before .before .before .good .1 .1 .0),
 )
 
--- src/flat.rt:171:26
 slice-aggregate-lay : tie.Need-slice-aggregate-lay
 unfolding numbersLent
 slice-aggregate-lay c =
@@ -38,23 +35,18 @@ slice-aggregate-lay c =
       length-take (c .before .numbers-lent .result) (c .before .before .before .before .before .args .t .at),
     )
 
--- src/flat.rt:171:9
 lay-requires : tie.Need-lay-requires
 lay-requires c κs = search needs
 
--- src/flat.rt:172:5
 leave-requires : tie.Need-leave-requires
 leave-requires c κs = search needs
 
--- src/flat.rt:155:1
 same-length : tie.Need-same-length
 same-length c = search needs
 
--- src/flat.rt:155:1
 same-length-2 : tie.Need-same-length-2
 same-length-2 c = search needs
 
--- src/flat.rt:155:1
 returns : tie.Need-returns
 returns c =
     flat-done _ _ _ _ _ _ _ _ _ _ _

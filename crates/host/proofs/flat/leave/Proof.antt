@@ -5,11 +5,9 @@ use Rattle.host.proofs.flat.leave.Reads as reads
 use Rattle.host.proofs.flat.leave.Lts as lts
 use Rattle.host.proofs.flat.said_of.Reads as said-of-reads
 
--- src/flat.rt:128:15
 said-of-requires : tie.Need-said-of-requires
 said-of-requires c κs = search needs
 
--- src/flat.rt:114:1
 returns : tie.Need-returns
 returns c =
     λ i. record {

@@ -12,11 +12,9 @@ use Rattle.foil.proofs.lift.Reads as lift-reads
 use Rattle.host.proofs.flat.leave.Reads as leave-reads
 use Rattle.host.proofs.flat.numbers_lent.Reads as numbers-lent-reads
 
--- src/flat.rt:181:9
 numbers-lent-requires : tie.Need-numbers-lent-requires
 numbers-lent-requires c κs = search needs
 
--- src/flat.rt:182:27
 array-borrow-prefix-a : tie.Need-array-borrow-prefix-a
 unfolding numbersLent
 array-borrow-prefix-a c = omega (
@@ -26,7 +24,6 @@ array-borrow-prefix-a c = omega (
       .before .before .before .good .1 .0),
 )
 
--- src/flat.rt:182:27
 slice-aggregate-lift : tie.Need-slice-aggregate-lift
 unfolding numbersLent
 slice-aggregate-lift c =
@@ -37,19 +34,15 @@ slice-aggregate-lift c =
       length-take (c .before .numbers-lent .result) (c .before .before .before .before .args .t .at),
     )
 
--- src/flat.rt:182:9
 lift-requires : tie.Need-lift-requires
 lift-requires c κs = search needs
 
--- src/flat.rt:183:5
 leave-requires : tie.Need-leave-requires
 leave-requires c κs = search needs
 
--- src/flat.rt:176:1
 same-length : tie.Need-same-length
 same-length c = search needs
 
--- src/flat.rt:176:1
 returns : tie.Need-returns
 returns c =
     flat-done _ _ _ _ _ _ _ _ _ _ _

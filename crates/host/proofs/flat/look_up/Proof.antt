@@ -11,11 +11,9 @@ use Rattle.host.proofs.flat.look_up.Lts as lts
 use Rattle.foil.proofs.look_up.Reads as look-up-reads
 use Rattle.host.proofs.flat.numbers_lent.Reads as numbers-lent-reads
 
--- src/flat.rt:192:9
 numbers-lent-requires : tie.Need-numbers-lent-requires
 numbers-lent-requires c κs = search needs
 
--- src/flat.rt:193:19
 array-share-prefix-a : tie.Need-array-share-prefix-a
 unfolding numbersLent
 array-share-prefix-a c = omega (
@@ -25,7 +23,6 @@ array-share-prefix-a c = omega (
       .before .before .before .good .1 .0),
 )
 
--- src/flat.rt:193:19
 slice-aggregate-look-up : tie.Need-slice-aggregate-look-up
 unfolding numbersLent
 slice-aggregate-look-up c =
@@ -36,11 +33,9 @@ slice-aggregate-look-up c =
       length-take (c .before .numbers-lent .result) (c .before .before .before .before .args .t .at),
     )
 
--- src/flat.rt:193:5
 look-up-requires : tie.Need-look-up-requires
 look-up-requires c κs = search needs
 
--- src/flat.rt:187:1
 returns : tie.Need-returns
 returns c =
     flat-looked _ _ _ _ _ _

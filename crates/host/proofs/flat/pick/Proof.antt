@@ -1,98 +1,96 @@
 use borrow.Author.Needs.{needs}
-use native.Mathlib.Omega.{arith}
+use mathlib.Core.Path.{refl}
 use Rattle.foil_spec.specs.Lent.{entryAt}
-use Rattle.host.proofs.Flats.{pick-in, pick-out}
+use Rattle.host.proofs.Flats.{entry-past, full}
 use Rattle.host.proofs.flat.pick.Statement.{statement}
 use Rattle.host.proofs.flat.pick.Tie as tie
-use Rattle.host.proofs.flat.pick.Reads as reads
-use Rattle.host.proofs.flat.pick.Lts as lts
+
+mul-t6 : tie.Need-mul-t6
+mul-t6 c = search needs
 
 mul-t7 : tie.Need-mul-t7
 mul-t7 c = search needs
 
-mul-t8 : tie.Need-mul-t8
-mul-t8 c = search needs
+array-read-t10 : tie.Need-array-read-t10
+array-read-t10 c = search needs
 
-array-read-t11 : tie.Need-array-read-t11
-array-read-t11 c = search needs
+mul-t11 : tie.Need-mul-t11
+mul-t11 c = search needs
 
-mul-t12 : tie.Need-mul-t12
-mul-t12 c = search needs
+add-t12 : tie.Need-add-t12
+add-t12 c = search needs
 
-add-t13 : tie.Need-add-t13
-add-t13 c = search needs
+mul-t13 : tie.Need-mul-t13
+mul-t13 c = search needs
 
-mul-t14 : tie.Need-mul-t14
-mul-t14 c = search needs
+array-read-t16 : tie.Need-array-read-t16
+array-read-t16 c = search needs
 
-array-read-t17 : tie.Need-array-read-t17
-array-read-t17 c = search needs
+mul-t17 : tie.Need-mul-t17
+mul-t17 c = search needs
 
-mul-t18 : tie.Need-mul-t18
-mul-t18 c = search needs
+add-t18 : tie.Need-add-t18
+add-t18 c = search needs
 
-add-t19 : tie.Need-add-t19
-add-t19 c = search needs
+mul-t19 : tie.Need-mul-t19
+mul-t19 c = search needs
 
-mul-t20 : tie.Need-mul-t20
-mul-t20 c = search needs
+array-read-t22 : tie.Need-array-read-t22
+array-read-t22 c = search needs
 
-array-read-t23 : tie.Need-array-read-t23
-array-read-t23 c = search needs
+mul-t23 : tie.Need-mul-t23
+mul-t23 c = search needs
 
-mul-t24 : tie.Need-mul-t24
-mul-t24 c = search needs
+add-t24 : tie.Need-add-t24
+add-t24 c = search needs
 
-add-t25 : tie.Need-add-t25
-add-t25 c = search needs
+mul-t25 : tie.Need-mul-t25
+mul-t25 c = search needs
 
-mul-t26 : tie.Need-mul-t26
-mul-t26 c = search needs
+array-read-t28 : tie.Need-array-read-t28
+array-read-t28 c = search needs
 
-array-read-t29 : tie.Need-array-read-t29
-array-read-t29 c = search needs
+mul-t29 : tie.Need-mul-t29
+mul-t29 c = search needs
 
-mul-t30 : tie.Need-mul-t30
-mul-t30 c = search needs
+add-t30 : tie.Need-add-t30
+add-t30 c = search needs
 
-add-t31 : tie.Need-add-t31
-add-t31 c = search needs
+mul-t31 : tie.Need-mul-t31
+mul-t31 c = search needs
 
-mul-t32 : tie.Need-mul-t32
-mul-t32 c = search needs
-
-array-read-t35 : tie.Need-array-read-t35
-array-read-t35 c = search needs
+array-read-t34 : tie.Need-array-read-t34
+array-read-t34 c = search needs
 
 returns : tie.Need-returns
 unfolding entryAt
-returns c = pick-in _ _ _ (omega arith)
+returns c = refl
 
 returns-2 : tie.Need-returns-2
-returns-2 c = pick-out _ _ _ (omega arith)
+returns-2 c = entry-past _ _ (full (c .before .args .f) (c .before .good .0)) (c .if1 .left)
 
 pub pick-spec : {M : Type 1} → statement M
 pick-spec =
     tie.close
     (tie.spec
+    mul-t6
     mul-t7
-    mul-t8
-    array-read-t11
-    mul-t12
-    add-t13
-    mul-t14
-    array-read-t17
-    mul-t18
-    add-t19
-    mul-t20
-    array-read-t23
-    mul-t24
-    add-t25
-    mul-t26
-    array-read-t29
-    mul-t30
-    add-t31
-    mul-t32
-    array-read-t35
+    array-read-t10
+    mul-t11
+    add-t12
+    mul-t13
+    array-read-t16
+    mul-t17
+    add-t18
+    mul-t19
+    array-read-t22
+    mul-t23
+    add-t24
+    mul-t25
+    array-read-t28
+    mul-t29
+    add-t30
+    mul-t31
+    array-read-t34
     returns
     returns-2)

@@ -1,11 +1,9 @@
 use borrow.Author.Needs.{needs}
-use native.Mathlib.Omega.{arith}
-use Rattle.host.specs.Flats.{setFive}
-use Rattle.host.proofs.Flats.{with-in, with-out}
+use mathlib.Core.Path.{refl}
+use Rattle.host.specs.Flats.{setFive, withEntry}
+use Rattle.host.proofs.Flats.{put-past, full}
 use Rattle.host.proofs.flat.put.Statement.{statement}
 use Rattle.host.proofs.flat.put.Tie as tie
-use Rattle.host.proofs.flat.put.Reads as reads
-use Rattle.host.proofs.flat.put.Lts as lts
 
 mul-a : tie.Need-mul-a
 mul-a c = search needs
@@ -65,11 +63,11 @@ array-write-a-5 : tie.Need-array-write-a-5
 array-write-a-5 c = search needs
 
 returns : tie.Need-returns
-unfolding setFive
-returns c = with-in _ _ _ (omega arith)
+unfolding withEntry setFive
+returns c = refl
 
 returns-2 : tie.Need-returns-2
-returns-2 c = with-out _ _ _ (omega arith)
+returns-2 c = put-past _ _ _ (full (c .before .args .f) (c .before .good .0)) (c .if1 .left)
 
 pub put-spec : {M : Type 1} → statement M
 put-spec =

@@ -6,37 +6,30 @@ use Rattle.host.proofs.flat.said_of.Tie as tie
 use Rattle.host.proofs.flat.said_of.Reads as reads
 use Rattle.host.proofs.flat.said_of.Lts as lts
 
--- src/flat.rt:97:25
 enum-known-answer : tie.Need-enum-known-answer
 enum-known-answer c = search needs
 
 enum-told : tie.Need-enum-told
 enum-told c = search needs
 
--- src/flat.rt:99:22
 enum-known-answer-2 : tie.Need-enum-known-answer-2
 enum-known-answer-2 c = search needs
 
--- src/flat.rt:103:23
 enum-known-answer-3 : tie.Need-enum-known-answer-3
 enum-known-answer-3 c = search needs
 
--- src/flat.rt:89:1
 returns : tie.Need-returns
 unfolding saidOf
 returns c = sym (ap saidOf (c .before .answer .given .1))
 
--- src/flat.rt:89:1
 returns-2 : tie.Need-returns-2
 unfolding saidOf
 returns-2 c = sym (ap saidOf (c .enum-told .given .1))
 
--- src/flat.rt:89:1
 returns-3 : tie.Need-returns-3
 unfolding saidOf
 returns-3 c = sym (ap saidOf (c .before .answer2 .given .1))
 
--- src/flat.rt:89:1
 returns-4 : tie.Need-returns-4
 unfolding saidOf
 returns-4 c = sym (ap saidOf (c .before .answer3 .given .1))

@@ -5,11 +5,9 @@ use Rattle.host.proofs.records.leave.Reads as reads
 use Rattle.host.proofs.records.leave.Lts as lts
 use Rattle.host.proofs.records.record_said_of.Reads as record-said-of-reads
 
--- src/records.rt:156:15
 record-said-of-requires : tie.Need-record-said-of-requires
 record-said-of-requires c κs = search needs
 
--- src/records.rt:142:1
 returns : tie.Need-returns
 returns c =
     λ i. record {

@@ -7,11 +7,9 @@ use Rattle.host.proofs.records.not_run.Reads as reads
 use Rattle.host.proofs.records.not_run.Lts as lts
 use Rattle.host.proofs.records.nothing_said.Reads as nothing-said-reads
 
--- src/records.rt:80:15
 nothing-said-requires : tie.Need-nothing-said-requires
 nothing-said-requires c κs = search needs
 
--- src/records.rt:75:1
 returns : tie.Need-returns
 unfolding ranSaid stepSaidOf goesOn placeNext
 returns c =

@@ -8,43 +8,34 @@ use Rattle.host.proofs.records.record_said_of.Lts as lts
 use Rattle.host.proofs.records.not_run.Reads as not-run-reads
 use Rattle.host.proofs.records.run.Reads as run-reads
 
--- src/records.rt:135:24
 enum-known-reply : tie.Need-enum-known-reply
 enum-known-reply c = search needs
 
--- src/records.rt:135:30
 not-run-requires : tie.Need-not-run-requires
 not-run-requires c κs = search needs
 
--- src/records.rt:136:20
 enum-known-reply-2 : tie.Need-enum-known-reply-2
 enum-known-reply-2 c = search needs
 
--- src/records.rt:136:38
 run-requires : tie.Need-run-requires
 run-requires c κs = search needs
 
--- src/records.rt:137:25
 enum-told : tie.Need-enum-told
 enum-told c = search needs
 
--- src/records.rt:137:25
 not-run-requires-2 : tie.Need-not-run-requires-2
 not-run-requires-2 c κs = search needs
 
--- src/records.rt:131:1
 returns : tie.Need-returns
 unfolding recordSaidOf
 returns c =
     c .not-run .ensures ∙ sym (ap recordSaidOf (c .before .before .reply .given .1))
 
--- src/records.rt:131:1
 returns-2 : tie.Need-returns-2
 unfolding recordSaidOf
 returns-2 c =
     c .run .ensures ∙ sym (ap recordSaidOf (c .before .before .reply2 .given .1))
 
--- src/records.rt:131:1
 returns-3 : tie.Need-returns-3
 unfolding recordSaidOf
 returns-3 c =

@@ -8,31 +8,24 @@ use Rattle.host.proofs.records.run.Reads as reads
 use Rattle.host.proofs.records.run.Lts as lts
 use Rattle.host.proofs.records.step_said_of.Reads as step-said-of-reads
 
--- src/records.rt:99:9
 step-said-of-requires : tie.Need-step-said-of-requires
 step-said-of-requires c κs = search needs
 
--- src/records.rt:101:9
 step-said-of-requires-2 : tie.Need-step-said-of-requires-2
 step-said-of-requires-2 c κs = search needs
 
--- src/records.rt:103:9
 step-said-of-requires-3 : tie.Need-step-said-of-requires-3
 step-said-of-requires-3 c κs = search needs
 
--- src/records.rt:105:9
 step-said-of-requires-4 : tie.Need-step-said-of-requires-4
 step-said-of-requires-4 c κs = search needs
 
--- src/records.rt:106:18
 enum-known-next : tie.Need-enum-known-next
 enum-known-next c = search needs
 
--- src/records.rt:107:9
 enum-told : tie.Need-enum-told
 enum-told c = search needs
 
--- src/records.rt:107:9
 returns : tie.Need-returns
 unfolding ranSaid goesOn placeNext
 returns c =
@@ -47,7 +40,6 @@ returns c =
       next = sym (ap placeNext (c .enum-told .given .1)) i;
     }
 
--- src/records.rt:95:1
 returns-2 : tie.Need-returns-2
 unfolding ranSaid goesOn placeNext
 returns-2 c =

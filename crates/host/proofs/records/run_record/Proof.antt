@@ -12,11 +12,9 @@ use Rattle.host.proofs.flat.numbers_lent.Reads as numbers-lent-reads
 use Rattle.host.proofs.records.leave.Reads as leave-reads
 use Rattle.job.proofs.run_record.Reads as run-record-reads
 
--- src/records.rt:174:9
 numbers-lent-requires : tie.Need-numbers-lent-requires
 numbers-lent-requires c κs = search needs
 
--- src/records.rt:175:32
 array-borrow-prefix-a : tie.Need-array-borrow-prefix-a
 unfolding numbersLent
 array-borrow-prefix-a c =
@@ -27,7 +25,6 @@ array-borrow-prefix-a c =
           .before .before .before .before .good .1 .1 .1 .0),
     )
 
--- src/records.rt:175:32
 slice-aggregate-run-record : tie.Need-slice-aggregate-run-record
 unfolding numbersLent
 slice-aggregate-run-record c =
@@ -39,23 +36,18 @@ slice-aggregate-run-record c =
       length-take (c .before .numbers-lent .result) (c .before .before .before .before .before .before .args .t .at),
     )
 
--- src/records.rt:175:9
 run-record-requires : tie.Need-run-record-requires
 run-record-requires c κs = search needs
 
--- src/records.rt:176:5
 leave-requires : tie.Need-leave-requires
 leave-requires c κs = search needs
 
--- src/records.rt:161:1
 same-length : tie.Need-same-length
 same-length c = search needs
 
--- src/records.rt:161:1
 same-length-2 : tie.Need-same-length-2
 same-length-2 c = search needs
 
--- src/records.rt:161:1
 returns : tie.Need-returns
 returns c =
     flat-ran _ _ _ _ _ _ _ _ _ _ _ _

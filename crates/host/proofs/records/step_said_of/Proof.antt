@@ -9,30 +9,24 @@ use Rattle.host.proofs.records.step_said_of.Lts as lts
 use Rattle.host.proofs.flat.said_of.Reads as said-of-reads
 use Rattle.host.proofs.records.nothing_said.Reads as nothing-said-reads
 
--- src/records.rt:62:20
 enum-known-told : tie.Need-enum-known-told
 enum-known-told c = search needs
 
--- src/records.rt:65:19
 enum-told : tie.Need-enum-told
 enum-told c = search needs
 
--- src/records.rt:65:19
 nothing-said-requires : tie.Need-nothing-said-requires
 nothing-said-requires c κs = search needs
 
--- src/records.rt:63:9
 returns : tie.Need-returns
 unfolding stepSaidOf
 returns c =
     (λ i. record { ran = false; said = c .nothing-said .ensures i })
     ∙ sym (ap stepSaidOf (c .before .enum-told .given .1))
 
--- src/records.rt:70:15
 said-of-requires : tie.Need-said-of-requires
 said-of-requires c κs = search needs
 
--- src/records.rt:59:1
 returns-2 : tie.Need-returns-2
 unfolding stepSaidOf
 returns-2 c =

@@ -42,7 +42,7 @@ use denote.Exit.{yes}
 use lib.Dec.{T as Holds}
 use types.Part.{agg, whole, sub, look-in}
 use types.Tokens.{lft-new, lft-end}
-use Rattle.host.specs.Flats.{loadTo, storeTo}
+use Rattle.host.specs.Flats.{frontOf, overFront}
 use Rattle.host.proofs.Shared.{LentShared, lends-shared, shared-back}
 use denote.Struct.Laws as LL
 use Rattle.foil_spec.specs.declared.Board.{Board}
@@ -112,11 +112,9 @@ module _ {M : Type 1} (𝓤 : URA M) (H : Heap 𝓤) (A : Atoms 𝓤) (mem : Mem
   Store = tripleOf 𝓤 H A st.signature (st.spec 𝓤 H A mem run)
 
   loaded-of : (κ : Lft) (x : RefT (List Entry)) (r : Flat)
-      → ent 𝓤 (ensured 𝓤 H A ld.ended (ld.clauses 𝓤 H A mem run) (κ, tt) (x, tt) tt r) (fact 𝓤 (r ≡ loadTo (x .now)
-      (length (x .now))))
+      → ent 𝓤 (ensured 𝓤 H A ld.ended (ld.clauses 𝓤 H A mem run) (κ, tt) (x, tt) tt r) (fact 𝓤 (r ≡ frontOf (x .now)))
   loaded-of κ x r =
-      exE 𝓤 _ (λ ws. snd∗ 𝓤 (sem 𝓤 H A (lasts ld.ended (κ, tt) (x, tt) ws)) (fact 𝓤 (r ≡ loadTo (x .now) (length (x
-      .now)))))
+      exE 𝓤 _ (λ ws. snd∗ 𝓤 (sem 𝓤 H A (lasts ld.ended (κ, tt) (x, tt) ws)) (fact 𝓤 (r ≡ frontOf (x .now))))
 
 module _ {M : Type 1} (𝓤 : URA M) (H : Heap 𝓤) (A : Atoms 𝓤) (W : Given 𝓤 H A) (at-mem : Memory → SProp 𝓤) (run :
     Routine → Fun 𝓤)
@@ -137,7 +135,7 @@ module _ {M : Type 1} (𝓤 : URA M) (H : Heap 𝓤) (A : Atoms 𝓤) (W : Given
 
   -- what was loaded
   abbrev loaded : Flat
-  loaded = loadTo y₀ (length y₀)
+  loaded = frontOf y₀
 
   abbrev Arg : Type 0
   Arg = RefT (List Entry) × (RefT (List ℕ) × (Board × (ℕ × Unit {0})))
@@ -336,10 +334,10 @@ module _ {M : Type 1} (𝓤 : URA M) (H : Heap 𝓤) (A : Atoms 𝓤) (W : Given
         split ! $ move ! (1 ∷ []) $ use1 W (some (λ (vs : List Entry × (Unit {0} × Unit {0})). ‵ (lasts st.ended (
           κ₀,
           tt,
-        ) (x₀ γ₀, (r .table, tt)) vs) ⊛ raw (fact 𝓤 (vs .0 ≡ storeTo (r .table) y₀ (length y₀))))) (id⊢ 𝓤 _) $
+        ) (x₀ γ₀, (r .table, tt)) vs) ⊛ raw (fact 𝓤 (vs .0 ≡ overFront (r .table) y₀)))) (id⊢ 𝓤 _) $
         pick ! (λ vs.
-        split ! $ move ! (1 ∷ []) $ heard ! (vs .0 ≡ storeTo (r .table) y₀ (length y₀)) (λ e₃. fsplit ! $
-        fsplit ! $ move ! (1 ∷ []) $ feqL ! (λ el₀. move ! (2 ∷ []) $ split ! $ move ! (1 ∷ []) $ feqL ! (λ e₄.
+        split ! $ move ! (1 ∷ []) $ heard ! (vs .0 ≡ overFront (r .table) y₀) (λ e₃. fsplit ! $ fsplit ! $
+        move ! (1 ∷ []) $ feqL ! (λ el₀. move ! (2 ∷ []) $ split ! $ move ! (1 ∷ []) $ feqL ! (λ e₄.
         land ! (from ! (stop !)) (init ! 11 refl (subst (λ (y : Val). Holds (hasTy tyUnit y) × WT y) (sym (ap only
         e₄)) (tt, tt))) $ rewrite ! 11 (λ (y : Val). ‵ (fat fullShare tyUnit l₁₂ 0 y)) (ap only e₄) refl $
         -- [the table's token; its last list; true; the other tokens; the other last lists; …; the locals]

@@ -2,7 +2,7 @@
 use Prim.Native.Nat.{_-_, _*_, _≤_}
 use native.Mathlib.Omega.{arith}
 use Rattle.foil_spec.specs.Lists.{each}
-use Rattle.strips.specs.Places.{listedStrip, listedStrips}
+use Rattle.foil_spec.specs.Lent.{listedStrip, listedStrips}
 use Rattle.lines.specs.Lines.{stripLine}
 use Rattle.lines.specs.Put.{Put}
 use Rattle.lines.proofs.Putting.{put-length}
