@@ -1,7 +1,7 @@
 -- Look up, return by return.
 use Prim.Native.Nat.{ℕ, _*_, _≤_, _<_}
 use native.Mathlib.Omega.{arith}
-use mathlib.Core.Path.{_≡_, refl, sym, ap, ap₂, _∙_, subst}
+use mathlib.Core.Path.{_≡_, refl, sym, ap, _∙_, subst}
 use mathlib.Core.Bool.{Bool, true, false, not, or-true}
 use mathlib.Core.List.{List, [], _∷_}
 use mathlib.Core.Option.{none, some}
@@ -10,7 +10,7 @@ use borrow.Author.Tests.{lt-leb, le-leb, not-true}
 use Rattle.foil_spec.specs.Foil.{Point, free}
 use Rattle.foil_spec.specs.Strips.{placeOf}
 use Rattle.foil_spec.specs.Ledger.{lookUp, stripsOf, offFoil, blocked, next, says, _⇒_, first, refusals}
-use Rattle.foil_spec.specs.Lent.{Lent, lent, withCorners, store, layoutOf, held, sound, roomOf, cornersAfter}
+use Rattle.foil_spec.specs.Lent.{Lent, lent, withCorners, layoutOf, held, sound, roomOf, cornersAfter}
 use Rattle.foil_spec.specs.Lent.{listedStrips, finish, stepOn}
 use Rattle.foil_spec.specs.declared.Board.{Board}
 use Rattle.list_laws.proofs.Tests.{both}

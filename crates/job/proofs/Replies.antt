@@ -1,31 +1,29 @@
 -- What a reply says of its record: which checks it has passed, which bits its answers come from, and where the corners of
 -- its track stand.
-use Prim.Native.Nat.{ℕ, _+_, _*_, _/_, _≤_, _<_}
+use Prim.Native.Nat.{ℕ, _/_, _≤_}
 use native.Mathlib.Omega.{arith}
 use mathlib.Core.Path.{_≡_, refl, sym, ap, _∙_, subst, subst₂}
 use mathlib.Core.Bool.{Bool, true, false, cond, not, _&&_, xor}
-use mathlib.Core.List.{List, [], _∷_, _++_}
+use mathlib.Core.List.{List, [], _∷_}
 use mathlib.Core.Option.{Option, none, some}
 use lib.Dec.{leb, ltb, eqb}
 use lib.ListN.{length}
 use borrow.Author.Tests.{ltb-false, leb-false}
-use Rattle.foil_spec.specs.Lists.{any, consIf}
+use Rattle.foil_spec.specs.Lists.{consIf}
 use Rattle.foil_spec.specs.Foil.{Point}
-use Rattle.foil_spec.specs.Ledger.{Step, lay, Answer, refused, accepted, laid, found, numberOf, _⇒_, first, After}
+use Rattle.foil_spec.specs.Ledger.{Step, lay, Answer, laid, numberOf, _⇒_, first, After}
 use Rattle.foil_spec.specs.Ledger.{Refusal, short, refusals}
-use Rattle.foil_spec.specs.Lent.{Lent, store, held, sound, roomOf, cornersAfter, finish, stepOn}
-use Rattle.foil_spec.specs.Job.{mapByte, has, isEnd, recordEnd, steps, recordChecks}
+use Rattle.foil_spec.specs.Lent.{Lent, held, sound, roomOf, cornersAfter, finish, stepOn}
+use Rattle.foil_spec.specs.Job.{has, isEnd, recordEnd, steps, recordChecks}
 use Rattle.foil_spec.specs.Calls.{Reply as Outcome, answered, ran, atEnd, runRecord, endsJob, andThen, actAll}
 use Rattle.foil_spec.specs.Calls.{actRecord, tooLarge, callOn}
 use Rattle.ledger_laws.proofs.Refusals.{none-applies}
 use Rattle.list_laws.proofs.Tests.{not-ff}
 use Rattle.ledger_laws.proofs.Lay.{laid-fits}
 use Rattle.ledger_laws.proofs.Opening.{end-no-board}
-use Rattle.foil.specs.declared.Answer.{Answer as Answered}
 use Rattle.job.specs.Contract.{toldAt, restAfter, answersOf, nextOf, replyOf}
-use Rattle.job.specs.Parts.{Whole, boardStep, patchStep, trackStep, liftStep, stepIf, toldOf, endedAfter}
-use Rattle.job.specs.declared.Told.{Told}
-use Rattle.job.specs.declared.Told.the-variants.{Nothing, Said}
+use Rattle.job.specs.Parts.{Whole, boardStep, patchStep, trackStep, liftStep, stepIf, endedAfter}
+use Rattle.job.specs.declared.Told.the-variants.{Said}
 use Rattle.job.specs.declared.Answers.{Answers}
 use Rattle.job.specs.declared.Next.{Next}
 use Rattle.job.specs.declared.Reply.the-variants.{Refused, Ran, AtEnd}

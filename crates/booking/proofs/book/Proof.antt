@@ -4,34 +4,24 @@ use Rattle.booking.proofs.Taking.{rows-long, refused, taken}
 use borrow.Author.Needs.{needs}
 use Rattle.booking.proofs.book.Statement.{statement}
 use Rattle.booking.proofs.book.Tie as tie
-use Rattle.booking.proofs.book.Reads as reads
-use Rattle.booking.proofs.book.Lts as lts
-use Rattle.booking.proofs.rows.copy_front.Reads as copy-front-reads
-use Rattle.strips.proofs.rebuild.Reads as rebuild-reads
 
--- src/lib.rt:37:25
 slice-aggregate-rebuild : tie.Need-slice-aggregate-rebuild
 slice-aggregate-rebuild c = search needs
 
--- src/lib.rt:37:9
 rebuild-requires : tie.Need-rebuild-requires
 rebuild-requires c κs = search needs
 
--- src/lib.rt:38:23
 enum-known-built : tie.Need-enum-known-built
 enum-known-built c = search needs
 
--- src/lib.rt:39:9
 enum-told : tie.Need-enum-told
 enum-told c = search needs
 
--- src/lib.rt:39:9
 returns : tie.Need-returns
 returns c =
     refused _ _ _ _ _ _ _ _ _ ((rw (c .enum-told .given .1) at
     (c .before .before .before .rebuild .ensures)) .0) refl refl
 
--- src/lib.rt:41:5
 copy-front-requires : tie.Need-copy-front-requires
 copy-front-requires c κs = (
   omega arith,
@@ -42,23 +32,18 @@ copy-front-requires c κs = (
       (c .before .before .before .before .before .before .before .before .before .before .pre .1 .0),
 )
 
--- src/lib.rt:42:24
 slice-aggregate-copy-front : tie.Need-slice-aggregate-copy-front
 slice-aggregate-copy-front c = search needs
 
--- src/lib.rt:42:5
 copy-front-requires-2 : tie.Need-copy-front-requires-2
 copy-front-requires-2 c κs = search needs
 
--- src/lib.rt:29:1
 same-length : tie.Need-same-length
 same-length c = search needs
 
--- src/lib.rt:29:1
 same-length-2 : tie.Need-same-length-2
 same-length-2 c = search needs
 
--- src/lib.rt:29:1
 returns-2 : tie.Need-returns-2
 returns-2 c =
     let q = rw (c .before .before .before .before .before .before .before .before .before .before .built .given .1) at

@@ -8,77 +8,53 @@ use Rattle.foil.proofs.Lifting.{no-net, not-there, lifted-again, lifted
 use borrow.Author.Needs.{needs}
 use Rattle.foil.proofs.lift.Statement.{statement}
 use Rattle.foil.proofs.lift.Tie as tie
-use Rattle.foil.proofs.lift.Reads as reads
-use Rattle.foil.proofs.lift.Lts as lts
-use Rattle.booking.proofs.in_use.Reads as in-use-reads
-use Rattle.booking.proofs.without.Reads as without-reads
-use Rattle.foil.proofs.lists_short.Reads as lists-short-reads
-use Rattle.foil.proofs.refuse.Reads as refuse-reads
-use Rattle.foil.proofs.settle.Reads as settle-reads
-use Rattle.state.proofs.is_sound.Reads as is-sound-reads
-use Rattle.state.proofs.net_ok.Reads as net-ok-reads
 
--- src/lib.rt:101:8
 lists-short-requires : tie.Need-lists-short-requires
 lists-short-requires c κs = search needs
 
--- src/lib.rt:102:9
 refuse-requires : tie.Need-refuse-requires
 refuse-requires c κs = search needs
 
--- src/lib.rt:102:9
 same-length : tie.Need-same-length
 same-length c = search needs
 
--- src/lib.rt:102:9
 same-length-2 : tie.Need-same-length-2
 same-length-2 c = search needs
 
--- src/lib.rt:102:9
 returns : tie.Need-returns
 returns c =
     short-done _ _ _ _ _ _ _ (c .before .before .lists-short .ensures) (c .before .if1 .taken) (c .refuse .ensures)
 
--- src/lib.rt:104:9
 is-sound-requires : tie.Need-is-sound-requires
 is-sound-requires c κs = search needs
 
--- src/lib.rt:105:9
 refuse-requires-2 : tie.Need-refuse-requires-2
 refuse-requires-2 c κs = search needs
 
--- src/lib.rt:105:9
 same-length-3 : tie.Need-same-length-3
 same-length-3 c = search needs
 
--- src/lib.rt:105:9
 same-length-4 : tie.Need-same-length-4
 same-length-4 c = search needs
 
--- src/lib.rt:105:9
 returns-2 : tie.Need-returns-2
 returns-2 c =
     broken-done _ _ _ _ _ (c .before .before .before .before .before .before .lists-short .ensures)
     (c .before .before .before .before .before .if1 .left) _
     (c .before .before .is-sound .ensures) _ tt (c .before .if2 .taken) _ (c .refuse2 .ensures)
 
--- src/lib.rt:107:9
 net-ok-requires : tie.Need-net-ok-requires
 net-ok-requires c κs = search needs
 
--- src/lib.rt:108:9
 refuse-requires-3 : tie.Need-refuse-requires-3
 refuse-requires-3 c κs = search needs
 
--- src/lib.rt:108:9
 same-length-5 : tie.Need-same-length-5
 same-length-5 c = search needs
 
--- src/lib.rt:108:9
 same-length-6 : tie.Need-same-length-6
 same-length-6 c = search needs
 
--- src/lib.rt:108:9
 returns-3 : tie.Need-returns-3
 returns-3 c =
     no-net _ _ _ _
@@ -87,7 +63,6 @@ returns-3 c =
     (c .before .before .before .before .is-sound .ensures) (c .before .before .before .if2 .left)) _
     (c .before .before .net-ok .ensures) (c .before .if3 .taken) _ (c .refuse3 .ensures)
 
--- src/lib.rt:111:9
 in-use-requires : tie.Need-in-use-requires
 in-use-requires c κs =
     omega (
@@ -103,19 +78,15 @@ in-use-requires c κs =
           (c .before .before .before .before .is-sound .ensures) (c .before .before .before .if2 .left)) .fine))) .few,
     )
 
--- src/lib.rt:112:9
 refuse-requires-4 : tie.Need-refuse-requires-4
 refuse-requires-4 c κs = search needs
 
--- src/lib.rt:112:9
 same-length-7 : tie.Need-same-length-7
 same-length-7 c = search needs
 
--- src/lib.rt:112:9
 same-length-8 : tie.Need-same-length-8
 same-length-8 c = search needs
 
--- src/lib.rt:112:9
 returns-4 : tie.Need-returns-4
 returns-4 c =
     not-there _ _ _ _
@@ -127,11 +98,9 @@ returns-4 c =
     (c .before .before .before .before .before .net-ok .ensures) (c .before .before .before .before .if3 .left) _
     (c .before .before .in-use .ensures) (c .before .if4 .taken) _ (c .refuse4 .ensures)
 
--- src/lib.rt:115:24
 slice-aggregate-without : tie.Need-slice-aggregate-without
 slice-aggregate-without c = search needs
 
--- src/lib.rt:115:9
 without-requires : tie.Need-without-requires
 without-requires c κs = (
   (held-limits _ _ _ [] (of-sound _ ((ready _ _ _ _ _
@@ -158,11 +127,9 @@ without-requires c κs = (
   no-rows,
 )
 
--- src/lib.rt:116:27
 slice-aggregate-settle : tie.Need-slice-aggregate-settle
 slice-aggregate-settle c = search needs
 
--- src/lib.rt:116:5
 settle-requires : tie.Need-settle-requires
 settle-requires c κs = (
   lifted-table _ _ _ _
@@ -214,15 +181,12 @@ settle-requires c κs = (
   ),
 )
 
--- src/lib.rt:97:1
 same-length-9 : tie.Need-same-length-9
 same-length-9 c = search needs
 
--- src/lib.rt:97:1
 same-length-10 : tie.Need-same-length-10
 same-length-10 c = search needs
 
--- src/lib.rt:97:1
 returns-5 : tie.Need-returns-5
 returns-5 c =
     lifted _ _ _ _

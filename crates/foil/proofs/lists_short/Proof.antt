@@ -1,14 +1,10 @@
 use Rattle.foil.proofs.Refusing.{short-table, by-strips}
 use Rattle.foil.proofs.lists_short.Statement.{statement}
 use Rattle.foil.proofs.lists_short.Tie as tie
-use Rattle.foil.proofs.lists_short.Reads as reads
-use Rattle.foil.proofs.lists_short.Lts as lts
 
--- src/lib.rt:147:9
 returns : tie.Need-returns
 returns c = short-table _ _ (c .if1 .taken)
 
--- src/lib.rt:143:1
 returns-2 : tie.Need-returns-2
 returns-2 c = by-strips _ _ (c .if1 .left)
 

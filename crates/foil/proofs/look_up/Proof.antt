@@ -5,31 +5,21 @@ use Rattle.foil.proofs.Looking.{look-short, look-broken, off-right, off
 use borrow.Author.Needs.{needs}
 use Rattle.foil.proofs.look_up.Statement.{statement}
 use Rattle.foil.proofs.look_up.Tie as tie
-use Rattle.foil.proofs.look_up.Reads as reads
-use Rattle.foil.proofs.look_up.Lts as lts
-use Rattle.foil.proofs.lists_short.Reads as lists-short-reads
-use Rattle.state.proofs.is_sound.Reads as is-sound-reads
-use Rattle.strips.proofs.locate.Reads as locate-reads
 
--- src/lib.rt:123:8
 lists-short-requires : tie.Need-lists-short-requires
 lists-short-requires c κs = search needs
 
--- src/lib.rt:124:9
 returns : tie.Need-returns
 returns c = look-short _ _ _ _ _ (c .before .lists-short .ensures) (c .if1 .taken)
 
--- src/lib.rt:126:9
 is-sound-requires : tie.Need-is-sound-requires
 is-sound-requires c κs = search needs
 
--- src/lib.rt:127:9
 returns-2 : tie.Need-returns-2
 returns-2 c =
     look-broken _ _ _ _ _ (c .before .before .before .lists-short .ensures) (c .before .before .if1 .left) _
     (c .before .is-sound .ensures) (c .if2 .taken)
 
--- src/lib.rt:130:9
 returns-3 : tie.Need-returns-3
 returns-3 c =
     off-right _ _ _ _
@@ -38,7 +28,6 @@ returns-3 c =
     (c .before .before .if2 .left))
     (c .if3 .taken)
 
--- src/lib.rt:133:9
 returns-4 : tie.Need-returns-4
 returns-4 c =
     off-below _ _ _ _
@@ -47,7 +36,6 @@ returns-4 c =
     (c .before .before .before .before .before .is-sound .ensures) (c .before .before .before .before .if2 .left))
     (c .if4 .taken)
 
--- src/lib.rt:135:9
 locate-requires : tie.Need-locate-requires
 locate-requires c κs =
     strips-long _ _ _ (point
@@ -57,15 +45,12 @@ locate-requires c κs =
     (c .before .before .before .before .before .before .if1 .left) _
     (c .before .before .before .before .before .is-sound .ensures) (c .before .before .before .before .if2 .left))
 
--- src/lib.rt:136:19
 enum-known-place : tie.Need-enum-known-place
 enum-known-place c = search needs
 
--- src/lib.rt:137:9
 enum-told : tie.Need-enum-told
 enum-told c = search needs
 
--- src/lib.rt:137:9
 returns-5 : tie.Need-returns-5
 returns-5 c =
     nowhere _ _ _ _
@@ -77,7 +62,6 @@ returns-5 c =
     (c .before .before .before .before .before .if3 .left) (c .before .before .before .if4 .left) (sym
     (c .before .before .locate .ensures) ∙ c .enum-told .given .1)
 
--- src/lib.rt:120:1
 returns-6 : tie.Need-returns-6
 returns-6 c =
     somewhere _ _ _ _

@@ -5,75 +5,53 @@ use Rattle.foil.proofs.Beginning.{no-width, no-height, no-clearance, no
 use borrow.Author.Needs.{needs}
 use Rattle.foil.proofs.new_foil.Statement.{statement}
 use Rattle.foil.proofs.new_foil.Tie as tie
-use Rattle.foil.proofs.new_foil.Reads as reads
-use Rattle.foil.proofs.new_foil.Lts as lts
-use Rattle.foil.proofs.lists_short.Reads as lists-short-reads
-use Rattle.foil.proofs.refuse.Reads as refuse-reads
-use Rattle.foil.proofs.settle.Reads as settle-reads
-use Rattle.state.proofs.clearance_ok.Reads as clearance-ok-reads
-use Rattle.state.proofs.size_ok.Reads as size-ok-reads
 
--- src/lib.rt:49:8
 lists-short-requires : tie.Need-lists-short-requires
 lists-short-requires c κs = search needs
 
--- src/lib.rt:50:9
 refuse-requires : tie.Need-refuse-requires
 refuse-requires c κs = search needs
 
--- src/lib.rt:50:9
 same-length : tie.Need-same-length
 same-length c = search needs
 
--- src/lib.rt:50:9
 same-length-2 : tie.Need-same-length-2
 same-length-2 c = search needs
 
--- src/lib.rt:50:9
 returns : tie.Need-returns
 returns c =
     short-done _ _ _ _ _ _ _ (c .before .before .lists-short .ensures) (c .before .if1 .taken) (c .refuse .ensures)
 
--- src/lib.rt:52:9
 size-ok-requires : tie.Need-size-ok-requires
 size-ok-requires c κs = search needs
 
--- src/lib.rt:53:9
 refuse-requires-2 : tie.Need-refuse-requires-2
 refuse-requires-2 c κs = search needs
 
--- src/lib.rt:53:9
 same-length-3 : tie.Need-same-length-3
 same-length-3 c = search needs
 
--- src/lib.rt:53:9
 same-length-4 : tie.Need-same-length-4
 same-length-4 c = search needs
 
--- src/lib.rt:53:9
 returns-2 : tie.Need-returns-2
 returns-2 c =
     no-width _ _ _ _ _ _ _ (c .before .before .before .before .lists-short .ensures)
     (c .before .before .before .if1 .left) _
     (c .before .before .size-ok .ensures) (c .before .if2 .taken) _ (c .refuse2 .ensures)
 
--- src/lib.rt:55:9
 size-ok-requires-2 : tie.Need-size-ok-requires-2
 size-ok-requires-2 c κs = search needs
 
--- src/lib.rt:56:9
 refuse-requires-3 : tie.Need-refuse-requires-3
 refuse-requires-3 c κs = search needs
 
--- src/lib.rt:56:9
 same-length-5 : tie.Need-same-length-5
 same-length-5 c = search needs
 
--- src/lib.rt:56:9
 same-length-6 : tie.Need-same-length-6
 same-length-6 c = search needs
 
--- src/lib.rt:56:9
 returns-3 : tie.Need-returns-3
 returns-3 c =
     no-height _ _ _ _ _ _ _ (c .before .before .before .before .before .before .lists-short .ensures)
@@ -81,23 +59,18 @@ returns-3 c =
     (c .before .before .before .before .size-ok .ensures) (c .before .before .before .if2 .left) _
     (c .before .before .size-ok2 .ensures) (c .before .if3 .taken) _ (c .refuse3 .ensures)
 
--- src/lib.rt:58:9
 clearance-ok-requires : tie.Need-clearance-ok-requires
 clearance-ok-requires c κs = search needs
 
--- src/lib.rt:59:9
 refuse-requires-4 : tie.Need-refuse-requires-4
 refuse-requires-4 c κs = search needs
 
--- src/lib.rt:59:9
 same-length-7 : tie.Need-same-length-7
 same-length-7 c = search needs
 
--- src/lib.rt:59:9
 same-length-8 : tie.Need-same-length-8
 same-length-8 c = search needs
 
--- src/lib.rt:59:9
 returns-4 : tie.Need-returns-4
 returns-4 c =
     no-clearance _ _ _ _ _ _ _
@@ -108,11 +81,9 @@ returns-4 c =
     (c .before .before .before .if3 .left) _ (c .before .before .clearance-ok .ensures) (c .before .if4 .taken) _
     (c .refuse4 .ensures)
 
--- src/lib.rt:69:27
 slice-aggregate-settle : tie.Need-slice-aggregate-settle
 slice-aggregate-settle c = search needs
 
--- src/lib.rt:69:5
 settle-requires : tie.Need-settle-requires
 settle-requires c κs = (
   bare-table _ _ _ (sym
@@ -139,15 +110,12 @@ settle-requires c κs = (
   ),
 )
 
--- src/lib.rt:45:1
 same-length-9 : tie.Need-same-length-9
 same-length-9 c = search needs
 
--- src/lib.rt:45:1
 same-length-10 : tie.Need-same-length-10
 same-length-10 c = search needs
 
--- src/lib.rt:45:1
 returns-5 : tie.Need-returns-5
 returns-5 c =
     begun _ _ _ _ _ _ _

@@ -4,51 +4,37 @@ use Rattle.foil.specs.declared.Done.{Done}
 use borrow.Author.Needs.{needs}
 use Rattle.foil.proofs.settle.Statement.{statement}
 use Rattle.foil.proofs.settle.Tie as tie
-use Rattle.foil.proofs.settle.Reads as reads
-use Rattle.foil.proofs.settle.Lts as lts
-use Rattle.booking.proofs.book.Reads as book-reads
-use Rattle.foil.proofs.refuse.Reads as refuse-reads
 
--- src/lib.rt:170:9
 book-requires : tie.Need-book-requires
 book-requires c κs = search needs
 
--- src/lib.rt:171:23
 enum-known-booked : tie.Need-enum-known-booked
 enum-known-booked c = search needs
 
--- src/lib.rt:172:9
 enum-told : tie.Need-enum-told
 enum-told c = search needs
 
--- src/lib.rt:172:9
 refuse-requires : tie.Need-refuse-requires
 refuse-requires c κs = search needs
 
--- src/lib.rt:172:9
 same-length : tie.Need-same-length
 same-length c = search needs
 
--- src/lib.rt:172:9
 same-length-2 : tie.Need-same-length-2
 same-length-2 c = search needs
 
--- src/lib.rt:172:9
 returns : tie.Need-returns
 returns c =
     over (rw (c .before .enum-told .given .1) at
     (c .before .before .before .before .before .before .before .book .ensures))
     (ap (λ (x : Done). x .answer) (c .refuse .ensures)) (ap (λ (x : Done). x .board) (c .refuse .ensures))
 
--- src/lib.rt:163:1
 same-length-3 : tie.Need-same-length-3
 same-length-3 c = search needs
 
--- src/lib.rt:163:1
 same-length-4 : tie.Need-same-length-4
 same-length-4 c = search needs
 
--- src/lib.rt:163:1
 returns-2 : tie.Need-returns-2
 returns-2 c =
     fits (rw (c .before .booked .given .1) at

@@ -3,12 +3,6 @@ use borrow.Author.Needs.{needs}
 use Rattle.job.proofs.Wholes.{file-refused, few, record-refused, there, at-end, whole, ran-done}
 use Rattle.job.proofs.run_record.Statement.{statement}
 use Rattle.job.proofs.run_record.Tie as tie
-use Rattle.job.proofs.run_record.Reads as reads
-use Rattle.job.proofs.run_record.Lts as lts
-use Rattle.job.proofs.checks.file_refusal.Reads as file-refusal-reads
-use Rattle.job.proofs.checks.record_refusal.Reads as record-refusal-reads
-use Rattle.job.proofs.refuse.Reads as refuse-reads
-use Rattle.job.proofs.running.run_steps.Reads as run-steps-reads
 
 file-refusal-requires : tie.Need-file-refusal-requires
 file-refusal-requires c κs = search needs

@@ -4,11 +4,7 @@ use Rattle.foil.proofs.Looking.{strips-long, nowhere-blocked, somewhere-free}
 use borrow.Author.Needs.{needs}
 use Rattle.laying.proofs.is_blocked.Statement.{statement}
 use Rattle.laying.proofs.is_blocked.Tie as tie
-use Rattle.laying.proofs.is_blocked.Reads as reads
-use Rattle.laying.proofs.is_blocked.Lts as lts
-use Rattle.strips.proofs.locate.Reads as locate-reads
 
--- src/lib.rt:86:9
 locate-requires : tie.Need-locate-requires
 locate-requires c κs =
     strips-long _ _ _ (point (c .before .before .args .x) (c .before .before .args .y)) (c .before .before .pre .0)
@@ -16,18 +12,15 @@ locate-requires c κs =
 enum-told : tie.Need-enum-told
 enum-told c = search needs
 
--- src/lib.rt:88:9
 enum-told-2 : tie.Need-enum-told-2
 enum-told-2 c = search needs
 
--- src/lib.rt:88:9
 returns : tie.Need-returns
 returns c =
     nowhere-blocked _ _ _ _ (c .before .before .before .before .before .pre .0)
     (c .before .before .before .before .before .pre .1 .0) (c .before .before .before .before .before .pre .1 .1)
     (sym (c .before .before .locate .ensures) ∙ c .enum-told2 .given .1)
 
--- src/lib.rt:81:1
 returns-2 : tie.Need-returns-2
 returns-2 c =
     somewhere-free _ _ _ _ (c .before .before .before .before .before .pre .0)

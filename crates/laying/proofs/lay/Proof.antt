@@ -6,78 +6,53 @@ use Rattle.laying.proofs.Checking.{ready-to-lay}
 use borrow.Author.Needs.{needs}
 use Rattle.laying.proofs.lay.Statement.{statement}
 use Rattle.laying.proofs.lay.Tie as tie
-use Rattle.laying.proofs.lay.Reads as reads
-use Rattle.laying.proofs.lay.Lts as lts
-use Rattle.booking.proofs.in_use.Reads as in-use-reads
-use Rattle.laying.proofs.is_blocked.Reads as is-blocked-reads
-use Rattle.laying.proofs.lay_between.Reads as lay-between-reads
-use Rattle.laying.proofs.off_foil.Reads as off-foil-reads
-use Rattle.foil.proofs.lists_short.Reads as lists-short-reads
-use Rattle.foil.proofs.refuse.Reads as refuse-reads
-use Rattle.state.proofs.is_sound.Reads as is-sound-reads
-use Rattle.state.proofs.net_ok.Reads as net-ok-reads
 
--- src/lib.rt:42:8
 lists-short-requires : tie.Need-lists-short-requires
 lists-short-requires c κs = search needs
 
--- src/lib.rt:43:9
 refuse-requires : tie.Need-refuse-requires
 refuse-requires c κs = search needs
 
--- src/lib.rt:43:9
 same-length : tie.Need-same-length
 same-length c = search needs
 
--- src/lib.rt:43:9
 same-length-2 : tie.Need-same-length-2
 same-length-2 c = search needs
 
--- src/lib.rt:43:9
 returns : tie.Need-returns
 returns c =
     short-done _ _ _ _ _ _ _ (c .before .before .lists-short .ensures) (c .before .if1 .taken) (c .refuse .ensures)
 
--- src/lib.rt:45:9
 is-sound-requires : tie.Need-is-sound-requires
 is-sound-requires c κs = search needs
 
--- src/lib.rt:46:9
 refuse-requires-2 : tie.Need-refuse-requires-2
 refuse-requires-2 c κs = search needs
 
--- src/lib.rt:46:9
 same-length-3 : tie.Need-same-length-3
 same-length-3 c = search needs
 
--- src/lib.rt:46:9
 same-length-4 : tie.Need-same-length-4
 same-length-4 c = search needs
 
--- src/lib.rt:46:9
 returns-2 : tie.Need-returns-2
 returns-2 c =
     broken-done _ _ _ _ _ (c .before .before .before .before .before .before .lists-short .ensures) (c .before
     .before .before .before .before .if1 .left) _ (c .before .before .is-sound .ensures) _ tt (c .before .if2
     .taken) _ (c .refuse2 .ensures)
 
--- src/lib.rt:48:9
 net-ok-requires : tie.Need-net-ok-requires
 net-ok-requires c κs = search needs
 
--- src/lib.rt:49:9
 refuse-requires-3 : tie.Need-refuse-requires-3
 refuse-requires-3 c κs = search needs
 
--- src/lib.rt:49:9
 same-length-5 : tie.Need-same-length-5
 same-length-5 c = search needs
 
--- src/lib.rt:49:9
 same-length-6 : tie.Need-same-length-6
 same-length-6 c = search needs
 
--- src/lib.rt:49:9
 returns-3 : tie.Need-returns-3
 returns-3 c =
     no-net _ _ _ _ _ _ _ (ready _ _ _ _ _ (c .before .before .before .before .before .before .before .before
@@ -85,7 +60,6 @@ returns-3 c =
     .before .before .before .is-sound .ensures) (c .before .before .before .if2 .left)) _ (c .before .before .net-ok
     .ensures) (c .before .if3 .taken) _ (c .refuse3 .ensures)
 
--- src/lib.rt:51:8
 in-use-requires : tie.Need-in-use-requires
 in-use-requires c κs =
     entries-long _ _ _ [] (c .before .before .before .before .before .before .before .before .before .before .before
@@ -98,19 +72,15 @@ in-use-requires c κs =
     (c .before .before .before .before .before .before .before .if1 .left) _ (c .before .before .before .before
     .is-sound .ensures) (c .before .before .before .if2 .left))
 
--- src/lib.rt:52:9
 refuse-requires-4 : tie.Need-refuse-requires-4
 refuse-requires-4 c κs = search needs
 
--- src/lib.rt:52:9
 same-length-7 : tie.Need-same-length-7
 same-length-7 c = search needs
 
--- src/lib.rt:52:9
 same-length-8 : tie.Need-same-length-8
 same-length-8 c = search needs
 
--- src/lib.rt:52:9
 returns-4 : tie.Need-returns-4
 returns-4 c =
     used _ _ _ _ _ _ _ (ready _ _ _ _ _ (c .before .before .before .before .before .before .before .before .before
@@ -120,23 +90,18 @@ returns-4 c =
     .net-ok .ensures) (c .before .before .before .before .if3 .left) _ (c .before .before .in-use .ensures) (c
     .before .if4 .taken) _ (c .refuse4 .ensures)
 
--- src/lib.rt:54:8
 off-foil-requires : tie.Need-off-foil-requires
 off-foil-requires c κs = search needs
 
--- src/lib.rt:55:9
 refuse-requires-5 : tie.Need-refuse-requires-5
 refuse-requires-5 c κs = search needs
 
--- src/lib.rt:55:9
 same-length-9 : tie.Need-same-length-9
 same-length-9 c = search needs
 
--- src/lib.rt:55:9
 same-length-10 : tie.Need-same-length-10
 same-length-10 c = search needs
 
--- src/lib.rt:55:9
 returns-5 : tie.Need-returns-5
 returns-5 c =
     s-off _ _ _ _ _ _ _ (ready _ _ _ _ _ (c .before .before .before .before .before .before .before .before .before
@@ -148,23 +113,18 @@ returns-5 c =
     .before .before .if4 .left) _ (c .before .before .off-foil .ensures) (c .before .if5 .taken) _ (c .refuse5
     .ensures)
 
--- src/lib.rt:57:8
 off-foil-requires-2 : tie.Need-off-foil-requires-2
 off-foil-requires-2 c κs = search needs
 
--- src/lib.rt:58:9
 refuse-requires-6 : tie.Need-refuse-requires-6
 refuse-requires-6 c κs = search needs
 
--- src/lib.rt:58:9
 same-length-11 : tie.Need-same-length-11
 same-length-11 c = search needs
 
--- src/lib.rt:58:9
 same-length-12 : tie.Need-same-length-12
 same-length-12 c = search needs
 
--- src/lib.rt:58:9
 returns-6 : tie.Need-returns-6
 returns-6 c =
     t-off _ _ _ _ _ _ _ (ready _ _ _ _ _ (c .before .before .before .before .before .before .before .before .before
@@ -177,7 +137,6 @@ returns-6 c =
     .before .before .before .before .before .if4 .left) _ (c .before .before .off-foil2 .ensures) (c .before .if6
     .taken) _ (c .refuse6 .ensures)
 
--- src/lib.rt:60:8
 is-blocked-requires : tie.Need-is-blocked-requires
 is-blocked-requires c κs = (
   (ready _ _ _ _ _ (c .before .before .before .before .before .before .before .before .before .before .before
@@ -189,19 +148,15 @@ is-blocked-requires c κs = (
       .before .before .before .before .before .off-foil .ensures) (c .before .before .before .before .if5 .left),
 )
 
--- src/lib.rt:61:9
 refuse-requires-7 : tie.Need-refuse-requires-7
 refuse-requires-7 c κs = search needs
 
--- src/lib.rt:61:9
 same-length-13 : tie.Need-same-length-13
 same-length-13 c = search needs
 
--- src/lib.rt:61:9
 same-length-14 : tie.Need-same-length-14
 same-length-14 c = search needs
 
--- src/lib.rt:61:9
 returns-7 : tie.Need-returns-7
 returns-7 c =
     s-blocked _ _ _ _ _ _ _ (ready _ _ _ _ _ (c .before .before .before .before .before .before .before .before
@@ -219,7 +174,6 @@ returns-7 c =
     .before .before .before .before .before .if6 .left) _ (c .before .before .is-blocked .ensures) (c .before .if7
     .taken) _ (c .refuse7 .ensures)
 
--- src/lib.rt:63:8
 is-blocked-requires-2 : tie.Need-is-blocked-requires-2
 is-blocked-requires-2 c κs = (
   (ready _ _ _ _ _ (c .before .before .before .before .before .before .before .before .before .before .before
@@ -232,19 +186,15 @@ is-blocked-requires-2 c κs = (
       .before .before .before .before .if6 .left),
 )
 
--- src/lib.rt:64:9
 refuse-requires-8 : tie.Need-refuse-requires-8
 refuse-requires-8 c κs = search needs
 
--- src/lib.rt:64:9
 same-length-15 : tie.Need-same-length-15
 same-length-15 c = search needs
 
--- src/lib.rt:64:9
 same-length-16 : tie.Need-same-length-16
 same-length-16 c = search needs
 
--- src/lib.rt:64:9
 returns-8 : tie.Need-returns-8
 returns-8 c =
     t-blocked _ _ _ _ _ _ _ (ready _ _ _ _ _ (c .before .before .before .before .before .before .before .before
@@ -265,24 +215,19 @@ returns-8 c =
     .off-foil2 .ensures) (c .before .before .before .before .before .before .before .before .before .if6 .left) _ (c
     .before .before .is-blocked2 .ensures) (c .before .if8 .taken) _ (c .refuse8 .ensures)
 
--- src/lib.rt:66:5
 lay-between-requires : tie.Need-lay-between-requires
 lay-between-requires c κs =
     ready-to-lay _ _ _ _ _ _ _ (ready _ _ _ _ _ (c .before .before .before .before .before .before .before .before .before .before .before .before .before .before .before .before .before .before .before .before .before .before .before .before .before .lists-short .ensures) (c .before .before .before .before .before .before .before .before .before .before .before .before .before .before .before .before .before .before .before .before .before .before .before .before .if1 .left) _ (c .before .before .before .before .before .before .before .before .before .before .before .before .before .before .before .before .before .before .before .before .before .is-sound .ensures) (c .before .before .before .before .before .before .before .before .before .before .before .before .before .before .before .before .before .before .before .before .if2 .left)) _ (c .before .before .before .before .before .before .before .before .before .before .before .before .before .before .before .before .before .before .before .net-ok .ensures) (c .before .before .before .before .before .before .before .before .before .before .before .before .before .before .before .before .before .before .if3 .left) _ (c .before .before .before .before .before .before .before .before .before .before .before .before .before .before .before .before .in-use .ensures) (c .before .before .before .before .before .before .before .before .before .before .before .before .before .before .before .if4 .left) _ (c .before .before .before .before .before .before .before .before .is-blocked .ensures) (c .before .before .before .before .before .before .before .if7 .left) _ (c .before .before .before .before .is-blocked2 .ensures) (c .before .before .before .if8 .left)
 
--- src/lib.rt:27:1
 same-length-17 : tie.Need-same-length-17
 same-length-17 c = search needs
 
--- src/lib.rt:27:1
 same-length-18 : tie.Need-same-length-18
 same-length-18 c = search needs
 
--- src/lib.rt:27:1
 same-length-19 : tie.Need-same-length-19
 same-length-19 c = search needs
 
--- src/lib.rt:27:1
 returns-9 : tie.Need-returns-9
 returns-9 c = search needs
 

@@ -4,72 +4,50 @@ use Rattle.laying.proofs.Tracking.{laid-table, laid-again, too-fine, la
 use borrow.Author.Needs.{needs}
 use Rattle.laying.proofs.lay_between.Statement.{statement}
 use Rattle.laying.proofs.lay_between.Tie as tie
-use Rattle.laying.proofs.lay_between.Reads as reads
-use Rattle.laying.proofs.lay_between.Lts as lts
-use Rattle.booking.proofs.book.Reads as book-reads
-use Rattle.booking.proofs.copy_front.Reads as copy-front-reads
-use Rattle.laying.proofs.bend_count.Reads as bend-count-reads
-use Rattle.laying.proofs.leg_count.Reads as leg-count-reads
-use Rattle.foil.proofs.refuse.Reads as refuse-reads
-use Rattle.tracks.proofs.append_legs.Reads as append-legs-reads
-use Rattle.tracks.proofs.find.Reads as find-reads
 
--- src/lib.rt:131:18
 slice-aggregate-find : tie.Need-slice-aggregate-find
 slice-aggregate-find c = search needs
 
--- src/lib.rt:131:9
 find-requires : tie.Need-find-requires
 find-requires c κs =
     (posed _ _ _ _ _ _ _ (c .before .before .before .before .before .pre), omega arith)
 
--- src/lib.rt:133:9
 refuse-requires : tie.Need-refuse-requires
 refuse-requires c κs = search needs
 
--- src/lib.rt:133:9
 same-length : tie.Need-same-length
 same-length c = search needs
 
--- src/lib.rt:133:9
 returns : tie.Need-returns
 returns c =
     no-path _ _ _ _ _ _ _ (c .before .before .before .before .before .before .before .before .before .pre) _ _ _ (c
     .before .before .before .find .ensures) (c .before .if1 .taken) _ (c .refuse .ensures)
 
--- src/lib.rt:136:9
 refuse-requires-2 : tie.Need-refuse-requires-2
 refuse-requires-2 c κs = search needs
 
--- src/lib.rt:136:9
 same-length-2 : tie.Need-same-length-2
 same-length-2 c = search needs
 
--- src/lib.rt:136:9
 returns-2 : tie.Need-returns-2
 returns-2 c =
     few-corners _ _ _ _ _ _ _ (c .before .before .before .before .before .before .before .before .before .before
     .pre) _ _ _ (c .before .before .before .before .find .ensures) (c .before .before .if1 .left) (c .before .if2
     .taken) _ (c .refuse2 .ensures)
 
--- src/lib.rt:139:8
 sub-if3 : tie.Need-sub-if3
 sub-if3 c =
     limits _ _ _ _ _ _ _ (c .before .before .before .before .before .before .before .before .before .pre) .few
 
--- src/lib.rt:139:18
 leg-count-requires : tie.Need-leg-count-requires
 leg-count-requires c κs = search needs
 
--- src/lib.rt:140:9
 refuse-requires-3 : tie.Need-refuse-requires-3
 refuse-requires-3 c κs = search needs
 
--- src/lib.rt:140:9
 same-length-3 : tie.Need-same-length-3
 same-length-3 c = search needs
 
--- src/lib.rt:140:9
 returns-3 : tie.Need-returns-3
 returns-3 c =
     table-full _ _ _ _ _ _ _ (c .before .before .before .before .before .before .before .before .before .before
@@ -77,11 +55,9 @@ returns-3 c =
     .before .before .before .if1 .left) (c .before .before .before .if2 .left) _ (c .before .before .leg-count
     .ensures) (c .before .if3 .taken) _ (c .refuse3 .ensures)
 
--- src/lib.rt:143:16
 slice-aggregate-copy-front : tie.Need-slice-aggregate-copy-front
 slice-aggregate-copy-front c = search needs
 
--- src/lib.rt:143:5
 copy-front-requires : tie.Need-copy-front-requires
 copy-front-requires c κs = (
   omega arith,
@@ -89,15 +65,12 @@ copy-front-requires c κs = (
       .before .before .before .before .before .pre) .0,
 )
 
--- src/lib.rt:144:27
 slice-aggregate-append-legs : tie.Need-slice-aggregate-append-legs
 slice-aggregate-append-legs c = search needs
 
--- src/lib.rt:144:46
 slice-aggregate-append-legs-2 : tie.Need-slice-aggregate-append-legs-2
 slice-aggregate-append-legs-2 c = search needs
 
--- src/lib.rt:144:9
 append-legs-requires : tie.Need-append-legs-requires
 append-legs-requires c κs = (
   (
@@ -130,11 +103,9 @@ append-legs-requires c κs = (
       .ensures) (c .before .before .before .before .before .before .if3 .left),
 )
 
--- src/lib.rt:145:38
 slice-aggregate-book : tie.Need-slice-aggregate-book
 slice-aggregate-book c = search needs
 
--- src/lib.rt:145:9
 book-requires : tie.Need-book-requires
 book-requires c κs = (
   laid-table _ _ _ _ _ _ _ (c .before .before .before .before .before .before .before .before .before .before
@@ -161,27 +132,21 @@ book-requires c κs = (
   ),
 )
 
--- src/lib.rt:146:23
 enum-known-booked : tie.Need-enum-known-booked
 enum-known-booked c = search needs
 
--- src/lib.rt:147:9
 enum-told : tie.Need-enum-told
 enum-told c = search needs
 
--- src/lib.rt:147:9
 refuse-requires-4 : tie.Need-refuse-requires-4
 refuse-requires-4 c κs = search needs
 
--- src/lib.rt:147:9
 same-length-4 : tie.Need-same-length-4
 same-length-4 c = search needs
 
--- src/lib.rt:147:9
 same-length-5 : tie.Need-same-length-5
 same-length-5 c = search needs
 
--- src/lib.rt:147:9
 returns-4 : tie.Need-returns-4
 returns-4 c =
     too-fine _ _ _ _ _ _ _ (c .before .before .before .before .before .before .before .before .before .before
@@ -200,35 +165,27 @@ returns-4 c =
     .before .before .before .before .append-legs .ensures) _ _ _ (rw (c .before .enum-told .given .1) at (c .before
     .before .before .before .before .before .before .book .ensures)) (c .refuse4 .ensures)
 
--- src/lib.rt:149:25
 slice-aggregate-copy-front-2 : tie.Need-slice-aggregate-copy-front-2
 slice-aggregate-copy-front-2 c = search needs
 
--- src/lib.rt:149:32
 mul-copy-front : tie.Need-mul-copy-front
 mul-copy-front c = search needs
 
--- src/lib.rt:149:5
 copy-front-requires-2 : tie.Need-copy-front-requires-2
 copy-front-requires-2 c κs = search needs
 
--- src/lib.rt:151:33
 bend-count-requires : tie.Need-bend-count-requires
 bend-count-requires c κs = search needs
 
--- src/lib.rt:114:1
 same-length-6 : tie.Need-same-length-6
 same-length-6 c = search needs
 
--- src/lib.rt:114:1
 same-length-7 : tie.Need-same-length-7
 same-length-7 c = search needs
 
--- src/lib.rt:114:1
 same-length-8 : tie.Need-same-length-8
 same-length-8 c = search needs
 
--- src/lib.rt:114:1
 returns-5 : tie.Need-returns-5
 returns-5 c =
     laid-done _ _ _ _ _ _ _ (c .before .before .before .before .before .before .before .before .before .before

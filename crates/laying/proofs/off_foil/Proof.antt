@@ -1,14 +1,10 @@
 use Rattle.laying.proofs.Checking.{off-right, off-below}
 use Rattle.laying.proofs.off_foil.Statement.{statement}
 use Rattle.laying.proofs.off_foil.Tie as tie
-use Rattle.laying.proofs.off_foil.Reads as reads
-use Rattle.laying.proofs.off_foil.Lts as lts
 
--- src/lib.rt:74:9
 returns : tie.Need-returns
 returns c = off-right _ _ (c .if1 .taken)
 
--- src/lib.rt:70:1
 returns-2 : tie.Need-returns-2
 returns-2 c = off-below _ _ (c .before .if1 .left)
 

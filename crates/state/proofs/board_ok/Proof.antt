@@ -4,25 +4,17 @@ use Rattle.state.specs.Tests.{boardOk}
 use borrow.Author.Needs.{needs}
 use Rattle.state.proofs.board_ok.Statement.{statement}
 use Rattle.state.proofs.board_ok.Tie as tie
-use Rattle.state.proofs.board_ok.Reads as reads
-use Rattle.state.proofs.board_ok.Lts as lts
-use Rattle.state.proofs.limits.clearance_ok.Reads as clearance-ok-reads
-use Rattle.state.proofs.limits.size_ok.Reads as size-ok-reads
 
--- src/lib.rt:48:9
 size-ok-requires : tie.Need-size-ok-requires
 size-ok-requires c κs = search needs
 
--- src/lib.rt:49:9
 returns : tie.Need-returns
 unfolding boardOk
 returns c = simp (sym (c .before .size-ok .ensures) ∙ not-true _ (c .if1 .taken))
 
--- src/lib.rt:51:9
 size-ok-requires-2 : tie.Need-size-ok-requires-2
 size-ok-requires-2 c κs = search needs
 
--- src/lib.rt:52:9
 returns-2 : tie.Need-returns-2
 unfolding boardOk
 returns-2 c =
@@ -31,11 +23,9 @@ returns-2 c =
       sym (c .before .size-ok2 .ensures) ∙ not-true _ (c .if2 .taken),
     )
 
--- src/lib.rt:54:9
 clearance-ok-requires : tie.Need-clearance-ok-requires
 clearance-ok-requires c κs = search needs
 
--- src/lib.rt:55:9
 returns-3 : tie.Need-returns-3
 unfolding boardOk
 returns-3 c =
@@ -46,7 +36,6 @@ returns-3 c =
       sym (c .before .clearance-ok .ensures) ∙ not-true _ (c .if3 .taken),
     )
 
--- src/lib.rt:45:1
 returns-4 : tie.Need-returns-4
 unfolding boardOk
 returns-4 c =

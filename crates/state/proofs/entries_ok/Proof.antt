@@ -3,9 +3,6 @@ use Prim.Native.Nat.{_-_}
 use Rattle.state.proofs.Entries.{Passed, passed-none, passed-more, passed-all, passed-not}
 use Rattle.state.proofs.entries_ok.Statement.{statement}
 use Rattle.state.proofs.entries_ok.Tie as tie
-use Rattle.state.proofs.entries_ok.Reads as reads
-use Rattle.state.proofs.entries_ok.Lts as lts
-use Rattle.state.proofs.entry_ok.Reads as entry-ok-reads
 
 abbrev Inv-loop : tie.InvT-loop
 Inv-loop table n w h k₀ k = Passed table n w h k
@@ -13,15 +10,12 @@ Inv-loop table n w h k₀ k = Passed table n w h k
 abbrev μ-loop : tie.MeasureT-loop
 μ-loop table n w h k₀ k = n - k
 
--- src/lib.rt:38:5
 loop-holds : tie.Need-loop-holds Inv-loop μ-loop
 loop-holds c = passed-none _ _ _ _
 
--- src/lib.rt:39:13
 entry-ok-requires : tie.Need-entry-ok-requires Inv-loop μ-loop
 entry-ok-requires c κs = omega arith
 
--- src/lib.rt:40:13
 returns : tie.Need-returns Inv-loop μ-loop
 returns c =
     passed-not (c .before .before .before .before .before .args .table .now)
@@ -29,20 +23,16 @@ returns c =
     (c .before .before .before .before .before .args .h) _ (omega arith) _
     (c .before .entry-ok .ensures) (c .if1 .taken)
 
--- src/lib.rt:42:9
 add-k : tie.Need-add-k Inv-loop μ-loop
 add-k c = omega arith
 
--- src/lib.rt:38:5
 loop-less : tie.Need-loop-less Inv-loop μ-loop
 loop-less c = omega arith
 
--- src/lib.rt:38:5
 loop-again : tie.Need-loop-again Inv-loop μ-loop
 loop-again c = passed-more _ _ _ _ _ (omega arith) _ (c .before .entry-ok .ensures) (c .if1 .left)
     (c .before .before .before .loop .inv)
 
--- src/lib.rt:33:1
 returns-2 : tie.Need-returns-2 Inv-loop μ-loop
 returns-2 c = passed-all _ _ _ _ _ (omega arith) (c .before .loop .inv)
 

@@ -2,102 +2,75 @@ use Rattle.state.proofs.Entries.{off-board, not-empty, shaped}
 use borrow.Author.Needs.{needs}
 use Rattle.state.proofs.entry_ok.Statement.{statement}
 use Rattle.state.proofs.entry_ok.Tie as tie
-use Rattle.state.proofs.entry_ok.Reads as reads
-use Rattle.state.proofs.entry_ok.Lts as lts
-use Rattle.state.proofs.limits.box_ok.Reads as box-ok-reads
-use Rattle.state.proofs.limits.shape_ok.Reads as shape-ok-reads
 
--- src/lib.rt:22:20
 mul-x0 : tie.Need-mul-x0
 mul-x0 c = search needs
 
--- src/lib.rt:22:20
 add-x0 : tie.Need-add-x0
 add-x0 c = search needs
 
--- src/lib.rt:22:14
 mul-x0-2 : tie.Need-mul-x0-2
 mul-x0-2 c = search needs
 
--- src/lib.rt:22:14
 shared-slice-read-x0 : tie.Need-shared-slice-read-x0
 shared-slice-read-x0 c = search needs
 
--- src/lib.rt:23:20
 mul-y0 : tie.Need-mul-y0
 mul-y0 c = search needs
 
--- src/lib.rt:23:20
 add-y0 : tie.Need-add-y0
 add-y0 c = search needs
 
--- src/lib.rt:23:14
 mul-y0-2 : tie.Need-mul-y0-2
 mul-y0-2 c = search needs
 
--- src/lib.rt:23:14
 shared-slice-read-y0 : tie.Need-shared-slice-read-y0
 shared-slice-read-y0 c = search needs
 
--- src/lib.rt:24:20
 mul-x1 : tie.Need-mul-x1
 mul-x1 c = search needs
 
--- src/lib.rt:24:20
 add-x1 : tie.Need-add-x1
 add-x1 c = search needs
 
--- src/lib.rt:24:14
 mul-x1-2 : tie.Need-mul-x1-2
 mul-x1-2 c = search needs
 
--- src/lib.rt:24:14
 shared-slice-read-x1 : tie.Need-shared-slice-read-x1
 shared-slice-read-x1 c = search needs
 
--- src/lib.rt:25:20
 mul-y1 : tie.Need-mul-y1
 mul-y1 c = search needs
 
--- src/lib.rt:25:20
 add-y1 : tie.Need-add-y1
 add-y1 c = search needs
 
--- src/lib.rt:25:14
 mul-y1-2 : tie.Need-mul-y1-2
 mul-y1-2 c = search needs
 
--- src/lib.rt:25:14
 shared-slice-read-y1 : tie.Need-shared-slice-read-y1
 shared-slice-read-y1 c = search needs
 
--- src/lib.rt:26:9
 box-ok-requires : tie.Need-box-ok-requires
 box-ok-requires c κs = search needs
 
--- src/lib.rt:27:9
 returns : tie.Need-returns
 returns c = off-board _ _ _ _ _ (c .before .box-ok .ensures) (c .if1 .taken)
 
--- src/lib.rt:29:28
 mul-shape-ok : tie.Need-mul-shape-ok
 mul-shape-ok c = search needs
 
--- src/lib.rt:29:22
 mul-shape-ok-2 : tie.Need-mul-shape-ok-2
 mul-shape-ok-2 c = search needs
 
--- src/lib.rt:29:22
 shared-slice-read-shape-ok : tie.Need-shared-slice-read-shape-ok
 shared-slice-read-shape-ok c = search needs
 
--- src/lib.rt:29:5
 shape-ok-requires : tie.Need-shape-ok-requires
 shape-ok-requires c κs = not-empty (c .before .before .before .before .before .before .before .before .args .table .now)
     (c .before .before .before .before .before .before .before .before .args .k) _ _ _
     (c .before .before .box-ok .ensures) (c .before .if1 .left)
 
--- src/lib.rt:18:1
 returns-2 : tie.Need-returns-2
 returns-2 c = shaped _ _ _ _ _ (c .before .before .before .box-ok .ensures) _ (c .shape-ok .ensures)
     (c .before .before .if1 .left)

@@ -7,41 +7,28 @@ use Rattle.state.proofs.Checking.{board-fits, shown, all-right}
 use borrow.Author.Needs.{needs}
 use Rattle.state.proofs.is_sound.Statement.{statement}
 use Rattle.state.proofs.is_sound.Tie as tie
-use Rattle.state.proofs.is_sound.Reads as reads
-use Rattle.state.proofs.is_sound.Lts as lts
-use Rattle.state.proofs.board_ok.Reads as board-ok-reads
-use Rattle.state.proofs.entries_ok.Reads as entries-ok-reads
-use Rattle.state.proofs.strips_ok.Reads as strips-ok-reads
-use Rattle.state.proofs.zeros.Reads as zeros-reads
 
--- src/lib.rt:26:9
 returns : tie.Need-returns
 returns c = short-table _ _ _ (omega arith)
 
--- src/lib.rt:29:9
 returns-2 : tie.Need-returns-2
 returns-2 c = short-strips _ _ _ (omega arith)
 
--- src/lib.rt:31:9
 board-ok-requires : tie.Need-board-ok-requires
 board-ok-requires c κs = search needs
 
--- src/lib.rt:32:9
 returns-3 : tie.Need-returns-3
 returns-3 c = bad-board _ _ _ _ (c .before .board-ok .ensures) (c .if3 .taken)
 
--- src/lib.rt:35:9
 entries-ok-requires : tie.Need-entries-ok-requires
 entries-ok-requires c κs =
     let b = board-fits _ (c .before .before .before .before .before .before .args .table .now)
     (c .before .before .before .before .before .before .args .strips .now) _ (c .before .board-ok .ensures)
     (c .if3 .left) in omega (arith, b .few)
 
--- src/lib.rt:36:9
 returns-4 : tie.Need-returns-4
 returns-4 c = bad-entries _ _ _ _ (c .before .entries-ok .ensures) (c .if4 .taken)
 
--- src/lib.rt:38:22
 mul-zeros : tie.Need-mul-zeros
 mul-zeros c =
     let b = board-fits _ (c .before .before .before .before .before .before .before .before .args .table .now)
@@ -49,7 +36,6 @@ mul-zeros c =
     (c .before .before .before .board-ok .ensures) (c .before .before .if3 .left) in
     omega (arith, b .few)
 
--- src/lib.rt:38:9
 zeros-requires : tie.Need-zeros-requires
 zeros-requires c κs =
     let b = board-fits _ (c .before .before .before .before .before .before .before .before .args .table .now)
@@ -57,11 +43,9 @@ zeros-requires c κs =
     (c .before .before .before .board-ok .ensures) (c .before .before .if3 .left) in
     omega (arith, b .few)
 
--- src/lib.rt:39:9
 returns-5 : tie.Need-returns-5
 returns-5 c = bad-rest _ _ _ (c .before .zeros .result) (c .before .zeros .ensures) (c .if5 .taken)
 
--- src/lib.rt:41:5
 strips-ok-requires : tie.Need-strips-ok-requires
 strips-ok-requires c κs =
     let b = board-fits _
@@ -73,7 +57,6 @@ strips-ok-requires c κs =
       omega arith,
     )
 
--- src/lib.rt:22:1
 returns-6 : tie.Need-returns-6
 returns-6 c =
     all-right _ _ _ (c .strips-ok .result)

@@ -3,8 +3,6 @@ use Prim.Native.Nat.{_≤_, _-_}
 use Rattle.state.proofs.Fronts.{Agree, agree-none, agree-more, agree-all, agree-not}
 use Rattle.state.proofs.same_front.Statement.{statement}
 use Rattle.state.proofs.same_front.Tie as tie
-use Rattle.state.proofs.same_front.Reads as reads
-use Rattle.state.proofs.same_front.Lts as lts
 
 abbrev Inv-loop : tie.InvT-loop
 Inv-loop a b n i₀ i = (i ≤ n) × Agree a b i
@@ -12,46 +10,36 @@ Inv-loop a b n i₀ i = (i ≤ n) × Agree a b i
 abbrev μ-loop : tie.MeasureT-loop
 μ-loop a b n i₀ i = n - i
 
--- src/lib.rt:68:5
 loop-holds : tie.Need-loop-holds Inv-loop μ-loop
 loop-holds c = (omega arith, agree-none _ _)
 
--- src/lib.rt:69:12
 mul-if1 : tie.Need-mul-if1 Inv-loop μ-loop
 mul-if1 c = omega arith
 
--- src/lib.rt:69:12
 shared-slice-read-if1 : tie.Need-shared-slice-read-if1 Inv-loop μ-loop
 shared-slice-read-if1 c = omega arith
 
--- src/lib.rt:69:20
 mul-if1-2 : tie.Need-mul-if1-2 Inv-loop μ-loop
 mul-if1-2 c = omega arith
 
--- src/lib.rt:69:20
 shared-slice-read-if1-2 : tie.Need-shared-slice-read-if1-2 Inv-loop μ-loop
 shared-slice-read-if1-2 c = omega arith
 
--- src/lib.rt:70:13
 returns : tie.Need-returns Inv-loop μ-loop
 returns c =
     agree-not (c .before .before .before .before .before .args .a .now)
     (c .before .before .before .before .before .args .b .now) (c .before .before .before .before .before .args .n)
     (omega arith) (omega arith) _ (omega arith) (c .if1 .taken)
 
--- src/lib.rt:72:9
 add-i : tie.Need-add-i Inv-loop μ-loop
 add-i c = omega arith
 
--- src/lib.rt:68:5
 loop-less : tie.Need-loop-less Inv-loop μ-loop
 loop-less c = omega arith
 
--- src/lib.rt:68:5
 loop-again : tie.Need-loop-again Inv-loop μ-loop
 loop-again c = (omega arith, agree-more _ _ _ (c .if1 .left) (c .before .before .before .before .loop .inv .1))
 
--- src/lib.rt:63:1
 returns-2 : tie.Need-returns-2 Inv-loop μ-loop
 returns-2 c =
     agree-all (c .before .before .args .a .now) (c .before .before .args .b .now) (c .before .before .args .n)

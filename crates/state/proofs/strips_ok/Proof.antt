@@ -2,48 +2,35 @@ use Rattle.state.proofs.Checking.{too-many, miscounted, compared}
 use borrow.Author.Needs.{needs}
 use Rattle.state.proofs.strips_ok.Statement.{statement}
 use Rattle.state.proofs.strips_ok.Tie as tie
-use Rattle.state.proofs.strips_ok.Reads as reads
-use Rattle.state.proofs.strips_ok.Lts as lts
-use Rattle.state.proofs.same_front.Reads as same-front-reads
-use Rattle.strips.proofs.rebuild.Reads as rebuild-reads
 
--- src/lib.rt:68:25
 slice-aggregate-rebuild : tie.Need-slice-aggregate-rebuild
 slice-aggregate-rebuild c = search needs
 
--- src/lib.rt:68:9
 rebuild-requires : tie.Need-rebuild-requires
 rebuild-requires c κs = search needs
 
--- src/lib.rt:69:23
 enum-known-built : tie.Need-enum-known-built
 enum-known-built c = search needs
 
--- src/lib.rt:70:9
 enum-told : tie.Need-enum-told
 enum-told c = search needs
 
--- src/lib.rt:70:9
 returns : tie.Need-returns
 returns c =
     too-many _ _ _ ((rw (c .enum-told .given .1) at (c .before .before .before .rebuild .ensures)) .0)
 
--- src/lib.rt:73:9
 returns-2 : tie.Need-returns-2
 returns-2 c =
     let q = rw (c .before .before .before .built .given .1) at
     (c .before .before .before .before .before .before .rebuild .ensures) in
     miscounted _ _ _ _ (q .0) (c .if1 .taken)
 
--- src/lib.rt:75:16
 slice-aggregate-same-front : tie.Need-slice-aggregate-same-front
 slice-aggregate-same-front c = search needs
 
--- src/lib.rt:75:5
 same-front-requires : tie.Need-same-front-requires
 same-front-requires c κs = search needs
 
--- src/lib.rt:61:1
 returns-3 : tie.Need-returns-3
 returns-3 c =
     let q = rw (c .before .before .before .before .before .built .given .1) at

@@ -4,8 +4,6 @@ use Rattle.state.specs.Tests.{Zeros}
 use Rattle.state.proofs.Fronts.{zeros-none, zeros-more, zeros-all, zeros-not}
 use Rattle.state.proofs.zeros.Statement.{statement}
 use Rattle.state.proofs.zeros.Tie as tie
-use Rattle.state.proofs.zeros.Reads as reads
-use Rattle.state.proofs.zeros.Lts as lts
 
 abbrev Inv-loop : tie.InvT-loop
 Inv-loop list a b i₀ i = (a ≤ i) × (i ≤ b) × Zeros list a i
@@ -13,35 +11,27 @@ Inv-loop list a b i₀ i = (a ≤ i) × (i ≤ b) × Zeros list a i
 abbrev μ-loop : tie.MeasureT-loop
 μ-loop list a b i₀ i = b - i
 
--- src/lib.rt:53:5
 loop-holds : tie.Need-loop-holds Inv-loop μ-loop
 loop-holds c = (omega arith, omega arith, zeros-none _ _)
 
--- src/lib.rt:54:12
 mul-if1 : tie.Need-mul-if1 Inv-loop μ-loop
 mul-if1 c = omega arith
 
--- src/lib.rt:54:12
 shared-slice-read-if1 : tie.Need-shared-slice-read-if1 Inv-loop μ-loop
 shared-slice-read-if1 c = omega arith
 
--- src/lib.rt:55:13
 returns : tie.Need-returns Inv-loop μ-loop
 returns c = zeros-not _ _ _ _ (omega arith) (omega arith) (c .if1 .taken)
 
--- src/lib.rt:57:9
 add-i : tie.Need-add-i Inv-loop μ-loop
 add-i c = omega arith
 
--- src/lib.rt:53:5
 loop-less : tie.Need-loop-less Inv-loop μ-loop
 loop-less c = omega arith
 
--- src/lib.rt:53:5
 loop-again : tie.Need-loop-again Inv-loop μ-loop
 loop-again c = (omega arith, omega arith, zeros-more _ _ _ (c .if1 .left) (c .before .before .before .loop .inv .2))
 
--- src/lib.rt:48:1
 returns-2 : tie.Need-returns-2 Inv-loop μ-loop
 returns-2 c = zeros-all _ _ _ _ (omega arith) (c .before .loop .inv .2)
 

@@ -4,90 +4,67 @@ use Rattle.booking.proofs.Filling.{appended}
 use borrow.Author.Needs.{needs}
 use Rattle.booking.proofs.rows.append.Statement.{statement}
 use Rattle.booking.proofs.rows.append.Tie as tie
-use Rattle.booking.proofs.rows.append.Reads as reads
-use Rattle.booking.proofs.rows.append.Lts as lts
 
--- src/rows.rt:30:10
 mul-rows : tie.Need-mul-rows
 mul-rows c = search needs
 
--- src/rows.rt:30:5
 mul-rows-2 : tie.Need-mul-rows-2
 mul-rows-2 c = search needs
 
--- src/rows.rt:30:5
 slice-write-rows : tie.Need-slice-write-rows
 slice-write-rows c = search needs
 
--- src/rows.rt:31:10
 mul-rows-3 : tie.Need-mul-rows-3
 mul-rows-3 c = search needs
 
--- src/rows.rt:31:10
 add-rows : tie.Need-add-rows
 add-rows c = search needs
 
--- src/rows.rt:31:5
 mul-rows-4 : tie.Need-mul-rows-4
 mul-rows-4 c = search needs
 
--- src/rows.rt:31:5
 slice-write-rows-2 : tie.Need-slice-write-rows-2
 slice-write-rows-2 c = simp length-set (omega arith)
 
--- src/rows.rt:32:10
 mul-rows-5 : tie.Need-mul-rows-5
 mul-rows-5 c = search needs
 
--- src/rows.rt:32:10
 add-rows-2 : tie.Need-add-rows-2
 add-rows-2 c = search needs
 
--- src/rows.rt:32:5
 mul-rows-6 : tie.Need-mul-rows-6
 mul-rows-6 c = search needs
 
--- src/rows.rt:32:5
 slice-write-rows-3 : tie.Need-slice-write-rows-3
 slice-write-rows-3 c = simp length-set (omega arith)
 
--- src/rows.rt:33:10
 mul-rows-7 : tie.Need-mul-rows-7
 mul-rows-7 c = search needs
 
--- src/rows.rt:33:10
 add-rows-3 : tie.Need-add-rows-3
 add-rows-3 c = search needs
 
--- src/rows.rt:33:5
 mul-rows-8 : tie.Need-mul-rows-8
 mul-rows-8 c = search needs
 
--- src/rows.rt:33:5
 slice-write-rows-4 : tie.Need-slice-write-rows-4
 slice-write-rows-4 c = simp length-set (omega arith)
 
--- src/rows.rt:34:10
 mul-rows-9 : tie.Need-mul-rows-9
 mul-rows-9 c = search needs
 
--- src/rows.rt:34:10
 add-rows-4 : tie.Need-add-rows-4
 add-rows-4 c = search needs
 
--- src/rows.rt:34:5
 mul-rows-10 : tie.Need-mul-rows-10
 mul-rows-10 c = search needs
 
--- src/rows.rt:34:5
 slice-write-rows-5 : tie.Need-slice-write-rows-5
 slice-write-rows-5 c = simp length-set (omega arith)
 
--- src/rows.rt:26:1
 same-length : tie.Need-same-length
 same-length c = search needs
 
--- src/rows.rt:26:1
 returns : tie.Need-returns
 returns c = appended _ _ _ _ _ _ (c .args .rows .now) (omega arith) (omega arith)
 

@@ -3,8 +3,6 @@ use Prim.Native.Nat.{_-_}
 use Rattle.booking.proofs.Nets.{Others, others-none, others-more, others-all, used-here}
 use Rattle.booking.proofs.rows.in_use.Statement.{statement}
 use Rattle.booking.proofs.rows.in_use.Tie as tie
-use Rattle.booking.proofs.rows.in_use.Reads as reads
-use Rattle.booking.proofs.rows.in_use.Lts as lts
 
 abbrev Inv-loop : tie.InvT-loop
 Inv-loop table n net k₀ k = Others table n net k
@@ -12,41 +10,32 @@ Inv-loop table n net k₀ k = Others table n net k
 abbrev μ-loop : tie.MeasureT-loop
 μ-loop table n net k₀ k = n - k
 
--- src/rows.rt:43:5
 loop-holds : tie.Need-loop-holds Inv-loop μ-loop
 loop-holds c = others-none _ _ _
 
--- src/rows.rt:44:18
 mul-if1 : tie.Need-mul-if1 Inv-loop μ-loop
 mul-if1 c = omega arith
 
--- src/rows.rt:44:12
 mul-if1-2 : tie.Need-mul-if1-2 Inv-loop μ-loop
 mul-if1-2 c = omega arith
 
--- src/rows.rt:44:12
 shared-slice-read-if1 : tie.Need-shared-slice-read-if1 Inv-loop μ-loop
 shared-slice-read-if1 c = omega arith
 
--- src/rows.rt:45:13
 returns : tie.Need-returns Inv-loop μ-loop
 returns c = used-here (c .before .before .before .before .args .table .now)
     (c .before .before .before .before .args .n) (c .before .before .before .before .args .net) _ (omega arith)
     (c .if1 .taken)
 
--- src/rows.rt:47:9
 add-k : tie.Need-add-k Inv-loop μ-loop
 add-k c = omega arith
 
--- src/rows.rt:43:5
 loop-less : tie.Need-loop-less Inv-loop μ-loop
 loop-less c = omega arith
 
--- src/rows.rt:43:5
 loop-again : tie.Need-loop-again Inv-loop μ-loop
 loop-again c = others-more _ _ _ _ (omega arith) (c .if1 .left) (c .before .before .before .loop .inv)
 
--- src/rows.rt:38:1
 returns-2 : tie.Need-returns-2 Inv-loop μ-loop
 returns-2 c = others-all _ _ _ _ (omega arith) (c .before .loop .inv)
 

@@ -6,9 +6,6 @@ use Rattle.booking.specs.Rows.{Kept}
 use Rattle.booking.proofs.Filling.{kept-none, kept-done}
 use Rattle.booking.proofs.rows.without.Statement.{statement}
 use Rattle.booking.proofs.rows.without.Tie as tie
-use Rattle.booking.proofs.rows.without.Reads as reads
-use Rattle.booking.proofs.rows.without.Lts as lts
-use Rattle.booking.proofs.rows.keep_other.Reads as keep-other-reads
 
 abbrev Inv-loop : tie.InvT-loop
 Inv-loop rows₀ table n net j₀ k₀ rows j k = (k ≤ n) × Kept rows table net k j × (length rows ≡ length rows₀)
@@ -16,23 +13,18 @@ Inv-loop rows₀ table n net j₀ k₀ rows j k = (k ≤ n) × Kept rows table n
 abbrev μ-loop : tie.MeasureT-loop
 μ-loop rows₀ table n net j₀ k₀ rows j k = n - k
 
--- src/rows.rt:60:5
 loop-holds : tie.Need-loop-holds Inv-loop μ-loop
 loop-holds c = (omega arith, kept-none _ _ _ (c .before .before .pre .2), refl)
 
--- src/rows.rt:61:9
 keep-other-requires : tie.Need-keep-other-requires Inv-loop μ-loop
 keep-other-requires c κs = (omega arith, omega arith, c .before .before .loop .inv .1)
 
--- src/rows.rt:62:9
 add-k : tie.Need-add-k Inv-loop μ-loop
 add-k c = omega arith
 
--- src/rows.rt:60:5
 loop-less : tie.Need-loop-less Inv-loop μ-loop
 loop-less c = omega arith
 
--- src/rows.rt:60:5
 loop-again : tie.Need-loop-again Inv-loop μ-loop
 loop-again c = (
   omega arith,
@@ -40,11 +32,9 @@ loop-again c = (
   omega (arith, c .before .before .keep-other .kept .0, c .before .before .before .before .before .loop .inv .2),
 )
 
--- src/rows.rt:54:1
 same-length : tie.Need-same-length Inv-loop μ-loop
 same-length c = c .before .loop .inv .2
 
--- src/rows.rt:54:1
 returns : tie.Need-returns Inv-loop μ-loop
 returns c = kept-done _ _ _ _ _ _ (omega arith) (c .before .loop .inv .0) (c .before .loop .inv .1)
 

@@ -2,9 +2,6 @@ use Rattle.job.proofs.Checking.{first-board, later-board}
 use borrow.Author.Needs.{needs}
 use Rattle.job.proofs.checks.board_misplaced.Statement.{statement}
 use Rattle.job.proofs.checks.board_misplaced.Tie as tie
-use Rattle.job.proofs.checks.board_misplaced.Reads as reads
-use Rattle.job.proofs.checks.board_misplaced.Lts as lts
-use Rattle.job.proofs.fields.has.Reads as has-reads
 
 has-requires : tie.Need-has-requires
 has-requires c κs = search needs

@@ -2,10 +2,6 @@ use Rattle.job.proofs.Checking.{too-large, too-short, at-start, broken,
 use borrow.Author.Needs.{needs}
 use Rattle.job.proofs.checks.file_refusal.Statement.{statement}
 use Rattle.job.proofs.checks.file_refusal.Tie as tie
-use Rattle.job.proofs.checks.file_refusal.Reads as reads
-use Rattle.job.proofs.checks.file_refusal.Lts as lts
-use Rattle.foil.proofs.lists_short.Reads as lists-short-reads
-use Rattle.state.proofs.is_sound.Reads as is-sound-reads
 
 returns : tie.Need-returns
 returns c = too-large _ _ _ _ _ (c .if1 .taken)

@@ -2,10 +2,6 @@ use Rattle.job.proofs.Checking.{no-byte, unknown, misplaced, end-early,
 use borrow.Author.Needs.{needs}
 use Rattle.job.proofs.checks.record_refusal.Statement.{statement}
 use Rattle.job.proofs.checks.record_refusal.Tie as tie
-use Rattle.job.proofs.checks.record_refusal.Reads as reads
-use Rattle.job.proofs.checks.record_refusal.Lts as lts
-use Rattle.job.proofs.checks.board_misplaced.Reads as board-misplaced-reads
-use Rattle.job.proofs.fields.fields_at.Reads as fields-at-reads
 
 returns : tie.Need-returns
 returns c = no-byte _ _ (c .if1 .taken)

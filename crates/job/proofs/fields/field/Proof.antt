@@ -5,9 +5,6 @@ use Rattle.foil_spec.specs.Job.{number, field}
 use borrow.Author.Needs.{needs}
 use Rattle.job.proofs.fields.field.Statement.{statement}
 use Rattle.job.proofs.fields.field.Tie as tie
-use Rattle.job.proofs.fields.field.Reads as reads
-use Rattle.job.proofs.fields.field.Lts as lts
-use Rattle.job.proofs.fields.fields_at.Reads as fields-at-reads
 
 fields-at-requires : tie.Need-fields-at-requires
 fields-at-requires c κs = search needs

@@ -6,9 +6,6 @@ use Rattle.job.proofs.Places.{count-small}
 use borrow.Author.Needs.{needs}
 use Rattle.job.proofs.fields.field_bytes.Statement.{statement}
 use Rattle.job.proofs.fields.field_bytes.Tie as tie
-use Rattle.job.proofs.fields.field_bytes.Reads as reads
-use Rattle.job.proofs.fields.field_bytes.Lts as lts
-use Rattle.job.proofs.fields.has.Reads as has-reads
 
 has-requires : tie.Need-has-requires
 has-requires c κs = search needs

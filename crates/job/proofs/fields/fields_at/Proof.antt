@@ -5,9 +5,6 @@ use Rattle.foil_spec.specs.Job.{fieldsAt}
 use Rattle.job.proofs.Places.{fields-more, fields-done, fields-near}
 use Rattle.job.proofs.fields.fields_at.Statement.{statement}
 use Rattle.job.proofs.fields.fields_at.Tie as tie
-use Rattle.job.proofs.fields.fields_at.Reads as reads
-use Rattle.job.proofs.fields.fields_at.Lts as lts
-use Rattle.job.proofs.fields.field_bytes.Reads as field-bytes-reads
 
 abbrev Inv-loop : tie.InvT-loop
 Inv-loop bytes at k place₀ i₀ place i = (i ≤ k) × (place ≡ fieldsAt bytes at i)

@@ -3,8 +3,6 @@ use Rattle.foil_spec.specs.Job.{mapByte, has}
 use borrow.Author.Needs.{needs}
 use Rattle.job.proofs.fields.has.Statement.{statement}
 use Rattle.job.proofs.fields.has.Tie as tie
-use Rattle.job.proofs.fields.has.Reads as reads
-use Rattle.job.proofs.fields.has.Lts as lts
 
 shared-slice-read-result : tie.Need-shared-slice-read-result
 shared-slice-read-result c = search needs

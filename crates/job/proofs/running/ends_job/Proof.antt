@@ -2,8 +2,6 @@ use Rattle.job.proofs.Stepping.{no-refusal, ends-other, ends-1, ends-2}
 use borrow.Author.Needs.{needs}
 use Rattle.job.proofs.running.ends_job.Statement.{statement}
 use Rattle.job.proofs.running.ends_job.Tie as tie
-use Rattle.job.proofs.running.ends_job.Reads as reads
-use Rattle.job.proofs.running.ends_job.Lts as lts
 
 enum-known-answer : tie.Need-enum-known-answer
 enum-known-answer c = search needs

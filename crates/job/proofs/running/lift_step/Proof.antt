@@ -5,13 +5,6 @@ use Rattle.job.proofs.Stepping.{not-run-apart, run-apart}
 use borrow.Author.Needs.{needs}
 use Rattle.job.proofs.running.lift_step.Statement.{statement}
 use Rattle.job.proofs.running.lift_step.Tie as tie
-use Rattle.job.proofs.running.lift_step.Reads as reads
-use Rattle.job.proofs.running.lift_step.Lts as lts
-use Rattle.foil.proofs.lift.Reads as lift-reads
-use Rattle.job.proofs.fields.field.Reads as field-reads
-use Rattle.job.proofs.running.after.Reads as after-reads
-use Rattle.job.proofs.running.runs.Reads as runs-reads
-use Rattle.job.proofs.running.skip.Reads as skip-reads
 
 runs-requires : tie.Need-runs-requires
 runs-requires c κs = search needs

@@ -2,8 +2,6 @@ use mathlib.Core.Path.{refl}
 use Rattle.job.specs.Contract.{nextOf}
 use Rattle.job.proofs.running.next_place.Statement.{statement}
 use Rattle.job.proofs.running.next_place.Tie as tie
-use Rattle.job.proofs.running.next_place.Reads as reads
-use Rattle.job.proofs.running.next_place.Lts as lts
 
 returns : tie.Need-returns
 unfolding nextOf

@@ -3,14 +3,6 @@ use borrow.Author.Needs.{needs}
 use Rattle.job.proofs.Steps.{steps-done}
 use Rattle.job.proofs.running.run_steps.Statement.{statement}
 use Rattle.job.proofs.running.run_steps.Tie as tie
-use Rattle.job.proofs.running.run_steps.Reads as reads
-use Rattle.job.proofs.running.run_steps.Lts as lts
-use Rattle.job.proofs.fields.fields_at.Reads as fields-at-reads
-use Rattle.job.proofs.running.board_step.Reads as board-step-reads
-use Rattle.job.proofs.running.lift_step.Reads as lift-step-reads
-use Rattle.job.proofs.running.next_place.Reads as next-place-reads
-use Rattle.job.proofs.running.patch_step.Reads as patch-step-reads
-use Rattle.job.proofs.running.track_step.Reads as track-step-reads
 
 board-step-requires : tie.Need-board-step-requires
 board-step-requires c κs = c .before .before .before .before .before .before .pre

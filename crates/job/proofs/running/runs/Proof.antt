@@ -3,9 +3,6 @@ use borrow.Author.Tests.{not-true, not-false}
 use borrow.Author.Needs.{needs}
 use Rattle.job.proofs.running.runs.Statement.{statement}
 use Rattle.job.proofs.running.runs.Tie as tie
-use Rattle.job.proofs.running.runs.Reads as reads
-use Rattle.job.proofs.running.runs.Lts as lts
-use Rattle.job.proofs.fields.has.Reads as has-reads
 
 has-requires : tie.Need-has-requires
 has-requires c κs = search needs

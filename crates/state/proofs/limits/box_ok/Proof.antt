@@ -2,20 +2,15 @@ use borrow.Author.Tests.{lt-ltb, le-ltb, lt-leb, le-leb}
 use Rattle.foil_spec.specs.Foil.{boxOk}
 use Rattle.state.proofs.limits.box_ok.Statement.{statement}
 use Rattle.state.proofs.limits.box_ok.Tie as tie
-use Rattle.state.proofs.limits.box_ok.Reads as reads
-use Rattle.state.proofs.limits.box_ok.Lts as lts
 
--- src/limits.rt:38:9
 returns : tie.Need-returns
 unfolding boxOk
 returns c = simp (le-ltb _ _ (c .if1 .taken))
 
--- src/limits.rt:41:9
 returns-2 : tie.Need-returns-2
 unfolding boxOk
 returns-2 c = simp (lt-ltb _ _ (c .before .if1 .left), lt-leb _ _ (c .if2 .taken))
 
--- src/limits.rt:44:9
 returns-3 : tie.Need-returns-3
 unfolding boxOk
 returns-3 c = simp (
@@ -25,7 +20,6 @@ returns-3 c = simp (
       (c .if3 .taken),
 )
 
--- src/limits.rt:34:1
 returns-4 : tie.Need-returns-4
 unfolding boxOk
 returns-4 c = simp (

@@ -2,10 +2,7 @@ use mathlib.Core.Path.{refl}
 use Rattle.foil_spec.specs.Foil.{clearanceOk}
 use Rattle.state.proofs.limits.clearance_ok.Statement.{statement}
 use Rattle.state.proofs.limits.clearance_ok.Tie as tie
-use Rattle.state.proofs.limits.clearance_ok.Reads as reads
-use Rattle.state.proofs.limits.clearance_ok.Lts as lts
 
--- src/limits.rt:17:1
 returns : tie.Need-returns
 unfolding clearanceOk
 returns c = refl

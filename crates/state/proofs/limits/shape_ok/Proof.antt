@@ -3,37 +3,27 @@ use Rattle.state.proofs.Shapes.{patch-shape, no-track, narrow-leg, flat
 use borrow.Author.Needs.{needs}
 use Rattle.state.proofs.limits.shape_ok.Statement.{statement}
 use Rattle.state.proofs.limits.shape_ok.Tie as tie
-use Rattle.state.proofs.limits.shape_ok.Reads as reads
-use Rattle.state.proofs.limits.shape_ok.Lts as lts
-use Rattle.state.proofs.limits.net_ok.Reads as net-ok-reads
 
--- src/limits.rt:56:9
 returns : tie.Need-returns
 returns c = patch-shape _ _ _ _ _ (c .if1 .taken)
 
--- src/limits.rt:58:9
 net-ok-requires : tie.Need-net-ok-requires
 net-ok-requires c κs = search needs
 
--- src/limits.rt:59:9
 returns-2 : tie.Need-returns-2
 returns-2 c = no-track _ _ _ _ _ _ (c .before .net-ok .ensures) (c .before .before .if1 .left) (c .if2 .taken)
 
--- src/limits.rt:61:8
 sub-if3 : tie.Need-sub-if3
 sub-if3 c = search needs
 
--- src/limits.rt:62:9
 returns-3 : tie.Need-returns-3
 returns-3 c = narrow-leg _ _ _ _ _ _ (c .before .before .net-ok .ensures) (c .before .before .before .if1 .left)
     (c .before .if2 .left)
     (omega arith) (c .if3 .taken)
 
--- src/limits.rt:64:5
 sub-result : tie.Need-sub-result
 sub-result c = search needs
 
--- src/limits.rt:51:1
 returns-4 : tie.Need-returns-4
 returns-4 c = flat-leg _ _ _ _ _ _ (c .before .before .net-ok .ensures) (c .before .before .before .if1 .left)
     (c .before .if2 .left)

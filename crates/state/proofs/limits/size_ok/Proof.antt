@@ -2,15 +2,11 @@ use borrow.Author.Tests.{lt-leb, le-leb}
 use Rattle.foil_spec.specs.Foil.{sizeOk}
 use Rattle.state.proofs.limits.size_ok.Statement.{statement}
 use Rattle.state.proofs.limits.size_ok.Tie as tie
-use Rattle.state.proofs.limits.size_ok.Reads as reads
-use Rattle.state.proofs.limits.size_ok.Lts as lts
 
--- src/limits.rt:11:9
 returns : tie.Need-returns
 unfolding sizeOk
 returns c = simp (lt-leb 1 _ (c .if1 .taken))
 
--- src/limits.rt:7:1
 returns-2 : tie.Need-returns-2
 unfolding sizeOk
 returns-2 c = simp (le-leb 1 _ (c .if1 .left))

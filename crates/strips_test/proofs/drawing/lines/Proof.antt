@@ -8,9 +8,6 @@ use lib.ListN.{length}
 use native.Mathlib.Omega.{arith}
 use Rattle.strips_test.proofs.drawing.lines.Statement.{statement}
 use Rattle.strips_test.proofs.drawing.lines.Tie as tie
-use Rattle.strips_test.proofs.drawing.lines.Reads as reads
-use Rattle.strips_test.proofs.drawing.lines.Lts as lts
-use Rattle.strips_test.proofs.drawing.line.Reads as line-reads
 
 abbrev Inv-loop : tie.InvT-loop
 Inv-loop table₀ strips₀ level end last₀ at₀ table strips last at =
@@ -19,35 +16,27 @@ Inv-loop table₀ strips₀ level end last₀ at₀ table strips last at =
 abbrev μ-loop : tie.MeasureT-loop
 μ-loop table₀ strips₀ level end last₀ at₀ table strips last at = end - at
 
--- src/drawing.rt:32:5
 loop-holds : tie.Need-loop-holds Inv-loop μ-loop
 loop-holds c = (refl, refl)
 
--- src/drawing.rt:33:13
 line-requires : tie.Need-line-requires Inv-loop μ-loop
 line-requires c κs = omega arith
 
--- src/drawing.rt:35:9
 add-at : tie.Need-add-at Inv-loop μ-loop
 add-at c = omega arith
 
--- src/drawing.rt:32:5
 loop-less : tie.Need-loop-less Inv-loop μ-loop
 loop-less c = omega arith
 
--- src/drawing.rt:32:5
 loop-again : tie.Need-loop-again Inv-loop μ-loop
 loop-again c = (omega arith, omega arith)
 
--- src/drawing.rt:27:1
 same-length : tie.Need-same-length Inv-loop μ-loop
 same-length c = c .before .loop .inv .0
 
--- src/drawing.rt:27:1
 same-length-2 : tie.Need-same-length-2 Inv-loop μ-loop
 same-length-2 c = c .before .loop .inv .1
 
--- src/drawing.rt:27:1
 returns : tie.Need-returns Inv-loop μ-loop
 returns c = tt
 
