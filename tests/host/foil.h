@@ -1,6 +1,9 @@
 /* The calls on a foil, for C: the functions that `rt staticlib host` exports, as crates/host/src/exported.rt has them.
    A list is lent by its address and its length. The table has 5 numbers an entry; a strip is 4 numbers (x0, y0, x1,
-   y1), a corner 2 (x, y). A call may be lent any lists: one that is too short is refused by 12. */
+   y1), a corner 2 (x, y). A call may be lent any lists: one that is too short is refused by 12, and of a longer one the
+   places past the first FOIL_ENTRIES or FOIL_STRIPS are neither read nor written. Lists must not overlap each other nor
+   the record. A refused call writes to no list, and to the record what it held. A lay, or a record with one, needs up
+   to 1.5 MB of stack. */
 #ifndef FOIL_H
 #define FOIL_H
 

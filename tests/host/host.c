@@ -1,17 +1,26 @@
 /* A host program: the foil of document 01's job, by calls and then as the job's bytes, as a customer's program would
-   make it. */
+   make it; and lists in protected pages, which show what a call does not touch: if it did, the program would die. */
+#define _DEFAULT_SOURCE
 #include <stdio.h>
+#include <stdlib.h>
+#include <string.h>
+#include <sys/mman.h>
+#include <unistd.h>
 
 #include "foil.h"
 
-/* the lists of one foil, and a corner list */
-static struct foil_board board;
-static struct foil_entry table[FOIL_ENTRIES];
-static uint16_t strips[4 * FOIL_STRIPS];
-static uint16_t corners[2 * 8192];
+/* document 01's job */
+static const uint8_t job[] = {0x03, 0x06, 0x00, 0x04, 0x00, 0x00, 0x00, 0x02, 0x00, 0x00, 0x00, 0x03, 0x00, 0x03,
+                              0x00, 0x04, 0x05, 0x00, 0x00, 0x00, 0x00, 0x00, 0x04, 0x00, 0x00, 0x00, 0x00};
 
-#define LENT &board, table, FOIL_ENTRIES, strips, sizeof strips / sizeof *strips
-#define CORNERS corners, sizeof corners / sizeof *corners
+/* one foil, and the lists that are lent for it, with their lengths */
+static struct foil_board board;
+static struct foil_entry *table;
+static uint16_t *strips, *corners;
+static size_t entries, strip_numbers, corner_numbers;
+
+#define LENT &board, table, entries, strips, strip_numbers
+#define CORNERS corners, corner_numbers
 
 static void show_foil(void)
 {
@@ -35,10 +44,6 @@ static void show_lay(unsigned net, struct foil_said said)
     }
     printf("\n");
 }
-
-/* document 01's job */
-static const uint8_t job[] = {0x03, 0x06, 0x00, 0x04, 0x00, 0x00, 0x00, 0x02, 0x00, 0x00, 0x00, 0x03, 0x00, 0x03,
-                              0x00, 0x04, 0x05, 0x00, 0x00, 0x00, 0x00, 0x00, 0x04, 0x00, 0x00, 0x00, 0x00};
 
 /* runs a job file of `count` bytes, record by record */
 static void run_job(size_t count)
@@ -68,9 +73,18 @@ static void run_job(size_t count)
     }
 }
 
-int main(void)
+/* the foil of document 01's job, with calls that are refused between */
+static void document_01(void)
 {
+    static struct foil_entry own_table[FOIL_ENTRIES];
+    static uint16_t own_strips[4 * FOIL_STRIPS], own_corners[2 * 8192];
     struct foil_said said;
+    table = own_table;
+    entries = FOIL_ENTRIES;
+    strips = own_strips;
+    strip_numbers = 4 * FOIL_STRIPS;
+    corners = own_corners;
+    corner_numbers = 2 * 8192;
     /* nothing is begun yet: the lists hold zeros, which are no foil */
     printf("patch %u\n", foil_draw(LENT, 2, 0, 3, 3).number);
     printf("board %u\n", foil_new_foil(LENT, 0, 4, 0).number);
@@ -87,7 +101,7 @@ int main(void)
     said = foil_look_up(LENT, 2, 2);
     printf("place %u %zu\n", said.number, said.place);
     /* a table of 127 places is too short, and stays as it is */
-    printf("lift 5 %u\n", foil_lift(&board, table, 127, strips, sizeof strips / sizeof *strips, 5).number);
+    printf("lift 5 %u\n", foil_lift(&board, table, 127, strips, strip_numbers, 5).number);
     printf("lift 5 %u\n", foil_lift(LENT, 5).number);
     printf("lift 5 %u\n", foil_lift(LENT, 5).number);
     show_foil();
@@ -97,5 +111,134 @@ int main(void)
     /* a job's first record begins the foil anew */
     run_job(sizeof job);
     run_job(sizeof job - 1);
+}
+
+/* pages with a border among them: the first part of a list ends there, and its other places lie behind it */
+struct pages {
+    unsigned char *first, *border;
+    size_t before, behind;
+};
+
+static struct pages parted(size_t before, size_t behind)
+{
+    size_t page = (size_t)sysconf(_SC_PAGESIZE);
+    struct pages p;
+    p.before = (before + page - 1) / page * page;
+    p.behind = (behind + page - 1) / page * page;
+    p.first = mmap(NULL, p.before + p.behind, PROT_READ | PROT_WRITE, MAP_PRIVATE | MAP_ANONYMOUS, -1, 0);
+    if (p.first == MAP_FAILED) {
+        perror("mmap");
+        exit(1);
+    }
+    p.border = p.first + p.before;
+    memset(p.border, 0xa5, p.behind);
+    return p;
+}
+
+static void protect(unsigned char *from, size_t bytes, int how)
+{
+    if (mprotect(from, bytes, how) != 0) {
+        perror("mprotect");
+        exit(1);
+    }
+}
+
+/* all pages of a list may be read and not written, or both */
+static void read_only(struct pages p)
+{
+    protect(p.first, p.before + p.behind, PROT_READ);
+}
+
+static void writable(struct pages p)
+{
+    protect(p.first, p.before + p.behind, PROT_READ | PROT_WRITE);
+}
+
+static const char *kept(struct pages p)
+{
+    size_t k;
+    for (k = 0; k < p.behind; k++)
+        if (p.border[k] != 0xa5)
+            return "changed";
+    return "kept";
+}
+
+/* a table of 200 places and a strip list of 5,000: those past 128 and 4,096 may neither be read nor written */
+static void longer_lists(struct pages t, struct pages s)
+{
+    struct foil_said said;
+    table = (struct foil_entry *)(void *)t.border - FOIL_ENTRIES;
+    entries = 200;
+    strips = (uint16_t *)(void *)s.border - 4 * FOIL_STRIPS;
+    strip_numbers = 4 * 5000;
+    protect(t.border, t.behind, PROT_NONE);
+    protect(s.border, s.behind, PROT_NONE);
+    printf("board %u\n", foil_new_foil(LENT, 6, 4, 0).number);
+    printf("patch %u\n", foil_draw(LENT, 2, 0, 3, 3).number);
+    printf("patch %u\n", foil_draw(LENT, 3, 0, 2, 3).number);
+    show_lay(5, foil_lay(LENT, CORNERS, 5, 0, 0, 4, 0));
+    said = foil_look_up(LENT, 5, 3);
+    printf("place %u %zu\n", said.number, said.place);
+    printf("lift 5 %u\n", foil_lift(LENT, 5).number);
+    run_job(sizeof job);
+    writable(t);
+    writable(s);
+    printf("past 128: %s\n", kept(t));
+    printf("past 4096: %s\n", kept(s));
+}
+
+/* the lists of a foil, which may only be read while calls are refused: these write to none of them */
+static void refused_calls(struct pages t, struct pages s, struct pages c)
+{
+    /* the record at place 1 lifts net 6, which is not there */
+    static const uint8_t lift_6[] = {0x00, 0x08, 0x06, 0x00};
+    unsigned k;
+    corners = (uint16_t *)(void *)c.border - corner_numbers;
+    read_only(t);
+    read_only(s);
+    read_only(c);
+    printf("board %u\n", foil_new_foil(LENT, 6, 4, 16).number);
+    printf("patch %u\n", foil_draw(LENT, 3, 0, 2, 3).number);
+    show_lay(5, foil_lay(LENT, CORNERS, 5, 0, 0, 4, 0));
+    show_lay(6, foil_lay(LENT, CORNERS, 6, 1, 0, 5, 0));
+    show_lay(7, foil_lay(LENT, corners, 1, 7, 1, 0, 1, 2));
+    printf("lift 6 %u\n", foil_lift(LENT, 6).number);
+    printf("lift 5 %u\n", foil_lift(&board, table, 127, strips, strip_numbers, 5).number);
+    printf("lift 6 %u\n", foil_run_record(LENT, CORNERS, lift_6, sizeof lift_6, 1).lift.said.number);
+    printf("file %u\n", foil_run_record(LENT, CORNERS, lift_6, sizeof lift_6, 4).number);
+    /* document 01's foil of 4,095 strips, and a track of one point that makes one more */
+    writable(t);
+    writable(s);
+    writable(c);
+    printf("board %u\n", foil_new_foil(LENT, 129, 127, 0).number);
+    for (k = 1; k < 128; k += 2)
+        foil_draw(LENT, k, 0, k + 1, 127);
+    for (k = 1; k < 124; k += 2)
+        foil_draw(LENT, 0, k, 129, k + 1);
+    show_lay(5, foil_lay(LENT, CORNERS, 5, 0, 125, 0, 125));
+    printf("entries %zu, strips %zu\n", board.entries, board.strips);
+    read_only(t);
+    read_only(s);
+    read_only(c);
+    printf("patch %u\n", foil_draw(LENT, 0, 125, 129, 126).number);
+    show_lay(6, foil_lay(LENT, CORNERS, 6, 2, 125, 2, 125));
+    /* a line drawn once more fills the table */
+    writable(t);
+    writable(s);
+    printf("patch %u\n", foil_draw(LENT, 0, 1, 129, 2).number);
+    read_only(t);
+    read_only(s);
+    printf("patch %u\n", foil_draw(LENT, 0, 1, 129, 2).number);
+    show_lay(6, foil_lay(LENT, CORNERS, 6, 2, 125, 2, 125));
+}
+
+int main(void)
+{
+    struct pages t = parted(FOIL_ENTRIES * sizeof(struct foil_entry), 72 * sizeof(struct foil_entry));
+    struct pages s = parted(4 * FOIL_STRIPS * sizeof(uint16_t), 4 * 904 * sizeof(uint16_t));
+    struct pages c = parted(2 * 8192 * sizeof(uint16_t), 0);
+    document_01();
+    longer_lists(t, s);
+    refused_calls(t, s, c);
     return 0;
 }
