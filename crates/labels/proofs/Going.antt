@@ -7,7 +7,9 @@ use mathlib.Core.Logic.{_≢_}
 use mathlib.Core.Bool.{false}
 use mathlib.Core.List.{List}
 use Rattle.grid.specs.Size.{area}
+use Rattle.grid.specs.Lines.{Lines}
 use Rattle.labels.specs.Line.{along}
+use Rattle.labels.specs.Ink.{Inked, Lean}
 use Rattle.labels.specs.Pass.{zeros, Cell, kept, none, new, Pass, Below, Full, Queued, Room, Added, PassTo}
 use Rattle.labels.specs.Rounds.{Begun, Rounds, start, more, Ended, stuck}
 use Rattle.labels.proofs.Pass.{visited-all, passing-room}
@@ -66,13 +68,44 @@ module _ {other edge : List ℕ} {m n v : ℕ} {l l′ : List ℕ} (P : Pass oth
         was i li k lk z (no y) =
             let e = cell-keep (P .cell i li k lk) y in let b = B .le i li k lk in absurd (omega arith)
 
+-- The inks stay small.
+pub pass-lean : {other inks edge cross : List ℕ} {m n v : ℕ} {l l′ w w′ : List ℕ} → Lines cross n → 1 ≤ v →
+    Pass other edge m n v l l′ → Inked other inks edge cross m n v l l′ w w′ → Lean n m other inks → Lean m n l w →
+    Lean m n l′ w′
+pass-lean {other} {inks} {edge} {cross} {m} {n} {v} {l} {l′} {w} {w′} C pos P I O L = record {
+  le = λ i li k lk z. pick i li k lk z (along l i k) (along l′ i k) refl refl (P .cell i li k lk);
+}
+  where
+    pick : (i : ℕ) → i < m → (k : ℕ) → k < n → along l′ i k ≢ 0 → (a b : ℕ) → along l i k ≡ a → along l′ i k ≡ b →
+        Cell other edge i n v k a b → along w′ i k ≤ 4095 * along l′ i k
+    pick i li k lk z a b ea eb (kept x) =
+        let e = I .kept i li k lk (rw ea x) in omega (arith, L .le i li k lk (rw ea x))
+    pick i li k lk z a b ea eb (none x) = absurd (z eb)
+    pick i li k lk z a b ea eb (new q lq r e) =
+        let s = I .fresh i li k lk ea z in
+        let t = s .le q lq r e in
+        omega (arith, O .le q lq i li (omega arith), C .below k lk, C .below q lq)
+
+module _ {el eu cols rows : List ℕ} {nc nr : ℕ} (C : Lines cols nc) (R : Lines rows nr) {l₀ u₀ wl₀ wu₀ : List ℕ}
+    (bl : Lean nr nc l₀ wl₀) (bu : Lean nc nr u₀ wu₀) where
+  pub rounds-lean : {v : ℕ} {l u wl wu : List ℕ} → Rounds el eu cols rows nc nr l₀ u₀ wl₀ wu₀ v l u wl wu →
+      (1 ≤ v) × Lean nr nc l wl × Lean nc nr u wu
+  rounds-lean start = (omega arith, bl, bu)
+  rounds-lean (more r x a y b) =
+      let h = rounds-lean r in
+      let p = h .0 in
+      let k = pass-lean C p x a (h .2) (h .1) in
+      (omega arith, k, pass-lean R p y b k (h .2))
+
 -- before the round that looks for v: queues ql from la to lb and qu from ua to ub
-pub record Going (el eu : List ℕ) (nc nr : ℕ) (l₀ u₀ : List ℕ) (v : ℕ) (l u ql qu : List ℕ) (la lb ua ub : ℕ)
-    : Type 0 where
+pub record Going (el eu cols rows : List ℕ) (nc nr : ℕ) (l₀ u₀ wl₀ wu₀ : List ℕ) (v : ℕ) (l u wl wu ql qu : List ℕ)
+    (la lb ua ub : ℕ) : Type 0 where
   pub pos : 1 ≤ v
-  pub rounds : Rounds el eu nc nr l₀ u₀ v l u
+  pub rounds : Rounds el eu cols rows nc nr l₀ u₀ wl₀ wu₀ v l u wl wu
   pub level-low : Below nr nc l v
   pub upright-low : Below nc nr u v
+  pub level-lean : Lean nr nc l wl
+  pub upright-lean : Lean nc nr u wu
   pub level-queue : Queued ql la lb nr nc l v
   pub upright-queue : Queued qu ua ub nc nr u v
   pub level-full : Full el l nr nc
@@ -86,13 +119,15 @@ pub record Going (el eu : List ℕ) (nc nr : ℕ) (l₀ u₀ : List ℕ) (v : �
 full-start : (edge : List ℕ) {lab : List ℕ} {m n : ℕ} → Below m n lab 1 → Full edge lab m n
 full-start edge B = record { joined = λ i li k q lk lq r z. let b = B .le i li k lk in absurd (omega arith) }
 
-pub going-start : (el eu : List ℕ) {nc nr : ℕ} {l u ql qu : List ℕ} → Begun l u ql qu nc nr →
-    Going el eu nc nr l u 1 l u ql qu 0 1 0 1
-going-start el eu B = record {
+pub going-start : (el eu cols rows : List ℕ) {nc nr : ℕ} {l u wl wu ql qu : List ℕ} → Begun l u wl wu ql qu nc nr →
+    Going el eu cols rows nc nr l u wl wu 1 l u wl wu ql qu 0 1 0 1
+going-start el eu cols rows B = record {
   pos = omega arith;
   rounds = start;
   level-low = B .level-low;
   upright-low = B .upright-low;
+  level-lean = B .level-lean;
+  upright-lean = B .upright-lean;
   level-queue = B .level;
   upright-queue = B .upright;
   level-full = full-start el (B .level-low);
@@ -105,30 +140,37 @@ going-start el eu B = record {
 }
 
 -- A level pass, and an upright pass after it.
-module _ {el eu : List ℕ} {nc nr : ℕ} {l₀ u₀ : List ℕ} {v : ℕ} {l u ql qu : List ℕ} {la lb ua ub : ℕ}
-    (G : Going el eu nc nr l₀ u₀ v l u ql qu la lb ua ub) {l′ ql′ : List ℕ} {le : ℕ}
-    (P : PassTo u el qu nr nc v ua ub l l′ ql ql′ lb le) where
+module _ {el eu cols rows : List ℕ} {nc nr : ℕ} (C : Lines cols nc) (R : Lines rows nr) {l₀ u₀ wl₀ wu₀ : List ℕ}
+    {v : ℕ} {l u wl wu ql qu : List ℕ} {la lb ua ub : ℕ}
+    (G : Going el eu cols rows nc nr l₀ u₀ wl₀ wu₀ v l u wl wu ql qu la lb ua ub) {l′ wl′ ql′ : List ℕ} {le : ℕ}
+    (P : PassTo u wu el cols qu nr nc v ua ub l l′ wl wl′ ql ql′ lb le) where
   level-pass : Pass u el nr nc v l l′
   level-pass = visited-all (G .upright-queue) (P .visited)
 
-  -- the queue for the second pass
+  -- the queue and the inks for the second pass
   pub going-second : Queued ql′ la lb nr nc l′ v
   going-second = queue-kept level-pass (P .added) (G .pos) (G .level-queue)
 
-  module _ {u′ qu′ : List ℕ} {ue : ℕ} (S : PassTo l′ eu ql′ nc nr v la lb u u′ qu qu′ ub ue) where
+  pub going-lean : Lean nr nc l′ wl′
+  going-lean = pass-lean C (G .pos) level-pass (P .inked) (G .upright-lean) (G .level-lean)
+
+  module _ {u′ wu′ qu′ : List ℕ} {ue : ℕ} (S : PassTo l′ wl′ eu rows ql′ nc nr v la lb u u′ wu wu′ qu qu′ ub ue) where
     upright-pass : Pass l′ eu nc nr v u u′
     upright-pass = visited-all going-second (S .visited)
 
     -- there are new labels
-    pub going-next : le + ue ≢ lb + ub → Going el eu nc nr l₀ u₀ (v + 1) l′ u′ ql′ qu′ lb le ub ue
+    pub going-next : le + ue ≢ lb + ub →
+        Going el eu cols rows nc nr l₀ u₀ wl₀ wu₀ (v + 1) l′ u′ wl′ wu′ ql′ qu′ lb le ub ue
     going-next ne =
         let a = P .added .grew in
         let b = S .added .grew in
         record {
           pos = omega arith;
-          rounds = more (G .rounds) level-pass upright-pass;
+          rounds = more (G .rounds) level-pass (P .inked) upright-pass (S .inked);
           level-low = pass-below level-pass (G .level-low);
           upright-low = pass-below upright-pass (G .upright-low);
+          level-lean = going-lean;
+          upright-lean = pass-lean R (G .pos) upright-pass (S .inked) going-lean (G .upright-lean);
           level-queue = queue-next level-pass (P .added) (G .level-low);
           upright-queue = queue-next upright-pass (S .added) (G .upright-low);
           level-full = P .visited .full;
@@ -142,7 +184,7 @@ module _ {el eu : List ℕ} {nc nr : ℕ} {l₀ u₀ : List ℕ} {v : ℕ} {l u 
 
     -- there are none
     pub going-stuck : (i j : ℕ) → le + ue ≡ lb + ub → along l j i ≡ 0 → along u i j ≡ 0 →
-        Ended el eu nc nr i j l₀ u₀ l′ u′ false
+        Ended el eu cols rows nc nr i j l₀ u₀ wl₀ wu₀ l′ u′ wl′ wu′ false
     going-stuck i j e x y =
         let a = P .added .grew in
         let b = S .added .grew in

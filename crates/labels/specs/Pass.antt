@@ -6,10 +6,7 @@ use mathlib.Core.List.{List, [], _∷_}
 use lib.ListN.{getD, set, length}
 use Rattle.grid.specs.Size.{stride, area}
 use Rattle.labels.specs.Line.{along, across, Linked, RunStart, RunEnd}
-
--- the largest label that its place can hold
-abbrev pub labelTop : ℕ
-labelTop = 4294967295
+use Rattle.labels.specs.Ink.{RunInked, Inked}
 
 -- how many places have no label
 unfoldable pub zeros : List ℕ → ℕ
@@ -81,11 +78,13 @@ pub record RunPushed (line lo k v : ℕ) (l₀ l t₀ t : List ℕ) (q₀ q : �
   pub whole : (j : ℕ) → j < k → lo ≤ j → along l₀ line j ≡ 0 →
       (p : ℕ) × (q₀ ≤ p) × (p < q) × (getD t (2 * p + 1) 0 ≡ j)
 
--- a visit of crossing k of a line: its run is pushed, or its label says that this was done
-pub data Visit (edge : List ℕ) (line n k v : ℕ) : List ℕ → List ℕ → List ℕ → List ℕ → ℕ → ℕ → Type 0 where
-  passed : {l t : List ℕ} {q : ℕ} → 2 ≤ along l line k → Visit edge line n k v l l t t q q
-  ran : {l₀ l t₀ t : List ℕ} {q₀ q : ℕ} (lo hi : ℕ) → RunStart edge line k lo → RunEnd edge line n k hi →
-      RunPushed line lo hi v l₀ l t₀ t q₀ q → Visit edge line n k v l₀ l t₀ t q₀ q
+-- a visit of crossing k of a line: its run gets inks and is pushed, or its label says that this was done
+pub data Visit (other inks edge cross : List ℕ) (line n k v : ℕ)
+    : List ℕ → List ℕ → List ℕ → List ℕ → List ℕ → List ℕ → ℕ → ℕ → Type 0 where
+  passed : {l w t : List ℕ} {q : ℕ} → 2 ≤ along l line k → Visit other inks edge cross line n k v l l w w t t q q
+  ran : {l₀ l w₀ w t₀ t : List ℕ} {q₀ q : ℕ} (lo hi : ℕ) → RunStart edge line k lo → RunEnd edge line n k hi →
+      RunInked other inks cross line v lo hi hi l₀ w₀ w → RunPushed line lo hi v l₀ l t₀ t q₀ q →
+      Visit other inks edge cross line n k v l₀ l w₀ w t₀ t q₀ q
 
 -- a crossing before and after a part of a pass
 pub data Part (other edge : List ℕ) (line n v k : ℕ) : ℕ → ℕ → Type 0 where
@@ -114,6 +113,8 @@ pub record Added (m n v : ℕ) (l₀ l t₀ t : List ℕ) (q₀ q : ℕ) : Type 
       (p : ℕ) × (q₀ ≤ p) × (p < q) × (getD t (2 * p) 0 ≡ i) × (getD t (2 * p + 1) 0 ≡ k)
 
 -- a pass up to place p of that queue, where this queue ended at q₀ and ends at q then
-pub record PassTo (other edge from : List ℕ) (m n v a p : ℕ) (l₀ l t₀ t : List ℕ) (q₀ q : ℕ) : Type 0 where
+pub record PassTo (other inks edge cross from : List ℕ) (m n v a p : ℕ) (l₀ l w₀ w t₀ t : List ℕ) (q₀ q : ℕ)
+    : Type 0 where
   pub visited : Visited other edge from m n v a p l₀ l (q - q₀)
+  pub inked : Inked other inks edge cross m n v l₀ l w₀ w
   pub added : Added m n v l₀ l t₀ t q₀ q

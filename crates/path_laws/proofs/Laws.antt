@@ -8,7 +8,8 @@ use mathlib.Core.Option.{Option, none, some}
 use mathlib.Core.Logic.{_⊎_, ⊎-elim}
 use Rattle.foil_spec.specs.Foil.{Point}
 use Rattle.foil_spec.specs.Paths.{isPath, bends, before, firstPath}
-use Rattle.path_laws.proofs.FirstPath.{nothing-missed, given-path, given-fewest, given-first, before-both}
+use Rattle.path_laws.proofs.Order.{before-both}
+use Rattle.path_laws.proofs.FirstPath.{nothing-missed, given-path, given-fewest, given-first}
 
 -- "the first way of fewest bends": it is a way from S to T, no way has fewer bends, and among the ways with equally
 -- few bends it comes first in the order

@@ -3,5 +3,6 @@ pub mod Segments
 pub mod Goings
 pub mod Counting
 pub mod Bound
+pub mod Order
 pub mod FirstPath
 pub mod Laws

@@ -1,4 +1,4 @@
--- The run of the crossing is pushed, from its start to its end.
+-- The run of the crossing gets its inks and is pushed, from its start to its end.
 use Prim.Native.Nat.{_-_}
 use native.Mathlib.Omega.{arith}
 use borrow.Author.Needs.{needs}
@@ -25,10 +25,42 @@ run-start-requires : tie.Need-run-start-requires
 run-start-requires c κs = search needs
 
 run-end-requires : tie.Need-run-end-requires
-run-end-requires c κs = search needs
+run-end-requires c κs =
+    let pre = c .before .before .before .before .before .before .before .before .before .before .before .pre in
+    (pre .0 .0, pre .0 .1 .few, pre .0 .2, pre .0 .4)
+
+ahead-of-requires : tie.Need-ahead-of-requires
+ahead-of-requires c κs =
+    let at-end = c .before in
+    let at-start = at-end .before in
+    let pre = at-start .before .before .before .before .before .before .before .before .before .before .before .pre in
+    let end = at-end .run-end .ensures in (
+      (pre .0 .0, pre .0 .1, end .le, at-start .run-start .ensures .le, end .after, pre .0 .3),
+      ((pre .1 .0 .0, pre .1 .0 .1, pre .1 .1 .1 .1), pre .1 .1 .0),
+    )
+
+ink-run-requires : tie.Need-ink-run-requires
+ink-run-requires c κs =
+    let at-ahead = c .before .before .before .before .before in
+    let at-end = at-ahead .before .before in
+    let at-start = at-end .before in
+    let pre = at-start .before .before .before .before .before .before .before .before .before .before .before .pre in
+    let end = at-end .run-end .ensures in (
+      (pre .0 .0, pre .0 .1, end .le, at-start .run-start .ensures .le, end .after, pre .0 .3),
+      (
+        (pre .1 .0 .0, pre .1 .0 .1, omega (arith, at-ahead .ahead-of .kept .0, pre .1 .1 .1 .1)),
+        ((pre .1 .0 .2, pre .1 .1 .1 .0 .labels), (pre .1 .1 .0, at-ahead .ahead-of .ensures)),
+      ),
+    )
 
 push-run-requires : tie.Need-push-run-requires
-push-run-requires c κs = search needs
+push-run-requires c κs =
+    let at-end = c .before .before .before .before .before .before .before .before .before .before .before .before in
+    let at-start = at-end .before in
+    let pre = at-start .before .before .before .before .before .before .before .before .before .before .before .pre in
+    let end = at-end .run-end .ensures in
+    let start = at-start .run-start .ensures in
+    (pre .0 .0, omega (arith, end .le, pre .0 .1 .few), omega (arith, end .after, start .le), pre .0 .3, pre .1 .1 .1 .0)
 
 same-length : tie.Need-same-length
 same-length c = search needs
@@ -36,11 +68,19 @@ same-length c = search needs
 same-length-2 : tie.Need-same-length-2
 same-length-2 c = search needs
 
+same-length-3 : tie.Need-same-length-3
+same-length-3 c = search needs
+
+same-length-4 : tie.Need-same-length-4
+same-length-4 c = search needs
+
 returns-2 : tie.Need-returns-2
 returns-2 c =
     let at-push = c .before .before .before .before in
-    let at-end = at-push .before .before .before in
-    Visit.ran _ _ (at-end .before .run-start .ensures) (at-end .run-end .ensures) (at-push .push-run .ensures)
+    let at-inks = at-push .before .before .before .before .before in
+    let at-end = at-inks .before .before .before .before .before .before .before .before in
+    Visit.ran _ _ (at-end .before .run-start .ensures) (at-end .run-end .ensures) (at-inks .ink-run .ensures)
+    (at-push .push-run .ensures)
 
 pub visit-spec : {M : Type 1} → statement M
 visit-spec =
@@ -53,7 +93,11 @@ visit-spec =
     returns
     run-start-requires
     run-end-requires
+    ahead-of-requires
+    ink-run-requires
     push-run-requires
     same-length
     same-length-2
+    same-length-3
+    same-length-4
     returns-2)

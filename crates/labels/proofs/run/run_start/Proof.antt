@@ -3,8 +3,8 @@ use Prim.Native.Nat.{_-_, _≤_}
 use native.Mathlib.Omega.{arith}
 use Rattle.labels.specs.Line.{Linked}
 use Rattle.labels.proofs.Line.{linked-refl, linked-down}
-use Rattle.labels.proofs.run_start.Statement.{statement}
-use Rattle.labels.proofs.run_start.Tie as tie
+use Rattle.labels.proofs.run.run_start.Statement.{statement}
+use Rattle.labels.proofs.run.run_start.Tie as tie
 
 abbrev Inv-loop : tie.InvT-loop
 Inv-loop edge line at lo₀ lo = (lo ≤ at) × Linked edge line lo at
