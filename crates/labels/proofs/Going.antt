@@ -10,9 +10,9 @@ use Rattle.grid.specs.Size.{area}
 use Rattle.grid.specs.Lines.{Lines}
 use Rattle.labels.specs.Line.{along}
 use Rattle.labels.specs.Ink.{Inked, Lean}
-use Rattle.labels.specs.Pass.{zeros, Cell, kept, none, new, Pass, Below, Full, Queued, Room, Added, PassTo}
-use Rattle.labels.specs.Rounds.{Begun, Rounds, start, more, Ended, stuck}
-use Rattle.labels.proofs.Pass.{visited-all, passing-room}
+use Rattle.labels.specs.Pass.{zeros, Cell, kept, none, new, Pass, Below, floor, Full, Queued, Room, Added, PassTo}
+use Rattle.labels.specs.Rounds.{Twin, Begun, Rounds, start, more, Ended, stuck}
+use Rattle.labels.proofs.Pass.{visited-all, visited-full, passing-room}
 
 -- One crossing in a pass.
 pub cell-keep : {other edge : List ℕ} {line n v k a b : ℕ} → Cell other edge line n v k a b → a ≢ 0 → b ≡ a
@@ -24,6 +24,11 @@ cell-back : {other edge : List ℕ} {line n v k a b : ℕ} → Cell other edge l
 cell-back (kept h) z = z
 cell-back (none h) z = z
 cell-back (new q l r e) z = absurd (omega arith)
+
+cell-one : {other edge : List ℕ} {line n v k a b : ℕ} → Cell other edge line n v k a b → 1 ≤ v → b ≡ 1 → a ≡ 1
+cell-one (kept h) p z = z
+cell-one (none h) p z = z
+cell-one (new q l r e) p z = absurd (omega arith)
 
 cell-below : {other edge : List ℕ} {line n v k a b : ℕ} → Cell other edge line n v k a b → a ≤ v → b ≤ v + 1
 cell-below (kept h) z = omega arith
@@ -108,16 +113,19 @@ pub record Going (el eu cols rows : List ℕ) (nc nr : ℕ) (l₀ u₀ wl₀ wu�
   pub upright-lean : Lean nc nr u wu
   pub level-queue : Queued ql la lb nr nc l v
   pub upright-queue : Queued qu ua ub nc nr u v
-  pub level-full : Full el l nr nc
-  pub upright-full : Full eu u nc nr
+  pub twin : Twin l u nc nr
+  pub level-full : Full el l nr nc (floor v)
+  pub upright-full : Full eu u nc nr (floor v)
   pub level-room : Room l ql lb
   pub upright-room : Room u qu ub
   pub level-order : la ≤ lb
   pub upright-order : ua ≤ ub
   pub top : v + (zeros l + zeros u) ≤ 2 * area + 1
 
-full-start : (edge : List ℕ) {lab : List ℕ} {m n : ℕ} → Below m n lab 1 → Full edge lab m n
-full-start edge B = record { joined = λ i li k q lk lq r z. let b = B .le i li k lk in absurd (omega arith) }
+full-start : (edge : List ℕ) {lab : List ℕ} {m n : ℕ} → Below m n lab 1 → Full edge lab m n (floor 1)
+full-start edge B = record {
+  joined = λ i li. record { on = λ k q lk lq r z. let b = B .le i li k lk in absurd (omega arith) };
+}
 
 pub going-start : (el eu cols rows : List ℕ) {nc nr : ℕ} {l u wl wu ql qu : List ℕ} → Begun l u wl wu ql qu nc nr →
     Going el eu cols rows nc nr l u wl wu 1 l u wl wu ql qu 0 1 0 1
@@ -130,6 +138,7 @@ going-start el eu cols rows B = record {
   upright-lean = B .upright-lean;
   level-queue = B .level;
   upright-queue = B .upright;
+  twin = B .twin;
   level-full = full-start el (B .level-low);
   upright-full = full-start eu (B .upright-low);
   level-room = B .level-room;
@@ -158,6 +167,22 @@ module _ {el eu cols rows : List ℕ} {nc nr : ℕ} (C : Lines cols nc) (R : Lin
     upright-pass : Pass l′ eu nc nr v u u′
     upright-pass = visited-all going-second (S .visited)
 
+    -- both lists still have the label 1 at the same crossings
+    level-twin : (i : ℕ) → i < nr → (k : ℕ) → k < nc → along l′ i k ≡ 1 → along u k i ≡ 1
+    level-twin i li k lk e = G .twin .level i li k lk (cell-one (level-pass .cell i li k lk) (G .pos) e)
+
+    upright-twin : (i : ℕ) → i < nc → (k : ℕ) → k < nr → along u′ i k ≡ 1 → along l′ k i ≡ 1
+    upright-twin i li k lk e =
+        let w = G .twin .upright i li k lk (cell-one (upright-pass .cell i li k lk) (G .pos) e) in
+        cell-keep (level-pass .cell k lk i li) (omega arith) ∙ w
+
+    twin-next : Twin l′ u′ nc nr
+    twin-next = record {
+      level = λ i li k lk e.
+          let w = level-twin i li k lk e in cell-keep (upright-pass .cell k lk i li) (omega arith) ∙ w;
+      upright = upright-twin;
+    }
+
     -- there are new labels
     pub going-next : le + ue ≢ lb + ub →
         Going el eu cols rows nc nr l₀ u₀ wl₀ wu₀ (v + 1) l′ u′ wl′ wu′ ql′ qu′ lb le ub ue
@@ -173,8 +198,9 @@ module _ {el eu cols rows : List ℕ} {nc nr : ℕ} (C : Lines cols nc) (R : Lin
           upright-lean = pass-lean R (G .pos) upright-pass (S .inked) going-lean (G .upright-lean);
           level-queue = queue-next level-pass (P .added) (G .level-low);
           upright-queue = queue-next upright-pass (S .added) (G .upright-low);
-          level-full = P .visited .full;
-          upright-full = S .visited .full;
+          twin = twin-next;
+          level-full = visited-full (G .pos) (G .upright-queue) (P .visited) level-twin;
+          upright-full = visited-full (G .pos) going-second (S .visited) upright-twin;
           level-room = passing-room (G .level-room) P;
           upright-room = passing-room (G .upright-room) S;
           level-order = a;

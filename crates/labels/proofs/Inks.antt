@@ -1,4 +1,4 @@
--- Laws of the inks along a run: carried from crossing to crossing both ways, they are the least over all its stops.
+-- Laws of the inks along a run: two sweeps carry the least along, and from both it is the least over all stops.
 use Prim.Native.Nat.{ℕ, _+_, _-_, _*_, _≤_, _<_, min}
 use native.Mathlib.Omega.{arith}
 use native.Mathlib.Decide.{decLe, decLt, ℕ-discrete}
@@ -12,7 +12,7 @@ use Rattle.foil_spec.specs.Paths.{gap}
 use Rattle.grid.specs.Size.{stride}
 use Rattle.grid.specs.Lines.{Lines}
 use Rattle.labels.specs.Line.{along, across}
-use Rattle.labels.specs.Ink.{Low, Carried, Least, Ahead, InkPut, stays, puts, RunInked, Lean}
+use Rattle.labels.specs.Ink.{Low, Carried, Least, Over, Ahead, Behind, InkPut, stays, puts, RunInked, Lean}
 
 -- the numbers of crossings a to b of a line do not fall
 pub rises : {cross : List ℕ} {n : ℕ} → Lines cross n → (a b : ℕ) → a ≤ b → b < n → getD cross a 0 ≤ getD cross b 0
@@ -27,72 +27,140 @@ pub lean-low : {other inks : List ℕ} {m n : ℕ} (line v : ℕ) → Lean n m o
     Low other inks line n v
 lean-low line v L ll p = record { le = λ q lq e. omega (arith, L .le q lq line ll (omega arith)) }
 
-module _ {other inks cross : List ℕ} {line v lo hi : ℕ} where
-  -- at a stop h, over no stops yet
-  least-none : (h a : ℕ) → lo ≤ h → h < hi → across other line h ≡ v →
-      Least other inks cross line v lo hi a a (getD cross h 0) (across inks line h)
-  least-none h a p q e = record {
+-- what is carried on from a stop
+pub carried-stop : {other inks : List ℕ} {line v k x best r : ℕ} → across other line k ≡ v →
+    r ≡ min (across inks line k + x) best → Carried other inks line v k x best r
+carried-stop {other} {inks} {line} {v} {k} {x} {best} {r} e m = record {
+  no-farther = omega arith;
+  no-more = λ z. omega arith;
+  is = pick (decLe best (across inks line k + x));
+}
+  where
+    pick : Dec (best ≤ across inks line k + x) → (r ≡ best) ⊎ ((across other line k ≡ v) × (r ≡ across inks line k + x))
+    pick (yes p) = inl (omega arith)
+    pick (no p) = inr (e, omega arith)
+
+-- A sweep over the run from lo to hi, on which crossing k stands g k high and none above `top`, has come over the
+-- crossings a to b. What it carries is no more than any ink over their stops with that stop's height, and no less than
+-- one over a stop of the run; a stop that is still to come counts as if it lay beyond the top.
+pub record Sweep (other inks : List ℕ) (line v lo hi : ℕ) (g : ℕ → ℕ) (top a b best : ℕ) : Type 0 where
+  pub small : best ≤ 4095 * v + 8192
+  pub le : (q : ℕ) → a ≤ q → q < b → across other line q ≡ v → best ≤ across inks line q + g q
+  pub q : ℕ
+  pub from : lo ≤ q
+  pub to : q < hi
+  pub stop : across other line q ≡ v
+  pub near : across inks line q + g q ≤ best
+  pub below : q < a → across inks line q + 2 * top ≤ best + g q
+  pub above : b ≤ q → across inks line q + 2 * top ≤ best + g q
+
+-- the height of a stop against that of a crossing where p is carried
+over-le : (p c d i : ℕ) → p ≤ i + d → p - c ≤ i + gap c d
+over-le p c d i h = omega arith
+
+over-near : (p c d i : ℕ) → i + d ≤ p → c ≤ d → i + gap c d ≤ p - c
+over-near p c d i h l = omega arith
+
+over-far : (p c d i top : ℕ) → i + d ≤ p → i + 2 * top ≤ p + d → c ≤ top → i + gap c d ≤ p - c
+over-far p c d i top h f l = omega arith
+
+-- upside down, numbers are as far apart
+pub flipped : (a b : ℕ) → a < 4096 → b < 4096 → gap a b ≡ gap (4096 - a) (4096 - b)
+flipped a b la lb = pick (decLe a b)
+  where
+    pick : Dec (a ≤ b) → gap a b ≡ gap (4096 - a) (4096 - b)
+    pick (yes p) = omega arith
+    pick (no p) = omega arith
+
+module _ {other inks : List ℕ} {line v lo hi : ℕ} {g : ℕ → ℕ} {top : ℕ} where
+  -- from the stop h, over no crossing yet
+  pub sweep-start : (h a : ℕ) → lo ≤ h → h < hi → across other line h ≡ v → across inks line h ≤ 4095 * v →
+      g h ≤ top → top ≤ 4096 → Sweep other inks line v lo hi g top a a (across inks line h + (top - g h) + top)
+  sweep-start h a p q e small l t = record {
+    small = omega arith;
     le = λ q f t. absurd (omega arith);
     q = h;
     from = p;
     to = q;
     stop = e;
-    ge = omega arith;
+    near = omega arith;
+    below = λ z. omega arith;
+    above = λ z. omega arith;
   }
 
-  -- carried from x, which is between crossing k and the stops so far, to crossing k
-  least-step : {a b x best k r : ℕ} → Least other inks cross line v lo hi a b x best →
-      Carried other inks line v k (best + gap (getD cross k 0) x) r → lo ≤ k → k < hi → (a′ b′ : ℕ) →
-      ((q : ℕ) → a ≤ q → q < b →
-      gap (getD cross k 0) x + gap x (getD cross q 0) ≤ gap (getD cross k 0) (getD cross q 0)) →
-      ((q : ℕ) → a′ ≤ q → q < b′ → q ≢ k → (a ≤ q) × (q < b)) →
-      Least other inks cross line v lo hi a′ b′ (getD cross k 0) r
-  least-step {a} {b} {x} {best} {k} {r} L C lk hk a′ b′ far part =
-      pick (C .is)
+  -- over crossing k, besides those from a to b
+  pub sweep-step : {a b best k r : ℕ} (a′ b′ : ℕ) → Sweep other inks line v lo hi g top a b best →
+      Carried other inks line v k (g k) best r → lo ≤ k → k < hi → a′ ≤ a → b ≤ b′ → a′ ≤ k → k < b′ →
+      ((q : ℕ) → a′ ≤ q → q < b′ → q ≢ k → (a ≤ q) × (q < b)) → Sweep other inks line v lo hi g top a′ b′ r
+  sweep-step {a} {b} {best} {k} {r} a′ b′ S C lk hk la lb ka kb part = pick (C .is)
     where
-      all : (q : ℕ) → a′ ≤ q → q < b′ → across other line q ≡ v →
-          r ≤ across inks line q + gap (getD cross k 0) (getD cross q 0)
+      all : (q : ℕ) → a′ ≤ q → q < b′ → across other line q ≡ v → r ≤ across inks line q + g q
       all q f t e = go (ℕ-discrete q k)
         where
-          go : Dec (q ≡ k) → r ≤ across inks line q + gap (getD cross k 0) (getD cross q 0)
+          go : Dec (q ≡ k) → r ≤ across inks line q + g q
           go (yes i) =
               let h = C .no-more (subst (λ (j : ℕ). across other line j ≡ v) i e) in
-              subst (λ (j : ℕ). r ≤ across inks line j + gap (getD cross k 0) (getD cross j 0)) (sym i) (omega arith)
-          go (no i) =
-              let p = part q f t i in
-              omega (arith, C .no-farther, L .le q (p .0) (p .1) e, far q (p .0) (p .1))
+              subst (λ (j : ℕ). r ≤ across inks line j + g j) (sym i) h
+          go (no i) = let p = part q f t i in omega (arith, C .no-farther, S .le q (p .0) (p .1) e)
 
-      pick : (r ≡ best + gap (getD cross k 0) x) ⊎ ((across other line k ≡ v) × (r ≡ across inks line k)) →
-          Least other inks cross line v lo hi a′ b′ (getD cross k 0) r
-      pick (inl i) =
-          record { le = all; q = L .q; from = L .from; to = L .to; stop = L .stop; ge = omega (arith, L .ge, i) }
-      pick (inr i) = record { le = all; q = k; from = lk; to = hk; stop = i .0; ge = omega (arith, i .1) }
+      pick : (r ≡ best) ⊎ ((across other line k ≡ v) × (r ≡ across inks line k + g k)) →
+          Sweep other inks line v lo hi g top a′ b′ r
+      pick (inl i) = record {
+        small = omega (arith, S .small);
+        le = all;
+        q = S .q;
+        from = S .from;
+        to = S .to;
+        stop = S .stop;
+        near = omega (arith, S .near);
+        below = λ z. omega (arith, S .below (omega arith));
+        above = λ z. omega (arith, S .above (omega arith));
+      }
+      pick (inr i) = record {
+        small = omega (arith, S .small, C .no-farther);
+        le = all;
+        q = k;
+        from = lk;
+        to = hk;
+        stop = i .0;
+        near = omega (arith, i .1);
+        below = λ z. absurd (omega arith);
+        above = λ z. absurd (omega arith);
+      }
 
-  module _ {n : ℕ} (L : Lines cross n) (few : hi ≤ n) where
-    -- one crossing down
-    least-down : (k : ℕ) {x best r : ℕ} → lo < k → k ≤ hi → (k < hi → x ≡ getD cross k 0) →
-        Least other inks cross line v lo hi k hi x best →
-        Carried other inks line v (k - 1) (best + gap (getD cross (k - 1) 0) x) r →
-        Least other inks cross line v lo hi (k - 1) hi (getD cross (k - 1) 0) r
-    least-down k {x} lk kh ex S C =
-        least-step S C (omega arith) (omega arith) (k - 1) hi
-        (λ q f t.
-        let e : x ≡ getD cross k 0 = ex (omega arith) in
-        omega (arith, rises L (k - 1) k (omega arith) (omega arith), rises L k q f (omega arith)))
-        (λ q f t ne. (omega arith, t))
+  -- crossing k is the lowest so far
+  pub sweep-over : {cross : List ℕ} {a b best : ℕ} (k : ℕ) → Sweep other inks line v lo hi g top a b best → lo ≤ a →
+      b ≤ hi → g k ≤ top →
+      ((q : ℕ) → lo ≤ q → q < hi → gap (getD cross k 0) (getD cross q 0) ≡ gap (g k) (g q)) →
+      ((q : ℕ) → a ≤ q → q < b → g k ≤ g q) → Over other inks cross line v lo hi a b k (g k) best
+  sweep-over {cross} {a} {b} {best} k S la lb low apart lowest = record {
+    above = high (decLt (S .q) a) (decLe b (S .q));
+    least = record {
+      le = λ q f t e.
+          subst (λ (z : ℕ). best - g k ≤ across inks line q + z) (sym (apart q (omega arith) (omega arith)))
+          (over-le best (g k) (g q) (across inks line q) (S .le q f t e));
+      q = S .q;
+      from = S .from;
+      to = S .to;
+      stop = S .stop;
+      ge = subst (λ (z : ℕ). across inks line (S .q) + z ≤ best - g k) (sym (apart (S .q) (S .from) (S .to)))
+          (one (decLt (S .q) a) (decLe b (S .q)));
+    };
+  }
+    where
+      high : Dec (S .q < a) → Dec (b ≤ S .q) → g k ≤ best
+      high (yes x) y = omega (arith, S .near, S .below x)
+      high (no x) (yes y) = omega (arith, S .near, S .above y)
+      high (no x) (no y) = omega (arith, S .near, lowest (S .q) (omega arith) (omega arith))
 
-    -- one crossing up
-    least-up : (k : ℕ) {x best r : ℕ} → lo ≤ k → k < hi → (lo < k → x ≡ getD cross (k - 1) 0) →
-        Least other inks cross line v lo hi lo k x best →
-        Carried other inks line v k (best + gap (getD cross k 0) x) r →
-        Least other inks cross line v lo hi lo (k + 1) (getD cross k 0) r
-    least-up k {x} lk kh ex S C =
-        least-step S C lk kh lo (k + 1)
-        (λ q f t.
-        let e : x ≡ getD cross (k - 1) 0 = ex (omega arith) in
-        omega (arith, rises L (k - 1) k (omega arith) (omega arith), rises L q (k - 1) (omega arith) (omega arith)))
-        (λ q f t ne. (f, omega arith))
+      one : Dec (S .q < a) → Dec (b ≤ S .q) → across inks line (S .q) + gap (g k) (g (S .q)) ≤ best - g k
+      one (yes x) y = over-far best (g k) (g (S .q)) (across inks line (S .q)) top (S .near) (S .below x) low
+      one (no x) (yes y) = over-far best (g k) (g (S .q)) (across inks line (S .q)) top (S .near) (S .above y) low
+      one (no x) (no y) =
+          over-near best (g k) (g (S .q)) (across inks line (S .q)) (S .near)
+          (lowest (S .q) (omega arith) (omega arith))
 
+module _ {other inks cross : List ℕ} {line v lo hi : ℕ} where
   -- from both sides
   least-both : {k x s t : ℕ} → Least other inks cross line v lo hi lo (k + 1) x s →
       Least other inks cross line v lo hi k hi x t → Least other inks cross line v lo hi lo hi x (min s t)
@@ -112,22 +180,8 @@ module _ {other inks cross : List ℕ} {line v lo hi : ℕ} where
       pick (no p) =
           record { le = all; q = B .q; from = B .from; to = B .to; stop = B .stop; ge = omega (arith, B .ge) }
 
-  -- The inks ahead.
-  ahead-none : (t : List ℕ) → Ahead other inks cross line v lo hi hi t
-  ahead-none t = record { at = λ j p q. absurd (omega arith) }
-
-  ahead-more : (k : ℕ) {t : List ℕ} {r : ℕ} → lo < k → k ≤ length t → Ahead other inks cross line v lo hi k t →
-      Least other inks cross line v lo hi (k - 1) hi (getD cross (k - 1) 0) r →
-      Ahead other inks cross line v lo hi (k - 1) (set t (k - 1) r)
-  ahead-more k {t} {r} lk fit A S = record { at = λ j p q. pick j p q (ℕ-discrete j (k - 1)) }
-    where
-      pick : (j : ℕ) → k - 1 ≤ j → j < hi → Dec (j ≡ k - 1) →
-          Least other inks cross line v lo hi j hi (getD cross j 0) (getD (set t (k - 1) r) j 0)
-      pick j p q (yes e) = rw e (rw (getD-set-same t (k - 1) r 0 (omega arith)) S)
-      pick j p q (no e) = rw (getD-set-other t (k - 1) j r 0 e) (A .at j (omega arith) q)
-
   -- The inks of the run.
-  inked-none : (l w : List ℕ) → RunInked other inks cross line v lo hi lo l w w
+  pub inked-none : (l w : List ℕ) → RunInked other inks cross line v lo hi lo l w w
   inked-none l w = record {
     size = refl;
     fresh = λ j p q. absurd (omega arith);
@@ -168,105 +222,127 @@ module _ {other inks cross : List ℕ} {line v lo hi : ℕ} where
         high = λ i p. getD-set-other w at i (min s t) 0 (omega arith) ∙ R .high i (omega arith);
       }
 
--- The sweep down a run, from the stop h, with the crossings from k on done: `best` is the least ink at x.
-pub record Down (other inks cross : List ℕ) (line v lo hi k x best : ℕ) (ahead : List ℕ) : Type 0 where
+  pub inked-next : {k s t m : ℕ} {l w₀ w w′ : List ℕ} → lo ≤ k → line * stride + k < length w₀ →
+      RunInked other inks cross line v lo hi k l w₀ w → Least other inks cross line v lo hi lo (k + 1) (getD cross k 0) s →
+      Least other inks cross line v lo hi k hi (getD cross k 0) t → m ≡ min s t → InkPut line k m l w w′ →
+      RunInked other inks cross line v lo hi (k + 1) l w₀ w′
+  inked-next {k} {l = l} {w = w} {w′ = w′} lk fit R A B e P =
+      inked-more lk fit R A B (subst (λ (m : ℕ). InkPut line k m l w w′) e P)
+
+-- The heights for the two sweeps.
+abbrev pub rise : List ℕ → ℕ → ℕ
+rise cross k = getD cross k 0
+
+abbrev pub fall : List ℕ → ℕ → ℕ
+fall cross k = 4096 - getD cross k 0
+
+-- The sweep down, with the crossings from k on done.
+pub record Down (other inks cross : List ℕ) (line v lo hi k best : ℕ) (ahead : List ℕ) : Type 0 where
   pub from : lo ≤ k
   pub to : k ≤ hi
-  pub at : k < hi → x ≡ getD cross k 0
-  pub near : x < 4096
-  pub small : best ≤ 4095 * (v + (hi - k))
-  pub least : Least other inks cross line v lo hi k hi x best
+  pub sweep : Sweep other inks line v lo hi (rise cross) (rise cross (hi - 1)) k hi best
   pub made : Ahead other inks cross line v lo hi k ahead
 
--- The sweep up, with the crossings up to k done.
-pub record Up (other inks cross : List ℕ) (line v lo hi k x best : ℕ) (l w₀ w : List ℕ) : Type 0 where
+-- The sweep up, with the crossings before k done.
+pub record Up (other inks cross : List ℕ) (line v lo hi k best : ℕ) (behind : List ℕ) : Type 0 where
   pub from : lo ≤ k
   pub to : k ≤ hi
-  pub at : lo < k → x ≡ getD cross (k - 1) 0
-  pub near : x < 4096
-  pub small : best ≤ 4095 * (v + (k - lo))
-  pub least : Least other inks cross line v lo hi lo k x best
-  pub made : RunInked other inks cross line v lo hi k l w₀ w
+  pub sweep : Sweep other inks line v lo hi (fall cross) (fall cross lo) lo k best
+  pub made : Behind other inks cross line v lo hi k behind
 
--- a step is at most 4,095 long
-carried-small : {other inks cross : List ℕ} {line v n : ℕ} → Lines cross n → (k x best r : ℕ) →
-    Carried other inks line v k (best + gap (getD cross k 0) x) r → k < n → x < 4096 → r ≤ best + 4095
-carried-small C k x best r S lk lx = omega (arith, S .no-farther, C .below k lk)
+ahead-more : {other inks cross : List ℕ} {line v lo hi : ℕ} (k : ℕ) {t : List ℕ} {r : ℕ} → lo < k → k ≤ length t →
+    Ahead other inks cross line v lo hi k t → Over other inks cross line v lo hi (k - 1) hi (k - 1) (rise cross (k - 1)) r →
+    Ahead other inks cross line v lo hi (k - 1) (set t (k - 1) r)
+ahead-more {other} {inks} {cross} {line} {v} {lo} {hi} k {t} {r} lk fit A S = record {
+  at = λ j p q. pick j p q (ℕ-discrete j (k - 1));
+}
+  where
+    pick : (j : ℕ) → k - 1 ≤ j → j < hi → Dec (j ≡ k - 1) →
+        Over other inks cross line v lo hi j hi j (getD cross j 0) (getD (set t (k - 1) r) j 0)
+    pick j p q (yes e) = rw e (rw (getD-set-same t (k - 1) r 0 (omega arith)) S)
+    pick j p q (no e) = rw (getD-set-other t (k - 1) j r 0 e) (A .at j (omega arith) q)
 
--- a loop that goes up ends
-pub nearer : (k n : ℕ) → k < n → n - (k + 1) < n - k
-nearer k n l = omega arith
+behind-more : {other inks cross : List ℕ} {line v lo hi : ℕ} (k : ℕ) {t : List ℕ} {r : ℕ} → k < length t →
+    Behind other inks cross line v lo hi k t → Over other inks cross line v lo hi lo (k + 1) k (fall cross k) r →
+    Behind other inks cross line v lo hi (k + 1) (set t k r)
+behind-more {other} {inks} {cross} {line} {v} {lo} {hi} k {t} {r} fit B S = record {
+  at = below-more
+      (λ j. lo ≤ j → Over other inks cross line v lo hi lo (j + 1) j (4096 - getD cross j 0) (getD (set t k r) j 0)) k
+      (λ j p q. rw (getD-set-other t k j r 0 (omega arith)) (B .at j p q))
+      (λ p. rw (getD-set-same t k r 0 fit) S);
+}
 
 module _ {other inks cross : List ℕ} {line v lo hi n : ℕ} (C : Lines cross n) (few : hi ≤ n) where
   module _ (h : ℕ) (p : lo ≤ h) (q : h < hi) (L : Low other inks line n v) (e : across other line h ≡ v) where
-    pub down-start : (t : List ℕ) → Down other inks cross line v lo hi hi (getD cross h 0) (across inks line h) t
+    pub down-start : (t : List ℕ) →
+        Down other inks cross line v lo hi hi (across inks line h + (rise cross (hi - 1) - rise cross h) + rise cross (hi - 1)) t
     down-start t = record {
       from = omega arith;
       to = omega arith;
-      at = λ l. absurd (omega arith);
-      near = C .below h (omega arith);
-      small = omega (arith, L .le h (omega arith) e);
-      least = least-none h hi p q e;
-      made = ahead-none t;
+      sweep = sweep-start {g = rise cross} h hi p q e (L .le h (omega arith) e)
+          (rises C h (hi - 1) (omega arith) (omega arith)) (omega (arith, C .below (hi - 1) (omega arith)));
+      made = record { at = λ j p q. absurd (omega arith) };
     }
 
-    pub up-start : (l w : List ℕ) → Up other inks cross line v lo hi lo (getD cross h 0) (across inks line h) l w w
-    up-start l w = record {
+    pub up-start : (t : List ℕ) →
+        Up other inks cross line v lo hi lo (across inks line h + (fall cross lo - fall cross h) + fall cross lo) t
+    up-start t = record {
       from = omega arith;
       to = omega arith;
-      at = λ l. absurd (omega arith);
-      near = C .below h (omega arith);
-      small = omega (arith, L .le h (omega arith) e);
-      least = least-none h lo p q e;
-      made = inked-none l w;
+      sweep = sweep-start {g = fall cross} h lo p q e (L .le h (omega arith) e)
+          (omega (arith, rises C lo h p (omega arith))) (omega arith);
+      made = record { at = λ j p q. absurd (omega arith) };
     }
 
-  pub down-more : {k x best r : ℕ} {t : List ℕ} → lo < k → k ≤ length t →
-      Down other inks cross line v lo hi k x best t →
-      Carried other inks line v (k - 1) (best + gap (getD cross (k - 1) 0) x) r →
-      Down other inks cross line v lo hi (k - 1) (getD cross (k - 1) 0) r (set t (k - 1) r)
-  down-more {k} {x} {best} {r} lk fit D S =
+  pub down-more : {k best r : ℕ} {t : List ℕ} → lo < k → k ≤ length t → Down other inks cross line v lo hi k best t →
+      Carried other inks line v (k - 1) (rise cross (k - 1)) best r →
+      Down other inks cross line v lo hi (k - 1) r (set t (k - 1) r)
+  down-more {k} {best} {r} lk fit D S =
       let to = D .to in
-      let b = carried-small C (k - 1) x best r S (omega arith) (D .near) in
-      let least = least-down C few k lk to (D .at) (D .least) S in
+      let next = sweep-step {g = rise cross} (k - 1) hi (D .sweep) S (omega arith) (omega arith) (omega arith)
+      (omega arith) (omega arith) (omega arith) (λ q f t ne. (omega arith, t)) in
       record {
         from = omega arith;
         to = omega arith;
-        at = λ l. refl;
-        near = C .below (k - 1) (omega arith);
-        small = let z = D .small in omega arith;
-        least = least;
-        made = ahead-more k lk fit (D .made) least;
+        sweep = next;
+        made = ahead-more k lk fit (D .made)
+            (sweep-over {g = rise cross} (k - 1) next (omega arith) (omega arith)
+            (rises C (k - 1) (hi - 1) (omega arith) (omega arith)) (λ q f t. refl)
+            (λ q f t. rises C (k - 1) q f (omega arith)));
       }
 
-  pub up-more : {k x best r s m : ℕ} {l w₀ w w′ : List ℕ} → k < hi → line * stride + k < length w₀ →
-      Up other inks cross line v lo hi k x best l w₀ w → Carried other inks line v k (best + gap (getD cross k 0) x) r →
-      Least other inks cross line v lo hi k hi (getD cross k 0) s → m ≡ min r s → InkPut line k m l w w′ →
-      Up other inks cross line v lo hi (k + 1) (getD cross k 0) r l w₀ w′
-  up-more {k} {x} {best} {r} {l = l} {w = w} {w′ = w′} lk fit U S A e P =
-      let b = carried-small C k x best r S (omega arith) (U .near) in
-      let least = least-up C few k (U .from) lk (U .at) (U .least) S in
-      let i : k ≡ k + 1 - 1 = omega arith in
+  pub up-more : {k best r : ℕ} {t : List ℕ} → k < hi → k < length t → Up other inks cross line v lo hi k best t →
+      Carried other inks line v k (fall cross k) best r → Up other inks cross line v lo hi (k + 1) r (set t k r)
+  up-more {k} {best} {r} lk fit U S =
+      let from = U .from in
+      let next = sweep-step {g = fall cross} lo (k + 1) (U .sweep) S from lk (omega arith) (omega arith) from
+      (omega arith) (λ q f t ne. (f, omega arith)) in
       record {
-        from = let z = U .from in omega arith;
+        from = omega arith;
         to = omega arith;
-        at = λ z. ap (λ (j : ℕ). getD cross j 0) i;
-        near = C .below k (omega arith);
-        small = let z = U .small in let y = U .from in omega arith;
-        least = least;
-        made = inked-more (U .from) fit (U .made) least A (subst (λ (m : ℕ). InkPut line k m l w w′) e P);
+        sweep = next;
+        made = behind-more k fit (U .made)
+            (sweep-over {g = fall cross} k next (omega arith) (omega arith)
+            (omega (arith, rises C lo k from (omega arith)))
+            (λ q f t. flipped (getD cross k 0) (getD cross q 0) (C .below k (omega arith)) (C .below q (omega arith)))
+            (λ q f t. omega (arith, rises C q k (omega arith) (omega arith))));
       }
 
-pub down-done : {other inks cross : List ℕ} {line v lo hi k x best : ℕ} {t : List ℕ} → k ≤ lo →
-    Down other inks cross line v lo hi k x best t → Ahead other inks cross line v lo hi lo t
+pub down-done : {other inks cross : List ℕ} {line v lo hi k best : ℕ} {t : List ℕ} → k ≤ lo →
+    Down other inks cross line v lo hi k best t → Ahead other inks cross line v lo hi lo t
 down-done {other} {inks} {cross} {line} {v} {lo} {hi} {k} {t = t} l D =
     let z = D .from in
     let e : k ≡ lo = omega arith in
     subst (λ (j : ℕ). Ahead other inks cross line v lo hi j t) e (D .made)
 
-pub up-done : {other inks cross : List ℕ} {line v lo hi k x best : ℕ} {l w₀ w : List ℕ} → hi ≤ k →
-    Up other inks cross line v lo hi k x best l w₀ w → RunInked other inks cross line v lo hi hi l w₀ w
-up-done {other} {inks} {cross} {line} {v} {lo} {hi} {k} {l = l} {w₀ = w₀} {w = w} g U =
+pub up-done : {other inks cross : List ℕ} {line v lo hi k best : ℕ} {t : List ℕ} → hi ≤ k →
+    Up other inks cross line v lo hi k best t → Behind other inks cross line v lo hi hi t
+up-done {other} {inks} {cross} {line} {v} {lo} {hi} {k} {t = t} g U =
     let z = U .to in
     let e : k ≡ hi = omega arith in
-    subst (λ (j : ℕ). RunInked other inks cross line v lo hi j l w₀ w) e (U .made)
+    subst (λ (j : ℕ). Behind other inks cross line v lo hi j t) e (U .made)
+
+pub inked-done : {other inks cross : List ℕ} {line v lo hi k : ℕ} {l w₀ w : List ℕ} → k ≡ hi →
+    RunInked other inks cross line v lo hi k l w₀ w → RunInked other inks cross line v lo hi hi l w₀ w
+inked-done {other} {inks} {cross} {line} {v} {lo} {hi} {l = l} {w₀ = w₀} {w = w} e R =
+    subst (λ (j : ℕ). RunInked other inks cross line v lo hi j l w₀ w) e R

@@ -72,6 +72,10 @@ linked-on edge line a b l h k =
     let e : (b - 1) + 1 ≡ b + 1 - 1 = omega arith in
     rw (← e) (linked-up edge line a (b - 1) (omega arith) h k)
 
+pub start-nearer : {edge : List ℕ} {line at a r : ℕ} → RunStart edge line at a → r ≡ min a at → RunStart edge line at r
+start-nearer {edge} {line} {at} {a} {r} s m =
+    let le = s .le in let e : a ≡ r = omega arith in subst (λ (b : ℕ). RunStart edge line at b) e s
+
 -- a crossing joined with k is in the run of k
 pub in-run : {edge : List ℕ} {line n k lo hi : ℕ} (q : ℕ) → k < n → q < n → RunStart edge line k lo →
     RunEnd edge line n k hi → Linked edge line k q → (lo ≤ q) × (q < hi)
@@ -87,6 +91,13 @@ in-run {edge} {line} {n} {k} {lo} {hi} q lk lq s e r = (left (decLe lo q), right
     right (no x) =
         let a = e .after in
         absurd (e .stop (omega arith) (linked-at edge line k q (hi - 1) (omega arith) (omega arith) r))
+
+-- and the crossings of the run are joined with each other
+pub run-joined : {edge : List ℕ} {line n k lo hi : ℕ} → RunStart edge line k lo → RunEnd edge line n k hi →
+    (a : ℕ) → lo ≤ a → a < hi → (b : ℕ) → lo ≤ b → b < hi → Linked edge line a b
+run-joined {edge} {line} {n} {k} {lo} {hi} s e a la ha b lb hb =
+    linked-part edge line lo (hi - 1) a b (omega arith) (omega arith)
+    (linked-trans edge line lo k (hi - 1) (s .linked) (e .linked))
 
 -- What a stop is.
 module _ (other inks cross : List ℕ) (line x v s k : ℕ) where

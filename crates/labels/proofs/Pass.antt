@@ -10,11 +10,29 @@ use lib.ListN.{getD}
 use borrow.Author.Count.{below-more}
 use Rattle.grid.specs.Size.{stride}
 use Rattle.labels.specs.Line.{along, across, Linked, RunStart, RunEnd}
-use Rattle.labels.specs.Ink.{RunInked, LeastInk, Inked}
-use Rattle.labels.specs.Pass.{zeros, Cell, kept, none, new, Pass, Full, Queued, Room, Fill, held, fresh}
+use Rattle.labels.specs.Ink.{Blank, RunInked, LeastInk, Inked}
+use Rattle.labels.specs.Pass.{zeros, Cell, kept, none, new, Pass, floor, Joined, Full, Queued, Room, Fill, held, fresh}
 use Rattle.labels.specs.Pass.{RunFilled, RunPushed, Visit, passed, ran, Part, stood, got, Visited, Added}
 use Rattle.labels.specs.Pass.{PassTo}
-use Rattle.labels.proofs.Line.{linked-sym, linked-trans, linked-part, in-run}
+use Rattle.labels.proofs.Line.{linked-sym, linked-trans, in-run, run-joined}
+
+-- a visit of a crossing whose run has labels
+pub visit-passed : {other inks edge cross l w t : List ℕ} {line n k v low q : ℕ} → low ≡ floor v →
+    low < along l line k → Visit other inks edge cross line n k v l l w w t t q q
+visit-passed {l = l} {line = line} {k = k} {v = v} e x = let z : floor v < along l line k = omega arith in passed z
+
+-- a run none of whose labels is above 0 so far, since that of crossing k is not
+pub blank-run : {edge lab : List ℕ} {line n k lo hi b : ℕ} → b ≡ 0 → along lab line k ≤ b → k < n →
+    Joined edge lab line n b → RunStart edge line k lo → RunEnd edge line n k hi → Blank lab line lo hi
+blank-run {edge} {lab} {line} {n} {k} {lo} {hi} {b} z low lk J s e = record {
+  none = λ j l h. pick j l h (ℕ-discrete (along lab line j) 0);
+}
+  where
+    pick : (j : ℕ) → lo ≤ j → j < hi → Dec (along lab line j ≡ 0) → along lab line j ≡ 0
+    pick j l h (yes x) = x
+    pick j l h (no x) =
+        let few = e .le in
+        absurd (J .on j k (omega arith) lk (run-joined s e j l h k (s .le) (e .after)) (omega arith) (omega arith))
 
 fill-on : {v a b : ℕ} → Fill v a b → b ≢ 0
 fill-on (held h) = h
@@ -62,7 +80,7 @@ part-fill : {other edge : List ℕ} {line n v k a b c : ℕ} (h : ℕ) → h < n
 part-fill h l r e x (held y) = x
 part-fill h l r e x fresh = part-fresh h l r e x refl
 
-visited-none : (other edge from : List ℕ) (m n v a : ℕ) (l : List ℕ) → Full edge l m n →
+visited-none : (other edge from : List ℕ) (m n v a : ℕ) (l : List ℕ) → Full edge l m n (floor v) →
     Visited other edge from m n v a a l l 0
 visited-none other edge from m n v a l F = record {
   size = refl;
@@ -78,14 +96,14 @@ module _ {other edge from : List ℕ} {m n v a p : ℕ} {l₀ l : List ℕ} {c l
     (el : getD from (2 * p + 1) 0 ≡ line) (eh : getD from (2 * p) 0 ≡ h)
     (G : Visited other edge from m n v a p l₀ l c) where
   -- its run was filled before
-  visited-skip : 2 ≤ along l line h → Visited other edge from m n v a (p + 1) l₀ l c
+  visited-skip : floor v < along l line h → Visited other edge from m n v a (p + 1) l₀ l c
   visited-skip t = record {
     size = G .size;
     part = G .part;
     did = below-more
         (λ r. a ≤ r → (q : ℕ) → q < n → Linked edge (getD from (2 * r + 1) 0) (getD from (2 * r) 0) q →
         along l (getD from (2 * r + 1) 0) q ≢ 0) p
-        (G .did) (λ at q lq z. rw el (G .full .joined line ll h q lh lq (rw (el, eh) at z) t));
+        (G .did) (λ at q lq z. rw el (G .full .joined line ll .on h q lh lq (rw (el, eh) at z) t));
     count = G .count;
     same = G .same;
     full = G .full;
@@ -98,11 +116,7 @@ module _ {other edge from : List ℕ} {m n v a p : ℕ} {l₀ l : List ℕ} {c l
     run-on q lq z = let w = in-run q lh lq s e z in fill-on (R .fill q (w .1) (w .0))
 
     in-line : (k : ℕ) → lo ≤ k → k < hi → Linked edge line k h
-    in-line k x y =
-        let z = e .after in
-        let w = s .le in
-        linked-part edge line lo (hi - 1) k h (omega arith) (omega arith)
-        (linked-trans edge line lo h (hi - 1) (s .linked) (e .linked))
+    in-line k x y = run-joined s e k x y h (s .le) (e .after)
 
     visited-run : Visited other edge from m n v a (p + 1) l₀ l′ (c + r)
     visited-run = record {
@@ -119,12 +133,14 @@ module _ {other edge from : List ℕ} {m n v a p : ℕ} {l₀ l : List ℕ} {c l
       count = omega (arith, G .count, R .count);
       same = λ z. R .same (omega arith) ∙ G .same (omega arith);
       full = record {
-        joined = λ i li k q lk lq z t.
-            fill-cases R few (e .le) i k lk
-            (λ x y w.
-            let r = linked-sym edge line k h (in-line k y w) in
-            rw x (run-on q lq (linked-trans edge line h k q r (rw x at z))))
-            (λ x. run-grown R few (e .le) i q lq (G .full .joined i li k q lk lq z (omega arith)));
+        joined = λ i li. record {
+          on = λ k q lk lq z t.
+              fill-cases R few (e .le) i k lk
+              (λ x y w.
+              let r = linked-sym edge line k h (in-line k y w) in
+              rw x (run-on q lq (linked-trans edge line h k q r (rw x at z))))
+              (λ x. run-grown R few (e .le) i q lq (G .full .joined i li .on k q lk lq z (omega arith)));
+        };
       };
     }
 
@@ -146,6 +162,22 @@ visited-all {other} {edge} {from} {m} {n} {v} {a} {b} {l₀} {l} Q G = record {
         let t = Q .whole q lq i li e in
         G .did (t .0) (t .2) (t .1) k lk (rw (t .3, t .4) (linked-sym edge i k q z)) (rw (t .4) (sym w)))
     cell i li k lk (suc x) y stood w = kept (suc-on x)
+
+-- and what is joined with any label has one
+pub visited-full : {other edge from : List ℕ} {m n v a b : ℕ} {l₀ l : List ℕ} {c : ℕ} → 1 ≤ v →
+    Queued from a b n m other v → Visited other edge from m n v a b l₀ l c →
+    ((i : ℕ) → i < m → (k : ℕ) → k < n → along l i k ≡ 1 → across other i k ≡ 1) → Full edge l m n (floor (v + 1))
+visited-full {other} {edge} {from} {m} {n} {v} {a} {b} {l₀} {l} pos Q G twin = record {
+  joined = λ i li. record { on = λ k q lk lq z t. pick i li k q lk lq z t (decLt (floor v) (along l i k)) };
+}
+  where
+    pick : (i : ℕ) → i < m → (k q : ℕ) → k < n → q < n → Linked edge i k q → floor (v + 1) < along l i k →
+        Dec (floor v < along l i k) → along l i q ≢ 0
+    pick i li k q lk lq z t (yes x) = G .full .joined i li .on k q lk lq z x
+    pick i li k q lk lq z t (no x) =
+        let one = twin i li k lk (omega arith) in
+        let w = Q .whole k lk i li (omega arith) in
+        rw (← w .4) (G .did (w .0) (w .2) (w .1) q lq (rw (w .3, w .4) z))
 
 -- What the runs add to the queue.
 added-none : (m n v : ℕ) (l t : List ℕ) (q : ℕ) → Added m n v l l t t q q
@@ -238,25 +270,14 @@ module _ {other inks edge cross from : List ℕ} {m n v a p : ℕ} {l₀ l l′ 
       let le = e .le in
       record {
         le = λ q lq j st.
-            let u = in-run q lh lq s e (linked-trans edge line h k q (in-span h lo′ hi′ k y t) j) in
+            let u = in-run q lh lq s e (linked-trans edge line h k q (run-joined s e h (s .le) (e .after) k y t) j) in
             L .le q (u .0) (u .1) st;
         q = L .q;
         below = let u = L .to in omega arith;
-        linked = in-span k y t (L .q) (L .from) (L .to);
+        linked = run-joined s e k y t (L .q) (L .from) (L .to);
         stop = L .stop;
         ge = L .ge;
       }
-    where
-      lo′ : lo ≤ h
-      lo′ = s .le
-
-      hi′ : h < hi
-      hi′ = e .after
-
-      in-span : (a : ℕ) → lo ≤ a → a < hi → (b : ℕ) → lo ≤ b → b < hi → Linked edge line a b
-      in-span a p q b f g =
-          linked-part edge line lo (hi - 1) a b (omega arith) (omega arith)
-          (linked-trans edge line lo h (hi - 1) (s .linked) (e .linked))
 
   inked-run : Inked other inks edge cross m n v l₀ l′ w₀ w′
   inked-run = record {
@@ -272,7 +293,8 @@ module _ {other inks edge cross from : List ℕ} {m n v a p : ℕ} {l₀ l l′ 
           fill-cases R few (e .le) i k lk (λ f g t. rw f (ink-fresh k g t (rw f at x))) (λ f. absurd (y (f ∙ x)))
 
 -- A pass, place after place of the queue.
-pub passing-none : (other inks edge cross from : List ℕ) (m n v a : ℕ) (l w t : List ℕ) (q : ℕ) → Full edge l m n →
+pub passing-none : (other inks edge cross from : List ℕ) (m n v a : ℕ) (l w t : List ℕ) (q : ℕ) →
+    Full edge l m n (floor v) →
     PassTo other inks edge cross from m n v a a l l w w t t q q
 passing-none other inks edge cross from m n v a l w t q F = record {
   visited = let e : 0 ≡ q - q = omega arith in

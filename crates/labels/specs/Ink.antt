@@ -12,11 +12,11 @@ use Rattle.labels.specs.Line.{along, across, Linked}
 pub record Low (other inks : List ℕ) (line n v : ℕ) : Type 0 where
   pub le : (q : ℕ) → q < n → across other line q ≡ v → across inks line q ≤ 4095 * v
 
--- r is the least of `far` and, where crossing k is a stop for the label v, its ink
-pub record Carried (other inks : List ℕ) (line v k far r : ℕ) : Type 0 where
-  pub no-farther : r ≤ far
-  pub no-more : across other line k ≡ v → r ≤ across inks line k
-  pub is : (r ≡ far) ⊎ ((across other line k ≡ v) × (r ≡ across inks line k))
+-- r is the least of `best` and, where crossing k is a stop for the label v, its ink and x more
+pub record Carried (other inks : List ℕ) (line v k x best r : ℕ) : Type 0 where
+  pub no-farther : r ≤ best
+  pub no-more : across other line k ≡ v → r ≤ across inks line k + x
+  pub is : (r ≡ best) ⊎ ((across other line k ≡ v) × (r ≡ across inks line k + x))
 
 -- s is no more than the ink at x over any stop from crossing a to crossing b, b excluded, and no less than that over
 -- one of the stops from lo to hi
@@ -28,9 +28,25 @@ pub record Least (other inks cross : List ℕ) (line v lo hi a b x s : ℕ) : Ty
   pub stop : across other line q ≡ v
   pub ge : across inks line q + gap x (getD cross q 0) ≤ s
 
--- the least inks at the crossings k to hi of the run from lo to hi, over the stops from each on
+-- p is x more than the least ink at crossing j over the stops from crossing a to crossing b, b excluded
+pub record Over (other inks cross : List ℕ) (line v lo hi a b j x p : ℕ) : Type 0 where
+  pub above : x ≤ p
+  pub least : Least other inks cross line v lo hi a b (getD cross j 0) (p - x)
+
+-- the sweep down has come to crossing k of the run from lo to hi: at each crossing from there on stands the least ink
+-- over the stops from it on, and its number more
 pub record Ahead (other inks cross : List ℕ) (line v lo hi k : ℕ) (ahead : List ℕ) : Type 0 where
-  pub at : (j : ℕ) → k ≤ j → j < hi → Least other inks cross line v lo hi j hi (getD cross j 0) (getD ahead j 0)
+  pub at : (j : ℕ) → k ≤ j → j < hi → Over other inks cross line v lo hi j hi j (getD cross j 0) (getD ahead j 0)
+
+-- the sweep up has come to crossing k: at each crossing before it stands the least ink over the stops up to it, and as
+-- much more as its number is below 4,096
+pub record Behind (other inks cross : List ℕ) (line v lo hi k : ℕ) (behind : List ℕ) : Type 0 where
+  pub at : (j : ℕ) → j < k → lo ≤ j →
+      Over other inks cross line v lo hi lo (j + 1) j (4096 - getD cross j 0) (getD behind j 0)
+
+-- no crossing of a line from lo to hi, hi excluded, has a label
+pub record Blank (lab : List ℕ) (line lo hi : ℕ) : Type 0 where
+  pub none : (j : ℕ) → lo ≤ j → j < hi → along lab line j ≡ 0
 
 -- crossing k of a line, without a label, gets the ink s: the inks before and after
 pub data InkPut (line k s : ℕ) (l : List ℕ) : List ℕ → List ℕ → Type 0 where

@@ -28,9 +28,17 @@ pub record Pass (other edge : List ℕ) (m n v : ℕ) (l₀ l : List ℕ) : Type
 pub record Below (m n : ℕ) (lab : List ℕ) (v : ℕ) : Type 0 where
   pub le : (i : ℕ) → i < m → (k : ℕ) → k < n → along lab i k ≤ v
 
--- what is joined with a label above 1 has a label
-pub record Full (edge lab : List ℕ) (m n : ℕ) : Type 0 where
-  pub joined : (i : ℕ) → i < m → (k q : ℕ) → k < n → q < n → Linked edge i k q → 2 ≤ along lab i k → along lab i q ≢ 0
+-- up to which label a crossing may have no run yet in the round that looks for v: 1, the target's, in the first round
+abbrev pub floor : ℕ → ℕ
+floor v = 2 - v
+
+-- what is joined on a line with a label above b has a label
+pub record Joined (edge lab : List ℕ) (line n b : ℕ) : Type 0 where
+  pub on : (k q : ℕ) → k < n → q < n → Linked edge line k q → b < along lab line k → along lab line q ≢ 0
+
+-- and on m lines
+pub record Full (edge lab : List ℕ) (m n b : ℕ) : Type 0 where
+  pub joined : (i : ℕ) → i < m → Joined edge lab i n b
 
 -- the places a to b of a queue, two numbers each, are the lines and crossings with the label v
 pub record Queued (queue : List ℕ) (a b m n : ℕ) (lab : List ℕ) (v : ℕ) : Type 0 where
@@ -81,7 +89,7 @@ pub record RunPushed (line lo k v : ℕ) (l₀ l t₀ t : List ℕ) (q₀ q : �
 -- a visit of crossing k of a line: its run gets inks and is pushed, or its label says that this was done
 pub data Visit (other inks edge cross : List ℕ) (line n k v : ℕ)
     : List ℕ → List ℕ → List ℕ → List ℕ → List ℕ → List ℕ → ℕ → ℕ → Type 0 where
-  passed : {l w t : List ℕ} {q : ℕ} → 2 ≤ along l line k → Visit other inks edge cross line n k v l l w w t t q q
+  passed : {l w t : List ℕ} {q : ℕ} → floor v < along l line k → Visit other inks edge cross line n k v l l w w t t q q
   ran : {l₀ l w₀ w t₀ t : List ℕ} {q₀ q : ℕ} (lo hi : ℕ) → RunStart edge line k lo → RunEnd edge line n k hi →
       RunInked other inks cross line v lo hi hi l₀ w₀ w → RunPushed line lo hi v l₀ l t₀ t q₀ q →
       Visit other inks edge cross line n k v l₀ l w₀ w t₀ t q₀ q
@@ -99,7 +107,7 @@ pub record Visited (other edge from : List ℕ) (m n v a p : ℕ) (l₀ l : List
       Linked edge (getD from (2 * r + 1) 0) (getD from (2 * r) 0) q → along l (getD from (2 * r + 1) 0) q ≢ 0
   pub count : zeros l + c ≡ zeros l₀
   pub same : c ≡ 0 → l ≡ l₀
-  pub full : Full edge l m n
+  pub full : Full edge l m n (floor v)
 
 -- and what it added to the queue of this direction
 pub record Added (m n v : ℕ) (l₀ l t₀ t : List ℕ) (q₀ q : ℕ) : Type 0 where

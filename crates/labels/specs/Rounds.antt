@@ -23,10 +23,16 @@ pub record Sized (l u wl wu el eu cols rows : List ℕ) (nc nr : ℕ) : Type 0 w
   pub level-edges : area ≤ length el
   pub upright-edges : area ≤ length eu
 
+-- a crossing has the label 1 in both lists or in none
+pub record Twin (l u : List ℕ) (nc nr : ℕ) : Type 0 where
+  pub level : (i : ℕ) → i < nr → (k : ℕ) → k < nc → along l i k ≡ 1 → along u k i ≡ 1
+  pub upright : (i : ℕ) → i < nc → (k : ℕ) → k < nr → along u i k ≡ 1 → along l k i ≡ 1
+
 -- before the first round: the queues begin with the target, which alone has a label
 pub record Begun (l u wl wu ql qu : List ℕ) (nc nr : ℕ) : Type 0 where
   pub level : Queued ql 0 1 nr nc l 1
   pub upright : Queued qu 0 1 nc nr u 1
+  pub twin : Twin l u nc nr
   pub level-low : Below nr nc l 1
   pub upright-low : Below nc nr u 1
   pub level-lean : Lean nr nc l wl

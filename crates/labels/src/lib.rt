@@ -10,6 +10,8 @@ pub mod run;
 
 use grid::STRIDE;
 use run::ahead_of;
+use run::behind_of;
+use run::ink_blank;
 use run::ink_run;
 use run::next_stop;
 use run::run_end;
@@ -20,12 +22,32 @@ ghost use lib.ListN.{length};
 ghost use Rattle.grid.specs.Size.{stride, area};
 ghost use Rattle.grid.specs.Lines.{Lines};
 ghost use Rattle.labels.specs.Line.{along, across, labelTop};
-ghost use Rattle.labels.specs.Ink.{Low, Lean};
-ghost use Rattle.labels.specs.Pass.{Full, Queued, Room, Push, RunPushed, Visit, PassTo};
+ghost use Rattle.labels.specs.Ink.{Low, Lean, Blank};
+ghost use Rattle.labels.specs.Pass.{floor, Joined, Full, Queued, Room, Push, RunPushed, Visit, PassTo};
 ghost use Rattle.labels.specs.Rounds.{Sized, Begun, Ended};
 ghost use Rattle.labels.specs.Walk.{put, Walkable, LevelWalk, UprightWalk};
 
-// Gives crossing k of a line the label v + 1 and puts it at the end q of the queue, if it has no label; the end then.
+// Gives crossing k of a line, which has no label, the label v + 1 and puts it at the end q of the queue; the end then.
+fn put_cell(
+    labels: &mut [u32],
+    queue: &mut [u16],
+    line: usize,
+    k: usize,
+    v: u32,
+    q: usize,
+) -> usize
+    requires { ⌜ (line < stride) × (k < stride) × (v < labelTop) × Room (now labels) (now queue) q
+        × (along (now labels) line k ≡ 0) ⌝ }
+    ensures { λ r. ⌜ Push line k v (now (labels .entry)) (now (labels .exit))
+        (now (queue .entry)) (now (queue .exit)) q r ⌝ }
+{
+    labels[line * STRIDE + k] = v + 1;
+    queue[2 * q] = line as u16;
+    queue[2 * q + 1] = k as u16;
+    q + 1
+}
+
+// The same, if it has no label.
 fn push_cell(
     labels: &mut [u32],
     queue: &mut [u16],
@@ -41,10 +63,7 @@ fn push_cell(
     if labels[line * STRIDE + k] != 0 {
         return q;
     }
-    labels[line * STRIDE + k] = v + 1;
-    queue[2 * q] = line as u16;
-    queue[2 * q + 1] = k as u16;
-    q + 1
+    put_cell(labels, queue, line, k, v, q)
 }
 
 // The same for the crossings lo to hi, hi excluded.
@@ -70,12 +89,47 @@ fn push_run(
     end
 }
 
-// The same for the run of crossing k, with its inks, unless a label above 1 there says that its run has labels already.
+// The same where none of them has a label.
+fn push_blank(
+    labels: &mut [u32],
+    queue: &mut [u16],
+    line: usize,
+    lo: usize,
+    hi: usize,
+    v: u32,
+    q: usize,
+) -> usize
+    requires { ⌜ (line < stride) × (hi ≤ stride) × (lo ≤ hi) × (v < labelTop) × Room (now labels) (now queue) q
+        × Blank (now labels) line lo hi ⌝ }
+    ensures { λ r. ⌜ RunPushed line lo hi v (now (labels .entry)) (now (labels .exit))
+        (now (queue .entry)) (now (queue .exit)) q r ⌝ }
+{
+    let mut end = q;
+    let mut k = lo;
+    while k < hi {
+        end = put_cell(labels, queue, line, k, v, end);
+        k += 1;
+    }
+    end
+}
+
+// Up to which label a crossing may have no run yet in the round that looks for v: 1, the target's, in the first.
+fn floor_of(v: u32) -> u32
+    ensures { λ r. ⌜ r ≡ floor v ⌝ }
+{
+    if v < 2 {
+        return 2 - v;
+    }
+    0
+}
+
+// The run of crossing k gets inks and labels and is put into the queue, unless a label above `low` says that this is done.
 fn visit(
     labels: &mut [u32],
     own: &mut [u32],
     queue: &mut [u16],
     ahead: &mut [u32],
+    behind: &mut [u32],
     other: &[u32],
     inks: &[u32],
     edge: &[u8],
@@ -84,37 +138,31 @@ fn visit(
     n: usize,
     k: usize,
     v: u32,
+    low: u32,
     q: usize,
 ) -> usize
     requires { ⌜ (line < stride) × Lines (now cross) n × (k < n) × (v < labelTop) × (area ≤ length (now edge)) ⌝ }
     requires { ⌜ (area ≤ length (now other)) × (area ≤ length (now inks)) × (area ≤ length (now own)) ⌝ }
     requires { ⌜ Low (now other) (now inks) line n v × (across (now other) line k ≡ v) ⌝ }
-    requires { ⌜ Room (now labels) (now queue) q × (stride ≤ length (now ahead)) ⌝ }
+    requires { ⌜ Room (now labels) (now queue) q × (stride ≤ length (now ahead)) × (stride ≤ length (now behind)) ⌝ }
+    requires { ⌜ (low ≡ floor v) × Joined (now edge) (now labels) line n (floor v) ⌝ }
     ensures { λ r. ⌜ Visit (now (other .entry)) (now (inks .entry)) (now (edge .entry)) (now (cross .entry)) line n k v
         (now (labels .entry)) (now (labels .exit)) (now (own .entry)) (now (own .exit))
         (now (queue .entry)) (now (queue .exit)) q r ⌝ }
 {
-    if 1 < labels[line * STRIDE + k] {
+    if low < labels[line * STRIDE + k] {
         return q;
     }
     let lo = run_start(edge, line, k);
     let hi = run_end(edge, line, n, k);
     ahead_of(ahead, other, inks, cross, line, n, lo, hi, k, v);
-    ink_run(
-        own,
-        ahead,
-        labels,
-        other,
-        inks,
-        cross,
-        line,
-        n,
-        lo,
-        hi,
-        k,
-        v,
-    );
-    push_run(labels, queue, line, lo, hi, v, q)
+    behind_of(behind, other, inks, cross, line, n, lo, hi, k, v);
+    if low != 0 {
+        ink_run(own, ahead, behind, labels, other, inks, cross, line, n, lo, hi, v);
+        return push_run(labels, queue, line, lo, hi, v, q);
+    }
+    ink_blank(own, ahead, behind, labels, other, inks, cross, line, n, lo, hi, v);
+    push_blank(labels, queue, line, lo, hi, v, q)
 }
 
 // A pass over m lines with n crossings each: labels v + 1 what is joined with a label v of the other direction. The
@@ -124,6 +172,7 @@ fn label_queue(
     own: &mut [u32],
     queue: &mut [u16],
     ahead: &mut [u32],
+    behind: &mut [u32],
     other: &[u32],
     inks: &[u32],
     edge: &[u8],
@@ -138,13 +187,15 @@ fn label_queue(
 ) -> usize
     requires { ⌜ (m ≤ stride) × Lines (now cross) n × (1 ≤ v) × (v < labelTop) × (a ≤ b) × (b ≤ area) ⌝ }
     requires { ⌜ (area ≤ length (now other)) × (area ≤ length (now inks)) × (area ≤ length (now own)) ⌝ }
-    requires { ⌜ (area ≤ length (now edge)) × (2 * area ≤ length (now from)) × (stride ≤ length (now ahead)) ⌝ }
+    requires { ⌜ (area ≤ length (now edge)) × (2 * area ≤ length (now from)) × (stride ≤ length (now ahead))
+        × (stride ≤ length (now behind)) ⌝ }
     requires { ⌜ Room (now labels) (now queue) q × Lean n m (now other) (now inks) ⌝ }
-    requires { ⌜ Queued (now from) a b n m (now other) v × Full (now edge) (now labels) m n ⌝ }
+    requires { ⌜ Queued (now from) a b n m (now other) v × Full (now edge) (now labels) m n (floor v) ⌝ }
     ensures { λ r. ⌜ PassTo (now (other .entry)) (now (inks .entry)) (now (edge .entry)) (now (cross .entry))
         (now (from .entry)) m n v a b (now (labels .entry)) (now (labels .exit)) (now (own .entry)) (now (own .exit))
         (now (queue .entry)) (now (queue .exit)) q r ⌝ }
 {
+    let low = floor_of(v);
     let mut end = q;
     let mut p = a;
     while p < b {
@@ -155,6 +206,7 @@ fn label_queue(
             own,
             queue,
             ahead,
+            behind,
             other,
             inks,
             edge,
@@ -163,6 +215,7 @@ fn label_queue(
             n,
             k,
             v,
+            low,
             end,
         );
         p += 1;
@@ -196,6 +249,7 @@ pub fn rounds(
         (now (level .exit)) (now (upright .exit)) (now (il .exit)) (now (iu .exit)) r ⌝ }
 {
     let mut ahead = [0u32; STRIDE];
+    let mut behind = [0u32; STRIDE];
     let mut v = 1u32;
     let mut la = 0;
     let mut lb = 1;
@@ -213,6 +267,7 @@ pub fn rounds(
             il,
             ql,
             &mut ahead,
+            &mut behind,
             upright,
             iu,
             el,
@@ -230,6 +285,7 @@ pub fn rounds(
             iu,
             qu,
             &mut ahead,
+            &mut behind,
             level,
             il,
             eu,

@@ -1,5 +1,5 @@
 // One line of the escape grid: the run of a crossing, the stops on it, which are the crossings with a given label in the
-// other direction, and the inks of the run over these stops.
+// other direction, and the inks of the run over these stops, by two sweeps.
 use grid::STRIDE;
 ghost use Prim.Native.Nat.{_+_, _-_, _*_, _≤_, _<_, min};
 ghost use mathlib.Core.Path.{_≡_};
@@ -8,7 +8,7 @@ ghost use Rattle.foil_spec.specs.Paths.{gap};
 ghost use Rattle.grid.specs.Size.{stride, area};
 ghost use Rattle.grid.specs.Lines.{Lines};
 ghost use Rattle.labels.specs.Line.{across, RunStart, RunEnd, isStop, Scanned, Stop, labelTop};
-ghost use Rattle.labels.specs.Ink.{Low, Carried, Ahead, InkPut, RunInked};
+ghost use Rattle.labels.specs.Ink.{Low, Carried, Ahead, Behind, InkPut, Blank, RunInked};
 
 // How many steps two numbers are apart.
 pub fn steps(a: u16, b: u16) -> u32
@@ -30,8 +30,18 @@ fn lesser(a: u32, b: u32) -> u32
     b
 }
 
+// The smaller number.
+fn nearer(a: usize, b: usize) -> usize
+    ensures { λ r. ⌜ r ≡ min a b ⌝ }
+{
+    if a < b {
+        return a;
+    }
+    b
+}
+
 // The first crossing of a line that is joined with the crossing `at`.
-pub fn run_start(edge: &[u8], line: usize, at: usize) -> usize
+fn back_from(edge: &[u8], line: usize, at: usize) -> usize
     requires { ⌜ (line < stride) × (at ≤ stride) × (area ≤ length (now edge)) ⌝ }
     ensures { λ r. ⌜ RunStart (now (edge .entry)) line at r ⌝ }
 {
@@ -43,6 +53,14 @@ pub fn run_start(edge: &[u8], line: usize, at: usize) -> usize
         lo -= 1;
     }
     lo
+}
+
+// The same. It is no more than `at`; said so once more, the compiler does not carry a place of every list along the scan.
+pub fn run_start(edge: &[u8], line: usize, at: usize) -> usize
+    requires { ⌜ (line < stride) × (at ≤ stride) × (area ≤ length (now edge)) ⌝ }
+    ensures { λ r. ⌜ RunStart (now (edge .entry)) line at r ⌝ }
+{
+    nearer(back_from(edge, line, at), at)
 }
 
 // The first crossing after the crossing `at`, of n on a line, that is not joined with it.
@@ -147,34 +165,29 @@ pub fn next_stop(
     )
 }
 
-// The least ink at crossing k, where it is `best` at x: its own if it is a stop for the label v with less.
-pub fn carry(
+// The least of `best` and, where crossing k of a line is a stop for the label v, its ink and x more.
+fn carry(
     other: &[u32],
     inks: &[u32],
-    cross: &[u16],
     line: usize,
     k: usize,
     v: u32,
-    x: u16,
+    x: u32,
     best: u32,
 ) -> u32
-    requires { ⌜ (line < stride) × (k < stride) × (k < length (now cross)) × (best ≤ 4294901760) ⌝ }
+    requires { ⌜ (line < stride) × (k < stride) × (v < labelTop) × (x ≤ 4096) ⌝ }
     requires { ⌜ (area ≤ length (now other)) × (area ≤ length (now inks)) ⌝ }
-    ensures { λ r. ⌜ Carried (now (other .entry)) (now (inks .entry)) line v k
-        (best + gap (getD (now (cross .entry)) k 0) x) r ⌝ }
+    requires { ⌜ (across (now other) line k ≡ v → across (now inks) line k ≤ 4095 * v) ⌝ }
+    ensures { λ r. ⌜ Carried (now (other .entry)) (now (inks .entry)) line v k x best r ⌝ }
 {
-    let far = best + steps(cross[k], x);
     if other[k * STRIDE + line] != v {
-        return far;
+        return best;
     }
-    if far <= inks[k * STRIDE + line] {
-        return far;
-    }
-    inks[k * STRIDE + line]
+    lesser(inks[k * STRIDE + line] + x, best)
 }
 
-// The least ink at each of the crossings lo to hi, hi excluded, of a run, over the stops for the label v from it on.
-// Crossing h of the run is a stop.
+// The sweep down the crossings lo to hi, hi excluded, of a run: the least ink at each over the stops for the label v from
+// it on, and its number more. Crossing h of the run is a stop.
 pub fn ahead_of(
     ahead: &mut [u32],
     other: &[u32],
@@ -193,15 +206,51 @@ pub fn ahead_of(
     ensures { λ _. ⌜ Ahead (now (other .entry)) (now (inks .entry)) (now (cross .entry)) line v lo hi lo
         (now (ahead .exit)) ⌝ }
 {
-    let mut best = inks[h * STRIDE + line];
-    let mut x = cross[h];
+    let top = cross[hi - 1] as u32;
+    let mut best = inks[h * STRIDE + line] + (top - cross[h] as u32) + top;
     let mut k = hi;
     while lo < k {
         k -= 1;
-        best = carry(other, inks, cross, line, k, v, x, best);
-        x = cross[k];
+        best = carry(other, inks, line, k, v, cross[k] as u32, best);
         ahead[k] = best;
     }
+}
+
+// The sweep up: the least ink at each over the stops up to it, and as much more as its number is below 4,096.
+pub fn behind_of(
+    behind: &mut [u32],
+    other: &[u32],
+    inks: &[u32],
+    cross: &[u16],
+    line: usize,
+    n: usize,
+    lo: usize,
+    hi: usize,
+    h: usize,
+    v: u32,
+)
+    requires { ⌜ (line < stride) × Lines (now cross) n × (hi ≤ n) × (lo ≤ h) × (h < hi) × (v < labelTop) ⌝ }
+    requires { ⌜ (area ≤ length (now other)) × (area ≤ length (now inks)) × (stride ≤ length (now behind)) ⌝ }
+    requires { ⌜ Low (now other) (now inks) line n v × (across (now other) line h ≡ v) ⌝ }
+    ensures { λ _. ⌜ Behind (now (other .entry)) (now (inks .entry)) (now (cross .entry)) line v lo hi hi
+        (now (behind .exit)) ⌝ }
+{
+    let top = 4096 - cross[lo] as u32;
+    let mut best = inks[h * STRIDE + line] + (top - (4096 - cross[h] as u32)) + top;
+    let mut k = lo;
+    while k < hi {
+        best = carry(other, inks, line, k, v, 4096 - cross[k] as u32, best);
+        behind[k] = best;
+        k += 1;
+    }
+}
+
+// The ink of a crossing with the number x, from what the two sweeps say of it.
+fn ink_of(ahead: u32, behind: u32, x: u16) -> u32
+    requires { ⌜ (x ≤ 4096) × (x ≤ ahead) × (4096 - x ≤ behind) ⌝ }
+    ensures { λ r. ⌜ r ≡ min (behind - (4096 - x)) (ahead - x) ⌝ }
+{
+    lesser(behind - (4096 - x as u32), ahead - x as u32)
 }
 
 // Gives crossing k of a line the ink s, if it has no label.
@@ -215,10 +264,11 @@ fn put_ink(own: &mut [u32], labels: &[u32], line: usize, k: usize, s: u32)
     own[line * STRIDE + k] = s;
 }
 
-// Gives each of these crossings that has no label its ink, the least over all stops of the run, with what is ahead.
+// Gives each of the crossings lo to hi of a run that has no label its ink, the least over all stops of the run.
 pub fn ink_run(
     own: &mut [u32],
     ahead: &[u32],
+    behind: &[u32],
     labels: &[u32],
     other: &[u32],
     inks: &[u32],
@@ -227,25 +277,49 @@ pub fn ink_run(
     n: usize,
     lo: usize,
     hi: usize,
-    h: usize,
     v: u32,
 )
-    requires { ⌜ (line < stride) × Lines (now cross) n × (hi ≤ n) × (lo ≤ h) × (h < hi) × (v < labelTop) ⌝ }
-    requires { ⌜ (area ≤ length (now other)) × (area ≤ length (now inks)) × (stride ≤ length (now ahead)) ⌝ }
+    requires { ⌜ (line < stride) × Lines (now cross) n × (hi ≤ n) × (lo ≤ hi) ⌝ }
+    requires { ⌜ (stride ≤ length (now ahead)) × (stride ≤ length (now behind)) ⌝ }
     requires { ⌜ (area ≤ length (now own)) × (area ≤ length (now labels)) ⌝ }
-    requires { ⌜ Low (now other) (now inks) line n v × (across (now other) line h ≡ v) ⌝ }
-    requires { ⌜ Ahead (now other) (now inks) (now cross) line v lo hi lo (now ahead) ⌝ }
+    requires { ⌜ Ahead (now other) (now inks) (now cross) line v lo hi lo (now ahead)
+        × Behind (now other) (now inks) (now cross) line v lo hi hi (now behind) ⌝ }
     ensures { λ _. ⌜ RunInked (now (other .entry)) (now (inks .entry)) (now (cross .entry)) line v lo hi hi
         (now (labels .entry)) (now (own .entry)) (now (own .exit)) ⌝ }
 {
-    let mut best = inks[h * STRIDE + line];
-    let mut x = cross[h];
     let mut k = lo;
     while k < hi {
-        best = carry(other, inks, cross, line, k, v, x, best);
-        x = cross[k];
-        let beyond = ahead[k];
-        put_ink(own, labels, line, k, lesser(best, beyond));
+        put_ink(own, labels, line, k, ink_of(ahead[k], behind[k], cross[k]));
+        k += 1;
+    }
+}
+
+// The same where none of them has a label.
+pub fn ink_blank(
+    own: &mut [u32],
+    ahead: &[u32],
+    behind: &[u32],
+    labels: &[u32],
+    other: &[u32],
+    inks: &[u32],
+    cross: &[u16],
+    line: usize,
+    n: usize,
+    lo: usize,
+    hi: usize,
+    v: u32,
+)
+    requires { ⌜ (line < stride) × Lines (now cross) n × (hi ≤ n) × (lo ≤ hi) ⌝ }
+    requires { ⌜ (stride ≤ length (now ahead)) × (stride ≤ length (now behind)) ⌝ }
+    requires { ⌜ (area ≤ length (now own)) × Blank (now labels) line lo hi ⌝ }
+    requires { ⌜ Ahead (now other) (now inks) (now cross) line v lo hi lo (now ahead)
+        × Behind (now other) (now inks) (now cross) line v lo hi hi (now behind) ⌝ }
+    ensures { λ _. ⌜ RunInked (now (other .entry)) (now (inks .entry)) (now (cross .entry)) line v lo hi hi
+        (now (labels .entry)) (now (own .entry)) (now (own .exit)) ⌝ }
+{
+    let mut k = lo;
+    while k < hi {
+        own[line * STRIDE + k] = ink_of(ahead[k], behind[k], cross[k]);
         k += 1;
     }
 }

@@ -14,51 +14,43 @@ use Rattle.labels.proofs.rounds.Statement.{statement}
 use Rattle.labels.proofs.rounds.Tie as tie
 
 abbrev Inv-loop : tie.InvT-loop
-Inv-loop level₀ upright₀ il₀ iu₀ ql₀ qu₀ el eu cols rows nc nr i j ahead₀ v₀ la₀ lb₀ ua₀ ub₀
-    level upright il iu ql qu ahead v la lb ua ub =
+Inv-loop level₀ upright₀ il₀ iu₀ ql₀ qu₀ el eu cols rows nc nr i j ahead₀ behind₀ v₀ la₀ lb₀ ua₀ ub₀
+    level upright il iu ql qu ahead behind v la lb ua ub =
     (length level ≡ length level₀) × (length upright ≡ length upright₀) × (length il ≡ length il₀)
     × (length iu ≡ length iu₀) × (length ql ≡ length ql₀) × (length qu ≡ length qu₀) × (length ahead ≡ stride)
+    × (length behind ≡ stride)
     × Going el eu cols rows nc nr level₀ upright₀ il₀ iu₀ v level upright il iu ql qu la lb ua ub
 
 abbrev μ-loop : tie.MeasureT-loop
-μ-loop level₀ upright₀ il₀ iu₀ ql₀ qu₀ el eu cols rows nc nr i j ahead₀ v₀ la₀ lb₀ ua₀ ub₀
-    level upright il iu ql qu ahead v la lb ua ub =
+μ-loop level₀ upright₀ il₀ iu₀ ql₀ qu₀ el eu cols rows nc nr i j ahead₀ behind₀ v₀ la₀ lb₀ ua₀ ub₀
+    level upright il iu ql qu ahead behind v la lb ua ub =
     zeros level + zeros upright
 
 loop-holds : tie.Need-loop-holds Inv-loop μ-loop
-loop-holds c = (
-  refl,
-  refl,
-  refl,
-  refl,
-  refl,
-  refl,
-  refl,
-  going-start _ _ _ _ (c .before .before .before .before
-      .before .before .before .before .before .before .pre .1),
-)
+loop-holds c =
+    let pre = c .before .before .before .before .before .before .before .before .before .before .pre in
+    (refl, refl, refl, refl, refl, refl, refl, refl, going-start _ _ _ _ (pre .1))
 
 mul-if1 : tie.Need-mul-if1 Inv-loop μ-loop
 mul-if1 c =
-    let sized = c .before .before .before .before .before .before .before .before .before .before .before
-    .pre .0 .0 in omega (arith, sized .column-lines .few, sized .row-lines .few)
+    let sized = c .before .before .before .before .before .before .before .before .before .before .before .pre .0 .0 in
+    omega (arith, sized .column-lines .few, sized .row-lines .few)
 
 add-if1 : tie.Need-add-if1 Inv-loop μ-loop
 add-if1 c =
-    let sized = c .before .before .before .before .before .before .before .before .before .before .before
-    .pre .0 .0 in omega (arith, sized .column-lines .few, sized .row-lines .few)
+    let sized = c .before .before .before .before .before .before .before .before .before .before .before .pre .0 .0 in
+    omega (arith, sized .column-lines .few, sized .row-lines .few)
 
 mul-if1-2 : tie.Need-mul-if1-2 Inv-loop μ-loop
 mul-if1-2 c =
-    let sized = c .before .before .before .before .before .before .before .before .before .before .before
-    .pre .0 .0 in omega (arith, sized .column-lines .few, sized .row-lines .few)
+    let sized = c .before .before .before .before .before .before .before .before .before .before .before .pre .0 .0 in
+    omega (arith, sized .column-lines .few, sized .row-lines .few)
 
 slice-read-if1 : tie.Need-slice-read-if1 Inv-loop μ-loop
 slice-read-if1 c =
     let at-loop = c .before in
-    let sized = at-loop .before .before .before .before .before .before .before .before .before .before .before
-    .pre .0 .0 in
-    omega (arith, at-loop .loop .inv .7 .level-room .labels, sized .column-lines .few, sized .row-lines .few)
+    let sized = at-loop .before .before .before .before .before .before .before .before .before .before .before .pre .0 .0 in
+    omega (arith, at-loop .loop .inv .8 .level-room .labels, sized .column-lines .few, sized .row-lines .few)
 
 same-length : tie.Need-same-length Inv-loop μ-loop
 same-length c = c .before .before .loop .inv .0
@@ -81,30 +73,29 @@ same-length-6 c = c .before .before .loop .inv .5
 returns : tie.Need-returns Inv-loop μ-loop
 returns c =
     let at-loop = c .before .before in
-    let going = at-loop .loop .inv .7 in
+    let going = at-loop .loop .inv .8 in
     found {v = at-loop .loop .v} (omega (arith, going .top)) (going .rounds) (inl (c .if1 .taken))
 
 mul-if2 : tie.Need-mul-if2 Inv-loop μ-loop
 mul-if2 c =
-    let sized = c .before .before .before .before .before .before .before .before .before .before .before
-    .before .before .pre .0 .0 in omega (arith, sized .column-lines .few, sized .row-lines .few)
+    let sized = c .before .before .before .before .before .before .before .before .before .before .before .before .before .pre .0 .0 in
+    omega (arith, sized .column-lines .few, sized .row-lines .few)
 
 add-if2 : tie.Need-add-if2 Inv-loop μ-loop
 add-if2 c =
-    let sized = c .before .before .before .before .before .before .before .before .before .before .before
-    .before .before .pre .0 .0 in omega (arith, sized .column-lines .few, sized .row-lines .few)
+    let sized = c .before .before .before .before .before .before .before .before .before .before .before .before .before .pre .0 .0 in
+    omega (arith, sized .column-lines .few, sized .row-lines .few)
 
 mul-if2-2 : tie.Need-mul-if2-2 Inv-loop μ-loop
 mul-if2-2 c =
-    let sized = c .before .before .before .before .before .before .before .before .before .before .before
-    .before .before .pre .0 .0 in omega (arith, sized .column-lines .few, sized .row-lines .few)
+    let sized = c .before .before .before .before .before .before .before .before .before .before .before .before .before .pre .0 .0 in
+    omega (arith, sized .column-lines .few, sized .row-lines .few)
 
 slice-read-if2 : tie.Need-slice-read-if2 Inv-loop μ-loop
 slice-read-if2 c =
     let at-loop = c .before .before .before in
-    let sized = at-loop .before .before .before .before .before .before .before .before .before .before .before
-    .pre .0 .0 in
-    omega (arith, at-loop .loop .inv .7 .upright-room .labels, sized .column-lines .few, sized .row-lines .few)
+    let sized = at-loop .before .before .before .before .before .before .before .before .before .before .before .pre .0 .0 in
+    omega (arith, at-loop .loop .inv .8 .upright-room .labels, sized .column-lines .few, sized .row-lines .few)
 
 same-length-7 : tie.Need-same-length-7 Inv-loop μ-loop
 same-length-7 c = c .before .before .before .before .loop .inv .0
@@ -127,19 +118,21 @@ same-length-12 c = c .before .before .before .before .loop .inv .5
 returns-2 : tie.Need-returns-2 Inv-loop μ-loop
 returns-2 c =
     let at-loop = c .before .before .before .before in
-    let going = at-loop .loop .inv .7 in
+    let going = at-loop .loop .inv .8 in
     found {v = at-loop .loop .v} (omega (arith, going .top)) (going .rounds) (inr (c .if2 .taken))
 
 slice-aggregate-label-queue : tie.Need-slice-aggregate-label-queue Inv-loop μ-loop
 slice-aggregate-label-queue c = search needs
 
+slice-aggregate-label-queue-2 : tie.Need-slice-aggregate-label-queue-2 Inv-loop μ-loop
+slice-aggregate-label-queue-2 c = search needs
+
 label-queue-requires : tie.Need-label-queue-requires Inv-loop μ-loop
 label-queue-requires c κs =
-    let at-loop = c .before .before .before .before .before .before .before .before .before .before .before in
-    let sized = at-loop .before .before .before .before .before .before .before .before .before .before .before
-    .pre .0 .0 in
+    let at-loop = c .before .before .before .before .before .before .before .before .before .before .before .before in
+    let sized = at-loop .before .before .before .before .before .before .before .before .before .before .before .pre .0 .0 in
     let inv = at-loop .loop .inv in
-    let going = inv .7 in (
+    let going = inv .8 in (
       (
         sized .row-lines .few,
         sized .column-lines,
@@ -151,28 +144,29 @@ label-queue-requires c κs =
       (
         (going .upright-room .labels, omega (arith, sized .upright-inks, inv .3), omega (arith, sized .level-inks, inv .2)),
         (
-          (sized .level-edges, going .upright-room .places, omega (arith, inv .6)),
+          (sized .level-edges, going .upright-room .places, omega (arith, inv .6), omega (arith, inv .7)),
           ((going .level-room, going .upright-lean), (going .upright-queue, going .level-full)),
         ),
       ),
     )
 
-slice-aggregate-label-queue-2 : tie.Need-slice-aggregate-label-queue-2 Inv-loop μ-loop
-slice-aggregate-label-queue-2 c = search needs
+slice-aggregate-label-queue-3 : tie.Need-slice-aggregate-label-queue-3 Inv-loop μ-loop
+slice-aggregate-label-queue-3 c = search needs
+
+slice-aggregate-label-queue-4 : tie.Need-slice-aggregate-label-queue-4 Inv-loop μ-loop
+slice-aggregate-label-queue-4 c = search needs
 
 label-queue-requires-2 : tie.Need-label-queue-requires-2 Inv-loop μ-loop
 label-queue-requires-2 c κs =
-    let at-first = c .before .before .before .before .before .before .before .before .before .before .before
-    .before .before .before in
-    let at-loop = at-first .before .before .before .before .before .before .before .before .before .before
-    .before .before in
-    let sized = at-loop .before .before .before .before .before .before .before .before .before .before .before
-    .pre .0 .0 in
+    let at-first = c .before .before .before .before .before .before .before .before .before .before .before .before .before .before .before .before in
+    let at-loop = at-first .before .before .before .before .before .before .before .before .before .before .before .before .before in
+    let sized = at-loop .before .before .before .before .before .before .before .before .before .before .before .pre .0 .0 in
     let inv = at-loop .loop .inv in
-    let going = inv .7 in
+    let going = inv .8 in
     let C = sized .column-lines in
     let R = sized .row-lines in
-    let first = at-first .label-queue .ensures in (
+    let first = at-first .label-queue .ensures in
+    let kept = at-first .label-queue .kept .1 .1 .1 in (
       (
         C .few,
         R,
@@ -191,7 +185,8 @@ label-queue-requires-2 c κs =
           (
             sized .upright-edges,
             omega (arith, going .level-room .places, first .added .size),
-            omega (arith, inv .6, at-first .label-queue .kept .1 .1 .1 .0),
+            omega (arith, inv .6, kept .0),
+            omega (arith, inv .7, kept .1 .0),
           ),
           ((going .upright-room, going-lean C R going first), (going-second C R going first, going .upright-full)),
         ),
@@ -200,122 +195,103 @@ label-queue-requires-2 c κs =
 
 add-if3 : tie.Need-add-if3 Inv-loop μ-loop
 add-if3 c =
-    let at-second = c .before .before .before .before .before .before .before in
-    let at-first = at-second .before .before .before .before .before .before .before .before .before .before
-    .before .before .before .before .before in
-    let going = at-first .before .before .before .before .before .before .before .before .before .before .before
-    .before .loop .inv .7 in
+    let at-second = c .before .before .before .before .before .before .before .before in
+    let at-first = at-second .before .before .before .before .before .before .before .before .before .before .before .before .before .before .before .before .before in
+    let at-loop = at-first .before .before .before .before .before .before .before .before .before .before .before .before .before in
+    let going = at-loop .loop .inv .8 in
     let level = passing-room (going .level-room) (at-first .label-queue .ensures) in
     let upright = passing-room (going .upright-room) (at-second .label-queue2 .ensures) in
     omega (arith, level .left, upright .left, going .level-room .left, going .upright-room .left)
 
 add-if3-2 : tie.Need-add-if3-2 Inv-loop μ-loop
 add-if3-2 c =
-    let at-second = c .before .before .before .before .before .before .before in
-    let at-first = at-second .before .before .before .before .before .before .before .before .before .before
-    .before .before .before .before .before in
-    let going = at-first .before .before .before .before .before .before .before .before .before .before .before
-    .before .loop .inv .7 in
+    let at-second = c .before .before .before .before .before .before .before .before in
+    let at-first = at-second .before .before .before .before .before .before .before .before .before .before .before .before .before .before .before .before .before in
+    let at-loop = at-first .before .before .before .before .before .before .before .before .before .before .before .before .before in
+    let going = at-loop .loop .inv .8 in
     let level = passing-room (going .level-room) (at-first .label-queue .ensures) in
     let upright = passing-room (going .upright-room) (at-second .label-queue2 .ensures) in
     omega (arith, level .left, upright .left, going .level-room .left, going .upright-room .left)
 
 same-length-13 : tie.Need-same-length-13 Inv-loop μ-loop
 same-length-13 c =
-    let at-second = c .before .before .before .before .before .before .before .before in
-    let at-first = at-second .before .before .before .before .before .before .before .before .before .before
-    .before .before .before .before .before in
-    let at-loop = at-first .before .before .before .before .before .before .before .before .before .before
-    .before .before in
+    let at-second = c .before .before .before .before .before .before .before .before .before in
+    let at-first = at-second .before .before .before .before .before .before .before .before .before .before .before .before .before .before .before .before .before in
+    let at-loop = at-first .before .before .before .before .before .before .before .before .before .before .before .before .before in
     at-first .label-queue .ensures .visited .size ∙ at-loop .loop .inv .0
 
 same-length-14 : tie.Need-same-length-14 Inv-loop μ-loop
 same-length-14 c =
-    let at-second = c .before .before .before .before .before .before .before .before in
-    let at-first = at-second .before .before .before .before .before .before .before .before .before .before
-    .before .before .before .before .before in
-    let at-loop = at-first .before .before .before .before .before .before .before .before .before .before
-    .before .before in
+    let at-second = c .before .before .before .before .before .before .before .before .before in
+    let at-first = at-second .before .before .before .before .before .before .before .before .before .before .before .before .before .before .before .before .before in
+    let at-loop = at-first .before .before .before .before .before .before .before .before .before .before .before .before .before in
     at-second .label-queue2 .ensures .visited .size ∙ at-loop .loop .inv .1
 
 same-length-15 : tie.Need-same-length-15 Inv-loop μ-loop
 same-length-15 c =
-    let at-second = c .before .before .before .before .before .before .before .before in
-    let at-first = at-second .before .before .before .before .before .before .before .before .before .before
-    .before .before .before .before .before in
-    let at-loop = at-first .before .before .before .before .before .before .before .before .before .before
-    .before .before in
+    let at-second = c .before .before .before .before .before .before .before .before .before in
+    let at-first = at-second .before .before .before .before .before .before .before .before .before .before .before .before .before .before .before .before .before in
+    let at-loop = at-first .before .before .before .before .before .before .before .before .before .before .before .before .before in
     at-first .label-queue .ensures .inked .size ∙ at-loop .loop .inv .2
 
 same-length-16 : tie.Need-same-length-16 Inv-loop μ-loop
 same-length-16 c =
-    let at-second = c .before .before .before .before .before .before .before .before in
-    let at-first = at-second .before .before .before .before .before .before .before .before .before .before
-    .before .before .before .before .before in
-    let at-loop = at-first .before .before .before .before .before .before .before .before .before .before
-    .before .before in
+    let at-second = c .before .before .before .before .before .before .before .before .before in
+    let at-first = at-second .before .before .before .before .before .before .before .before .before .before .before .before .before .before .before .before .before in
+    let at-loop = at-first .before .before .before .before .before .before .before .before .before .before .before .before .before in
     at-second .label-queue2 .ensures .inked .size ∙ at-loop .loop .inv .3
 
 same-length-17 : tie.Need-same-length-17 Inv-loop μ-loop
 same-length-17 c =
-    let at-second = c .before .before .before .before .before .before .before .before in
-    let at-first = at-second .before .before .before .before .before .before .before .before .before .before
-    .before .before .before .before .before in
-    let at-loop = at-first .before .before .before .before .before .before .before .before .before .before
-    .before .before in
+    let at-second = c .before .before .before .before .before .before .before .before .before in
+    let at-first = at-second .before .before .before .before .before .before .before .before .before .before .before .before .before .before .before .before .before in
+    let at-loop = at-first .before .before .before .before .before .before .before .before .before .before .before .before .before in
     at-first .label-queue .ensures .added .size ∙ at-loop .loop .inv .4
 
 same-length-18 : tie.Need-same-length-18 Inv-loop μ-loop
 same-length-18 c =
-    let at-second = c .before .before .before .before .before .before .before .before in
-    let at-first = at-second .before .before .before .before .before .before .before .before .before .before
-    .before .before .before .before .before in
-    let at-loop = at-first .before .before .before .before .before .before .before .before .before .before
-    .before .before in
+    let at-second = c .before .before .before .before .before .before .before .before .before in
+    let at-first = at-second .before .before .before .before .before .before .before .before .before .before .before .before .before .before .before .before .before in
+    let at-loop = at-first .before .before .before .before .before .before .before .before .before .before .before .before .before in
     at-second .label-queue2 .ensures .added .size ∙ at-loop .loop .inv .5
 
 returns-3 : tie.Need-returns-3 Inv-loop μ-loop
 returns-3 c =
-    let at-second = c .before .before .before .before .before .before .before .before in
-    let at-first = at-second .before .before .before .before .before .before .before .before .before .before
-    .before .before .before .before .before in
-    let at-if2 = at-first .before .before .before .before .before .before .before .before in
+    let at-second = c .before .before .before .before .before .before .before .before .before in
+    let at-first = at-second .before .before .before .before .before .before .before .before .before .before .before .before .before .before .before .before .before in
+    let at-if2 = at-first .before .before .before .before .before .before .before .before .before in
     let at-if1 = at-if2 .before .before in
     let at-loop = at-if1 .before .before in
-    let sized = at-loop .before .before .before .before .before .before .before .before .before .before .before
-    .pre .0 .0 in
-    going-stuck (sized .column-lines) (sized .row-lines) (at-loop .loop .inv .7) (at-first .label-queue .ensures)
+    let sized = at-loop .before .before .before .before .before .before .before .before .before .before .before .pre .0 .0 in
+    going-stuck (sized .column-lines) (sized .row-lines) (at-loop .loop .inv .8) (at-first .label-queue .ensures)
     (at-second .label-queue2 .ensures) _ _ (c .if3 .taken) (at-if1 .if1 .left) (at-if2 .if2 .left)
 
 add-v : tie.Need-add-v Inv-loop μ-loop
 add-v c =
-    let at-second = c .before .before .before .before .before .before .before .before in
-    let at-first = at-second .before .before .before .before .before .before .before .before .before .before
-    .before .before .before .before .before in
-    let at-loop = at-first .before .before .before .before .before .before .before .before .before .before
-    .before .before in
-    omega (arith, at-loop .loop .inv .7 .top)
+    let at-second = c .before .before .before .before .before .before .before .before .before in
+    let at-first = at-second .before .before .before .before .before .before .before .before .before .before .before .before .before .before .before .before .before in
+    let at-loop = at-first .before .before .before .before .before .before .before .before .before .before .before .before .before in
+    omega (arith, at-loop .loop .inv .8 .top)
 
 loop-less : tie.Need-loop-less Inv-loop μ-loop
 loop-less c =
-    let at-second = c .before .before .before .before .before .before .before .before in
-    let at-first = at-second .before .before .before .before .before .before .before .before .before .before
-    .before .before .before .before .before in
+    let at-second = c .before .before .before .before .before .before .before .before .before in
+    let at-first = at-second .before .before .before .before .before .before .before .before .before .before .before .before .before .before .before .before .before in
+    let at-loop = at-first .before .before .before .before .before .before .before .before .before .before .before .before .before in
     let first = at-first .label-queue .ensures in
     let second = at-second .label-queue2 .ensures in
     omega (arith, c .if3 .left, first .visited .count, first .added .grew, second .visited .count, second .added .grew)
 
 loop-again : tie.Need-loop-again Inv-loop μ-loop
 loop-again c =
-    let at-second = c .before .before .before .before .before .before .before .before in
-    let at-first = at-second .before .before .before .before .before .before .before .before .before .before
-    .before .before .before .before .before in
-    let at-loop = at-first .before .before .before .before .before .before .before .before .before .before
-    .before .before in
+    let at-second = c .before .before .before .before .before .before .before .before .before in
+    let at-first = at-second .before .before .before .before .before .before .before .before .before .before .before .before .before .before .before .before .before in
+    let at-loop = at-first .before .before .before .before .before .before .before .before .before .before .before .before .before in
     let first = at-first .label-queue .ensures in
     let second = at-second .label-queue2 .ensures in
-    let sized = at-loop .before .before .before .before .before .before .before .before .before .before .before
-    .pre .0 .0 in
+    let kept = at-first .label-queue .kept .1 .1 .1 in
+    let kept2 = at-second .label-queue2 .kept .1 .1 .1 in
+    let sized = at-loop .before .before .before .before .before .before .before .before .before .before .before .pre .0 .0 in
     let inv = at-loop .loop .inv in (
       first .visited .size ∙ inv .0,
       second .visited .size ∙ inv .1,
@@ -323,8 +299,9 @@ loop-again c =
       second .inked .size ∙ inv .3,
       first .added .size ∙ inv .4,
       second .added .size ∙ inv .5,
-      at-second .label-queue2 .kept .1 .1 .1 .0 ∙ (at-first .label-queue .kept .1 .1 .1 .0 ∙ inv .6),
-      going-next (sized .column-lines) (sized .row-lines) (inv .7) first second (c .if3 .left),
+      kept2 .0 ∙ (kept .0 ∙ inv .6),
+      kept2 .1 .0 ∙ (kept .1 .0 ∙ inv .7),
+      going-next (sized .column-lines) (sized .row-lines) (inv .8) first second (c .if3 .left),
     )
 
 pub rounds-spec : {M : Type 1} → statement M
@@ -357,8 +334,10 @@ rounds-spec =
     same-length-12
     returns-2
     slice-aggregate-label-queue
-    label-queue-requires
     slice-aggregate-label-queue-2
+    label-queue-requires
+    slice-aggregate-label-queue-3
+    slice-aggregate-label-queue-4
     label-queue-requires-2
     add-if3
     add-if3-2
