@@ -250,7 +250,9 @@ fn ink_of(ahead: u32, behind: u32, x: u16) -> u32
     requires { ⌜ (x ≤ 4096) × (x ≤ ahead) × (4096 - x ≤ behind) ⌝ }
     ensures { λ r. ⌜ r ≡ min (behind - (4096 - x)) (ahead - x) ⌝ }
 {
-    lesser(behind - (4096 - x as u32), ahead - x as u32)
+    let up = behind - (4096 - x as u32);
+    let down = ahead - x as u32;
+    lesser(up, down)
 }
 
 // Gives crossing k of a line the ink s, if it has no label.

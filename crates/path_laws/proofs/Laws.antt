@@ -5,10 +5,10 @@ use mathlib.Core.Path.{_≡_, refl, sym, ap}
 use mathlib.Core.Bool.{Bool, true}
 use mathlib.Core.List.{List}
 use mathlib.Core.Option.{Option, none, some}
-use mathlib.Core.Logic.{_⊎_, ⊎-elim}
+use mathlib.Core.Logic.{_⊎_, inl, inr, ⊎-elim}
 use Rattle.foil_spec.specs.Foil.{Point}
-use Rattle.foil_spec.specs.Paths.{isPath, bends, before, firstPath}
-use Rattle.path_laws.proofs.Order.{before-both}
+use Rattle.foil_spec.specs.Paths.{isPath, bends, cornersBefore, pathLength, before, firstPath}
+use Rattle.path_laws.proofs.Order.{of-before, before-both}
 use Rattle.path_laws.proofs.FirstPath.{nothing-missed, given-path, given-fewest, given-first}
 
 -- "the first way of fewest bends": it is a way from S to T, no way has fewer bends, and among the ways with equally
@@ -17,6 +17,13 @@ pub record IsFirst (f : ℕ → ℕ → Bool) (S T : Point) (cs : List Point) : 
   pub path : isPath f S T cs ≡ true
   pub fewest : (ds : List Point) → isPath f S T ds ≡ true → bends cs ≤ bends ds
   pub first : (ds : List Point) → isPath f S T ds ≡ true → bends ds ≡ bends cs → (cs ≡ ds) ⊎ (before cs ds ≡ true)
+
+-- among the ways with equally few bends none is shorter, and among those as short none has its corners first
+pub shortest-then-corners : (f : ℕ → ℕ → Bool) (S T : Point) (cs ds : List Point) → IsFirst f S T cs →
+    isPath f S T ds ≡ true → bends ds ≡ bends cs → (cs ≡ ds) ⊎ (pathLength cs < pathLength ds)
+    ⊎ ((pathLength cs ≡ pathLength ds) × (cornersBefore cs ds ≡ true))
+shortest-then-corners f S T cs ds a p e =
+    ⊎-elim (λ (q : cs ≡ ds). inl q) (λ (q : before cs ds ≡ true). inr (of-before cs ds q)) (a .first ds p e)
 
 -- there is only one such list
 pub unique : (f : ℕ → ℕ → Bool) (S T : Point) (cs ds : List Point) → IsFirst f S T cs → IsFirst f S T ds → cs ≡ ds

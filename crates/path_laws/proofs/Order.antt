@@ -74,7 +74,7 @@ by-corners cs ds e b =
     or-ir (ltb (pathLength cs) (pathLength ds))
     (and-i {a = eqb (pathLength cs) (pathLength ds)} (eq-eqb (pathLength cs) (pathLength ds) e) b)
 
-of-before : (cs ds : List Point) → before cs ds ≡ true
+pub of-before : (cs ds : List Point) → before cs ds ≡ true
     → (pathLength cs < pathLength ds) ⊎ ((pathLength cs ≡ pathLength ds) × (cornersBefore cs ds ≡ true))
 unfolding before
 of-before cs ds h =

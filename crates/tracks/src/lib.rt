@@ -93,12 +93,13 @@ pub fn find(
     ensures { λ r. ⌜ Found (layoutOf (board .width) (board .height) (board .clearance) (board .entries)
         (now (table .entry))) (point sx sy) (point tx ty) (now (out .entry)) (now (out .exit)) r ⌝ }
 {
-    let mut level = [0u32; 67600];
-    let mut upright = [0u32; 67600];
-    let mut il = [0u32; 67600];
-    let mut iu = [0u32; 67600];
-    let mut ql = [0u16; 135200];
-    let mut qu = [0u16; 135200];
+    // What these lists hold before the search does not matter.
+    let mut level = [1u32; 67600];
+    let mut upright = [1u32; 67600];
+    let mut il = [1u32; 67600];
+    let mut iu = [1u32; 67600];
+    let mut ql = [1u16; 135200];
+    let mut qu = [1u16; 135200];
     let mut cols = [0u16; 260];
     let mut rows = [0u16; 260];
     let mut el = [0u8; 67600];
