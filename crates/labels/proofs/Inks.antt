@@ -191,7 +191,8 @@ module _ {other inks cross : List ℕ} {line v lo hi : ℕ} where
   }
 
   inked-more : {k s t : ℕ} {l w₀ w w′ : List ℕ} → lo ≤ k → line * stride + k < length w₀ →
-      RunInked other inks cross line v lo hi k l w₀ w → Least other inks cross line v lo hi lo (k + 1) (getD cross k 0) s →
+      RunInked other inks cross line v lo hi k l w₀ w →
+      Least other inks cross line v lo hi lo (k + 1) (getD cross k 0) s →
       Least other inks cross line v lo hi k hi (getD cross k 0) t → InkPut line k (min s t) l w w′ →
       RunInked other inks cross line v lo hi (k + 1) l w₀ w′
   inked-more {k} {s} {t} {l} {w₀} {w} lk fit R A B (stays z) = record {
@@ -223,7 +224,8 @@ module _ {other inks cross : List ℕ} {line v lo hi : ℕ} where
       }
 
   pub inked-next : {k s t m : ℕ} {l w₀ w w′ : List ℕ} → lo ≤ k → line * stride + k < length w₀ →
-      RunInked other inks cross line v lo hi k l w₀ w → Least other inks cross line v lo hi lo (k + 1) (getD cross k 0) s →
+      RunInked other inks cross line v lo hi k l w₀ w →
+      Least other inks cross line v lo hi lo (k + 1) (getD cross k 0) s →
       Least other inks cross line v lo hi k hi (getD cross k 0) t → m ≡ min s t → InkPut line k m l w w′ →
       RunInked other inks cross line v lo hi (k + 1) l w₀ w′
   inked-next {k} {l = l} {w = w} {w′ = w′} lk fit R A B e P =
@@ -251,7 +253,8 @@ pub record Up (other inks cross : List ℕ) (line v lo hi k best : ℕ) (behind 
   pub made : Behind other inks cross line v lo hi k behind
 
 ahead-more : {other inks cross : List ℕ} {line v lo hi : ℕ} (k : ℕ) {t : List ℕ} {r : ℕ} → lo < k → k ≤ length t →
-    Ahead other inks cross line v lo hi k t → Over other inks cross line v lo hi (k - 1) hi (k - 1) (rise cross (k - 1)) r →
+    Ahead other inks cross line v lo hi k t →
+    Over other inks cross line v lo hi (k - 1) hi (k - 1) (rise cross (k - 1)) r →
     Ahead other inks cross line v lo hi (k - 1) (set t (k - 1) r)
 ahead-more {other} {inks} {cross} {line} {v} {lo} {hi} k {t} {r} lk fit A S = record {
   at = λ j p q. pick j p q (ℕ-discrete j (k - 1));
@@ -275,7 +278,8 @@ behind-more {other} {inks} {cross} {line} {v} {lo} {hi} k {t} {r} fit B S = reco
 module _ {other inks cross : List ℕ} {line v lo hi n : ℕ} (C : Lines cross n) (few : hi ≤ n) where
   module _ (h : ℕ) (p : lo ≤ h) (q : h < hi) (L : Low other inks line n v) (e : across other line h ≡ v) where
     pub down-start : (t : List ℕ) →
-        Down other inks cross line v lo hi hi (across inks line h + (rise cross (hi - 1) - rise cross h) + rise cross (hi - 1)) t
+        Down other inks cross line v lo hi hi
+        (across inks line h + (rise cross (hi - 1) - rise cross h) + rise cross (hi - 1)) t
     down-start t = record {
       from = omega arith;
       to = omega arith;

@@ -11,7 +11,8 @@ use borrow.Author.Count.{below-more}
 use Rattle.grid.specs.Size.{stride}
 use Rattle.labels.specs.Line.{along, across, Linked, RunStart, RunEnd}
 use Rattle.labels.specs.Ink.{Blank, RunInked, LeastInk, Inked}
-use Rattle.labels.specs.Pass.{zeros, Cell, kept, none, new, Pass, floor, Joined, Full, Queued, Room, Fill, held, fresh}
+use Rattle.labels.specs.Pass.{zeros, Cell, kept, none, new, Pass, floor, Joined, Full, Queued, Room}
+use Rattle.labels.specs.Pass.{Fill, held, fresh}
 use Rattle.labels.specs.Pass.{RunFilled, RunPushed, Visit, passed, ran, Part, stood, got, Visited, Added}
 use Rattle.labels.specs.Pass.{PassTo}
 use Rattle.labels.proofs.Line.{linked-sym, linked-trans, in-run, run-joined}

@@ -28,14 +28,7 @@ ghost use Rattle.labels.specs.Rounds.{Sized, Begun, Ended};
 ghost use Rattle.labels.specs.Walk.{put, Walkable, LevelWalk, UprightWalk};
 
 // Gives crossing k of a line, which has no label, the label v + 1 and puts it at the end q of the queue; the end then.
-fn put_cell(
-    labels: &mut [u32],
-    queue: &mut [u16],
-    line: usize,
-    k: usize,
-    v: u32,
-    q: usize,
-) -> usize
+fn put_cell(labels: &mut [u32], queue: &mut [u16], line: usize, k: usize, v: u32, q: usize) -> usize
     requires { ⌜ (line < stride) × (k < stride) × (v < labelTop) × Room (now labels) (now queue) q
         × (along (now labels) line k ≡ 0) ⌝ }
     ensures { λ r. ⌜ Push line k v (now (labels .entry)) (now (labels .exit))
@@ -123,7 +116,8 @@ fn floor_of(v: u32) -> u32
     0
 }
 
-// The run of crossing k gets inks and labels and is put into the queue, unless a label above `low` says that this is done.
+// Gives the run of crossing k inks and labels and puts it into the queue, unless a label above `low` says that this is
+// done; the end of the queue then.
 fn visit(
     labels: &mut [u32],
     own: &mut [u32],
@@ -158,10 +152,36 @@ fn visit(
     ahead_of(ahead, other, inks, cross, line, n, lo, hi, k, v);
     behind_of(behind, other, inks, cross, line, n, lo, hi, k, v);
     if low != 0 {
-        ink_run(own, ahead, behind, labels, other, inks, cross, line, n, lo, hi, v);
+        ink_run(
+            own,
+            ahead,
+            behind,
+            labels,
+            other,
+            inks,
+            cross,
+            line,
+            n,
+            lo,
+            hi,
+            v,
+        );
         return push_run(labels, queue, line, lo, hi, v, q);
     }
-    ink_blank(own, ahead, behind, labels, other, inks, cross, line, n, lo, hi, v);
+    ink_blank(
+        own,
+        ahead,
+        behind,
+        labels,
+        other,
+        inks,
+        cross,
+        line,
+        n,
+        lo,
+        hi,
+        v,
+    );
     push_blank(labels, queue, line, lo, hi, v, q)
 }
 
@@ -319,7 +339,8 @@ pub fn put_corner(out: &mut [u16], at: usize, x: u16, y: u16)
 }
 
 // Puts the corners after the crossing of column i and row j, whose level label is v, from corner `at` on: a level
-// segment to the first stop for one less over which its ink leads, and on from there. Returns the number of corners then.
+// segment to the first stop for one less over which its ink leads, and on from there. Returns the number of corners
+// then.
 pub fn level_step(
     out: &mut [u16],
     level: &[u32],
@@ -341,7 +362,8 @@ pub fn level_step(
     requires { ⌜ (i < nc) × (j < nr) × (1 ≤ v) × (along (now level) j i ≡ v)
         × (2 * at + 2 * v ≤ length (now out) + 2) ⌝ }
     ensures { λ r. ⌜ LevelWalk (now (level .entry)) (now (upright .entry)) (now (il .entry)) (now (iu .entry))
-        (now (el .entry)) (now (eu .entry)) (now (cols .entry)) (now (rows .entry)) nc nr i j v at (now (out .entry)) (now (out .exit)) r ⌝ }
+        (now (el .entry)) (now (eu .entry)) (now (cols .entry)) (now (rows .entry)) nc nr i j v at
+        (now (out .entry)) (now (out .exit)) r ⌝ }
 {
     if v == 1 {
         return at;
@@ -389,7 +411,8 @@ pub fn upright_step(
     requires { ⌜ (i < nc) × (j < nr) × (1 ≤ v) × (along (now upright) i j ≡ v)
         × (2 * at + 2 * v ≤ length (now out) + 2) ⌝ }
     ensures { λ r. ⌜ UprightWalk (now (level .entry)) (now (upright .entry)) (now (il .entry)) (now (iu .entry))
-        (now (el .entry)) (now (eu .entry)) (now (cols .entry)) (now (rows .entry)) nc nr i j v at (now (out .entry)) (now (out .exit)) r ⌝ }
+        (now (el .entry)) (now (eu .entry)) (now (cols .entry)) (now (rows .entry)) nc nr i j v at
+        (now (out .entry)) (now (out .exit)) r ⌝ }
 {
     if v == 1 {
         return at;

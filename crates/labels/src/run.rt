@@ -1,5 +1,5 @@
-// One line of the escape grid: the run of a crossing, the stops on it, which are the crossings with a given label in the
-// other direction, and the inks of the run over these stops, by two sweeps.
+// One line of the escape grid: the run of a crossing, the stops on it, which are the crossings with a given label in
+// the other direction, and the inks of the run over these stops, by two sweeps.
 use grid::STRIDE;
 ghost use Prim.Native.Nat.{_+_, _-_, _*_, _≤_, _<_, min};
 ghost use mathlib.Core.Path.{_≡_};
@@ -55,7 +55,8 @@ fn back_from(edge: &[u8], line: usize, at: usize) -> usize
     lo
 }
 
-// The same. It is no more than `at`; said so once more, the compiler does not carry a place of every list along the scan.
+// The same. It is no more than `at`: with that said once more, the compiler does not carry a place of every list along
+// the scan.
 pub fn run_start(edge: &[u8], line: usize, at: usize) -> usize
     requires { ⌜ (line < stride) × (at ≤ stride) × (area ≤ length (now edge)) ⌝ }
     ensures { λ r. ⌜ RunStart (now (edge .entry)) line at r ⌝ }
@@ -166,15 +167,7 @@ pub fn next_stop(
 }
 
 // The least of `best` and, where crossing k of a line is a stop for the label v, its ink and x more.
-fn carry(
-    other: &[u32],
-    inks: &[u32],
-    line: usize,
-    k: usize,
-    v: u32,
-    x: u32,
-    best: u32,
-) -> u32
+fn carry(other: &[u32], inks: &[u32], line: usize, k: usize, v: u32, x: u32, best: u32) -> u32
     requires { ⌜ (line < stride) × (k < stride) × (v < labelTop) × (x ≤ 4096) ⌝ }
     requires { ⌜ (area ≤ length (now other)) × (area ≤ length (now inks)) ⌝ }
     requires { ⌜ (across (now other) line k ≡ v → across (now inks) line k ≤ 4095 * v) ⌝ }
@@ -186,8 +179,8 @@ fn carry(
     lesser(inks[k * STRIDE + line] + x, best)
 }
 
-// The sweep down the crossings lo to hi, hi excluded, of a run: the least ink at each over the stops for the label v from
-// it on, and its number more. Crossing h of the run is a stop.
+// The sweep down the crossings lo to hi, hi excluded, of a run: the least ink at each over the stops for the label v
+// from it on, and its number more. Crossing h of the run is a stop.
 pub fn ahead_of(
     ahead: &mut [u32],
     other: &[u32],

@@ -11,12 +11,14 @@ use Rattle.labels.proofs.label_queue.Statement.{statement}
 use Rattle.labels.proofs.label_queue.Tie as tie
 
 abbrev Inv-loop : tie.InvT-loop
-Inv-loop labels₀ own₀ queue₀ ahead₀ behind₀ other inks edge cross from a b m n v q low end₀ p₀ labels own queue ahead behind end p =
+Inv-loop labels₀ own₀ queue₀ ahead₀ behind₀ other inks edge cross from a b m n v q low end₀ p₀
+    labels own queue ahead behind end p =
     (a ≤ p) × (p ≤ b) × (length ahead ≡ length ahead₀) × (length behind ≡ length behind₀)
     × PassTo other inks edge cross from m n v a p labels₀ labels own₀ own queue₀ queue q end
 
 abbrev μ-loop : tie.MeasureT-loop
-μ-loop labels₀ own₀ queue₀ ahead₀ behind₀ other inks edge cross from a b m n v q low end₀ p₀ labels own queue ahead behind end p = b - p
+μ-loop labels₀ own₀ queue₀ ahead₀ behind₀ other inks edge cross from a b m n v q low end₀ p₀
+    labels own queue ahead behind end p = b - p
 
 floor-of-requires : tie.Need-floor-of-requires Inv-loop μ-loop
 floor-of-requires c κs = search needs
@@ -82,8 +84,10 @@ visit-requires c κs =
 
 add-p : tie.Need-add-p Inv-loop μ-loop
 add-p c =
-    let at-test = c .before .before .before .before .before .before .before .before .before .before .before .before .before .before .before .before .before .before in
-    let pre = at-test .before .before .before .before .before .before .before .before .before .before .before .before .before .pre in
+    let at-test = c .before .before .before .before .before .before .before .before .before .before .before
+    .before .before .before .before .before .before .before in
+    let pre = at-test .before .before .before .before .before .before .before .before .before .before .before
+    .before .before .pre in
     omega (arith, at-test .loop-test .taken, pre .0 .5)
 
 loop-less : tie.Need-loop-less Inv-loop μ-loop
@@ -93,7 +97,8 @@ loop-again : tie.Need-loop-again Inv-loop μ-loop
 loop-again c =
     let at-visit = c .before .before .before .before .before .before .before .before .before .before in
     let at-loop = at-visit .before .before .before .before .before .before .before .before .before in
-    let pre = at-loop .before .before .before .before .before .before .before .before .before .before .before .before .pre in
+    let pre = at-loop .before .before .before .before .before .before .before .before .before .before .before
+    .before .pre in
     let inv = at-loop .loop .inv in
     let kept = at-visit .visit .kept .1 .1 .1 in (
       omega arith,

@@ -25,7 +25,8 @@ put-cell-requires c κs =
     let pre = start .pre in
     let k = at-loop .loop .k in
     let inv = at-loop .loop .inv in
-    let blank = inv .2 .run .high (start .args .line * stride + k) (omega arith) ∙ pre .5 .none k (inv .0) (omega arith) in
+    let same = inv .2 .run .high (start .args .line * stride + k) (omega arith) in
+    let blank = same ∙ pre .5 .none k (inv .0) (omega arith) in
     (pre .0, omega arith, pre .3, pushed-room (pre .4) (inv .2), blank)
 
 add-k : tie.Need-add-k Inv-loop μ-loop

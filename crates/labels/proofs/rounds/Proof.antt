@@ -49,7 +49,8 @@ mul-if1-2 c =
 slice-read-if1 : tie.Need-slice-read-if1 Inv-loop μ-loop
 slice-read-if1 c =
     let at-loop = c .before in
-    let sized = at-loop .before .before .before .before .before .before .before .before .before .before .before .pre .0 .0 in
+    let sized = at-loop .before .before .before .before .before .before .before .before .before .before
+    .before .pre .0 .0 in
     omega (arith, at-loop .loop .inv .8 .level-room .labels, sized .column-lines .few, sized .row-lines .few)
 
 same-length : tie.Need-same-length Inv-loop μ-loop
@@ -78,23 +79,27 @@ returns c =
 
 mul-if2 : tie.Need-mul-if2 Inv-loop μ-loop
 mul-if2 c =
-    let sized = c .before .before .before .before .before .before .before .before .before .before .before .before .before .pre .0 .0 in
+    let sized = c .before .before .before .before .before .before .before .before .before .before .before
+    .before .before .pre .0 .0 in
     omega (arith, sized .column-lines .few, sized .row-lines .few)
 
 add-if2 : tie.Need-add-if2 Inv-loop μ-loop
 add-if2 c =
-    let sized = c .before .before .before .before .before .before .before .before .before .before .before .before .before .pre .0 .0 in
+    let sized = c .before .before .before .before .before .before .before .before .before .before .before
+    .before .before .pre .0 .0 in
     omega (arith, sized .column-lines .few, sized .row-lines .few)
 
 mul-if2-2 : tie.Need-mul-if2-2 Inv-loop μ-loop
 mul-if2-2 c =
-    let sized = c .before .before .before .before .before .before .before .before .before .before .before .before .before .pre .0 .0 in
+    let sized = c .before .before .before .before .before .before .before .before .before .before .before
+    .before .before .pre .0 .0 in
     omega (arith, sized .column-lines .few, sized .row-lines .few)
 
 slice-read-if2 : tie.Need-slice-read-if2 Inv-loop μ-loop
 slice-read-if2 c =
     let at-loop = c .before .before .before in
-    let sized = at-loop .before .before .before .before .before .before .before .before .before .before .before .pre .0 .0 in
+    let sized = at-loop .before .before .before .before .before .before .before .before .before .before
+    .before .pre .0 .0 in
     omega (arith, at-loop .loop .inv .8 .upright-room .labels, sized .column-lines .few, sized .row-lines .few)
 
 same-length-7 : tie.Need-same-length-7 Inv-loop μ-loop
@@ -130,7 +135,8 @@ slice-aggregate-label-queue-2 c = search needs
 label-queue-requires : tie.Need-label-queue-requires Inv-loop μ-loop
 label-queue-requires c κs =
     let at-loop = c .before .before .before .before .before .before .before .before .before .before .before .before in
-    let sized = at-loop .before .before .before .before .before .before .before .before .before .before .before .pre .0 .0 in
+    let sized = at-loop .before .before .before .before .before .before .before .before .before .before
+    .before .pre .0 .0 in
     let inv = at-loop .loop .inv in
     let going = inv .8 in (
       (
@@ -142,7 +148,11 @@ label-queue-requires c κs =
         omega (arith, going .upright-room .left),
       ),
       (
-        (going .upright-room .labels, omega (arith, sized .upright-inks, inv .3), omega (arith, sized .level-inks, inv .2)),
+        (
+          going .upright-room .labels,
+          omega (arith, sized .upright-inks, inv .3),
+          omega (arith, sized .level-inks, inv .2),
+        ),
         (
           (sized .level-edges, going .upright-room .places, omega (arith, inv .6), omega (arith, inv .7)),
           ((going .level-room, going .upright-lean), (going .upright-queue, going .level-full)),
@@ -158,9 +168,12 @@ slice-aggregate-label-queue-4 c = search needs
 
 label-queue-requires-2 : tie.Need-label-queue-requires-2 Inv-loop μ-loop
 label-queue-requires-2 c κs =
-    let at-first = c .before .before .before .before .before .before .before .before .before .before .before .before .before .before .before .before in
-    let at-loop = at-first .before .before .before .before .before .before .before .before .before .before .before .before .before in
-    let sized = at-loop .before .before .before .before .before .before .before .before .before .before .before .pre .0 .0 in
+    let at-first = c .before .before .before .before .before .before .before .before .before .before .before
+    .before .before .before .before .before in
+    let at-loop = at-first .before .before .before .before .before .before .before .before .before .before
+    .before .before .before in
+    let sized = at-loop .before .before .before .before .before .before .before .before .before .before
+    .before .pre .0 .0 in
     let inv = at-loop .loop .inv in
     let going = inv .8 in
     let C = sized .column-lines in
@@ -196,8 +209,10 @@ label-queue-requires-2 c κs =
 add-if3 : tie.Need-add-if3 Inv-loop μ-loop
 add-if3 c =
     let at-second = c .before .before .before .before .before .before .before .before in
-    let at-first = at-second .before .before .before .before .before .before .before .before .before .before .before .before .before .before .before .before .before in
-    let at-loop = at-first .before .before .before .before .before .before .before .before .before .before .before .before .before in
+    let at-first = at-second .before .before .before .before .before .before .before .before .before .before
+    .before .before .before .before .before .before .before in
+    let at-loop = at-first .before .before .before .before .before .before .before .before .before .before
+    .before .before .before in
     let going = at-loop .loop .inv .8 in
     let level = passing-room (going .level-room) (at-first .label-queue .ensures) in
     let upright = passing-room (going .upright-room) (at-second .label-queue2 .ensures) in
@@ -206,8 +221,10 @@ add-if3 c =
 add-if3-2 : tie.Need-add-if3-2 Inv-loop μ-loop
 add-if3-2 c =
     let at-second = c .before .before .before .before .before .before .before .before in
-    let at-first = at-second .before .before .before .before .before .before .before .before .before .before .before .before .before .before .before .before .before in
-    let at-loop = at-first .before .before .before .before .before .before .before .before .before .before .before .before .before in
+    let at-first = at-second .before .before .before .before .before .before .before .before .before .before
+    .before .before .before .before .before .before .before in
+    let at-loop = at-first .before .before .before .before .before .before .before .before .before .before
+    .before .before .before in
     let going = at-loop .loop .inv .8 in
     let level = passing-room (going .level-room) (at-first .label-queue .ensures) in
     let upright = passing-room (going .upright-room) (at-second .label-queue2 .ensures) in
@@ -216,68 +233,86 @@ add-if3-2 c =
 same-length-13 : tie.Need-same-length-13 Inv-loop μ-loop
 same-length-13 c =
     let at-second = c .before .before .before .before .before .before .before .before .before in
-    let at-first = at-second .before .before .before .before .before .before .before .before .before .before .before .before .before .before .before .before .before in
-    let at-loop = at-first .before .before .before .before .before .before .before .before .before .before .before .before .before in
+    let at-first = at-second .before .before .before .before .before .before .before .before .before .before
+    .before .before .before .before .before .before .before in
+    let at-loop = at-first .before .before .before .before .before .before .before .before .before .before
+    .before .before .before in
     at-first .label-queue .ensures .visited .size ∙ at-loop .loop .inv .0
 
 same-length-14 : tie.Need-same-length-14 Inv-loop μ-loop
 same-length-14 c =
     let at-second = c .before .before .before .before .before .before .before .before .before in
-    let at-first = at-second .before .before .before .before .before .before .before .before .before .before .before .before .before .before .before .before .before in
-    let at-loop = at-first .before .before .before .before .before .before .before .before .before .before .before .before .before in
+    let at-first = at-second .before .before .before .before .before .before .before .before .before .before
+    .before .before .before .before .before .before .before in
+    let at-loop = at-first .before .before .before .before .before .before .before .before .before .before
+    .before .before .before in
     at-second .label-queue2 .ensures .visited .size ∙ at-loop .loop .inv .1
 
 same-length-15 : tie.Need-same-length-15 Inv-loop μ-loop
 same-length-15 c =
     let at-second = c .before .before .before .before .before .before .before .before .before in
-    let at-first = at-second .before .before .before .before .before .before .before .before .before .before .before .before .before .before .before .before .before in
-    let at-loop = at-first .before .before .before .before .before .before .before .before .before .before .before .before .before in
+    let at-first = at-second .before .before .before .before .before .before .before .before .before .before
+    .before .before .before .before .before .before .before in
+    let at-loop = at-first .before .before .before .before .before .before .before .before .before .before
+    .before .before .before in
     at-first .label-queue .ensures .inked .size ∙ at-loop .loop .inv .2
 
 same-length-16 : tie.Need-same-length-16 Inv-loop μ-loop
 same-length-16 c =
     let at-second = c .before .before .before .before .before .before .before .before .before in
-    let at-first = at-second .before .before .before .before .before .before .before .before .before .before .before .before .before .before .before .before .before in
-    let at-loop = at-first .before .before .before .before .before .before .before .before .before .before .before .before .before in
+    let at-first = at-second .before .before .before .before .before .before .before .before .before .before
+    .before .before .before .before .before .before .before in
+    let at-loop = at-first .before .before .before .before .before .before .before .before .before .before
+    .before .before .before in
     at-second .label-queue2 .ensures .inked .size ∙ at-loop .loop .inv .3
 
 same-length-17 : tie.Need-same-length-17 Inv-loop μ-loop
 same-length-17 c =
     let at-second = c .before .before .before .before .before .before .before .before .before in
-    let at-first = at-second .before .before .before .before .before .before .before .before .before .before .before .before .before .before .before .before .before in
-    let at-loop = at-first .before .before .before .before .before .before .before .before .before .before .before .before .before in
+    let at-first = at-second .before .before .before .before .before .before .before .before .before .before
+    .before .before .before .before .before .before .before in
+    let at-loop = at-first .before .before .before .before .before .before .before .before .before .before
+    .before .before .before in
     at-first .label-queue .ensures .added .size ∙ at-loop .loop .inv .4
 
 same-length-18 : tie.Need-same-length-18 Inv-loop μ-loop
 same-length-18 c =
     let at-second = c .before .before .before .before .before .before .before .before .before in
-    let at-first = at-second .before .before .before .before .before .before .before .before .before .before .before .before .before .before .before .before .before in
-    let at-loop = at-first .before .before .before .before .before .before .before .before .before .before .before .before .before in
+    let at-first = at-second .before .before .before .before .before .before .before .before .before .before
+    .before .before .before .before .before .before .before in
+    let at-loop = at-first .before .before .before .before .before .before .before .before .before .before
+    .before .before .before in
     at-second .label-queue2 .ensures .added .size ∙ at-loop .loop .inv .5
 
 returns-3 : tie.Need-returns-3 Inv-loop μ-loop
 returns-3 c =
     let at-second = c .before .before .before .before .before .before .before .before .before in
-    let at-first = at-second .before .before .before .before .before .before .before .before .before .before .before .before .before .before .before .before .before in
+    let at-first = at-second .before .before .before .before .before .before .before .before .before .before
+    .before .before .before .before .before .before .before in
     let at-if2 = at-first .before .before .before .before .before .before .before .before .before in
     let at-if1 = at-if2 .before .before in
     let at-loop = at-if1 .before .before in
-    let sized = at-loop .before .before .before .before .before .before .before .before .before .before .before .pre .0 .0 in
+    let sized = at-loop .before .before .before .before .before .before .before .before .before .before
+    .before .pre .0 .0 in
     going-stuck (sized .column-lines) (sized .row-lines) (at-loop .loop .inv .8) (at-first .label-queue .ensures)
     (at-second .label-queue2 .ensures) _ _ (c .if3 .taken) (at-if1 .if1 .left) (at-if2 .if2 .left)
 
 add-v : tie.Need-add-v Inv-loop μ-loop
 add-v c =
     let at-second = c .before .before .before .before .before .before .before .before .before in
-    let at-first = at-second .before .before .before .before .before .before .before .before .before .before .before .before .before .before .before .before .before in
-    let at-loop = at-first .before .before .before .before .before .before .before .before .before .before .before .before .before in
+    let at-first = at-second .before .before .before .before .before .before .before .before .before .before
+    .before .before .before .before .before .before .before in
+    let at-loop = at-first .before .before .before .before .before .before .before .before .before .before
+    .before .before .before in
     omega (arith, at-loop .loop .inv .8 .top)
 
 loop-less : tie.Need-loop-less Inv-loop μ-loop
 loop-less c =
     let at-second = c .before .before .before .before .before .before .before .before .before in
-    let at-first = at-second .before .before .before .before .before .before .before .before .before .before .before .before .before .before .before .before .before in
-    let at-loop = at-first .before .before .before .before .before .before .before .before .before .before .before .before .before in
+    let at-first = at-second .before .before .before .before .before .before .before .before .before .before
+    .before .before .before .before .before .before .before in
+    let at-loop = at-first .before .before .before .before .before .before .before .before .before .before
+    .before .before .before in
     let first = at-first .label-queue .ensures in
     let second = at-second .label-queue2 .ensures in
     omega (arith, c .if3 .left, first .visited .count, first .added .grew, second .visited .count, second .added .grew)
@@ -285,13 +320,16 @@ loop-less c =
 loop-again : tie.Need-loop-again Inv-loop μ-loop
 loop-again c =
     let at-second = c .before .before .before .before .before .before .before .before .before in
-    let at-first = at-second .before .before .before .before .before .before .before .before .before .before .before .before .before .before .before .before .before in
-    let at-loop = at-first .before .before .before .before .before .before .before .before .before .before .before .before .before in
+    let at-first = at-second .before .before .before .before .before .before .before .before .before .before
+    .before .before .before .before .before .before .before in
+    let at-loop = at-first .before .before .before .before .before .before .before .before .before .before
+    .before .before .before in
     let first = at-first .label-queue .ensures in
     let second = at-second .label-queue2 .ensures in
     let kept = at-first .label-queue .kept .1 .1 .1 in
     let kept2 = at-second .label-queue2 .kept .1 .1 .1 in
-    let sized = at-loop .before .before .before .before .before .before .before .before .before .before .before .pre .0 .0 in
+    let sized = at-loop .before .before .before .before .before .before .before .before .before .before
+    .before .pre .0 .0 in
     let inv = at-loop .loop .inv in (
       first .visited .size ∙ inv .0,
       second .visited .size ∙ inv .1,

@@ -38,7 +38,8 @@ ahead-of-requires : tie.Need-ahead-of-requires
 ahead-of-requires c κs =
     let at-end = c .before in
     let at-start = at-end .before in
-    let pre = at-start .before .before .before .before .before .before .before .before .before .before .before .before .pre in
+    let pre = at-start .before .before .before .before .before .before .before .before .before .before .before
+    .before .pre in
     let start = at-start .run-start .ensures in
     let end = at-end .run-end .ensures in (
       (pre .0 .0, pre .0 .1, end .le, start .le, end .after, pre .0 .3),
@@ -49,7 +50,8 @@ behind-of-requires : tie.Need-behind-of-requires
 behind-of-requires c κs =
     let at-end = c .before .before .before .before .before in
     let at-start = at-end .before in
-    let pre = at-start .before .before .before .before .before .before .before .before .before .before .before .before .pre in
+    let pre = at-start .before .before .before .before .before .before .before .before .before .before .before
+    .before .pre in
     let start = at-start .run-start .ensures in
     let end = at-end .run-end .ensures in (
       (pre .0 .0, pre .0 .1, end .le, start .le, end .after, pre .0 .3),
@@ -78,12 +80,19 @@ ink-run-requires c κs =
 
 push-run-requires : tie.Need-push-run-requires
 push-run-requires c κs =
-    let at-end = c .before .before .before .before .before .before .before .before .before .before .before .before .before .before .before .before .before .before in
+    let at-end = c .before .before .before .before .before .before .before .before .before .before .before
+    .before .before .before .before .before .before .before in
     let at-start = at-end .before in
-    let pre = at-start .before .before .before .before .before .before .before .before .before .before .before .before .pre in
+    let pre = at-start .before .before .before .before .before .before .before .before .before .before .before
+    .before .pre in
     let start = at-start .run-start .ensures in
-    let end = at-end .run-end .ensures in
-    (pre .0 .0, omega (arith, end .le, pre .0 .1 .few), omega (arith, end .after, start .le), pre .0 .3, pre .1 .1 .1 .0 .0)
+    let end = at-end .run-end .ensures in (
+      pre .0 .0,
+      omega (arith, end .le, pre .0 .1 .few),
+      omega (arith, end .after, start .le),
+      pre .0 .3,
+      pre .1 .1 .1 .0 .0,
+    )
 
 same-length : tie.Need-same-length
 same-length c = search needs
@@ -104,7 +113,8 @@ returns-2 : tie.Need-returns-2
 returns-2 c =
     let at-push = c .before .before .before .before in
     let at-inks = at-push .before .before .before .before .before in
-    let at-end = at-inks .before .before .before .before .before .before .before .before .before .before .before .before .before .before in
+    let at-end = at-inks .before .before .before .before .before .before .before .before .before .before .before
+    .before .before .before in
     Visit.ran _ _ (at-end .before .run-start .ensures) (at-end .run-end .ensures) (at-inks .ink-run .ensures)
     (at-push .push-run .ensures)
 
@@ -124,9 +134,19 @@ ink-blank-requires c κs =
           omega (arith, at-ahead .ahead-of .kept .0, pre .1 .1 .1 .0 .1),
           omega (arith, at-behind .behind-of .kept .0, pre .1 .1 .1 .0 .2),
         ),
-        ((pre .1 .0 .2, 
-          blank-run (omega (arith, c .before .before .before .before .if2 .left, pre .1 .1 .1 .1 .0)) (omega (arith, at-test .if1 .left, pre .1 .1 .1 .1 .0)) (pre .0 .2)
-          (pre .1 .1 .1 .1 .1) start end), (at-ahead .ahead-of .ensures, at-behind .behind-of .ensures)),
+        (
+          (
+            pre .1 .0 .2,
+            blank-run (omega (
+              arith,
+              c .before .before .before
+                  .before .if2 .left,
+              pre .1 .1 .1 .1 .0,
+            )) (omega (arith, at-test .if1 .left, pre .1 .1 .1 .1 .0)) (pre .0 .2)
+                (pre .1 .1 .1 .1 .1) start end,
+          ),
+          (at-ahead .ahead-of .ensures, at-behind .behind-of .ensures),
+        ),
       ),
     )
 
@@ -144,7 +164,8 @@ push-blank-requires c κs =
       omega (arith, end .after, start .le),
       pre .0 .3,
       pre .1 .1 .1 .0 .0,
-      blank-run (omega (arith, at-low .if2 .left, pre .1 .1 .1 .1 .0)) (omega (arith, at-test .if1 .left, pre .1 .1 .1 .1 .0)) (pre .0 .2)
+      blank-run (omega (arith, at-low .if2 .left, pre .1 .1 .1 .1 .0))
+          (omega (arith, at-test .if1 .left, pre .1 .1 .1 .1 .0)) (pre .0 .2)
           (pre .1 .1 .1 .1 .1) start end,
     )
 
@@ -167,7 +188,8 @@ returns-3 : tie.Need-returns-3
 returns-3 c =
     let at-push = c .before .before .before .before in
     let at-inks = at-push .before .before .before .before .before in
-    let at-end = at-inks .before .before .before .before .before .before .before .before .before .before .before .before .before .before in
+    let at-end = at-inks .before .before .before .before .before .before .before .before .before .before .before
+    .before .before .before in
     Visit.ran _ _ (at-end .before .run-start .ensures) (at-end .run-end .ensures) (at-inks .ink-blank .ensures)
     (at-push .push-blank .ensures)
 

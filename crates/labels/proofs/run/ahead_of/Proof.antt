@@ -63,13 +63,15 @@ add-best-2 : tie.Need-add-best-2 Inv-loop μ-loop
 add-best-2 c =
     let start = c .before .before .before .before .before .before .before in
     let lines = start .pre .0 .1 in
-    omega (arith, start .pre .1 .1 .0 .le (start .args .h) (omega arith) (start .pre .1 .1 .1), lines .below (start .args .hi - 1) (omega arith))
+    let low = start .pre .1 .1 .0 .le (start .args .h) (omega arith) (start .pre .1 .1 .1) in
+    omega (arith, low, lines .below (start .args .hi - 1) (omega arith))
 
 add-best-3 : tie.Need-add-best-3 Inv-loop μ-loop
 add-best-3 c =
     let start = c .before .before .before .before .before .before .before in
     let lines = start .pre .0 .1 in
-    omega (arith, start .pre .1 .1 .0 .le (start .args .h) (omega arith) (start .pre .1 .1 .1), lines .below (start .args .hi - 1) (omega arith))
+    let low = start .pre .1 .1 .0 .le (start .args .h) (omega arith) (start .pre .1 .1 .1) in
+    omega (arith, low, lines .below (start .args .hi - 1) (omega arith))
 
 loop-holds : tie.Need-loop-holds Inv-loop μ-loop
 loop-holds c =

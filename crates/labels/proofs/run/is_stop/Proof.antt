@@ -53,7 +53,12 @@ returns-2 c =
 returns-3 : tie.Need-returns-3
 returns-3 c =
     sym
-    (to-stop _ _ _ _ _ _ _ _ (c .before .before .before .before .if1 .left) (omega (arith, c .if2 .left, c .before .steps .ensures .0)))
+    (to-stop _ _ _ _ _ _ _ _ (c .before .before .before .before .if1 .left) (omega (
+      arith,
+      c .if2 .left,
+      c
+          .before .steps .ensures .0,
+    )))
 
 pub is-stop-spec : {M : Type 1} → statement M
 is-stop-spec =
