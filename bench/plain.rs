@@ -168,14 +168,16 @@ impl Search {
         (a..=b, start, stride)
     }
 
-    // The first path of fewest bends. A point's label for a way to go is the number of legs to T, the first one going
-    // that way; 0 is none yet. Each round labels the runs through the points that the round before labelled.
+    // The first path of fewest bends and least length. A point's label for a way to go is the number of legs to T, the
+    // first one going that way, 0 none yet; beside it stands how many steps these legs have at least. Each round labels
+    // the runs through the points that the round before labelled.
     fn first_path(&self, s: Point, t: Point) -> Option<Vec<Point>> {
         if s == t {
             return Some(vec![s]);
         }
         let (from, to) = (s.1 * self.w + s.0, t.1 * self.w + t.0);
         let mut labels = [vec![0u16; self.free.len()], vec![0u16; self.free.len()]];
+        let mut steps = [vec![0u32; self.free.len()], vec![0u32; self.free.len()]];
         let mut last = [vec![to], vec![to]];
         let mut legs = 0;
         while labels[LEVEL][from] == 0 && labels[UPRIGHT][from] == 0 {
@@ -185,10 +187,23 @@ impl Search {
                 for &p in &last[1 - way] {
                     if labels[way][p] == 0 {
                         let (points, start, stride) = self.run(p, way);
-                        for k in points {
-                            labels[way][start + k * stride] = legs;
-                            next[way].push(start + k * stride);
+                        let run: Vec<usize> = points.map(|k| start + k * stride).collect();
+                        let at_hand = |q: usize| match legs {
+                            1 => if q == to { 0 } else { u32::MAX / 2 },
+                            _ => if labels[1 - way][q] == legs - 1 { steps[1 - way][q] } else { u32::MAX / 2 },
+                        };
+                        let mut least: Vec<u32> = run.iter().map(|&q| at_hand(q)).collect();
+                        for k in 1..run.len() {
+                            least[k] = least[k].min(least[k - 1] + 1);
                         }
+                        for k in (1..run.len()).rev() {
+                            least[k - 1] = least[k - 1].min(least[k] + 1);
+                        }
+                        for (&q, n) in run.iter().zip(least) {
+                            labels[way][q] = legs;
+                            steps[way][q] = n;
+                        }
+                        next[way].extend(run);
                     }
                 }
             }
@@ -197,23 +212,30 @@ impl Search {
             }
             last = next;
         }
-        Some(self.walk(from, to, legs, &labels))
+        Some(self.walk(from, to, legs, &labels, &steps))
     }
 
-    // From S on, the corner with the smallest y, then the smallest x, from which one leg fewer leads to T.
-    fn walk(&self, from: usize, to: usize, legs: u16, labels: &[Vec<u16>; 2]) -> Vec<Point> {
+    // From S on, the corner with the smallest y, then the smallest x, from which one leg fewer leads to T, by as many
+    // steps fewer as the leg has.
+    fn walk(&self, from: usize, to: usize, legs: u16, labels: &[Vec<u16>; 2], steps: &[Vec<u32>; 2]) -> Vec<Point> {
         let mut corners = vec![from];
-        let mut ways = vec![LEVEL, UPRIGHT];
+        let mut ways: Vec<usize> = [LEVEL, UPRIGHT].into_iter().filter(|&way| labels[way][from] == legs).collect();
+        let mut most = ways.iter().map(|&way| steps[way][from]).min().expect("S has a label");
         for left in (0..legs).rev() {
             let p = corners[corners.len() - 1];
+            let apart = |q: usize| ((p % self.w).abs_diff(q % self.w) + (p / self.w).abs_diff(q / self.w)) as u32;
             let mut best = None;
-            for &way in ways.iter().filter(|&&way| labels[way][p] == left + 1) {
+            for &way in ways.iter().filter(|&&way| steps[way][p] == most) {
                 let (points, start, stride) = self.run(p, way);
-                let leads = |q: usize| q != p && if left == 0 { q == to } else { labels[1 - way][q] == left };
+                let leads = |q: usize| match left {
+                    0 => q == to,
+                    _ => q != p && labels[1 - way][q] == left && steps[1 - way][q] + apart(q) == most,
+                };
                 let first = points.map(|k| start + k * stride).find(|&q| leads(q));
                 best = best.into_iter().chain(first.map(|q| (q, way))).min();
             }
             let (q, way) = best.expect("a label leads to the next");
+            most -= apart(q);
             corners.push(q);
             ways = vec![1 - way];
         }
@@ -221,7 +243,6 @@ impl Search {
     }
 }
 
-// Runs the records in turn; the text gets their lines.
 fn run_job(bytes: &[u8], text: &mut String) {
     use std::fmt::Write;
     let mut line = |words: String| writeln!(text, "{words}").expect("a text grows");

@@ -1,3 +1,4 @@
 -- What is proved beside the definitions; their other laws stand in the crates whose names end in _laws.
 pub mod Starred
+pub mod LessInk
 pub mod Written

@@ -1,5 +1,5 @@
 -- Paths (document 01: ways), over any test f of free points (x first, then y), a width W and a height H.
-use Prim.Native.Nat.{ℕ, zero, suc, _-_, _*_, min, max}
+use Prim.Native.Nat.{ℕ, zero, suc, _+_, _-_, _*_, min, max}
 use mathlib.Core.Bool.{Bool, cond, false, not, _&&_, _||_}
 use mathlib.Core.List.{List, [], _∷_, map}
 use mathlib.Core.Option.{Option, none, some}
@@ -19,6 +19,10 @@ after p q = cond (eqb (p .y) (q .y)) upright level
 -- the test passes at every number from the smaller one to the larger one, both included
 unfoldable pub between : (ℕ → Bool) → ℕ → ℕ → Bool
 between g a b = all g (range (min a b) (suc (max a b - min a b)))
+
+-- how many steps two numbers are apart
+abbrev pub gap : ℕ → ℕ → ℕ
+gap a b = (a - b) + (b - a)
 
 module _ (f : ℕ → ℕ → Bool) where
   -- a level segment: one row, two columns, all its points free, both ends included
@@ -56,14 +60,34 @@ unfoldable pub pointBefore : Point → Point → Bool
 pointBefore p q = ltb (p .y) (q .y) || eqb (p .y) (q .y) && ltb (p .x) (q .x)
 
 -- at the first corner where the lists differ, that of the first list comes first
+unfoldable pub cornersBefore : List Point → List Point → Bool
+cornersBefore [] ds = false
+cornersBefore (p ∷ cs) [] = false
+cornersBefore (p ∷ cs) (q ∷ ds) = pointBefore p q || same p q && cornersBefore cs ds
+
+-- the steps from p over the corners
+unfoldable pub stepsFrom : Point → List Point → ℕ
+stepsFrom p [] = 0
+stepsFrom p (q ∷ cs) = gap (p .x) (q .x) + gap (p .y) (q .y) + stepsFrom q cs
+
+-- a path's length: the sum of its segments' steps
+unfoldable pub pathLength : List Point → ℕ
+pathLength [] = 0
+pathLength (p ∷ cs) = stepsFrom p cs
+
+-- the smaller length first, then the corners
 unfoldable pub before : List Point → List Point → Bool
-before [] ds = false
-before (p ∷ cs) [] = false
-before (p ∷ cs) (q ∷ ds) = pointBefore p q || same p q && before cs ds
+before cs ds =
+    ltb (pathLength cs) (pathLength ds) || eqb (pathLength cs) (pathLength ds) && cornersBefore cs ds
 
 -- the points of the foil, by y, then x
 unfoldable pub points : ℕ → ℕ → List Point
 points W H = each (λ (y : ℕ). map (λ (x : ℕ). point x y) (range 0 W)) (range 0 H)
+
+-- the shortest way to go on from p, of cs and more: of equally short ones the first
+unfoldable pub shortest : Point → List Point → List (List Point) → List Point
+shortest p cs [] = cs
+shortest p cs (ds ∷ more) = shortest p (cond (ltb (stepsFrom p ds) (stepsFrom p cs)) ds cs) more
 
 module _ (f : ℕ → ℕ → Bool) (W H : ℕ) (T : Point) where
   -- every way to go on from p to T by n segments, in order: each point is tried as the next corner
@@ -77,7 +101,7 @@ module _ (f : ℕ → ℕ → Bool) (W H : ℕ) (T : Point) where
   unfoldable pub firstFrom : Point → ℕ → ℕ → Option (List Point)
   firstFrom S zero n = none
   firstFrom S (suc tries) n =
-      elim (goings n either S) [ [] ↦ firstFrom S tries (suc n) | cs ∷ more ↦ some (S ∷ cs) ]
+      elim (goings n either S) [ [] ↦ firstFrom S tries (suc n) | cs ∷ more ↦ some (S ∷ shortest S cs more) ]
 
 -- the first path of fewest bends from S to T, if there is one; none needs more than W * H segments
 unfoldable pub firstPath : (ℕ → ℕ → Bool) → ℕ → ℕ → Point → Point → Option (List Point)

@@ -1,4 +1,4 @@
--- The escape grid over the board: the marks are those that snapping asks for, and an edge has 1 just if it is free.
+-- The escape grid over the board: the marks are those that the search asks for, and an edge has 1 just if it is free.
 use Prim.Native.Nat.{ℕ, suc, _+_, _-_, _*_, _≤_, _<_}
 use native.Mathlib.Omega.{arith}
 use native.Mathlib.Decide.{ℕ-discrete}
@@ -16,7 +16,7 @@ use Rattle.list_laws.proofs.Tests.{and-l, and-r, and-i, not-t, not-f, both, cla
 use Rattle.list_laws.proofs.Members.{in-map, of-map, in-range, of-range, of-all, to-all}
 use Rattle.reach.specs.Reach.{Span, Marks}
 use Rattle.grid.specs.Size.{stride}
-use Rattle.grid.specs.Zones.{turned, extent, past, Boxes}
+use Rattle.grid.specs.Zones.{turned, extent, past, ahead, Boxes}
 use Rattle.grid.specs.Lines.{hasMark, Marked, Collected, Lines}
 use Rattle.grid.specs.Edges.{Painted}
 use Rattle.grid.proofs.Blocked.{within-of, of-within, blockedOn, turned-blocks}
@@ -80,16 +80,51 @@ module _ (W H d n : ℕ) (t : List ℕ) where
         below w (no z) = omega arith
         below w (yes z) = absurd (u (rw z at (M .sides .after k l (omega arith))))
 
-    -- the marks are those that snapping asks for
-    pub grid-marks : Marks (turned upright (free (layoutOf W H d n t))) (hasMark m)
+    -- what blocks the next number but not this one begins there, and this one is marked
+    blocked-here : (x y k : ℕ) → k < n → x < sizeOn W H upright → getD m x 0 ≢ 1 →
+        turned upright (blocks d (entryAt t k)) (suc x) y ≡ true → turned upright (blocks d (entryAt t k)) x y ≡ true
+    blocked-here x y k l lx u h =
+        let e = sym (turned-blocks d upright (entryAt t k) (suc x) y) ∙ h in
+        let w = of-within _ _ d (suc x) (and-l (blockedOn d upright (entryAt t k) (suc x)) _ e) in
+        let b = reached (w .0) (ℕ-discrete (extent upright (entryAt t k) .from) (suc x + d)) in
+        turned-blocks d upright (entryAt t k) x y
+        ∙ and-i (within-of _ _ d x b (omega arith)) (and-r (blockedOn d upright (entryAt t k) (suc x)) _ e)
+      where
+        reached : extent upright (entryAt t k) .from ≤ suc x + d →
+            Dec (extent upright (entryAt t k) .from ≡ suc x + d) → extent upright (entryAt t k) .from ≤ x + d
+        reached w (no z) = omega arith
+        reached w (yes z) =
+            let e : ahead d (extent upright (entryAt t k)) ≡ x = omega arith in
+            absurd (u (rw e at (M .sides .before k l (omega arith))))
+
+    -- what is free stays free to the next number, or to the one before, where there is no mark
+    free-down : (x y : ℕ) → hasMark m (suc x) ≡ false → turned upright (free (layoutOf W H d n t)) (suc x) y ≡ true →
+        turned upright (free (layoutOf W H d n t)) x y ≡ true
+    free-down x y u h =
+        let r = of-free-on upright (suc x) y h in
+        free-on upright x y (omega arith) (r .1) (λ k l.
+        both (turned upright (blocks d (entryAt t k)) x y)
+        (λ z. clash (blocked-next x y k l (r .0) (eqb-false _ _ u) z) (r .2 k l))
+        (λ z. z))
+
+    free-up : (x y : ℕ) → hasMark m x ≡ false → turned upright (free (layoutOf W H d n t)) x y ≡ true →
+        turned upright (free (layoutOf W H d n t)) (suc x) y ≡ true
+    free-up x y u h =
+        let r = of-free-on upright x y h in
+        let o : x ≢ sizeOn W H upright - 1 = λ e. eqb-false _ _ u (rw (← e) at (M .last-on)) in
+        free-on upright (suc x) y (omega arith) (r .1) (λ k l.
+        both (turned upright (blocks d (entryAt t k)) (suc x) y)
+        (λ z. clash (blocked-here x y k l (r .0) (eqb-false _ _ u) z) (r .2 k l))
+        (λ z. z))
+
+    -- the marks are those that the search asks for
+    pub grid-marks : Marks (turned upright (free (layoutOf W H d n t))) (hasMark m) (sizeOn W H upright)
     grid-marks = record {
       first = eq-eqb _ _ (M .first-on);
-      step = λ x y u h.
-          let r = of-free-on upright (suc x) y h in
-          free-on upright x y (omega arith) (r .1) (λ k l.
-          both (turned upright (blocks d (entryAt t k)) x y)
-          (λ z. clash (blocked-next x y k l (r .0) (eqb-false _ _ u) z) (r .2 k l))
-          (λ z. z));
+      last = eq-eqb _ _ (M .last-on);
+      below = λ x y h. of-free-on upright x y h .0;
+      down = free-down;
+      up = free-up;
     }
 
 -- edge i of line j has 1 just if the line is free from crossing i to the next one
@@ -136,9 +171,10 @@ boxes-of W H d n t h = record {
 
 -- at most as many lines as marks
 pub lines-of : {d n : ℕ} {t : List ℕ} {upright : Bool} {size p q : ℕ} {m lines : List ℕ} {k : ℕ} → n ≤ 128 →
-    stride ≤ length lines → Marked d n t upright size p q m → Collected m size lines k → Lines lines k
-lines-of l r M C = record {
+    size ≤ 4096 → stride ≤ length lines → Marked d n t upright size p q m → Collected m size lines k → Lines lines k
+lines-of l s r M C = record {
   fit = omega (arith, M .few, C .count);
   few = omega (arith, M .few, C .count);
+  below = λ i li. omega (arith, C .below i li);
   rising = C .rising;
 }

@@ -70,13 +70,21 @@ pub block-done : {a b c lo hi : ℕ} {e₀ e : List ℕ} → b ≡ c → Block a
 block-done e h = rw (← e) h
 
 -- The first line at a number or after it.
-pub first-at : (lines : List ℕ) (n v r : ℕ) → Rising lines n → r < n → ((k : ℕ) → k < r → getD lines k 0 < v) →
-    v ≤ getD lines r 0 → FirstFrom lines n v r
-first-at lines n v r R l p h = record { le = omega arith; low = p; high = λ k a b. pick k a b (decLt r k) }
+pub high-from : (lines : List ℕ) (n v r : ℕ) → Rising lines n → r < n → v ≤ getD lines r 0 →
+    (k : ℕ) → r ≤ k → k < n → v ≤ getD lines k 0
+high-from lines n v r R l h k a b = pick (decLt r k)
   where
-    pick : (k : ℕ) → r ≤ k → k < n → Dec (r < k) → v ≤ getD lines k 0
-    pick k a b (yes q) = let u = R .up r k q b in omega arith
-    pick k a b (no q) = let w : k ≡ r = omega arith in rw w h
+    pick : Dec (r < k) → v ≤ getD lines k 0
+    pick (yes q) = let u = R .up r k q b in omega arith
+    pick (no q) = let w : k ≡ r = omega arith in rw w h
+
+pub low-to : (lines : List ℕ) (n v r : ℕ) → Rising lines n → r < n → getD lines r 0 < v →
+    (k : ℕ) → k < r + 1 → getD lines k 0 < v
+low-to lines n v r R l h k a = pick (decLt k r)
+  where
+    pick : Dec (k < r) → getD lines k 0 < v
+    pick (yes q) = let u = R .up k r q l in omega arith
+    pick (no q) = let w : k ≡ r = omega arith in rw w h
 
 -- One entry.
 module _ {d : ℕ} {t : List ℕ} {upright : Bool} {lines : List ℕ} {m : ℕ} {cross : List ℕ} {n : ℕ} (k : ℕ)

@@ -5,28 +5,32 @@ use native.Mathlib.Omega.{arith}
 use native.Mathlib.Decide.{decLe, decLt}
 use mathlib.Core.Path.{_≡_}
 use mathlib.Core.Bool.{Bool, true}
+use mathlib.Core.Logic.{_⊎_}
 use mathlib.Core.List.{List}
 use lib.ListN.{getD}
 use borrow.Author.Tests.{eq-eqb, eqb-true}
-use Rattle.reach.specs.Reach.{flip, Span, Reach, snapTo, Marks}
+use Rattle.foil_spec.specs.Paths.{gap}
+use Rattle.reach.specs.Reach.{flip, Span, Within, Marks}
 use Rattle.reach.proofs.Reach.{span-refl, span-sym, span-trans, span-start, span-end, span-part}
-use Rattle.reach.proofs.Snap.{span-snap, reach-snap, snap-marked, snap-fixed, snap}
+use Rattle.reach.proofs.Slide.{near}
 use Rattle.grid.specs.Lines.{hasMark, Collected}
 use Rattle.grid.proofs.Board.{Edges}
 use Rattle.labels.specs.Line.{Linked}
 use Rattle.labels.proofs.Line.{linked-sym, linked-at, linked-part}
 
--- m lines with n crossings each: a next corner c anywhere has one on the grid that is no later and reaches as far
+-- m lines with n crossings each: a next corner c anywhere has one on the grid that is on a path no longer, and no later,
+-- or on a shorter one
 pub record Faithful (f : ℕ → ℕ → Bool) (T : ℕ → ℕ → Type 0) (cross : List ℕ) (n : ℕ) (lines : List ℕ) (m : ℕ)
     (edge : List ℕ) : Type 0 where
   pub joined : (j a b : ℕ) → j < m → a < n → b < n → f (getD cross a 0) (getD lines j 0) ≡ true → Linked edge j a b →
       Span f (getD lines j 0) (getD cross a 0) (getD cross b 0)
   pub links : (j a b : ℕ) → j < m → a < n → b < n → Span f (getD lines j 0) (getD cross a 0) (getD cross b 0) →
       Linked edge j a b
-  pub near : (r i j c : ℕ) → i < n → j < m → Span f (getD lines j 0) (getD cross i 0) c →
-      Reach r (flip f) (flip T) (getD lines j 0) c →
-      (k : ℕ) × (k < n) × (getD cross k 0 ≤ c) × Span f (getD lines j 0) (getD cross i 0) (getD cross k 0)
-      × Reach r (flip f) (flip T) (getD lines j 0) (getD cross k 0)
+  pub near : (r s i j c : ℕ) → i < n → j < m → Span f (getD lines j 0) (getD cross i 0) c →
+      Within r s (flip f) (flip T) (getD lines j 0) c →
+      (k : ℕ) × (t : ℕ) × (k < n) × Linked edge j i k × Within r t (flip f) (flip T) (getD lines j 0) (getD cross k 0)
+      × (((gap (getD cross i 0) (getD cross k 0) + t ≤ gap (getD cross i 0) c + s) × (getD cross k 0 ≤ c))
+      ⊎ (gap (getD cross i 0) (getD cross k 0) + t < gap (getD cross i 0) c + s))
   pub sorted : (a b : ℕ) → a ≤ b → b < n → getD cross a 0 ≤ getD cross b 0
 
 module _ {f : ℕ → ℕ → Bool} {cross : List ℕ} {n : ℕ} {lines : List ℕ} {m : ℕ} {edge : List ℕ}
@@ -95,31 +99,26 @@ collected-up {lines = lines} C a b l lb = pick (decLt a b)
     pick (yes p) = let s = C .rising .up a b p lb in omega arith
     pick (no p) = let e : a ≡ b = omega arith in rw e (omega arith)
 
--- The grid made from marks, where targets stay targets under snapping.
-module _ {f : ℕ → ℕ → Bool} {T : ℕ → ℕ → Type 0} {mx my : List ℕ} {w h : ℕ} {cross : List ℕ} {n : ℕ} {lines : List ℕ}
-    {m : ℕ} (X : Marks f (hasMark mx)) (Y : Marks (flip f) (hasMark my)) (inside : (x y : ℕ) → f x y ≡ true → x < w)
-    (target : (x y : ℕ) → T x y → T (snapTo (hasMark mx) x) (snapTo (hasMark my) y))
-    (C : Collected mx w cross n) (L : Collected my h lines m) where
-  near-any : (r i j c : ℕ) → i < n → j < m → Span f (getD lines j 0) (getD cross i 0) c →
-      Reach r (flip f) (flip T) (getD lines j 0) c →
-      (k : ℕ) × (k < n) × (getD cross k 0 ≤ c) × Span f (getD lines j 0) (getD cross i 0) (getD cross k 0)
-      × Reach r (flip f) (flip T) (getD lines j 0) (getD cross k 0)
-  near-any r i j c li lj sp rc =
+-- The grid made from marks, where targets are on marked columns.
+module _ {f : ℕ → ℕ → Bool} {T : ℕ → ℕ → Type 0} {mx : List ℕ} {w : ℕ} {cross : List ℕ} {n : ℕ} {lines : List ℕ}
+    {m : ℕ} (M : Marks f (hasMark mx) w) (target : (x y : ℕ) → T x y → hasMark mx x ≡ true)
+    (C : Collected mx w cross n) {edge : List ℕ} (E : Edges f cross n lines m edge) where
+  near-any : (r s i j c : ℕ) → i < n → j < m → Span f (getD lines j 0) (getD cross i 0) c →
+      Within r s (flip f) (flip T) (getD lines j 0) c →
+      (k : ℕ) × (t : ℕ) × (k < n) × Linked edge j i k × Within r t (flip f) (flip T) (getD lines j 0) (getD cross k 0)
+      × (((gap (getD cross i 0) (getD cross k 0) + t ≤ gap (getD cross i 0) c + s) × (getD cross k 0 ≤ c))
+      ⊎ (gap (getD cross i 0) (getD cross k 0) + t < gap (getD cross i 0) c + s))
+  near-any r s i j c li lj sp wc =
       let x : ℕ = getD cross i 0 in
       let y : ℕ = getD lines j 0 in
-      let SX = snap f (hasMark mx) X in
-      let SY = snap (flip f) (hasMark my) Y in
-      let d = SX .down c in
-      let b = inside c y (span-end f y x c sp) in
-      let q = C .whole (snapTo (hasMark mx) c) (omega arith) (eqb-true _ _ (snap-marked (hasMark mx) c (X .first))) in
-      let ex = snap-fixed (hasMark mx) x (eq-eqb _ _ (C .sound i li)) in
-      let ey = snap-fixed (hasMark my) y (eq-eqb _ _ (L .sound j lj)) in
-      let s1 = span-snap f (snapTo (hasMark mx)) (snapTo (hasMark my)) SX SY y x c sp in
-      let r1 = reach-snap r (flip f) (flip T) _ _ SY SX (λ a e t. target e a t) y c rc in
-      (q .0, q .1, omega (arith, q .2), rw (← (q .2)) at (rw (ex, ey) at s1), rw (← (q .2)) at (rw ey at r1))
+      let N = near f (hasMark mx) w M T target r s x y c (eq-eqb _ _ (C .sound i li)) sp wc in
+      let b = M .below (N .0) y (span-end f y x (N .0) (N .3)) in
+      let q = C .whole (N .0) b (eqb-true _ _ (N .2)) in
+      let to = links-any E j lj (collected-up C) i (q .0) li (q .1) (rw (q .2) (N .3)) in
+      (q .0, N .1, q .1, to, rw (q .2) (N .4), rw (q .2) (N .5))
 
-  pub faithful : {edge : List ℕ} → Edges f cross n lines m edge → Faithful f T cross n lines m edge
-  faithful E = record {
+  pub faithful : Faithful f T cross n lines m edge
+  faithful = record {
     joined = λ j a b lj. joined-any E j lj a b;
     links = λ j a b lj. links-any E j lj (collected-up C) a b;
     near = near-any;

@@ -4,17 +4,19 @@ use native.Mathlib.Omega.{arith}
 use native.Mathlib.Numerals.{add-one}
 use native.Mathlib.Decide.{decLe, decLt}
 use mathlib.Core.Path.{_≡_, refl, sym, subst, _∙_}
-use mathlib.Core.Logic.{_≢_}
+use mathlib.Core.Logic.{_≢_, ⊎-elim}
 use mathlib.Core.Bool.{Bool, true}
 use mathlib.Core.List.{List}
 use lib.ListN.{getD}
-use Rattle.reach.specs.Reach.{flip, Span, Reach, TargetFree}
-use Rattle.reach.proofs.Reach.{span-sym, span-start}
-use Rattle.labels.specs.Line.{along, across, Linked}
+use Rattle.foil_spec.specs.Paths.{gap}
+use Rattle.reach.specs.Reach.{flip, Span, Reach, Within, TargetFree}
+use Rattle.reach.proofs.Reach.{span-sym, span-start, within-more, within-reach, reach-within}
+use Rattle.labels.specs.Line.{along, across, Linked, isStop}
+use Rattle.labels.specs.Ink.{LeastInk, Inked}
 use Rattle.labels.specs.Pass.{Cell, kept, none, new, Pass, Below}
 use Rattle.labels.specs.Rounds.{Rounds, start, more}
 use Rattle.labels.specs.Walk.{Grounded}
-use Rattle.labels.proofs.Line.{linked-sym}
+use Rattle.labels.proofs.Line.{linked-sym, of-stop, to-stop}
 use Rattle.labels.proofs.Going.{cell-keep, pass-below}
 use Rattle.labels.proofs.Faithful.{Faithful}
 
@@ -28,6 +30,17 @@ pub record Says (f : ℕ → ℕ → Bool) (T : ℕ → ℕ → Type 0) (n x y a
 pub record Labelled (f : ℕ → ℕ → Bool) (T : ℕ → ℕ → Type 0) (cross : List ℕ) (n : ℕ) (lines : List ℕ) (m r : ℕ)
     (lab : List ℕ) : Type 0 where
   pub says : (j : ℕ) → j < m → (i : ℕ) → i < n → Says f T r (getD cross i 0) (getD lines j 0) (along lab j i)
+
+-- what the ink s of the point (x, y) says, beside its label a
+pub record Measures (f : ℕ → ℕ → Bool) (T : ℕ → ℕ → Type 0) (x y a s : ℕ) : Type 0 where
+  pub within : (k : ℕ) → a ≡ k + 1 → Within k s f T x y
+  pub least : (k : ℕ) → a ≡ k + 1 → (t : ℕ) → Within k t f T x y → s ≤ t
+
+-- the inks of m lines with n crossings each are right
+pub record Measured (f : ℕ → ℕ → Bool) (T : ℕ → ℕ → Type 0) (cross : List ℕ) (n : ℕ) (lines : List ℕ) (m : ℕ)
+    (lab inks : List ℕ) : Type 0 where
+  pub says : (j : ℕ) → j < m → (i : ℕ) → i < n →
+      Measures f T (getD cross i 0) (getD lines j 0) (along lab j i) (along inks j i)
 
 reach-free : (n : ℕ) (f : ℕ → ℕ → Bool) (T : ℕ → ℕ → Type 0) → TargetFree f T → (x y : ℕ) → Reach n f T x y →
     f x y ≡ true
@@ -59,24 +72,31 @@ module _ {f : ℕ → ℕ → Bool} {T : ℕ → ℕ → Type 0} (tf : TargetFre
       Reach (suc k) f T (getD cross i 0) (getD lines j 0)
   step-reach i j q k li lj lq h e = (getD cross q 0, step-span i j q k li lj lq h e, O .says q lq j lj .reach k e)
 
+  -- what is joined with a point that no more than w segments leave, and is left by w segments itself, has the label w + 1
+  pub exact : (i j q w : ℕ) → i < n → j < m → q < n → w ≤ r →
+      ((k : ℕ) → k ≤ w → Reach k f T (getD cross i 0) (getD lines j 0) → ⊥) → Linked edge j i q →
+      Reach w (flip f) (flip T) (getD lines j 0) (getD cross q 0) → across other j q ≡ w + 1
+  exact i j q w li lj lq lw low lk rq = go (across other j q) refl
+    where
+      pick : (k : ℕ) → Dec (w < k) → Dec (k < w) → across other j q ≡ k + 1 → k + 1 ≡ w + 1
+      pick k (yes p) u e = absurd (O .says q lq j lj .least k e w p rq)
+      pick k (no p) (yes u) e = absurd (low (suc k) (omega arith) (step-reach i j q k li lj lq lk e))
+      pick k (no p) (no u) e = omega arith
+
+      go : (a : ℕ) → across other j q ≡ a → a ≡ w + 1
+      go zero e = absurd (O .says q lq j lj .never e w lw rq)
+      go (suc k) e = sym (add-one k) ∙ pick k (decLt w k) (decLt k w) (e ∙ sym (add-one k))
+
   -- no crossing with the label r + 1, and fewer segments do not lead there: nor do r + 1
   no-step : (i j : ℕ) → i < n → j < m → ((q : ℕ) → q < n → Linked edge j i q → across other j q ≢ r + 1) →
       ((k : ℕ) → k ≤ r → Reach k f T (getD cross i 0) (getD lines j 0) → ⊥) →
       Reach (suc r) f T (getD cross i 0) (getD lines j 0) → ⊥
   no-step i j li lj h low t =
-      let w = F .near r i j (t .0) li lj (t .1) (t .2) in
-      go (w .0) (w .1) (F .links j i (w .0) lj li (w .1) (w .3)) (w .4) (across other j (w .0)) refl
-    where
-      pick : (q k : ℕ) → q < n → Linked edge j i q → Reach r (flip f) (flip T) (getD lines j 0) (getD cross q 0) →
-          Dec (r < k) → Dec (k < r) → across other j q ≡ k + 1 → ⊥
-      pick q k lq lk rq (yes p) u e = O .says q lq j lj .least k e r p rq
-      pick q k lq lk rq (no p) (yes u) e = low (suc k) (omega arith) (step-reach i j q k li lj lq lk e)
-      pick q k lq lk rq (no p) (no u) e = h q lq lk (omega arith)
-
-      go : (q : ℕ) → q < n → Linked edge j i q → Reach r (flip f) (flip T) (getD lines j 0) (getD cross q 0) →
-          (a : ℕ) → across other j q ≡ a → ⊥
-      go q lq lk rq zero e = O .says q lq j lj .never e r (omega arith) rq
-      go q lq lk rq (suc k) e = pick q k lq lk rq (decLt r k) (decLt k r) (e ∙ sym (add-one k))
+      let u = reach-within r (flip f) (flip T) (getD lines j 0) (t .0) (t .2) in
+      let w = F .near r (u .0) i j (t .0) li lj (t .1) (u .1) in
+      h (w .0) (w .2) (w .3)
+      (exact i j (w .0) r li lj (w .2) (omega arith) low (w .3)
+      (within-reach r (w .1) (flip f) (flip T) (getD lines j 0) (getD cross (w .0) 0) (w .4)))
 
   pass-cell : (i j : ℕ) → i < n → j < m → (a b : ℕ) → Cell other edge j n (r + 1) i a b →
       Says f T r (getD cross i 0) (getD lines j 0) a → Says f T (r + 1) (getD cross i 0) (getD lines j 0) b
@@ -108,10 +128,69 @@ module _ {f : ℕ → ℕ → Bool} {T : ℕ → ℕ → Type 0} (tf : TargetFre
     says = λ j lj i li. pass-cell i j li lj (along l j i) (along l′ j i) (P .cell j lj i li) (L .says j lj i li);
   }
 
-pub rounds-pos : {el eu : List ℕ} {nc nr : ℕ} {l₀ u₀ : List ℕ} {v : ℕ} {l u : List ℕ} →
-    Rounds el eu nc nr l₀ u₀ v l u → 1 ≤ v
+  -- the inks after a pass
+  module _ {inks : List ℕ} (OM : Measured (flip f) (flip T) lines m cross n other inks) where
+    pub step-within : (i j q k : ℕ) → i < n → j < m → q < n → Linked edge j i q → across other j q ≡ k + 1 →
+        Within (suc k) (across inks j q + gap (getD cross i 0) (getD cross q 0)) f T (getD cross i 0) (getD lines j 0)
+    step-within i j q k li lj lq h e = (
+      getD cross q 0,
+      across inks j q,
+      omega arith,
+      step-span i j q k li lj lq h e,
+      OM .says q lq j lj .within k e,
+    )
+
+    new-ink : (i j s : ℕ) → i < n → j < m →
+        ((k : ℕ) → k ≤ r → Reach k f T (getD cross i 0) (getD lines j 0) → ⊥) →
+        LeastInk other inks edge cross j n (r + 1) i s →
+        Measures f T (getD cross i 0) (getD lines j 0) (r + 1 + 1) s
+    new-ink i j s li lj low L = record {
+      within = λ k e.
+          let w : suc r ≡ k = omega arith in
+          subst (λ (k : ℕ). Within k s f T (getD cross i 0) (getD lines j 0)) w
+          (within-more (suc r) _ s f T (getD cross i 0) (getD lines j 0) (L .ge)
+          (step-within i j (L .q) r li lj (L .below) (L .linked) (L .stop)));
+      least = λ k e t w.
+          let z : k ≡ suc r = omega arith in
+          no-less t (subst (λ (k : ℕ). Within k t f T (getD cross i 0) (getD lines j 0)) z w);
+    }
+      where
+        no-less : (t : ℕ) → Within (suc r) t f T (getD cross i 0) (getD lines j 0) → s ≤ t
+        no-less t u =
+            let w = F .near r (u .1) i j (u .0) li lj (u .3) (u .4) in
+            let e =
+            exact i j (w .0) r li lj (w .2) (omega arith) low (w .3)
+            (within-reach r (w .1) (flip f) (flip T) (getD lines j 0) (getD cross (w .0) 0) (w .4)) in
+            let a = L .le (w .0) (w .2) (w .3) e in
+            let b = OM .says (w .0) (w .2) j lj .least r e (w .1) (w .4) in
+            let c = u .2 in
+            ⊎-elim (λ z. let y = z .0 in omega arith) (λ z. omega arith) (w .5)
+
+    pass-inks : {l l′ w w′ : List ℕ} → Labelled f T cross n lines m r l → Measured f T cross n lines m l w →
+        Pass other edge m n (r + 1) l l′ → Inked other inks edge cross m n (r + 1) l l′ w w′ →
+        Measured f T cross n lines m l′ w′
+    pass-inks {l} {l′} {w} {w′} A M P I = record {
+      says = λ j lj i li. pick j lj i li (along l j i) (along l′ j i) refl refl (P .cell j lj i li);
+    }
+      where
+        pick : (j : ℕ) → j < m → (i : ℕ) → i < n → (a b : ℕ) → along l j i ≡ a → along l′ j i ≡ b →
+            Cell other edge j n (r + 1) i a b →
+            Measures f T (getD cross i 0) (getD lines j 0) (along l′ j i) (along w′ j i)
+        pick j lj i li a b ea eb (kept z) =
+            rw (I .kept j lj i li (rw ea z), eb ∙ sym ea) (M .says j lj i li)
+        pick j lj i li a b ea eb (none z) = record {
+          within = λ k e. absurd (omega arith);
+          least = λ k e. absurd (omega arith);
+        }
+        pick j lj i li a b ea eb (new q lq lk e) =
+            rw eb
+            (new-ink i j (along w′ j i) li lj (A .says j lj i li .never ea)
+            (I .fresh j lj i li ea (λ z. omega arith)))
+
+pub rounds-pos : {el eu cols rows : List ℕ} {nc nr : ℕ} {l₀ u₀ wl₀ wu₀ : List ℕ} {v : ℕ} {l u wl wu : List ℕ} →
+    Rounds el eu cols rows nc nr l₀ u₀ wl₀ wu₀ v l u wl wu → 1 ≤ v
 rounds-pos start = omega arith
-rounds-pos (more r x y) = omega arith
+rounds-pos (more r x a y b) = omega arith
 
 -- both lists of labels are right after n rounds
 abbrev pub Both : (ℕ → ℕ → Bool) → (ℕ → ℕ → Type 0) → List ℕ → ℕ → List ℕ → ℕ → ℕ → List ℕ → List ℕ → Type 0
@@ -126,13 +205,27 @@ module _ {f : ℕ → ℕ → Bool} {T : ℕ → ℕ → Type 0} (tf : TargetFre
       let l2 = pass-labels tf L (B .1) (B .0) (rw e at x) in
       rw e (l2, pass-labels (λ a b t. tf b a t) U (labelled-less n l2) (B .1) (rw e at y))
 
-  pub rounds-labels : {l₀ u₀ : List ℕ} → Both f T cols nc rows nr 0 l₀ u₀ → {v : ℕ} {l u : List ℕ} →
-      Rounds el eu nc nr l₀ u₀ v l u → Both f T cols nc rows nr (v - 1) l u
+  pub rounds-labels : {l₀ u₀ wl₀ wu₀ : List ℕ} → Both f T cols nc rows nr 0 l₀ u₀ → {v : ℕ} {l u wl wu : List ℕ} →
+      Rounds el eu cols rows nc nr l₀ u₀ wl₀ wu₀ v l u wl wu → Both f T cols nc rows nr (v - 1) l u
   rounds-labels B start = B
-  rounds-labels B (more {v = v} r x y) =
+  rounds-labels B (more {v = v} r x a y b) =
       let p = rounds-pos r in
       let e : v + 1 - 1 ≡ v = omega arith in
       rw e (both-more (v - 1) v (omega arith) (rounds-labels B r) x y)
+
+  pub rounds-inks : {l₀ u₀ wl₀ wu₀ : List ℕ} → Both f T cols nc rows nr 0 l₀ u₀ →
+      Measured f T cols nc rows nr l₀ wl₀ × Measured (flip f) (flip T) rows nr cols nc u₀ wu₀ →
+      {v : ℕ} {l u wl wu : List ℕ} → Rounds el eu cols rows nc nr l₀ u₀ wl₀ wu₀ v l u wl wu →
+      Measured f T cols nc rows nr l wl × Measured (flip f) (flip T) rows nr cols nc u wu
+  rounds-inks B M start = M
+  rounds-inks B M (more {v = v} r x a y b) =
+      let p = rounds-pos r in
+      let e : v ≡ v - 1 + 1 = omega arith in
+      let A = rounds-labels B r in
+      let K = rounds-inks B M r in
+      let l2 = pass-labels tf L (A .1) (A .0) (rw e at x) in
+      let k2 = pass-inks tf L (A .1) (K .1) (A .0) (K .0) (rw e at x) (rw e at a) in
+      (k2, pass-inks (λ a b t. tf b a t) U (labelled-less (v - 1) l2) k2 (A .1) (K .1) (rw e at y) (rw e at b))
 
 -- A round that changes nothing: what has no label then is out of reach.
 module _ {f : ℕ → ℕ → Bool} {T : ℕ → ℕ → Type 0} (tf : TargetFree f T) {cross : List ℕ} {n : ℕ} {lines : List ℕ} {m : ℕ}
@@ -145,8 +238,10 @@ module _ {f : ℕ → ℕ → Bool} {T : ℕ → ℕ → Type 0} (tf : TargetFre
       (j : ℕ) → j < m → (i : ℕ) → i < n → along l j i ≡ 0 →
       Reach (suc k) f T (getD cross i 0) (getD lines j 0) → ⊥
   stuck-step k ih j lj i li z t =
-      let w = F .near k i j (t .0) li lj (t .1) (t .2) in
-      go (w .0) (w .1) (F .links j i (w .0) lj li (w .1) (w .3)) (w .4) (along u (w .0) j) refl
+      let e = reach-within k (flip f) (flip T) (getD lines j 0) (t .0) (t .2) in
+      let w = F .near k (e .0) i j (t .0) li lj (t .1) (e .1) in
+      go (w .0) (w .2) (w .3) (within-reach k (w .1) (flip f) (flip T) (getD lines j 0) (getD cross (w .0) 0) (w .4))
+      (along u (w .0) j) refl
     where
       go : (q : ℕ) → q < n → Linked edge j i q → Reach k (flip f) (flip T) (getD lines j 0) (getD cross q 0) →
           (a : ℕ) → along u q j ≡ a → ⊥
@@ -156,46 +251,60 @@ module _ {f : ℕ → ℕ → Bool} {T : ℕ → ℕ → Type 0} (tf : TargetFre
           A .says j lj i li .never z (suc a) (omega arith) (step-reach tf F B i j q a li lj lq lk (e ∙ sym (add-one a)))
 
 -- Every label but the first rests on one of the other direction, and is at most as large as the rounds allow.
-grounded-pass : {other edge : List ℕ} {m n v : ℕ} {l l′ : List ℕ} → Pass other edge m n v l l′ →
-    Grounded l other edge m n → Grounded l′ other edge m n
-grounded-pass {other} {edge} {m} {n} {v} {l} {l′} P G = record {
-  next = λ i li k lk w p e. go i li k lk w p (along l i k) (along l′ i k) refl (P .cell i li k lk) e;
+grounded-pass : {other inks edge cross : List ℕ} {m n v : ℕ} {l l′ w w′ : List ℕ} → Pass other edge m n v l l′ →
+    Inked other inks edge cross m n v l l′ w w′ → Grounded l other w inks edge cross m n →
+    Grounded l′ other w′ inks edge cross m n
+grounded-pass {other} {inks} {edge} {cross} {m} {n} {v} {l} {l′} {w} {w′} P I G = record {
+  next = λ i li k lk u p e. go i li k lk u p (along l i k) (along l′ i k) refl refl (P .cell i li k lk) e;
 }
   where
-    go : (i : ℕ) → i < m → (k : ℕ) → k < n → (w : ℕ) → 1 ≤ w → (x y : ℕ) → along l i k ≡ x →
-        Cell other edge i n v k x y → y ≡ w + 1 → (q : ℕ) × (q < n) × Linked edge i k q × (across other i q ≡ w)
-    go i li k lk w p x y ex (kept z) h = G .next i li k lk w p (ex ∙ h)
-    go i li k lk w p x y ex (none u) h = absurd (omega arith)
-    go i li k lk w p x y ex (new q lq z u) h = (q, lq, z, omega arith)
+    go : (i : ℕ) → i < m → (k : ℕ) → k < n → (u : ℕ) → 1 ≤ u → (x y : ℕ) → along l i k ≡ x → along l′ i k ≡ y →
+        Cell other edge i n v k x y → along l′ i k ≡ u + 1 →
+        (q : ℕ) × (q < n) × Linked edge i k q
+        × (isStop other inks cross i (getD cross k 0) u (along w′ i k) q ≡ true)
+    go i li k lk u p x y ex ey (kept z) h =
+        rw (I .kept i li k lk (rw ex z)) (G .next i li k lk u p (ex ∙ sym ey ∙ h))
+    go i li k lk u p x y ex ey (none z) h = absurd (omega arith)
+    go i li k lk u p x y ex ey (new q lq z e) h =
+        let L = I .fresh i li k lk ex (λ f. omega arith) in
+        let le = L .le (L .q) (L .below) (L .linked) (L .stop) in
+        let ge = L .ge in
+        (L .q, L .below, L .linked, to-stop _ _ _ _ _ _ _ _ (omega (arith, L .stop)) (omega arith))
 
 -- a pass of the other direction keeps what is rested on
-grounded-other : {own other other′ edge edge′ : List ℕ} {m n v : ℕ} → Pass own edge′ n m v other other′ →
-    {l : List ℕ} → Grounded l other edge m n → Grounded l other′ edge m n
-grounded-other P G = record {
-  next = λ i li k lk w p e.
-      let r = G .next i li k lk w p e in
-      (r .0, r .1, r .2, cell-keep (P .cell (r .0) (r .1) i li) (omega (arith, r .3)) ∙ r .3);
+grounded-other : {own wown other other′ inks inks′ edge edge′ cross lines : List ℕ} {m n v : ℕ} →
+    Pass own edge′ n m v other other′ → Inked own wown edge′ lines n m v other other′ inks inks′ →
+    {l w : List ℕ} → Grounded l other w inks edge cross m n → Grounded l other′ w inks′ edge cross m n
+grounded-other P I G = record {
+  next = λ i li k lk u p e.
+      let r = G .next i li k lk u p e in
+      let s = of-stop _ _ _ _ _ _ _ _ (r .3) in
+      let on = cell-keep (P .cell (r .0) (r .1) i li) (omega (arith, s .0)) in
+      let ink = I .kept (r .0) (r .1) i li (omega (arith, s .0)) in
+      (r .0, r .1, r .2, to-stop _ _ _ _ _ _ _ _ (on ∙ s .0) (rw ink (s .1)));
 }
 
-module _ {el eu : List ℕ} {nc nr : ℕ} {l₀ u₀ : List ℕ} (bl : Below nr nc l₀ 1) (bu : Below nc nr u₀ 1) where
-  pub rounds-grounded : {v : ℕ} {l u : List ℕ} → Rounds el eu nc nr l₀ u₀ v l u →
-      Grounded l u el nr nc × Grounded u l eu nc nr
-  rounds-grounded start = (
-    record { next = λ j lj i li w p e. let b = bl .le j lj i li in absurd (omega arith) },
-    record { next = λ i li j lj w p e. let b = bu .le i li j lj in absurd (omega arith) },
-  )
-  rounds-grounded (more r x y) =
-      let ih = rounds-grounded r in
-      (grounded-other y (grounded-pass x (ih .0)), grounded-pass y (grounded-other x (ih .1)))
+module _ {el eu cols rows : List ℕ} {nc nr : ℕ} {l₀ u₀ wl₀ wu₀ : List ℕ} (bl : Below nr nc l₀ 1) (bu : Below nc nr u₀ 1)
+  where
+    pub rounds-grounded : {v : ℕ} {l u wl wu : List ℕ} → Rounds el eu cols rows nc nr l₀ u₀ wl₀ wu₀ v l u wl wu →
+        Grounded l u wl wu el cols nr nc × Grounded u l wu wl eu rows nc nr
+    rounds-grounded start = (
+      record { next = λ j lj i li w p e. let b = bl .le j lj i li in absurd (omega arith) },
+      record { next = λ i li j lj w p e. let b = bu .le i li j lj in absurd (omega arith) },
+    )
+    rounds-grounded (more r x a y b) =
+        let ih = rounds-grounded r in
+        (grounded-other y b (grounded-pass x a (ih .0)), grounded-pass y b (grounded-other x a (ih .1)))
 
-  pub rounds-below : {v : ℕ} {l u : List ℕ} → Rounds el eu nc nr l₀ u₀ v l u → Below nr nc l v × Below nc nr u v
-  rounds-below start = (bl, bu)
-  rounds-below (more r x y) = let ih = rounds-below r in (pass-below x (ih .0), pass-below y (ih .1))
+    pub rounds-below : {v : ℕ} {l u wl wu : List ℕ} → Rounds el eu cols rows nc nr l₀ u₀ wl₀ wu₀ v l u wl wu →
+        Below nr nc l v × Below nc nr u v
+    rounds-below start = (bl, bu)
+    rounds-below (more r x a y b) = let ih = rounds-below r in (pass-below x (ih .0), pass-below y (ih .1))
 
 module _ {f : ℕ → ℕ → Bool} {T : ℕ → ℕ → Type 0} (tf : TargetFree f T) {cols : List ℕ} {nc : ℕ} {rows : List ℕ} {nr : ℕ}
     {el eu : List ℕ} (L : Faithful f T cols nc rows nr el) (U : Faithful (flip f) (flip T) rows nr cols nc eu)
-    {l₀ u₀ : List ℕ} (S : Both f T cols nc rows nr 0 l₀ u₀) (bl : Below nr nc l₀ 1) (bu : Below nc nr u₀ 1)
-    {v : ℕ} {l u : List ℕ} (R : Rounds el eu nc nr l₀ u₀ v l u) (P : Pass u el nr nc v l l)
+    {l₀ u₀ wl₀ wu₀ : List ℕ} (S : Both f T cols nc rows nr 0 l₀ u₀) (bl : Below nr nc l₀ 1) (bu : Below nc nr u₀ 1)
+    {v : ℕ} {l u wl wu : List ℕ} (R : Rounds el eu cols rows nc nr l₀ u₀ wl₀ wu₀ v l u wl wu) (P : Pass u el nr nc v l l)
     (Q : Pass l eu nc nr v u u) where
   still : Both f T cols nc rows nr v l u
   still = let p = rounds-pos R in both-more tf L U (v - 1) v (omega arith) (rounds-labels tf L U S R) P Q

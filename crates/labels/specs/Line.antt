@@ -2,8 +2,11 @@
 use Prim.Native.Nat.{ℕ, _+_, _-_, _*_, _≤_, _<_, min, max}
 use mathlib.Core.Path.{_≡_}
 use mathlib.Core.Logic.{_≢_}
+use mathlib.Core.Bool.{Bool, true, false, _&&_}
+use lib.Dec.{eqb}
 use mathlib.Core.List.{List}
 use lib.ListN.{getD}
+use Rattle.foil_spec.specs.Paths.{gap}
 use Rattle.grid.specs.Size.{stride}
 
 -- the label of crossing k of a line, in the list of the lines' own direction
@@ -31,14 +34,24 @@ pub record RunEnd (edge : List ℕ) (line n at r : ℕ) : Type 0 where
   pub linked : Linked edge line at (r - 1)
   pub stop : r < n → getD edge (line * stride + (r - 1)) 0 ≢ 1
 
--- r is the first crossing from lo on, and joined with it, whose label in the other direction is v, or n
-pub record Scanned (other edge : List ℕ) (line n lo v r : ℕ) : Type 0 where
-  pub le : r ≤ n
-  pub before : (k : ℕ) → k < r → lo ≤ k → Linked edge line lo k → across other line k ≢ v
-  pub found : r < n → (lo ≤ r) × Linked edge line lo r × (across other line r ≡ v)
+-- no label is larger: a round that is not the last one gives a label to a crossing, in one direction or the other
+abbrev pub labelTop : ℕ
+labelTop = 135202
 
--- r is the first crossing joined with the crossing `at` whose label in the other direction is v, or n
-pub record Stop (other edge : List ℕ) (line n at v r : ℕ) : Type 0 where
+-- crossing k is a stop for the label v, over which s steps lead from x: it has that label in the other direction, and
+-- its ink there and the steps from x to it make s
+unfoldable pub isStop : (other inks cross : List ℕ) (line x v s k : ℕ) → Bool
+isStop other inks cross line x v s k =
+    eqb (across other line k) v && eqb (across inks line k + gap x (getD cross k 0)) s
+
+-- r is the first such stop from the crossing lo on, and joined with it, or n
+pub record Scanned (other inks edge cross : List ℕ) (line n lo x v s r : ℕ) : Type 0 where
   pub le : r ≤ n
-  pub before : (k : ℕ) → k < r → Linked edge line at k → across other line k ≢ v
-  pub found : r < n → Linked edge line at r × (across other line r ≡ v)
+  pub before : (k : ℕ) → k < r → lo ≤ k → Linked edge line lo k → isStop other inks cross line x v s k ≡ false
+  pub found : r < n → (lo ≤ r) × Linked edge line lo r × (isStop other inks cross line x v s r ≡ true)
+
+-- r is the first such stop joined with the crossing `at`, from there, or n
+pub record Stop (other inks edge cross : List ℕ) (line n at v s r : ℕ) : Type 0 where
+  pub le : r ≤ n
+  pub before : (k : ℕ) → k < r → Linked edge line at k → isStop other inks cross line (getD cross at 0) v s k ≡ false
+  pub found : r < n → Linked edge line at r × (isStop other inks cross line (getD cross at 0) v s r ≡ true)

@@ -6,10 +6,7 @@ use mathlib.Core.List.{List, [], _∷_}
 use lib.ListN.{getD, set, length}
 use Rattle.grid.specs.Size.{stride, area}
 use Rattle.labels.specs.Line.{along, across, Linked, RunStart, RunEnd}
-
--- the largest label that its place can hold
-abbrev pub labelTop : ℕ
-labelTop = 4294967295
+use Rattle.labels.specs.Ink.{RunInked, Inked}
 
 -- how many places have no label
 unfoldable pub zeros : List ℕ → ℕ
@@ -31,9 +28,17 @@ pub record Pass (other edge : List ℕ) (m n v : ℕ) (l₀ l : List ℕ) : Type
 pub record Below (m n : ℕ) (lab : List ℕ) (v : ℕ) : Type 0 where
   pub le : (i : ℕ) → i < m → (k : ℕ) → k < n → along lab i k ≤ v
 
--- what is joined with a label above 1 has a label
-pub record Full (edge lab : List ℕ) (m n : ℕ) : Type 0 where
-  pub joined : (i : ℕ) → i < m → (k q : ℕ) → k < n → q < n → Linked edge i k q → 2 ≤ along lab i k → along lab i q ≢ 0
+-- up to which label a crossing may have no run yet in the round that looks for v: 1, the target's, in the first round
+abbrev pub floor : ℕ → ℕ
+floor v = 2 - v
+
+-- what is joined on a line with a label above b has a label
+pub record Joined (edge lab : List ℕ) (line n b : ℕ) : Type 0 where
+  pub on : (k q : ℕ) → k < n → q < n → Linked edge line k q → b < along lab line k → along lab line q ≢ 0
+
+-- and on m lines
+pub record Full (edge lab : List ℕ) (m n b : ℕ) : Type 0 where
+  pub joined : (i : ℕ) → i < m → Joined edge lab i n b
 
 -- the places a to b of a queue, two numbers each, are the lines and crossings with the label v
 pub record Queued (queue : List ℕ) (a b m n : ℕ) (lab : List ℕ) (v : ℕ) : Type 0 where
@@ -81,11 +86,13 @@ pub record RunPushed (line lo k v : ℕ) (l₀ l t₀ t : List ℕ) (q₀ q : �
   pub whole : (j : ℕ) → j < k → lo ≤ j → along l₀ line j ≡ 0 →
       (p : ℕ) × (q₀ ≤ p) × (p < q) × (getD t (2 * p + 1) 0 ≡ j)
 
--- a visit of crossing k of a line: its run is pushed, or its label says that this was done
-pub data Visit (edge : List ℕ) (line n k v : ℕ) : List ℕ → List ℕ → List ℕ → List ℕ → ℕ → ℕ → Type 0 where
-  passed : {l t : List ℕ} {q : ℕ} → 2 ≤ along l line k → Visit edge line n k v l l t t q q
-  ran : {l₀ l t₀ t : List ℕ} {q₀ q : ℕ} (lo hi : ℕ) → RunStart edge line k lo → RunEnd edge line n k hi →
-      RunPushed line lo hi v l₀ l t₀ t q₀ q → Visit edge line n k v l₀ l t₀ t q₀ q
+-- a visit of crossing k of a line: its run gets inks and is pushed, or its label says that this was done
+pub data Visit (other inks edge cross : List ℕ) (line n k v : ℕ)
+    : List ℕ → List ℕ → List ℕ → List ℕ → List ℕ → List ℕ → ℕ → ℕ → Type 0 where
+  passed : {l w t : List ℕ} {q : ℕ} → floor v < along l line k → Visit other inks edge cross line n k v l l w w t t q q
+  ran : {l₀ l w₀ w t₀ t : List ℕ} {q₀ q : ℕ} (lo hi : ℕ) → RunStart edge line k lo → RunEnd edge line n k hi →
+      RunInked other inks cross line v lo hi hi l₀ w₀ w → RunPushed line lo hi v l₀ l t₀ t q₀ q →
+      Visit other inks edge cross line n k v l₀ l w₀ w t₀ t q₀ q
 
 -- a crossing before and after a part of a pass
 pub data Part (other edge : List ℕ) (line n v k : ℕ) : ℕ → ℕ → Type 0 where
@@ -100,7 +107,7 @@ pub record Visited (other edge from : List ℕ) (m n v a p : ℕ) (l₀ l : List
       Linked edge (getD from (2 * r + 1) 0) (getD from (2 * r) 0) q → along l (getD from (2 * r + 1) 0) q ≢ 0
   pub count : zeros l + c ≡ zeros l₀
   pub same : c ≡ 0 → l ≡ l₀
-  pub full : Full edge l m n
+  pub full : Full edge l m n (floor v)
 
 -- and what it added to the queue of this direction
 pub record Added (m n v : ℕ) (l₀ l t₀ t : List ℕ) (q₀ q : ℕ) : Type 0 where
@@ -114,6 +121,8 @@ pub record Added (m n v : ℕ) (l₀ l t₀ t : List ℕ) (q₀ q : ℕ) : Type 
       (p : ℕ) × (q₀ ≤ p) × (p < q) × (getD t (2 * p) 0 ≡ i) × (getD t (2 * p + 1) 0 ≡ k)
 
 -- a pass up to place p of that queue, where this queue ended at q₀ and ends at q then
-pub record PassTo (other edge from : List ℕ) (m n v a p : ℕ) (l₀ l t₀ t : List ℕ) (q₀ q : ℕ) : Type 0 where
+pub record PassTo (other inks edge cross from : List ℕ) (m n v a p : ℕ) (l₀ l w₀ w t₀ t : List ℕ) (q₀ q : ℕ)
+    : Type 0 where
   pub visited : Visited other edge from m n v a p l₀ l (q - q₀)
+  pub inked : Inked other inks edge cross m n v l₀ l w₀ w
   pub added : Added m n v l₀ l t₀ t q₀ q

@@ -1,42 +1,59 @@
 -- The rounds of the search on a grid with nc columns and nr rows: a level label of column i and row j stands at
 -- j * stride + i, an upright one at i * stride + j; 0 is no label, and the target has the label 1 in both lists.
-use Prim.Native.Nat.{ℕ, _+_, _*_, _≤_}
+use Prim.Native.Nat.{ℕ, _+_, _≤_, _<_}
 use mathlib.Core.Path.{_≡_}
 use mathlib.Core.Logic.{_≢_, _⊎_}
 use mathlib.Core.Bool.{Bool, true, false}
 use mathlib.Core.List.{List}
 use lib.ListN.{length}
-use Rattle.grid.specs.Size.{stride, area}
-use Rattle.labels.specs.Line.{along}
+use Rattle.grid.specs.Size.{area}
+use Rattle.grid.specs.Lines.{Lines}
+use Rattle.labels.specs.Line.{along, labelTop}
+use Rattle.labels.specs.Ink.{Inked, Lean}
 use Rattle.labels.specs.Pass.{Pass, Below, Queued, Room}
 
--- the sizes of the grid and its lists: labels l and u, edges el and eu, level and upright
-pub record Sized (l u el eu : List ℕ) (nc nr : ℕ) : Type 0 where
-  pub few-cols : nc ≤ stride
-  pub few-rows : nr ≤ stride
+-- the grid's lines, and the sizes of its lists: labels l and u, inks wl and wu, edges el and eu, level and upright
+pub record Sized (l u wl wu el eu cols rows : List ℕ) (nc nr : ℕ) : Type 0 where
+  pub column-lines : Lines cols nc
+  pub row-lines : Lines rows nr
   pub level : area ≤ length l
   pub upright : area ≤ length u
+  pub level-inks : area ≤ length wl
+  pub upright-inks : area ≤ length wu
   pub level-edges : area ≤ length el
   pub upright-edges : area ≤ length eu
 
+-- a crossing has the label 1 in both lists or in none
+pub record Twin (l u : List ℕ) (nc nr : ℕ) : Type 0 where
+  pub level : (i : ℕ) → i < nr → (k : ℕ) → k < nc → along l i k ≡ 1 → along u k i ≡ 1
+  pub upright : (i : ℕ) → i < nc → (k : ℕ) → k < nr → along u i k ≡ 1 → along l k i ≡ 1
+
 -- before the first round: the queues begin with the target, which alone has a label
-pub record Begun (l u ql qu : List ℕ) (nc nr : ℕ) : Type 0 where
+pub record Begun (l u wl wu ql qu : List ℕ) (nc nr : ℕ) : Type 0 where
   pub level : Queued ql 0 1 nr nc l 1
   pub upright : Queued qu 0 1 nc nr u 1
+  pub twin : Twin l u nc nr
   pub level-low : Below nr nc l 1
   pub upright-low : Below nc nr u 1
+  pub level-lean : Lean nr nc l wl
+  pub upright-lean : Lean nc nr u wu
   pub level-room : Room l ql 1
   pub upright-room : Room u qu 1
 
--- after some rounds, the next of which looks for the label v
-pub data Rounds (el eu : List ℕ) (nc nr : ℕ) (l₀ u₀ : List ℕ) : ℕ → List ℕ → List ℕ → Type 0 where
-  start : Rounds el eu nc nr l₀ u₀ 1 l₀ u₀
-  more : {v : ℕ} {l u l′ u′ : List ℕ} → Rounds el eu nc nr l₀ u₀ v l u → Pass u el nr nc v l l′ →
-      Pass l′ eu nc nr v u u′ → Rounds el eu nc nr l₀ u₀ (v + 1) l′ u′
+-- after some rounds, the next of which looks for the label v: labels l and u, inks wl and wu
+pub data Rounds (el eu cols rows : List ℕ) (nc nr : ℕ) (l₀ u₀ wl₀ wu₀ : List ℕ)
+    : ℕ → List ℕ → List ℕ → List ℕ → List ℕ → Type 0 where
+  start : Rounds el eu cols rows nc nr l₀ u₀ wl₀ wu₀ 1 l₀ u₀ wl₀ wu₀
+  more : {v : ℕ} {l u wl wu l′ u′ wl′ wu′ : List ℕ} → Rounds el eu cols rows nc nr l₀ u₀ wl₀ wu₀ v l u wl wu →
+      Pass u el nr nc v l l′ → Inked u wu el cols nr nc v l l′ wl wl′ →
+      Pass l′ eu nc nr v u u′ → Inked l′ wl′ eu rows nc nr v u u′ wu wu′ →
+      Rounds el eu cols rows nc nr l₀ u₀ wl₀ wu₀ (v + 1) l′ u′ wl′ wu′
 
 -- the crossing of column i and row j has a label, or it has none and a round changes nothing
-pub data Ended (el eu : List ℕ) (nc nr i j : ℕ) (l₀ u₀ : List ℕ) : List ℕ → List ℕ → Bool → Type 0 where
-  found : {v : ℕ} {l u : List ℕ} → v ≤ 2 * area + 1 → Rounds el eu nc nr l₀ u₀ v l u →
-      (along l j i ≢ 0) ⊎ (along u i j ≢ 0) → Ended el eu nc nr i j l₀ u₀ l u true
-  stuck : {v : ℕ} {l u : List ℕ} → Rounds el eu nc nr l₀ u₀ v l u → along l j i ≡ 0 → along u i j ≡ 0 →
-      Pass u el nr nc v l l → Pass l eu nc nr v u u → Ended el eu nc nr i j l₀ u₀ l u false
+pub data Ended (el eu cols rows : List ℕ) (nc nr i j : ℕ) (l₀ u₀ wl₀ wu₀ : List ℕ)
+    : List ℕ → List ℕ → List ℕ → List ℕ → Bool → Type 0 where
+  found : {v : ℕ} {l u wl wu : List ℕ} → v < labelTop → Rounds el eu cols rows nc nr l₀ u₀ wl₀ wu₀ v l u wl wu →
+      (along l j i ≢ 0) ⊎ (along u i j ≢ 0) → Ended el eu cols rows nc nr i j l₀ u₀ wl₀ wu₀ l u wl wu true
+  stuck : {v : ℕ} {l u wl wu wl′ wu′ : List ℕ} → Rounds el eu cols rows nc nr l₀ u₀ wl₀ wu₀ v l u wl wu →
+      along l j i ≡ 0 → along u i j ≡ 0 → Pass u el nr nc v l l → Pass l eu nc nr v u u →
+      Ended el eu cols rows nc nr i j l₀ u₀ wl₀ wu₀ l u wl′ wu′ false

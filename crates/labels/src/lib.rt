@@ -1,78 +1,46 @@
 // The labels of the escape grid's crossings, breadth first from the target, and the walk back along them.
 //
-// A label says how many segments, the first along the line, lead to the target, and one more. Level labels and edges
-// stand row after row, upright ones column after column, so that one function serves both directions: a line is a
-// row or a column, `labels` has the labels of its own direction, and `other` those of the other one. Where both
-// directions meet, `el` and `eu` are the level and the upright edges, and `ql` and `qu` the queues.
+// A label says how many segments, the first along the line, lead to the target, and one more; the ink beside it says
+// how many steps these take at least. Level labels, inks and edges stand row after row, upright ones column after
+// column, so that one function serves both directions: a line is a row or a column, `cross` has the numbers of its
+// crossings, `labels` and `own` have the labels and inks of its own direction, and `other` and `inks` those of the
+// other one. Where both directions meet, `il` and `iu` are the level and the upright inks, `el` and `eu` the edges, and
+// `ql` and `qu` the queues.
+pub mod run;
+
 use grid::STRIDE;
+use run::ahead_of;
+use run::behind_of;
+use run::ink_blank;
+use run::ink_run;
+use run::next_stop;
+use run::run_end;
+use run::run_start;
 ghost use mathlib.Core.Path.{_≡_};
-ghost use Prim.Native.Nat.{ℕ, _+_, _*_, _≤_, _<_};
+ghost use Prim.Native.Nat.{_+_, _*_, _≤_, _<_};
 ghost use lib.ListN.{length};
 ghost use Rattle.grid.specs.Size.{stride, area};
-ghost use Rattle.labels.specs.Line.{along, RunStart, RunEnd, Scanned, Stop};
-ghost use Rattle.labels.specs.Pass.{labelTop, Full, Queued, Room, Push, RunPushed, Visit, PassTo};
+ghost use Rattle.grid.specs.Lines.{Lines};
+ghost use Rattle.labels.specs.Line.{along, across, labelTop};
+ghost use Rattle.labels.specs.Ink.{Low, Lean, Blank};
+ghost use Rattle.labels.specs.Pass.{floor, Joined, Full, Queued, Room, Push, RunPushed, Visit, PassTo};
 ghost use Rattle.labels.specs.Rounds.{Sized, Begun, Ended};
 ghost use Rattle.labels.specs.Walk.{put, Walkable, LevelWalk, UprightWalk};
 
-// The first crossing of a line that is joined with the crossing `at`.
-fn run_start(edge: &[u8], line: usize, at: usize) -> usize
-    requires { ⌜ (line < stride) × (at ≤ stride) × (area ≤ length (now edge)) ⌝ }
-    ensures { λ r. ⌜ RunStart (now (edge .entry)) line at r ⌝ }
+// Gives crossing k of a line, which has no label, the label v + 1 and puts it at the end q of the queue; the end then.
+fn put_cell(labels: &mut [u32], queue: &mut [u16], line: usize, k: usize, v: u32, q: usize) -> usize
+    requires { ⌜ (line < stride) × (k < stride) × (v < labelTop) × Room (now labels) (now queue) q
+        × (along (now labels) line k ≡ 0) ⌝ }
+    ensures { λ r. ⌜ Push line k v (now (labels .entry)) (now (labels .exit))
+        (now (queue .entry)) (now (queue .exit)) q r ⌝ }
 {
-    let mut lo = at;
-    while 0 < lo {
-        if edge[line * STRIDE + (lo - 1)] != 1 {
-            return lo;
-        }
-        lo -= 1;
-    }
-    lo
+    labels[line * STRIDE + k] = v + 1;
+    queue[2 * q] = line as u16;
+    queue[2 * q + 1] = k as u16;
+    q + 1
 }
 
-// The first crossing after the crossing `at`, of n on a line, that is not joined with it.
-fn run_end(edge: &[u8], line: usize, n: usize, at: usize) -> usize
-    requires { ⌜ (line < stride) × (n ≤ stride) × (at < n) × (area ≤ length (now edge)) ⌝ }
-    ensures { λ r. ⌜ RunEnd (now (edge .entry)) line n at r ⌝ }
-{
-    let mut hi = at + 1;
-    while hi < n {
-        if edge[line * STRIDE + (hi - 1)] != 1 {
-            return hi;
-        }
-        hi += 1;
-    }
-    hi
-}
-
-// The first crossing from lo on, and joined with it, whose label in the other direction is v, or n.
-fn scan(other: &[u32], edge: &[u8], line: usize, n: usize, lo: usize, v: u32) -> usize
-    requires { ⌜ (line < stride) × (n ≤ stride) × (lo ≤ n) ⌝ }
-    requires { ⌜ (area ≤ length (now edge)) × (area ≤ length (now other)) ⌝ }
-    ensures { λ r. ⌜ Scanned (now (other .entry)) (now (edge .entry)) line n lo v r ⌝ }
-{
-    let mut k = lo;
-    while k < n {
-        if other[k * STRIDE + line] == v {
-            return k;
-        }
-        if edge[line * STRIDE + k] != 1 {
-            return n;
-        }
-        k += 1;
-    }
-    n
-}
-
-// The first crossing joined with the crossing `at` whose label in the other direction is v, or n.
-pub fn next_stop(other: &[u32], edge: &[u8], line: usize, n: usize, at: usize, v: u32) -> usize
-    requires { ⌜ (line < stride) × (n ≤ stride) × (at < n) ⌝ }
-    requires { ⌜ (area ≤ length (now edge)) × (area ≤ length (now other)) ⌝ }
-    ensures { λ r. ⌜ Stop (now (other .entry)) (now (edge .entry)) line n at v r ⌝ }
-{
-    scan(other, edge, line, n, run_start(edge, line, at), v)
-}
-
-// Gives crossing k of a line the label v + 1 and puts it at the end q of the queue, if it has no label; the end then.
+// The same, if it has no label.
 fn push_cell(
     labels: &mut [u32],
     queue: &mut [u16],
@@ -88,10 +56,7 @@ fn push_cell(
     if labels[line * STRIDE + k] != 0 {
         return q;
     }
-    labels[line * STRIDE + k] = v + 1;
-    queue[2 * q] = line as u16;
-    queue[2 * q + 1] = k as u16;
-    q + 1
+    put_cell(labels, queue, line, k, v, q)
 }
 
 // The same for the crossings lo to hi, hi excluded.
@@ -117,37 +82,121 @@ fn push_run(
     end
 }
 
-// The same for the run of crossing k, unless a label above 1 there says that its run has labels already.
-fn visit(
+// The same where none of them has a label.
+fn push_blank(
     labels: &mut [u32],
     queue: &mut [u16],
+    line: usize,
+    lo: usize,
+    hi: usize,
+    v: u32,
+    q: usize,
+) -> usize
+    requires { ⌜ (line < stride) × (hi ≤ stride) × (lo ≤ hi) × (v < labelTop) × Room (now labels) (now queue) q
+        × Blank (now labels) line lo hi ⌝ }
+    ensures { λ r. ⌜ RunPushed line lo hi v (now (labels .entry)) (now (labels .exit))
+        (now (queue .entry)) (now (queue .exit)) q r ⌝ }
+{
+    let mut end = q;
+    let mut k = lo;
+    while k < hi {
+        end = put_cell(labels, queue, line, k, v, end);
+        k += 1;
+    }
+    end
+}
+
+// Up to which label a crossing may have no run yet in the round that looks for v: 1, the target's, in the first.
+fn floor_of(v: u32) -> u32
+    ensures { λ r. ⌜ r ≡ floor v ⌝ }
+{
+    if v < 2 {
+        return 2 - v;
+    }
+    0
+}
+
+// Gives the run of crossing k inks and labels and puts it into the queue, unless a label above `low` says that this is
+// done; the end of the queue then.
+fn visit(
+    labels: &mut [u32],
+    own: &mut [u32],
+    queue: &mut [u16],
+    ahead: &mut [u32],
+    behind: &mut [u32],
+    other: &[u32],
+    inks: &[u32],
     edge: &[u8],
+    cross: &[u16],
     line: usize,
     n: usize,
     k: usize,
     v: u32,
+    low: u32,
     q: usize,
 ) -> usize
-    requires { ⌜ (line < stride) × (n ≤ stride) × (k < n) × (v < labelTop) × (area ≤ length (now edge)) ⌝ }
-    requires { ⌜ Room (now labels) (now queue) q ⌝ }
-    ensures { λ r. ⌜ Visit (now (edge .entry)) line n k v (now (labels .entry)) (now (labels .exit))
+    requires { ⌜ (line < stride) × Lines (now cross) n × (k < n) × (v < labelTop) × (area ≤ length (now edge)) ⌝ }
+    requires { ⌜ (area ≤ length (now other)) × (area ≤ length (now inks)) × (area ≤ length (now own)) ⌝ }
+    requires { ⌜ Low (now other) (now inks) line n v × (across (now other) line k ≡ v) ⌝ }
+    requires { ⌜ Room (now labels) (now queue) q × (stride ≤ length (now ahead)) × (stride ≤ length (now behind)) ⌝ }
+    requires { ⌜ (low ≡ floor v) × Joined (now edge) (now labels) line n (floor v) ⌝ }
+    ensures { λ r. ⌜ Visit (now (other .entry)) (now (inks .entry)) (now (edge .entry)) (now (cross .entry)) line n k v
+        (now (labels .entry)) (now (labels .exit)) (now (own .entry)) (now (own .exit))
         (now (queue .entry)) (now (queue .exit)) q r ⌝ }
 {
-    if 1 < labels[line * STRIDE + k] {
+    if low < labels[line * STRIDE + k] {
         return q;
     }
     let lo = run_start(edge, line, k);
     let hi = run_end(edge, line, n, k);
-    push_run(labels, queue, line, lo, hi, v, q)
+    ahead_of(ahead, other, inks, cross, line, n, lo, hi, k, v);
+    behind_of(behind, other, inks, cross, line, n, lo, hi, k, v);
+    if low != 0 {
+        ink_run(
+            own,
+            ahead,
+            behind,
+            labels,
+            other,
+            inks,
+            cross,
+            line,
+            n,
+            lo,
+            hi,
+            v,
+        );
+        return push_run(labels, queue, line, lo, hi, v, q);
+    }
+    ink_blank(
+        own,
+        ahead,
+        behind,
+        labels,
+        other,
+        inks,
+        cross,
+        line,
+        n,
+        lo,
+        hi,
+        v,
+    );
+    push_blank(labels, queue, line, lo, hi, v, q)
 }
 
 // A pass over m lines with n crossings each: labels v + 1 what is joined with a label v of the other direction. The
 // places a to b of the other queue, `from`, are the crossings with that label; the new ones are put into the queue.
 fn label_queue(
     labels: &mut [u32],
+    own: &mut [u32],
     queue: &mut [u16],
+    ahead: &mut [u32],
+    behind: &mut [u32],
     other: &[u32],
+    inks: &[u32],
     edge: &[u8],
+    cross: &[u16],
     from: &[u16],
     a: usize,
     b: usize,
@@ -156,18 +205,39 @@ fn label_queue(
     v: u32,
     q: usize,
 ) -> usize
-    requires { ⌜ (m ≤ stride) × (n ≤ stride) × (v < labelTop) × (a ≤ b) × (b ≤ area) ⌝ }
-    requires { ⌜ (area ≤ length (now edge)) × (2 * area ≤ length (now from)) × Room (now labels) (now queue) q ⌝ }
-    requires { ⌜ Queued (now from) a b n m (now other) v × Full (now edge) (now labels) m n ⌝ }
-    ensures { λ r. ⌜ PassTo (now (other .entry)) (now (edge .entry)) (now (from .entry)) m n v a b
-        (now (labels .entry)) (now (labels .exit)) (now (queue .entry)) (now (queue .exit)) q r ⌝ }
+    requires { ⌜ (m ≤ stride) × Lines (now cross) n × (1 ≤ v) × (v < labelTop) × (a ≤ b) × (b ≤ area) ⌝ }
+    requires { ⌜ (area ≤ length (now other)) × (area ≤ length (now inks)) × (area ≤ length (now own)) ⌝ }
+    requires { ⌜ (area ≤ length (now edge)) × (2 * area ≤ length (now from)) × (stride ≤ length (now ahead))
+        × (stride ≤ length (now behind)) ⌝ }
+    requires { ⌜ Room (now labels) (now queue) q × Lean n m (now other) (now inks) ⌝ }
+    requires { ⌜ Queued (now from) a b n m (now other) v × Full (now edge) (now labels) m n (floor v) ⌝ }
+    ensures { λ r. ⌜ PassTo (now (other .entry)) (now (inks .entry)) (now (edge .entry)) (now (cross .entry))
+        (now (from .entry)) m n v a b (now (labels .entry)) (now (labels .exit)) (now (own .entry)) (now (own .exit))
+        (now (queue .entry)) (now (queue .exit)) q r ⌝ }
 {
+    let low = floor_of(v);
     let mut end = q;
     let mut p = a;
     while p < b {
         let k = from[2 * p] as usize;
         let line = from[2 * p + 1] as usize;
-        end = visit(labels, queue, edge, line, n, k, v, end);
+        end = visit(
+            labels,
+            own,
+            queue,
+            ahead,
+            behind,
+            other,
+            inks,
+            edge,
+            cross,
+            line,
+            n,
+            k,
+            v,
+            low,
+            end,
+        );
         p += 1;
     }
     end
@@ -178,20 +248,28 @@ fn label_queue(
 pub fn rounds(
     level: &mut [u32],
     upright: &mut [u32],
+    il: &mut [u32],
+    iu: &mut [u32],
     ql: &mut [u16],
     qu: &mut [u16],
     el: &[u8],
     eu: &[u8],
+    cols: &[u16],
+    rows: &[u16],
     nc: usize,
     nr: usize,
     i: usize,
     j: usize,
 ) -> bool
-    requires { ⌜ Sized (now level) (now upright) (now el) (now eu) nc nr × (i < nc) × (j < nr) ⌝ }
-    requires { ⌜ Begun (now level) (now upright) (now ql) (now qu) nc nr ⌝ }
-    ensures { λ r. ⌜ Ended (now (el .entry)) (now (eu .entry)) nc nr i j (now (level .entry)) (now (upright .entry))
-        (now (level .exit)) (now (upright .exit)) r ⌝ }
+    requires { ⌜ Sized (now level) (now upright) (now il) (now iu) (now el) (now eu) (now cols) (now rows) nc nr
+        × (i < nc) × (j < nr) ⌝ }
+    requires { ⌜ Begun (now level) (now upright) (now il) (now iu) (now ql) (now qu) nc nr ⌝ }
+    ensures { λ r. ⌜ Ended (now (el .entry)) (now (eu .entry)) (now (cols .entry)) (now (rows .entry)) nc nr i j
+        (now (level .entry)) (now (upright .entry)) (now (il .entry)) (now (iu .entry))
+        (now (level .exit)) (now (upright .exit)) (now (il .exit)) (now (iu .exit)) r ⌝ }
 {
+    let mut ahead = [0u32; STRIDE];
+    let mut behind = [0u32; STRIDE];
     let mut v = 1u32;
     let mut la = 0;
     let mut lb = 1;
@@ -204,8 +282,42 @@ pub fn rounds(
         if upright[i * STRIDE + j] != 0 {
             return true;
         }
-        let le = label_queue(level, ql, upright, el, qu, ua, ub, nr, nc, v, lb);
-        let ue = label_queue(upright, qu, level, eu, ql, la, lb, nc, nr, v, ub);
+        let le = label_queue(
+            level,
+            il,
+            ql,
+            &mut ahead,
+            &mut behind,
+            upright,
+            iu,
+            el,
+            cols,
+            qu,
+            ua,
+            ub,
+            nr,
+            nc,
+            v,
+            lb,
+        );
+        let ue = label_queue(
+            upright,
+            iu,
+            qu,
+            &mut ahead,
+            &mut behind,
+            level,
+            il,
+            eu,
+            rows,
+            ql,
+            la,
+            lb,
+            nc,
+            nr,
+            v,
+            ub,
+        );
         if le + ue == lb + ub {
             return false;
         }
@@ -227,11 +339,14 @@ pub fn put_corner(out: &mut [u16], at: usize, x: u16, y: u16)
 }
 
 // Puts the corners after the crossing of column i and row j, whose level label is v, from corner `at` on: a level
-// segment to the first crossing that has one less, and on from there. Returns the number of corners then.
+// segment to the first stop for one less over which its ink leads, and on from there. Returns the number of corners
+// then.
 pub fn level_step(
     out: &mut [u16],
     level: &[u32],
     upright: &[u32],
+    il: &[u32],
+    iu: &[u32],
     el: &[u8],
     eu: &[u8],
     cols: &[u16],
@@ -243,21 +358,24 @@ pub fn level_step(
     v: u32,
     at: usize,
 ) -> usize
-    requires { ⌜ Walkable (now level) (now upright) (now el) (now eu) (now cols) (now rows) nc nr ⌝ }
+    requires { ⌜ Walkable (now level) (now upright) (now il) (now iu) (now el) (now eu) (now cols) (now rows) nc nr ⌝ }
     requires { ⌜ (i < nc) × (j < nr) × (1 ≤ v) × (along (now level) j i ≡ v)
         × (2 * at + 2 * v ≤ length (now out) + 2) ⌝ }
-    ensures { λ r. ⌜ LevelWalk (now (level .entry)) (now (upright .entry)) (now (el .entry)) (now (eu .entry))
-        (now (cols .entry)) (now (rows .entry)) nc nr i j v at (now (out .entry)) (now (out .exit)) r ⌝ }
+    ensures { λ r. ⌜ LevelWalk (now (level .entry)) (now (upright .entry)) (now (il .entry)) (now (iu .entry))
+        (now (el .entry)) (now (eu .entry)) (now (cols .entry)) (now (rows .entry)) nc nr i j v at
+        (now (out .entry)) (now (out .exit)) r ⌝ }
 {
     if v == 1 {
         return at;
     }
-    let k = next_stop(upright, el, j, nc, i, v - 1);
+    let k = next_stop(upright, iu, el, cols, j, nc, i, v - 1, il[j * STRIDE + i]);
     put_corner(out, at, cols[k], rows[j]);
     upright_step(
         out,
         level,
         upright,
+        il,
+        iu,
         el,
         eu,
         cols,
@@ -276,6 +394,8 @@ pub fn upright_step(
     out: &mut [u16],
     level: &[u32],
     upright: &[u32],
+    il: &[u32],
+    iu: &[u32],
     el: &[u8],
     eu: &[u8],
     cols: &[u16],
@@ -287,21 +407,24 @@ pub fn upright_step(
     v: u32,
     at: usize,
 ) -> usize
-    requires { ⌜ Walkable (now level) (now upright) (now el) (now eu) (now cols) (now rows) nc nr ⌝ }
+    requires { ⌜ Walkable (now level) (now upright) (now il) (now iu) (now el) (now eu) (now cols) (now rows) nc nr ⌝ }
     requires { ⌜ (i < nc) × (j < nr) × (1 ≤ v) × (along (now upright) i j ≡ v)
         × (2 * at + 2 * v ≤ length (now out) + 2) ⌝ }
-    ensures { λ r. ⌜ UprightWalk (now (level .entry)) (now (upright .entry)) (now (el .entry)) (now (eu .entry))
-        (now (cols .entry)) (now (rows .entry)) nc nr i j v at (now (out .entry)) (now (out .exit)) r ⌝ }
+    ensures { λ r. ⌜ UprightWalk (now (level .entry)) (now (upright .entry)) (now (il .entry)) (now (iu .entry))
+        (now (el .entry)) (now (eu .entry)) (now (cols .entry)) (now (rows .entry)) nc nr i j v at
+        (now (out .entry)) (now (out .exit)) r ⌝ }
 {
     if v == 1 {
         return at;
     }
-    let k = next_stop(level, eu, i, nr, j, v - 1);
+    let k = next_stop(level, il, eu, rows, i, nr, j, v - 1, iu[i * STRIDE + j]);
     put_corner(out, at, cols[i], rows[k]);
     level_step(
         out,
         level,
         upright,
+        il,
+        iu,
         el,
         eu,
         cols,

@@ -3,68 +3,20 @@ use Prim.Native.Nat.{ℕ, zero, suc, _+_, _*_, _≤_, _<_}
 use native.Mathlib.Omega.{arith}
 use native.Mathlib.Decide.{ℕ-discrete, decLe}
 use mathlib.Core.Path.{_≡_, refl, sym, ap, _∙_, subst, subst₂}
-use mathlib.Core.Bool.{Bool, true, false, cond, _&&_}
+use mathlib.Core.Bool.{Bool, true, false, cond}
 use mathlib.Core.List.{List, [], _∷_}
 use mathlib.Core.Option.{none, some, Option·some-injective, Option·none-ne-some}
 use mathlib.Core.Logic.{_⊎_, inl, inr, ⊎-elim, by-cases}
-use lib.Dec.{ltb, eqb}
-use borrow.Author.Tests.{ltb-true, eqb-true}
 use lib.ListN.{length}
 use Rattle.foil_spec.specs.Foil.{Point, same}
-use Rattle.foil_spec.specs.Paths.{either, segment, leads, isPath, bends, pointBefore, before}
-use Rattle.foil_spec.specs.Paths.{goings, firstFrom, firstPath}
-use Rattle.list_laws.proofs.Tests.{clash, and-l, and-r, or-cases, parts, true-or-false}
+use Rattle.foil_spec.specs.Paths.{either, segment, leads, isPath, bends, cornersBefore, before}
+use Rattle.foil_spec.specs.Paths.{shortest, goings, firstFrom, firstPath}
+use Rattle.list_laws.proofs.Tests.{clash, and-l, and-r, parts, true-or-false}
 use Rattle.list_laws.proofs.Members.{In, Sorted}
 use Rattle.path_laws.proofs.Segments.{same-eq, same-self, Level, Upright, of-segment}
-use Rattle.path_laws.proofs.Goings.{of-goings, in-goings, sorted-goings, before-tail}
+use Rattle.path_laws.proofs.Goings.{of-goings, in-goings, sorted-goings}
+use Rattle.path_laws.proofs.Order.{in-shortest, shortest-first}
 use Rattle.path_laws.proofs.Bound.{enough}
-
--- ---- the order of corner lists is strict
-pub order : (p q : Point) → pointBefore p q ≡ true → (p .y < q .y) ⊎ ((p .y ≡ q .y) × (p .x < q .x))
-unfolding pointBefore
-order p q h =
-    ⊎-elim
-    (λ k. inl (ltb-true (p .y) (q .y) k))
-    (λ k.
-    inr (
-      eqb-true (p .y) (q .y) (and-l (eqb (p .y) (q .y)) (ltb (p .x) (q .x)) k),
-      ltb-true (p .x) (q .x) (and-r (eqb (p .y) (q .y)) (ltb (p .x) (q .x)) k),
-    ))
-    (or-cases (ltb (p .y) (q .y)) (eqb (p .y) (q .y) && ltb (p .x) (q .x)) h)
-
-not-both : (p q : Point) → (p .y < q .y) ⊎ ((p .y ≡ q .y) × (p .x < q .x))
-    → (q .y < p .y) ⊎ ((q .y ≡ p .y) × (q .x < p .x)) → ⊥
-not-both p q (inl a) (inl b) = omega arith
-not-both p q (inl a) (inr b) = omega arith
-not-both p q (inr a) (inl b) = omega arith
-not-both p q (inr a) (inr b) = omega arith
-
-not-self : (p q : Point) → pointBefore p q ≡ true → p ≡ q → ⊥
-not-self p q h e = go (order p q h)
-  where
-    go : (p .y < q .y) ⊎ ((p .y ≡ q .y) × (p .x < q .x)) → ⊥
-    go (inl a) = let ey = ap (λ (z : Point). z .y) e in omega arith
-    go (inr a) = let ex = ap (λ (z : Point). z .x) e in omega arith
-
-pub before-both : (cs ds : List Point) → before cs ds ≡ true → before ds cs ≡ true → ⊥
-unfolding before
-before-both [] ds h k = clash h refl
-before-both (p ∷ cs) [] h k = clash h refl
-before-both (p ∷ cs) (q ∷ ds) h k =
-    ⊎-elim
-    (λ (a : pointBefore p q ≡ true).
-    ⊎-elim
-    (λ (b : pointBefore q p ≡ true). not-both p q (order p q a) (order q p b))
-    (λ (b : (same q p && before ds cs) ≡ true).
-    not-self p q a (sym (same-eq q p (and-l (same q p) (before ds cs) b))))
-    (or-cases (pointBefore q p) (same q p && before ds cs) k))
-    (λ (a : (same p q && before cs ds) ≡ true).
-    ⊎-elim
-    (λ (b : pointBefore q p ≡ true). not-self q p b (sym (same-eq p q (and-l (same p q) (before cs ds) a))))
-    (λ (b : (same q p && before ds cs) ≡ true).
-    before-both cs ds (and-r (same p q) (before cs ds) a) (and-r (same q p) (before ds cs) b))
-    (or-cases (pointBefore q p) (same q p && before ds cs) k))
-    (or-cases (pointBefore p q) (same p q && before cs ds) h)
 
 is-nil : (cs : List Point) → length cs ≡ 0 → cs ≡ []
 is-nil [] e = refl
@@ -135,17 +87,17 @@ module _ (f : ℕ → ℕ → Bool) (W H : ℕ) (S T : Point) where
   from-nil tries n e = rw (e, firstFrom) refl
 
   from-cons : (tries n : ℕ) (cs : List Point) (more : List (List Point)) → goingOn n ≡ cs ∷ more
-      → firstFrom f W H T S (suc tries) n ≡ some (S ∷ cs)
+      → firstFrom f W H T S (suc tries) n ≡ some (S ∷ shortest S cs more)
   unfolding firstFrom
   from-cons tries n cs more e = rw (e, firstFrom) refl
 
-  -- what was found from n segments on: the first way by m segments, and there is none by fewer
+  -- what was found from n segments on: the shortest way by m segments, and there is none by fewer
   record Found (n : ℕ) (cs : List Point) : Type 0 where
     m : ℕ
-    ds : List Point
+    head : List Point
     more : List (List Point)
-    is : cs ≡ S ∷ ds
-    here : goingOn m ≡ ds ∷ more
+    is : cs ≡ S ∷ shortest S head more
+    here : goingOn m ≡ head ∷ more
     none-yet : (k : ℕ) → n ≤ k → k < m → goingOn k ≡ []
 
   found-step : (tries n : ℕ) (cs : List Point) (gs : List (List Point)) → goingOn n ≡ gs
@@ -155,7 +107,7 @@ module _ (f : ℕ → ℕ → Bool) (W H : ℕ) (S T : Point) where
       let r = go (sym (from-nil tries n e) ∙ h) in
       record {
         m = r .m;
-        ds = r .ds;
+        head = r .head;
         more = r .more;
         is = r .is;
         here = r .here;
@@ -165,9 +117,9 @@ module _ (f : ℕ → ℕ → Bool) (W H : ℕ) (S T : Point) where
   found-step tries n cs (ds ∷ more) e h go =
       record {
         m = n;
-        ds = ds;
+        head = ds;
         more = more;
-        is = Option·some-injective cs (S ∷ ds) (sym h ∙ from-cons tries n ds more e);
+        is = Option·some-injective cs (S ∷ shortest S ds more) (sym h ∙ from-cons tries n ds more e);
         here = e;
         none-yet = λ k l u. absurd (let z : n < n = omega arith in omega arith);
       }
@@ -184,7 +136,7 @@ module _ (f : ℕ → ℕ → Bool) (W H : ℕ) (S T : Point) where
       by-cases (ℕ-discrete k n) (λ (q : k ≡ n). ap goingOn q ∙ e)
       (λ q. go (sym (from-nil tries n e) ∙ h) k (omega arith) (omega arith))
   empty-step tries n (ds ∷ more) e h go k l u =
-      absurd (Option·none-ne-some (S ∷ ds) (sym h ∙ from-cons tries n ds more e))
+      absurd (Option·none-ne-some (S ∷ shortest S ds more) (sym h ∙ from-cons tries n ds more e))
 
   empty : (tries n : ℕ) → firstFrom f W H T S tries n ≡ none
       → (k : ℕ) → n ≤ k → k < n + tries → goingOn k ≡ []
@@ -216,31 +168,34 @@ module _ (f : ℕ → ℕ → Bool) (W H : ℕ) (S T : Point) where
         not-empty (e .0) (e .1) (empty (suc (W * H)) 0 g (length (e .0)) (omega arith) (omega arith))
 
     module _ (cs : List Point) (r : Found 0 cs) where
-      first-on : (leads f T either S (r .ds) ≡ true) × (length (r .ds) ≡ r .m)
-      first-on =
-          of-goings f W H T (r .m) either S (r .ds)
-          (subst (λ (l : List (List Point)). In (r .ds) l) (sym (r .here)) (inl refl))
+      abbrev best : List Point
+      best = shortest S (r .head) (r .more)
 
-      not-shorter : (es : List Point) → leads f T either S es ≡ true → length (r .ds) ≤ length es
-      not-shorter es h =
-          by-cases (decLe (length (r .ds)) (length es)) (λ l. l)
+      first-on : (leads f T either S best ≡ true) × (length best ≡ r .m)
+      first-on =
+          of-goings f W H T (r .m) either S best
+          (subst (λ (l : List (List Point)). In best l) (sym (r .here)) (in-shortest S (r .head) (r .more)))
+
+      no-fewer : (es : List Point) → leads f T either S es ≡ true → length best ≤ length es
+      no-fewer es h =
+          by-cases (decLe (length best) (length es)) (λ l. l)
           (λ l.
           let o = first-on .1 in
           absurd (not-empty es h (r .none-yet (length es) (omega arith) (omega arith))))
 
-      same-length : (es : List Point) → leads f T either S es ≡ true → length es ≡ length (r .ds)
-          → (S ∷ r .ds ≡ S ∷ es) ⊎ (before (S ∷ r .ds) (S ∷ es) ≡ true)
+      same-length : (es : List Point) → leads f T either S es ≡ true → length es ≡ length best
+          → (S ∷ best ≡ S ∷ es) ⊎ (before (S ∷ best) (S ∷ es) ≡ true)
       same-length es h e =
           let o = first-on .1 in
           let i : In es (goingOn (length es)) = in-goings f W H T inside either S es h in
-          let j : In es (r .ds ∷ r .more) =
+          let j : In es (r .head ∷ r .more) =
           subst (λ (l : List (List Point)). In es l) (ap goingOn (e ∙ o) ∙ r .here) i in
-          let s : Sorted before (r .ds ∷ r .more) =
-          subst (λ (l : List (List Point)). Sorted before l) (r .here) (sorted-goings f W H T (r .m) either S) in
-          ⊎-elim
-          (λ (q : es ≡ r .ds). inl (ap (λ (l : List Point). S ∷ l) (sym q)))
-          (λ (q : In es (r .more)). inr (before-tail S (r .ds) es (s .0 es q)))
-          j
+          let s : Sorted cornersBefore (r .head ∷ r .more) =
+          subst (λ (l : List (List Point)). Sorted cornersBefore l) (r .here)
+          (sorted-goings f W H T (r .m) either S) in
+          ⊎-elim (λ (q : best ≡ es). inl (ap (λ (l : List Point). S ∷ l) q))
+          (λ (q : before (S ∷ best) (S ∷ es) ≡ true). inr q)
+          (shortest-first S (r .head) (r .more) s es j)
 
     -- what firstPath gives is a path, has fewest bends, and comes first among the paths with as few
     module _ (cs : List Point) (given : firstPath f W H S T ≡ some cs) where
@@ -248,15 +203,15 @@ module _ (f : ℕ → ℕ → Bool) (W H : ℕ) (S T : Point) where
       given-path =
           let a = some-found cs given in
           subst (λ (l : List Point). isPath f S T l ≡ true) (sym (a .1 .is))
-          (to-path f S T (a .1 .ds) (a .0) (first-on cs (a .1) .0))
+          (to-path f S T (best cs (a .1)) (a .0) (first-on cs (a .1) .0))
 
       pub given-fewest : (ds : List Point) → isPath f S T ds ≡ true → bends cs ≤ bends ds
       unfolding bends
       given-fewest ds k =
           let r = some-found cs given .1 in
           let b = of-path f S T ds k in
-          let l = not-shorter cs r (b .rest) (b .on) in
-          let u : length cs ≡ suc (length (r .ds)) = ap length (r .is) in
+          let l = no-fewer cs r (b .rest) (b .on) in
+          let u : length cs ≡ suc (length (best cs r)) = ap length (r .is) in
           let v : length ds ≡ suc (length (b .rest)) = ap length (b .is) in
           omega arith
 
@@ -265,7 +220,7 @@ module _ (f : ℕ → ℕ → Bool) (W H : ℕ) (S T : Point) where
       given-first ds k e =
           let r = some-found cs given .1 in
           let b = of-path f S T ds k in
-          let w : bends (S ∷ b .rest) ≡ bends (S ∷ r .ds) = ap bends (sym (b .is)) ∙ e ∙ ap bends (r .is) in
+          let w : bends (S ∷ b .rest) ≡ bends (S ∷ best cs r) = ap bends (sym (b .is)) ∙ e ∙ ap bends (r .is) in
           subst₂ (λ (l m : List Point). (l ≡ m) ⊎ (before l m ≡ true)) (sym (r .is)) (sym (b .is))
           (same-length cs r (b .rest) (b .on)
-          (same-bends f S T (r .ds) (b .rest) (first-on cs r .0) (b .on) (not-shorter cs r (b .rest) (b .on)) w))
+          (same-bends f S T (best cs r) (b .rest) (first-on cs r .0) (b .on) (no-fewer cs r (b .rest) (b .on)) w))

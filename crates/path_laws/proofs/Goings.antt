@@ -7,7 +7,7 @@ use mathlib.Core.Logic.{inl, inr}
 use lib.ListN.{length}
 use Rattle.foil_spec.specs.Lists.{keep}
 use Rattle.foil_spec.specs.Foil.{Point, same}
-use Rattle.foil_spec.specs.Paths.{Heading, segment, after, leads, pointBefore, before, points, goings}
+use Rattle.foil_spec.specs.Paths.{Heading, segment, after, leads, pointBefore, cornersBefore, points, goings}
 use Rattle.list_laws.proofs.Tests.{and-l, and-r, and-i, or-il, or-ir}
 use Rattle.list_laws.proofs.Members.{In, Sorted, in-keep, of-keep, in-map, of-map, in-each, of-each}
 use Rattle.list_laws.proofs.Members.{sorted-keep, sorted-map, sorted-each}
@@ -18,16 +18,18 @@ of-one true cs (inl e) = (refl, e)
 of-one true cs (inr i) = absurd i
 of-one false cs i = absurd i
 
-sorted-one : (b : Bool) → Sorted before (cond b ([] ∷ []) [])
+sorted-one : (b : Bool) → Sorted cornersBefore (cond b ([] ∷ []) [])
 sorted-one true = (λ y i. absurd i, tt)
 sorted-one false = tt
 
-pub before-head : (p q : Point) (cs ds : List Point) → pointBefore p q ≡ true → before (p ∷ cs) (q ∷ ds) ≡ true
-unfolding before
-before-head p q cs ds b = or-il (same p q && before cs ds) b
+pub before-head : (p q : Point) (cs ds : List Point) → pointBefore p q ≡ true
+    → cornersBefore (p ∷ cs) (q ∷ ds) ≡ true
+unfolding cornersBefore
+before-head p q cs ds b = or-il (same p q && cornersBefore cs ds) b
 
-pub before-tail : (p : Point) (cs ds : List Point) → before cs ds ≡ true → before (p ∷ cs) (p ∷ ds) ≡ true
-unfolding before
+pub before-tail : (p : Point) (cs ds : List Point) → cornersBefore cs ds ≡ true
+    → cornersBefore (p ∷ cs) (p ∷ ds) ≡ true
+unfolding cornersBefore
 before-tail p cs ds b = or-ir (pointBefore p p) (and-i {a = same p p} (same-self p) b)
 
 module _ (f : ℕ → ℕ → Bool) (W H : ℕ) (T : Point) where
@@ -63,14 +65,14 @@ module _ (f : ℕ → ℕ → Bool) (W H : ℕ) (T : Point) where
       (in-map (λ (ds : List Point). q ∷ ds) cs (goings f W H T (length cs) (after p q) q)
       (in-goings inside (after p q) q cs (and-r (segment f h p q) (leads f T (after p q) q cs) l)))
 
-  pub sorted-goings : (n : ℕ) (h : Heading) (p : Point) → Sorted before (goings f W H T n h p)
+  pub sorted-goings : (n : ℕ) (h : Heading) (p : Point) → Sorted cornersBefore (goings f W H T n h p)
   unfolding goings
   sorted-goings zero h p = sorted-one (same p T)
   sorted-goings (suc n) h p =
-      sorted-each pointBefore before (over n p) (keep (segment f h p) (points W H))
+      sorted-each pointBefore cornersBefore (over n p) (keep (segment f h p) (points W H))
       (sorted-keep pointBefore (segment f h p) (points W H) (sorted-points W H))
       (λ q i.
-      sorted-map before before (λ (cs : List Point). q ∷ cs) (goings f W H T n (after p q) q)
+      sorted-map cornersBefore cornersBefore (λ (cs : List Point). q ∷ cs) (goings f W H T n (after p q) q)
       (sorted-goings n (after p q) q) (λ cs ds b. before-tail q cs ds b))
       (λ q r u v b hu hv.
       let c = of-map (λ (cs : List Point). q ∷ cs) u (goings f W H T n (after p q) q) hu in

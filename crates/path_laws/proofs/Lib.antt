@@ -2,5 +2,6 @@
 pub mod Segments
 pub mod Goings
 pub mod Bound
+pub mod Order
 pub mod FirstPath
 pub mod Laws

@@ -1,15 +1,17 @@
--- The first path of fewest bends, in document 01's words.
+-- The first path of fewest bends, in the words of documents 01 and 02.
 use Prim.Native.Nat.{ℕ, _≤_}
 use mathlib.Core.Path.{_≡_}
 use mathlib.Core.Bool.{Bool, true}
 use mathlib.Core.List.{List}
 use mathlib.Core.Logic.{_⊎_}
 use Rattle.foil_spec.specs.Foil.{Point}
-use Rattle.foil_spec.specs.Paths.{isPath, bends, before}
+use Rattle.foil_spec.specs.Paths.{isPath, bends, pathLength, cornersBefore}
 
--- "the first way of fewest bends": it is a way from S to T, no way has fewer bends, and among the ways with equally
--- few bends it comes first in the order
+-- cs is a path from S to T; no path has fewer bends; of those with as many none is shorter; and of those as short it
+-- comes first by its corners
 pub record IsFirst (f : ℕ → ℕ → Bool) (S T : Point) (cs : List Point) : Type 0 where
   pub path : isPath f S T cs ≡ true
   pub fewest : (ds : List Point) → isPath f S T ds ≡ true → bends cs ≤ bends ds
-  pub first : (ds : List Point) → isPath f S T ds ≡ true → bends ds ≡ bends cs → (cs ≡ ds) ⊎ (before cs ds ≡ true)
+  pub shortest : (ds : List Point) → isPath f S T ds ≡ true → bends ds ≡ bends cs → pathLength cs ≤ pathLength ds
+  pub first : (ds : List Point) → isPath f S T ds ≡ true → bends ds ≡ bends cs → pathLength ds ≡ pathLength cs
+      → (cs ≡ ds) ⊎ (cornersBefore cs ds ≡ true)

@@ -1,6 +1,9 @@
 // The first path of fewest bends on a small board, by a plain breadth-first search over all its points.
 // It follows document 01's words point by point, and is there for another search to be compared with.
 //
+// What a path costs is one number: 65,536 for each segment and 1 for each step. So fewer segments come
+// first, then fewer steps; a board has too few points for the steps to weigh as much as a segment.
+//
 // A board is at most 64 by 64. A list of points has 4,096 places, and the point (x, y) stands at
 // y * 64 + x: the order of the places is the order of corners, smaller y first, then smaller x.
 mod rounds;
@@ -17,6 +20,9 @@ ghost use Rattle.plain.specs.Free.{Unblocked};
 const SIDE: usize = 64;
 
 const POINTS: usize = 4096;
+
+// What a segment costs, beside its steps.
+const SEGMENT: u32 = 65536;
 
 // Says of each place whether its point is on the board of w by h, and none of the first n entries of
 // the table blocks it at clearance d.
@@ -71,8 +77,8 @@ fn within(lo: u16, hi: u16, d: u16, v: u16) -> bool
     (v as u32) < (hi as u32) + (d as u32)
 }
 
-// Writes the corners of the first path of fewest bends from (sx, sy) to (tx, ty) to the front of
-// `out`, x before y, and answers how many they are: 0 where there is no path.
+// Writes the corners of the first path of fewest bends from (sx, sy) to (tx, ty), and of those of
+// least length, to the front of `out`, x before y, and answers how many they are: 0 where there is no path.
 pub fn first_path(
     out: &mut [u16; 8192],
     map: &[bool; 4096],
@@ -93,14 +99,14 @@ pub fn first_path(
         walk::put(out, 0, s);
         return 1;
     }
-    let mut level = [0u16; 4096];
-    let mut upright = [0u16; 4096];
+    let mut level = [0u32; 4096];
+    let mut upright = [0u32; 4096];
     rounds::label(&mut level, &mut upright, map, t);
-    let segments = fewest(level[s], upright[s]);
-    if segments == 0 {
+    let cost = least(level[s], upright[s]);
+    if cost == 0 {
         return 0;
     }
-    walk::walk(out, &level, &upright, map, s, t, segments)
+    walk::walk(out, &level, &upright, map, s, t, cost)
 }
 
 // The place of the point (x, y), or 4,096 where it is not free.
@@ -119,8 +125,8 @@ fn place(map: &[bool; 4096], x: u16, y: u16) -> usize
     if map[p] { p } else { POINTS }
 }
 
-// The smaller of two labels, where 0 stands for none.
-fn fewest(a: u16, b: u16) -> u16 {
+// The smaller of two costs, where 0 stands for none.
+fn least(a: u32, b: u32) -> u32 {
     if a == 0 {
         return b;
     }

@@ -1,7 +1,8 @@
-// The labels of all points for one end of the paths, by rounds: round k labels the points from which
-// the end is k segments away.
+// What the paths from all points to one end cost, by rounds: round k sees to the points from which the
+// end is k segments away.
 ghost use Prim.Native.Nat.{_<_, _≤_};
 use crate::POINTS;
+use crate::SEGMENT;
 use crate::SIDE;
 
 // Where a point's four neighbours are; up is towards smaller y.
@@ -25,21 +26,26 @@ fn beside(p: usize, toward: Direction) -> usize
     }
 }
 
-// Labels the point p, unless it has a label.
-fn mark(labels: &mut [u16; 4096], p: usize, k: u16)
+// Notes a cost at the point p, unless it has one that is no more.
+fn mark(costs: &mut [u32; 4096], p: usize, cost: u32)
     requires { ⌜ p < 4096 ⌝ }
 {
-    if labels[p] == 0 {
-        labels[p] = k;
+    if costs[p] == 0 {
+        costs[p] = cost;
+        return;
+    }
+    if cost < costs[p] {
+        costs[p] = cost;
     }
 }
 
-// Labels the points without a label that a free segment in one direction joins to the point `from`.
-fn spread(labels: &mut [u16; 4096], map: &[bool; 4096], from: usize, toward: Direction, k: u16)
-    requires { ⌜ from < 4096 ⌝ }
+// Notes what it costs at the points that a free segment in one direction joins to the point `from`,
+// where it is `cost` there: a step more at each.
+fn spread(costs: &mut [u32; 4096], map: &[bool; 4096], from: usize, toward: Direction, cost: u32)
+    requires { ⌜ (from < 4096) × (cost ≤ 600000000) ⌝ }
 {
     let mut p = from;
-    for _ in 1..SIDE {
+    for i in 1..64 {
         p = beside(p, toward);
         if p == POINTS {
             return;
@@ -47,55 +53,56 @@ fn spread(labels: &mut [u16; 4096], map: &[bool; 4096], from: usize, toward: Dir
         if !map[p] {
             return;
         }
-        mark(labels, p, k);
+        mark(costs, p, cost + i);
     }
 }
 
-// Labels k + 1 the points without a label that a free segment in one of two directions joins to a
-// point whose label in `rest` is k.
+// Notes what paths of k + 1 segments cost: from each point whose cost in `rest` is that of k segments, a
+// segment more in two directions.
 fn round(
-    labels: &mut [u16; 4096],
-    rest: &[u16; 4096],
+    costs: &mut [u32; 4096],
+    rest: &[u32; 4096],
     map: &[bool; 4096],
     back: Direction,
     on: Direction,
-    k: u16,
+    k: u32,
 )
-    requires { ⌜ k < 65535 ⌝ }
+    requires { ⌜ k < 8192 ⌝ }
 {
     for p in 0..POINTS {
-        if rest[p] == k {
-            spread(labels, map, p, back, k + 1);
-            spread(labels, map, p, on, k + 1);
+        let cost = rest[p];
+        if cost / SEGMENT == k {
+            spread(costs, map, p, back, cost + SEGMENT);
+            spread(costs, map, p, on, cost + SEGMENT);
         }
     }
 }
 
-// Whether some point has the label k.
-fn has(labels: &[u16; 4096], k: u16) -> bool {
+// Whether some point has the cost of k segments.
+fn has(costs: &[u32; 4096], k: u32) -> bool {
     for p in 0..POINTS {
-        if labels[p] == k {
+        if costs[p] / SEGMENT == k {
             return true;
         }
     }
     false
 }
 
-// Sets the labels of all points, which are 0 before: the fewest segments of the paths to t that begin
-// with a level segment, and of those that begin with an upright one. Where there are none it stays 0.
+// Sets the costs of all points, which are 0 before: the least of the paths to t that begin with a level
+// segment, and of those that begin with an upright one. Where there are none it stays 0.
 pub(crate) fn label(
-    level: &mut [u16; 4096],
-    upright: &mut [u16; 4096],
+    level: &mut [u32; 4096],
+    upright: &mut [u32; 4096],
     map: &[bool; 4096],
     t: usize,
 )
     requires { ⌜ t < 4096 ⌝ }
 {
-    spread(level, map, t, Direction::Left, 1);
-    spread(level, map, t, Direction::Right, 1);
-    spread(upright, map, t, Direction::Up, 1);
-    spread(upright, map, t, Direction::Down, 1);
-    for k in 1..8192 {
+    spread(level, map, t, Direction::Left, SEGMENT);
+    spread(level, map, t, Direction::Right, SEGMENT);
+    spread(upright, map, t, Direction::Up, SEGMENT);
+    spread(upright, map, t, Direction::Down, SEGMENT);
+    for k in 1..8191 {
         round(level, upright, map, Direction::Left, Direction::Right, k);
         round(upright, level, map, Direction::Up, Direction::Down, k);
         if !has(level, k + 1) && !has(upright, k + 1) {

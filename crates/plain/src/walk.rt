@@ -1,7 +1,8 @@
-// The walk over the labels: at each corner the first point in order from which the rest of the path
-// takes one segment less.
+// The walk over the costs: at each corner the first point in order from which the rest of the path costs
+// as much less as the segment there.
 ghost use Prim.Native.Nat.{_<_, _≤_};
 use crate::POINTS;
+use crate::SEGMENT;
 use crate::SIDE;
 
 // Which way the next segment may go.
@@ -73,14 +74,49 @@ fn after(p: usize, q: usize) -> Heading {
     }
 }
 
-// Whether the fewest segments from q to t, the first as the heading says, are `left`.
+// How far apart two places are.
+fn apart(p: usize, q: usize) -> usize
+    requires { ⌜ (p < 4096) × (q < 4096) ⌝ }
+    ensures { λ r. ⌜ r < 4096 ⌝ }
+{
+    if p < q {
+        return q - p;
+    }
+    p - q
+}
+
+// How many steps the segment from p to q has.
+fn steps(p: usize, q: usize) -> u32
+    requires { ⌜ (p < 4096) × (q < 4096) ⌝ }
+    ensures { λ r. ⌜ r < 64 ⌝ }
+{
+    let n = apart(p, q);
+    if n < SIDE {
+        return n as u32;
+    }
+    (n / SIDE) as u32
+}
+
+// What is left of a cost after the segment from p to q; 4,294,967,295, which no point has, where that
+// costs more.
+fn rest(cost: u32, p: usize, q: usize) -> u32
+    requires { ⌜ (p < 4096) × (q < 4096) ⌝ }
+{
+    let segment = SEGMENT + steps(p, q);
+    if cost < segment {
+        return 4294967295;
+    }
+    cost - segment
+}
+
+// Whether the path from q to t costs `left`, the first segment as the heading says.
 fn leads(
-    level: &[u16; 4096],
-    upright: &[u16; 4096],
+    level: &[u32; 4096],
+    upright: &[u32; 4096],
     heading: Heading,
     q: usize,
     t: usize,
-    left: u16,
+    left: u32,
 ) -> bool
     requires { ⌜ q < 4096 ⌝ }
 {
@@ -94,22 +130,24 @@ fn leads(
     }
 }
 
-// The first point in order that can follow the corner p, with `left` segments after it; 4,096 where
-// there is none.
+// The first point in order that can follow the corner p, where the path from there costs `cost`; 4,096
+// where there is none.
 fn next_corner(
-    level: &[u16; 4096],
-    upright: &[u16; 4096],
+    level: &[u32; 4096],
+    upright: &[u32; 4096],
     map: &[bool; 4096],
     heading: Heading,
     p: usize,
     t: usize,
-    left: u16,
+    cost: u32,
 ) -> usize
     requires { ⌜ p < 4096 ⌝ }
     ensures { λ r. ⌜ r ≤ 4096 ⌝ }
 {
     for q in 0..POINTS {
-        if segment(map, heading, p, q) && leads(level, upright, after(p, q), q, t, left) {
+        if segment(map, heading, p, q)
+            && leads(level, upright, after(p, q), q, t, rest(cost, p, q))
+        {
             return q;
         }
     }
@@ -126,33 +164,34 @@ pub(crate) fn put(out: &mut [u16; 8192], i: usize, p: usize)
     }
 }
 
-// Writes the corners from s to t, that many segments away, and answers how many they are.
+// Writes the corners of the path from s to t that costs as much, and answers how many they are.
 pub(crate) fn walk(
     out: &mut [u16; 8192],
-    level: &[u16; 4096],
-    upright: &[u16; 4096],
+    level: &[u32; 4096],
+    upright: &[u32; 4096],
     map: &[bool; 4096],
     s: usize,
     t: usize,
-    segments: u16,
+    cost: u32,
 ) -> usize
     requires { ⌜ s < 4096 ⌝ }
 {
     put(out, 0, s);
+    let segments = cost / SEGMENT;
     let mut heading = Heading::Either;
     let mut p = s;
-    let mut count: usize = 1;
-    let mut left = segments;
-    while 0 < left {
-        left -= 1;
+    let mut left = cost;
+    let mut count = 0u32;
+    while count < segments {
+        count += 1;
         let q = next_corner(level, upright, map, heading, p, t, left);
         if q == POINTS {
             return 0;
         }
-        put(out, count, q);
+        put(out, count as usize, q);
+        left = rest(left, p, q);
         heading = after(p, q);
         p = q;
-        count += 1;
     }
-    count
+    (count as usize) + 1
 }

@@ -7,8 +7,8 @@ use mathlib.Core.Bool.{Bool, true, false}
 use mathlib.Core.Logic.{_≢_}
 use mathlib.Core.List.{List, [], _∷_}
 use lib.ListN.{length}
-use Rattle.reach.specs.Reach.{flip, Reach, TargetFree, Path, Greedy}
-use Rattle.reach.specs.Best.{PathD, LexD, Best}
+use Rattle.reach.specs.Reach.{flip, Reach, TargetFree, Path, ink, Greedy}
+use Rattle.reach.specs.Best.{PathD, inkD, LexD, Best}
 use Rattle.reach.proofs.Greedy.{path-reach, reach-chain, chain-path, greedy-path, greedy-first}
 
 -- a path of n segments, where none has fewer
@@ -58,37 +58,44 @@ module _ (f : ℕ → ℕ → Bool) (T : ℕ → ℕ → Type 0) (tf : TargetFre
 module _ (f : ℕ → ℕ → Bool) (T : ℕ → ℕ → Type 0) (tf : TargetFree f T) (x y : ℕ) (cs : List ℕ)
     (lo : (m : ℕ) → m < length cs → Reach m f T x y → ⊥)
     (up : (m : ℕ) → m < length cs → Reach m (flip f) (flip T) y x → ⊥) where
-  -- level first, where no path as short goes upright first towards smaller y
+  -- level first, where no path is shorter and none as short goes upright first towards smaller y
   pub best-level : Greedy cs f T x y
-      → ((k : ℕ) (ks : List ℕ) → Path (k ∷ ks) (flip f) (flip T) y x → length cs ≡ suc (length ks) → k < y → ⊥)
+      → ((d : Bool) (ks : List ℕ) → PathD d ks f T x y → length cs ≡ length ks → ink cs x y ≤ inkD d ks x y)
+      → ((k : ℕ) (ks : List ℕ) → Path (k ∷ ks) (flip f) (flip T) y x → length cs ≡ suc (length ks)
+      → ink cs x y ≡ ink (k ∷ ks) y x → k < y → ⊥)
       → Best false cs f T x y
-  best-level g h =
+  best-level g s h =
       record {
         path = greedy-path cs f T tf x y g lo up;
         fewest = no-fewer f T tf x y (length cs) lo up;
+        shortest = s;
         first = order;
       }
     where
-      order : (d : Bool) (ks : List ℕ) → PathD d ks f T x y → length cs ≡ length ks → LexD y false cs d ks
-      order false ks p e = greedy-first cs ks f T x y e g p
-      order true [] p e = tt
-      order true (k ∷ ks) p e = pick (decLt y k)
+      order : (d : Bool) (ks : List ℕ) → PathD d ks f T x y → length cs ≡ length ks → ink cs x y ≡ inkD d ks x y
+          → LexD y false cs d ks
+      order false ks p e i = greedy-first cs ks f T x y e i g p
+      order true [] p e i = tt
+      order true (k ∷ ks) p e i = pick (decLt y k)
         where
           pick : Dec (y < k) → y < k
           pick (yes q) = q
-          pick (no q) = let n : k ≢ y = p .0 in absurd (h k ks p e (omega arith))
+          pick (no q) = let n : k ≢ y = p .0 in absurd (h k ks p e i (omega arith))
 
-  -- upright first, where it goes towards smaller y or no path as short goes level first
+  -- upright first, where no path is shorter, and it goes towards smaller y or none as short goes level first
   pub best-upright : Greedy cs (flip f) (flip T) y x
-      → ((ks : List ℕ) → Path ks f T x y → length cs ≡ length ks → LexD y true cs false ks)
+      → ((d : Bool) (ks : List ℕ) → PathD d ks f T x y → length cs ≡ length ks → ink cs y x ≤ inkD d ks x y)
+      → ((ks : List ℕ) → Path ks f T x y → length cs ≡ length ks → ink cs y x ≡ ink ks x y → LexD y true cs false ks)
       → Best true cs f T x y
-  best-upright g h =
+  best-upright g s h =
       record {
         path = greedy-path cs (flip f) (flip T) (λ a b t. tf b a t) y x g up lo;
         fewest = no-fewer f T tf x y (length cs) lo up;
+        shortest = s;
         first = order;
       }
     where
-      order : (d : Bool) (ks : List ℕ) → PathD d ks f T x y → length cs ≡ length ks → LexD y true cs d ks
-      order true ks p e = greedy-first cs ks (flip f) (flip T) y x e g p
-      order false ks p e = h ks p e
+      order : (d : Bool) (ks : List ℕ) → PathD d ks f T x y → length cs ≡ length ks → ink cs y x ≡ inkD d ks x y
+          → LexD y true cs d ks
+      order true ks p e i = greedy-first cs ks (flip f) (flip T) y x e i g p
+      order false ks p e i = h ks p e i

@@ -1,5 +1,5 @@
 -- Paths by coordinates and paths by corners are the same, and so are their orders.
-use Prim.Native.Nat.{ℕ, suc}
+use Prim.Native.Nat.{ℕ, suc, _-_}
 use native.Mathlib.Omega.{arith}
 use mathlib.Core.Path.{_≡_, refl, sym, ap, _∙_, subst}
 use mathlib.Core.Bool.{Bool, true, false}
@@ -10,19 +10,27 @@ use borrow.Author.Tests.{eq-eqb, eqb-true}
 use lib.ListN.{length}
 use Rattle.foil_spec.specs.Foil.{Point, point, same}
 use Rattle.foil_spec.specs.Paths.{Heading, either, level, upright, between, levelFree, uprightFree, segment}
-use Rattle.foil_spec.specs.Paths.{after, leads, before}
+use Rattle.foil_spec.specs.Paths.{after, leads, cornersBefore, stepsFrom}
 use Rattle.list_laws.proofs.Tests.{and-l, and-r, and-i, or-cases}
 use Rattle.path_laws.proofs.Segments.{between-at, between-to, Level, Upright, of-level, of-upright}
 use Rattle.path_laws.proofs.Segments.{to-level, to-upright, after-level, after-upright, before-row, before-rows}
 use Rattle.path_laws.proofs.Goings.{before-head, before-tail}
 use Rattle.reach.specs.Reach.{flip, Span, Path, Lex}
-use Rattle.reach.specs.Best.{PathD, LexD, corners, At}
+use Rattle.reach.specs.Best.{PathD, inkD, LexD, corners, At}
 
 pub corners-length : (up : Bool) (cs : List ℕ) (x y : ℕ) → length (corners up cs x y) ≡ length cs
 corners-length false [] x y = refl
 corners-length true [] x y = refl
 corners-length false (c ∷ cs) x y = ap suc (corners-length true cs c y)
 corners-length true (c ∷ cs) x y = ap suc (corners-length false cs x c)
+
+-- the steps over the corners of a path
+pub corners-ink : (up : Bool) (cs : List ℕ) (x y : ℕ) → stepsFrom (point x y) (corners up cs x y) ≡ inkD up cs x y
+unfolding stepsFrom
+corners-ink false [] x y = refl
+corners-ink true [] x y = refl
+corners-ink false (c ∷ cs) x y = let h = corners-ink true cs c y in omega arith
+corners-ink true (c ∷ cs) x y = let h = corners-ink false cs x c in omega arith
 
 abbrev pub heading : Bool → Heading
 heading false = level
@@ -120,11 +128,11 @@ module _ (f : ℕ → ℕ → Bool) (T : Point) where
       (true, r .0, r .1, r .2))
       (or-cases (levelFree f S q) (uprightFree f S q) (and-l (segment f either S q) (leads f T (after S q) q ps) h))
 
--- the first list comes before the second or is the same
-abbrev pub NoLater : List Point → List Point → Type 0
-NoLater ps qs = (ps ≡ qs) ⊎ (before ps qs ≡ true)
+-- the first list of corners comes before the second or is the same
+abbrev NoLater : List Point → List Point → Type 0
+NoLater ps qs = (ps ≡ qs) ⊎ (cornersBefore ps qs ≡ true)
 
-pub no-later-tail : (p : Point) (ps qs : List Point) → NoLater ps qs → NoLater (p ∷ ps) (p ∷ qs)
+no-later-tail : (p : Point) (ps qs : List Point) → NoLater ps qs → NoLater (p ∷ ps) (p ∷ qs)
 no-later-tail p ps qs (inl e) = inl (ap (λ (l : List Point). p ∷ l) e)
 no-later-tail p ps qs (inr b) = inr (before-tail p ps qs b)
 

@@ -1,27 +1,50 @@
 -- The best path to the one target T is what `firstPath` gives.
 use Prim.Native.Nat.{ℕ, suc, _≤_, _<_}
 use native.Mathlib.Omega.{arith}
+use native.Mathlib.Decide.{decLt}
 use mathlib.Core.Path.{_≡_, refl, sym, ap, _∙_, subst}
 use mathlib.Core.Bool.{Bool, true}
+use mathlib.Core.Logic.{_⊎_, inl, inr, ⊎-elim, by-cases}
 use mathlib.Core.List.{List, _∷_}
 use mathlib.Core.Option.{Option, none, some}
 use lib.ListN.{length}
 use Rattle.foil_spec.specs.Foil.{Point}
-use Rattle.foil_spec.specs.Paths.{either, leads, isPath, bends, firstPath}
+use Rattle.foil_spec.specs.Paths.{either, leads, isPath, bends, cornersBefore, pathLength, before, firstPath}
 use Rattle.path_laws.proofs.Segments.{leads-either}
+use Rattle.path_laws.proofs.Goings.{before-tail}
+use Rattle.path_laws.proofs.Order.{by-length, by-corners}
 use Rattle.path_laws.proofs.FirstPath.{of-path, to-path, same-bends}
 use Rattle.path_laws.specs.First.{IsFirst}
-use Rattle.path_laws.proofs.Laws.{gives-first, gives-none, first-is, none-is}
-use Rattle.reach.specs.Best.{PathD, Best, corners, At}
+use Rattle.path_laws.proofs.Laws.{to-first, gives-first, gives-none, first-is, none-is}
+use Rattle.reach.specs.Best.{PathD, inkD, Best, corners, At}
 use Rattle.reach.proofs.Best.{Fewest}
-use Rattle.reach.proofs.Corners.{corners-length, heading, path-leads, either-path}
-use Rattle.reach.proofs.Corners.{NoLater, no-later-tail, lexd-before}
+use Rattle.reach.proofs.Corners.{corners-length, corners-ink, heading, path-leads, either-path, lexd-before}
 
 module _ (f : ℕ → ℕ → Bool) (W H : ℕ) (inside : (x y : ℕ) → f x y ≡ true → (x < W) × (y < H)) (S T : Point) where
   module _ (s-free : f (S .x) (S .y) ≡ true) (up : Bool) (cs : List ℕ) (B : Best up cs f (At T) (S .x) (S .y)) where
     best-leads : leads f T either S (corners up cs (S .x) (S .y)) ≡ true
     best-leads =
         leads-either f T (heading up) S (corners up cs (S .x) (S .y)) (path-leads f T up cs (S .x) (S .y) (B .path))
+
+    abbrev best : List Point
+    best = S ∷ corners up cs (S .x) (S .y)
+
+    -- it comes first among the paths of as many segments
+    best-before : (d : Bool) (ks : List ℕ) → PathD d ks f (At T) (S .x) (S .y) → length cs ≡ length ks
+        → (best ≡ S ∷ corners d ks (S .x) (S .y)) ⊎ (before best (S ∷ corners d ks (S .x) (S .y)) ≡ true)
+    unfolding pathLength
+    best-before d ks q m =
+        let l = B .shortest d ks q m in
+        let i = corners-ink up cs (S .x) (S .y) in
+        let k = corners-ink d ks (S .x) (S .y) in
+        let ps : List Point = corners up cs (S .x) (S .y) in
+        let qs : List Point = corners d ks (S .x) (S .y) in
+        by-cases (decLt (inkD up cs (S .x) (S .y)) (inkD d ks (S .x) (S .y)))
+        (λ z. inr (by-length (S ∷ ps) (S ∷ qs) (omega arith)))
+        (λ z.
+        ⊎-elim (λ (e : ps ≡ qs). inl (ap (λ (l : List Point). S ∷ l) e))
+        (λ (b : cornersBefore ps qs ≡ true). inr (by-corners (S ∷ ps) (S ∷ qs) (omega arith) (before-tail S ps qs b)))
+        (lexd-before up d cs ks (S .x) (S .y) m (B .first d ks q m (omega arith))))
 
     module _ (ds : List Point) (p : isPath f S T ds ≡ true) where
       fewest : length (corners up cs (S .x) (S .y)) ≤ length (of-path f S T ds p .rest)
@@ -34,7 +57,7 @@ module _ (f : ℕ → ℕ → Bool) (W H : ℕ) (inside : (x y : ℕ) → f x y 
           let c = ap length (k .3) in
           omega arith
 
-      no-later : bends ds ≡ bends (S ∷ corners up cs (S .x) (S .y)) → NoLater (S ∷ corners up cs (S .x) (S .y)) ds
+      no-later : bends ds ≡ bends best → (best ≡ ds) ⊎ (before best ds ≡ true)
       no-later e =
           let r = of-path f S T ds p in
           let k = either-path f T S (r .rest) (r .on) in
@@ -44,23 +67,18 @@ module _ (f : ℕ → ℕ → Bool) (W H : ℕ) (inside : (x y : ℕ) → f x y 
           let a = corners-length up cs (S .x) (S .y) in
           let b = corners-length (k .0) (k .1) (S .x) (S .y) in
           let c = ap length (k .3) in
-          let m : length cs ≡ length (k .1) = omega arith in
-          subst (λ (l : List Point). NoLater (S ∷ corners up cs (S .x) (S .y)) l)
+          subst (λ (l : List Point). (best ≡ l) ⊎ (before best l ≡ true))
           (ap (λ (l : List Point). S ∷ l) (sym (k .3)) ∙ sym (r .is))
-          (no-later-tail S (corners up cs (S .x) (S .y)) (corners (k .0) (k .1) (S .x) (S .y))
-          (lexd-before up (k .0) cs (k .1) (S .x) (S .y) m (B .first (k .0) (k .1) (k .2) m)))
+          (best-before (k .0) (k .1) (k .2) (omega arith))
 
-    best-is-first : IsFirst f S T (S ∷ corners up cs (S .x) (S .y))
+    best-is-first : IsFirst f S T best
     unfolding bends
     best-is-first =
-        record {
-          path = to-path f S T (corners up cs (S .x) (S .y)) s-free best-leads;
-          fewest = λ ds p. let l = fewest ds p in let e = ap length (of-path f S T ds p .is) in omega arith;
-          first = no-later;
-        }
+        to-first f S T best (to-path f S T (corners up cs (S .x) (S .y)) s-free best-leads)
+        (λ ds p. let l = fewest ds p in let e = ap length (of-path f S T ds p .is) in omega arith) no-later
 
     pub best-first : firstPath f W H S T ≡ some (S ∷ corners up cs (S .x) (S .y))
-    best-first = first-is f W H inside S T (S ∷ corners up cs (S .x) (S .y)) best-is-first
+    best-first = first-is f W H inside S T best best-is-first
 
   pub none-first : ((d : Bool) (ks : List ℕ) → PathD d ks f (At T) (S .x) (S .y) → ⊥) → firstPath f W H S T ≡ none
   none-first h =

@@ -1,4 +1,4 @@
--- Of the lists that lead to a target by fewest segments, each is a path, and a greedy one is the first.
+-- Of the lists that lead to a target by fewest segments, each is a path, and a greedy one is the first of those as short.
 use Prim.Native.Nat.{ℕ, zero, suc, _<_}
 use native.Mathlib.Omega.{arith}
 use native.Mathlib.Decide.{decLt}
@@ -7,13 +7,19 @@ use mathlib.Core.Bool.{Bool}
 use mathlib.Core.Logic.{_⊎_, inl, inr}
 use mathlib.Core.List.{List, [], _∷_}
 use lib.ListN.{length}
-use Rattle.reach.specs.Reach.{flip, Span, Reach, TargetFree, Path, Greedy, Lex}
+use Rattle.reach.specs.Reach.{flip, Span, Reach, Within, TargetFree, Path, ink, Greedy, Lex}
 use Rattle.reach.proofs.Reach.{reach-up, reach-merge}
 
 pub path-reach : (cs : List ℕ) (f : ℕ → ℕ → Bool) (T : ℕ → ℕ → Type 0) (x y : ℕ)
     → Path cs f T x y → Reach (length cs) f T x y
 path-reach [] f T x y p = p
 path-reach (c ∷ cs) f T x y p = (c, p .1, path-reach cs (flip f) (flip T) y c (p .2))
+
+pub path-within : (cs : List ℕ) (f : ℕ → ℕ → Bool) (T : ℕ → ℕ → Type 0) (x y : ℕ)
+    → Path cs f T x y → Within (length cs) (ink cs x y) f T x y
+path-within [] f T x y p = p
+path-within (c ∷ cs) f T x y p =
+    (c, ink cs y c, omega arith, p .1, path-within cs (flip f) (flip T) y c (p .2))
 
 -- segments by turns to a target, zero-length ones allowed, as the coordinate that each goes to
 abbrev pub Chain : List ℕ → (ℕ → ℕ → Bool) → (ℕ → ℕ → Type 0) → ℕ → ℕ → Type 0
@@ -58,18 +64,23 @@ pub greedy-path : (cs : List ℕ) (f : ℕ → ℕ → Bool) (T : ℕ → ℕ �
 greedy-path cs f T tf x y g l u = chain-path cs f T tf x y (greedy-chain cs f T x y g) l u
 
 pub greedy-first : (cs ks : List ℕ) (f : ℕ → ℕ → Bool) (T : ℕ → ℕ → Type 0) (x y : ℕ)
-    → length cs ≡ length ks → Greedy cs f T x y → Path ks f T x y → Lex cs ks
-greedy-first [] ks f T x y e g p = tt
-greedy-first (c ∷ cs) [] f T x y e g p = omega arith
-greedy-first (c ∷ cs) (k ∷ ks) f T x y e g p =
-    pick (decLt c k) (decLt k c) (λ q. greedy-first cs ks (flip f) (flip T) y c (omega arith) (g .2) q)
+    → length cs ≡ length ks → ink cs x y ≡ ink ks x y → Greedy cs f T x y → Path ks f T x y → Lex cs ks
+greedy-first [] ks f T x y e i g p = tt
+greedy-first (c ∷ cs) [] f T x y e i g p = omega arith
+greedy-first (c ∷ cs) (k ∷ ks) f T x y e i g p =
+    pick (decLt c k) (decLt k c) (λ j q. greedy-first cs ks (flip f) (flip T) y c (omega arith) j (g .2) q)
   where
-    pick : Dec (c < k) → Dec (k < c) → (Path ks (flip f) (flip T) y c → Lex cs ks) → (c < k) ⊎ ((c ≡ k) × Lex cs ks)
+    pick : Dec (c < k) → Dec (k < c) → (ink cs y c ≡ ink ks y c → Path ks (flip f) (flip T) y c → Lex cs ks)
+        → (c < k) ⊎ ((c ≡ k) × Lex cs ks)
     pick (yes q) (yes r) h = inl q
     pick (yes q) (no r) h = inl q
     pick (no q) (yes r) h =
         let n : length ks ≡ length cs = omega arith in
         absurd
-        (g .1 k r (p .1)
-        (subst (λ (m : ℕ). Reach m (flip f) (flip T) y k) n (path-reach ks (flip f) (flip T) y k (p .2))))
-    pick (no q) (no r) h = let w : c ≡ k = omega arith in inr (w, h (rw w (p .2)))
+        (g .1 k (ink ks y k) r (p .1) (omega arith)
+        (subst (λ (m : ℕ). Within m (ink ks y k) (flip f) (flip T) y k) n
+        (path-within ks (flip f) (flip T) y k (p .2))))
+    pick (no q) (no r) h =
+        let w : c ≡ k = omega arith in
+        let j = rw (← w) at i in
+        inr (w, h (omega arith) (rw w (p .2)))

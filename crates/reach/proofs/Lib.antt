@@ -1,6 +1,6 @@
 -- Laws of reach by segments.
 pub mod Reach
-pub mod Snap
+pub mod Slide
 pub mod Greedy
 pub mod Best
 pub mod Corners

@@ -5,7 +5,7 @@ use mathlib.Core.Bool.{Bool, true, false}
 use mathlib.Core.List.{List, [], _∷_}
 use lib.ListN.{length}
 use Rattle.foil_spec.specs.Foil.{Point, point}
-use Rattle.reach.specs.Reach.{flip, Path, Lex}
+use Rattle.reach.specs.Reach.{flip, Path, ink, Lex}
 
 -- a path from (x, y) whose first segment is level or, if up, upright
 abbrev pub PathD : Bool → List ℕ → (ℕ → ℕ → Bool) → (ℕ → ℕ → Type 0) → ℕ → ℕ → Type 0
@@ -21,11 +21,18 @@ LexD y false cs true (k ∷ ks) = y < k
 LexD y true [] false ks = Unit {0}
 LexD y true (c ∷ cs) false ks = c < y
 
--- a path of fewest segments, the first of those in the order of corners
+-- the steps of a path from (x, y) whose first segment is level or, if up, upright
+abbrev pub inkD : Bool → List ℕ → ℕ → ℕ → ℕ
+inkD false cs x y = ink cs x y
+inkD true cs x y = ink cs y x
+
+-- a path of fewest segments, of those the shortest, and of those the first in the order of corners
 pub record Best (up : Bool) (cs : List ℕ) (f : ℕ → ℕ → Bool) (T : ℕ → ℕ → Type 0) (x y : ℕ) : Type 0 where
   pub path : PathD up cs f T x y
   pub fewest : (d : Bool) (ks : List ℕ) → PathD d ks f T x y → length cs ≤ length ks
-  pub first : (d : Bool) (ks : List ℕ) → PathD d ks f T x y → length cs ≡ length ks → LexD y up cs d ks
+  pub shortest : (d : Bool) (ks : List ℕ) → PathD d ks f T x y → length cs ≡ length ks → inkD up cs x y ≤ inkD d ks x y
+  pub first : (d : Bool) (ks : List ℕ) → PathD d ks f T x y → length cs ≡ length ks → inkD up cs x y ≡ inkD d ks x y
+      → LexD y up cs d ks
 
 -- the corners after (x, y) of a path, by its coordinates
 abbrev pub corners : Bool → List ℕ → ℕ → ℕ → List Point

@@ -18,6 +18,7 @@ fn main() {
     sample(b"cut-short", b"cut-short.job");
     sample(b"document-01", b"document-01.job");
     sample(b"full-table", b"full-table.job");
+    sample(b"less-ink", b"less-ink.job");
     sample(b"reader-keys", b"reader-keys.job");
     sample(b"reader-relaid", b"reader-relaid.job");
     sample(b"refusals", b"refusals.job");

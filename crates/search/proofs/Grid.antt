@@ -1,25 +1,23 @@
 -- The grid is faithful to the board, and both points are on it.
 use Prim.Native.Nat.{ℕ, _<_}
-use mathlib.Core.Path.{_≡_, ap, _∙_}
+use mathlib.Core.Path.{_≡_}
 use mathlib.Core.Bool.{Bool, true, false}
 use mathlib.Core.List.{List}
 use borrow.Author.Tests.{eq-eqb}
 use Rattle.foil_spec.specs.Foil.{Point, free}
 use Rattle.foil_spec.specs.Lent.{layoutOf}
-use Rattle.reach.specs.Reach.{flip, snapTo}
+use Rattle.reach.specs.Reach.{flip}
 use Rattle.reach.specs.Best.{At}
-use Rattle.reach.proofs.Snap.{snap-fixed}
 use Rattle.grid.specs.Lines.{hasMark}
 use Rattle.grid.proofs.Board.{of-free-on, grid-marks, grid-edges}
 use Rattle.labels.proofs.Faithful.{Faithful, faithful}
 use Rattle.search.specs.Grid.{Posed, Axis, Grid}
 use Rattle.search.specs.Seeds.{Has}
 
--- the marked points stay under snapping
-snapped : {t : List ℕ} {n d : ℕ} {upright : Bool} {size p q : ℕ} {lines : List ℕ} {k : ℕ} (x : ℕ)
-    → (A : Axis t n d upright size p q lines k) → x ≡ q → snapTo (hasMark (A .marks)) x ≡ q
-snapped {q = q} x A e =
-    ap (snapTo (hasMark (A .marks))) e ∙ snap-fixed (hasMark (A .marks)) q (eq-eqb _ _ (A .marked .q-on))
+-- the target's number is marked
+target-marked : {t : List ℕ} {n d : ℕ} {upright : Bool} {size p q : ℕ} {lines : List ℕ} {k : ℕ} (x : ℕ)
+    → (A : Axis t n d upright size p q lines k) → x ≡ q → hasMark (A .marks) x ≡ true
+target-marked x A e = rw e (eq-eqb _ _ (A .marked .q-on))
 
 module _ {t : List ℕ} {n d w h : ℕ} {S T : Point} where
   -- both points are on the board
@@ -41,21 +39,14 @@ module _ {t : List ℕ} {n d w h : ℕ} {S T : Point} where
           G .row-axis .collected .whole (T .y) (on .3) (G .row-axis .marked .q-on),
         )
 
-    snaps : (x y : ℕ) → At T x y
-        → At T (snapTo (hasMark (G .column-axis .marks)) x) (snapTo (hasMark (G .row-axis .marks)) y)
-    snaps x y e = (snapped x (G .column-axis) (e .0), snapped y (G .row-axis) (e .1))
-
     pub level-faithful : Faithful (free (layoutOf w h d n t)) (At T) cols nc rows nr el
     level-faithful =
         faithful (grid-marks w h d n t false (S .x) (T .x) (G .column-axis .marks) (G .column-axis .marked))
-        (grid-marks w h d n t true (S .y) (T .y) (G .row-axis .marks) (G .row-axis .marked))
-        (λ x y e. of-free-on w h d n t false x y e .0) snaps (G .column-axis .collected) (G .row-axis .collected)
+        (λ x y e. target-marked x (G .column-axis) (e .0)) (G .column-axis .collected)
         (grid-edges w h false (G .row-axis .collected) (G .column-axis .collected) (G .level))
 
     pub upright-faithful : Faithful (flip (free (layoutOf w h d n t))) (flip (At T)) rows nr cols nc eu
     upright-faithful =
         faithful (grid-marks w h d n t true (S .y) (T .y) (G .row-axis .marks) (G .row-axis .marked))
-        (grid-marks w h d n t false (S .x) (T .x) (G .column-axis .marks) (G .column-axis .marked))
-        (λ y x e. of-free-on w h d n t true y x e .0) (λ y x e. snaps x y e)
-        (G .row-axis .collected) (G .column-axis .collected)
+        (λ y x e. target-marked y (G .row-axis) (e .1)) (G .row-axis .collected)
         (grid-edges w h true (G .column-axis .collected) (G .row-axis .collected) (G .upright))

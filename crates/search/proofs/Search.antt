@@ -3,7 +3,6 @@ use Prim.Native.Nat.{ℕ, _+_, _-_, _≤_, _<_}
 use native.Mathlib.Omega.{arith}
 use mathlib.Core.Path.{_≡_, refl, sym, ap, _∙_, subst}
 use mathlib.Core.Bool.{Bool, true, false}
-use mathlib.Core.Logic.{_≢_, _⊎_}
 use mathlib.Core.List.{List, [], _∷_}
 use mathlib.Core.Option.{Option, none, some}
 use lib.ListN.{getD, length}
@@ -21,19 +20,23 @@ use Rattle.reach.proofs.FirstPath.{best-first, none-first, fewest-first}
 use Rattle.grid.specs.Size.{area}
 use Rattle.grid.specs.Lines.{Lines}
 use Rattle.grid.proofs.Board.{of-free-on}
-use Rattle.labels.specs.Line.{along}
+use Rattle.labels.specs.Line.{along, labelTop}
+use Rattle.labels.specs.Ink.{Lean}
 use Rattle.labels.specs.Pass.{Pass, Below}
 use Rattle.labels.specs.Rounds.{Rounds, Ended, found, stuck}
 use Rattle.labels.specs.Walk.{Grounded}
+use Rattle.labels.proofs.Inks.{lean-low}
+use Rattle.labels.proofs.Going.{rounds-lean}
 use Rattle.labels.proofs.Faithful.{Faithful}
-use Rattle.labels.proofs.Meaning.{Labelled, rounds-pos, rounds-labels, rounds-below, rounds-grounded, rounds-stuck}
+use Rattle.labels.proofs.Meaning.{Labelled, Measured, rounds-pos, rounds-labels, rounds-inks, rounds-below}
+use Rattle.labels.proofs.Meaning.{rounds-grounded, rounds-stuck}
 use Rattle.labels.proofs.First.{coords}
 use Rattle.search.specs.Grid.{Posed, Grid}
-use Rattle.search.specs.Choice.{Choice, labelAt}
+use Rattle.search.specs.Choice.{Choosing, Choice, labelAt}
 use Rattle.search.specs.Search.{Labelling, Starts, nowhere, goes, Trails, turns, Searched}
 use Rattle.search.specs.declared.Start.{Start}
 use Rattle.search.proofs.Grid.{level-faithful, upright-faithful}
-use Rattle.search.proofs.Seeds.{seeded-labels, seeded-below}
+use Rattle.search.proofs.Seeds.{seeded-labels, seeded-inks, seeded-below, seeded-lean}
 use Rattle.search.proofs.Choice.{choice-some, fewest-level, fewest-upright, walk-level, walk-upright}
 
 -- the coordinates of a walk's crossings
@@ -52,8 +55,8 @@ turns-are true cols rows i j (q ∷ qs) =
     ap (λ (ps : List Point). point (getD cols i 0) (getD rows q 0) ∷ ps) (turns-are false cols rows i q qs)
 
 module _ {t : List ℕ} {n d w h : ℕ} {S T : Point} (P : Posed t n d w h S T) {cols rows el eu : List ℕ} {nc nr : ℕ}
-    (G : Grid t n d w h S T cols rows el eu nc nr) {i j : ℕ} {b : Bool} {l u : List ℕ}
-    (B : Labelling cols rows el eu nc nr S T i j b l u) where
+    (G : Grid t n d w h S T cols rows el eu nc nr) {i j : ℕ} {b : Bool} {l u wl wu : List ℕ}
+    (B : Labelling cols rows el eu nc nr S T i j b l u wl wu) where
   abbrev f : ℕ → ℕ → Bool
   f = free (layoutOf w h d n t)
 
@@ -103,14 +106,24 @@ module _ {t : List ℕ} {n d w h : ℕ} {S T : Point} (P : Posed t n d w h S T) 
         (B .ti-at, B .tj-at) (B .upright-seed),
   )
 
+  seed-inks : Measured f (At T) cols nc rows nr (B .l₀) (B .wl₀)
+      × Measured (flip f) (flip (At T)) rows nr cols nc (B .u₀) (B .wu₀)
+  seed-inks = (
+    seeded-inks C R (B .tj-in) (B .ti-in) (λ x y e. (e .0 ∙ sym (B .ti-at), e .1 ∙ sym (B .tj-at)))
+        (B .ti-at, B .tj-at) (B .level-seed),
+    seeded-inks R C (B .ti-in) (B .tj-in) (λ y x e. (e .1 ∙ sym (B .tj-at), e .0 ∙ sym (B .ti-at)))
+        (B .ti-at, B .tj-at) (B .upright-seed),
+  )
+
   level-low : Below nr nc (B .l₀) 1
-  level-low = seeded-below (B .l₀) (B .ql) (B .tj) (B .ti) nr nc (B .level-seed) (R .few) (C .few)
+  level-low = seeded-below (B .l₀) (B .wl₀) (B .ql) (B .tj) (B .ti) nr nc (B .level-seed) (R .few) (C .few)
 
   upright-low : Below nc nr (B .u₀) 1
-  upright-low = seeded-below (B .u₀) (B .qu) (B .ti) (B .tj) nc nr (B .upright-seed) (C .few) (R .few)
+  upright-low = seeded-below (B .u₀) (B .wu₀) (B .qu) (B .ti) (B .tj) nc nr (B .upright-seed) (C .few) (R .few)
 
   -- a round that changes nothing: there is no path
-  no-path : {v : ℕ} → Rounds el eu nc nr (B .l₀) (B .u₀) v l u → along l j i ≡ 0 → along u i j ≡ 0
+  no-path : {v : ℕ} {wl₁ wu₁ : List ℕ} → Rounds el eu cols rows nc nr (B .l₀) (B .u₀) (B .wl₀) (B .wu₀) v l u wl₁ wu₁
+      → along l j i ≡ 0 → along u i j ≡ 0
       → Pass u el nr nc v l l → Pass l eu nc nr v u u
       → (e : Bool) (ks : List ℕ) → PathD e ks f (At T) (start .x) (start .y) → ⊥
   no-path r zl zu p q e ks path =
@@ -127,44 +140,54 @@ module _ {t : List ℕ} {n d w h : ℕ} {S T : Point} (P : Posed t n d w h S T) 
           out .1 i (B .i-in) j (B .j-in) zu (path-reach ks (flip f) (flip (At T)) (start .y) (start .x) path)
 
   -- the start has a label, after rounds up to v
-  module _ {v : ℕ} (r : Rounds el eu nc nr (B .l₀) (B .u₀) v l u) where
+  module _ {v : ℕ} (r : Rounds el eu cols rows nc nr (B .l₀) (B .u₀) (B .wl₀) (B .wu₀) v l u wl wu) where
     labelled : Labelled f (At T) cols nc rows nr (v - 1) l × Labelled (flip f) (flip (At T)) rows nr cols nc (v - 1) u
     labelled = rounds-labels target-free L U seeds r
 
-    grounded : Grounded l u el nr nc × Grounded u l eu nc nr
+    measured : Measured f (At T) cols nc rows nr l wl × Measured (flip f) (flip (At T)) rows nr cols nc u wu
+    measured = rounds-inks target-free L U seeds seed-inks r
+
+    grounded : Grounded l u wl wu el cols nr nc × Grounded u l wu wl eu rows nc nr
     grounded = rounds-grounded level-low upright-low r
+
+    lean : (1 ≤ v) × Lean nr nc l wl × Lean nc nr u wu
+    lean =
+        rounds-lean C R (seeded-lean (B .l₀) (B .wl₀) (B .ql) (B .tj) (B .ti) nr nc (B .level-seed) (R .few) (C .few))
+        (seeded-lean (B .u₀) (B .wu₀) (B .qu) (B .ti) (B .tj) nc nr (B .upright-seed) (C .few) (R .few)) r
+
+    below : Below nr nc l v × Below nc nr u v
+    below = rounds-below level-low upright-low r
 
     most : (along l j i ≤ (v - 1) + 1) × (along u i j ≤ (v - 1) + 1)
     most =
-        let low = rounds-below level-low upright-low r in
         let p = rounds-pos r in
-        let a = low .0 .le j (B .j-in) i (B .i-in) in
-        let c = low .1 .le i (B .i-in) j (B .j-in) in
+        let a = below .0 .le j (B .j-in) i (B .i-in) in
+        let c = below .1 .le i (B .i-in) j (B .j-in) in
         (omega arith, omega arith)
 
-    fewest : (k : ℕ) (up : Bool) → Choice l u eu nr i j up → labelAt up l u i j ≡ k + 1
+    fewest : (k : ℕ) (up : Bool) → Choice l u wl wu eu rows nr i j up → labelAt up l u i j ≡ k + 1
         → Fewest f (At T) (start .x) (start .y) k
     unfolding labelAt
     fewest k false c e =
-        fewest-level target-free L U (R .rising) (labelled .0) (labelled .1) (grounded .1) (B .i-in) (B .j-in)
-        (most .0) (most .1) k c e
+        fewest-level target-free L U (R .rising) (labelled .0) (labelled .1) (measured .0) (measured .1)
+        (grounded .1) (B .i-in) (B .j-in) (most .0) (most .1) k c e
     fewest k true c e =
-        fewest-upright target-free L U (R .rising) (labelled .0) (labelled .1) (grounded .1) (B .i-in) (B .j-in)
-        (most .0) (most .1) k c e
+        fewest-upright target-free L U (R .rising) (labelled .0) (labelled .1) (measured .0) (measured .1)
+        (grounded .1) (B .i-in) (B .j-in) (most .0) (most .1) k c e
 
-    best : (k : ℕ) (qs : List ℕ) (up : Bool) → Choice l u eu nr i j up → labelAt up l u i j ≡ k + 1
-        → Trails up l u el eu nc nr i j (k + 1) qs
+    best : (k : ℕ) (qs : List ℕ) (up : Bool) → Choice l u wl wu eu rows nr i j up → labelAt up l u i j ≡ k + 1
+        → Trails up l u wl wu el eu cols rows nc nr i j (k + 1) qs
         → Best up (coordinates up cols rows qs) f (At T) (start .x) (start .y)
     unfolding labelAt Trails
     best k qs false c e tr =
-        walk-level target-free L U (R .rising) (labelled .0) (labelled .1) (grounded .1) (B .i-in) (B .j-in)
-        (most .0) (most .1) k qs c e tr
+        walk-level target-free L U (R .rising) (labelled .0) (labelled .1) (measured .0) (measured .1)
+        (grounded .1) (B .i-in) (B .j-in) (most .0) (most .1) k qs c e tr
     best k qs true c e tr =
-        walk-upright target-free L U (R .rising) (labelled .0) (labelled .1) (grounded .1) (B .i-in) (B .j-in)
-        (most .0) (most .1) k qs c e tr
+        walk-upright target-free L U (R .rising) (labelled .0) (labelled .1) (measured .0) (measured .1)
+        (grounded .1) (B .i-in) (B .j-in) (most .0) (most .1) k qs c e tr
 
-    takes : (k : ℕ) (qs : List ℕ) (up : Bool) → Choice l u eu nr i j up → labelAt up l u i j ≡ k + 1
-        → Trails up l u el eu nc nr i j (k + 1) qs
+    takes : (k : ℕ) (qs : List ℕ) (up : Bool) → Choice l u wl wu eu rows nr i j up → labelAt up l u i j ≡ k + 1
+        → Trails up l u wl wu el eu cols rows nc nr i j (k + 1) qs
         → start ∷ turns up cols rows i j qs ≡ cornersOf (layoutOf w h d n t) S T
     takes k qs up c e tr =
         ap (λ (ps : List Point). start ∷ ps) (turns-are up cols rows i j qs)
@@ -172,23 +195,39 @@ module _ {t : List ℕ} {n d w h : ℕ} {S T : Point} (P : Posed t n d w h S T) 
         (corners-are (start ∷ corners up (coordinates up cols rows qs) (start .x) (start .y))
         (best-first f w h inside start T start-free up (coordinates up cols rows qs) (best k qs up c e tr)))
 
-pub found-some : {el eu : List ℕ} {nc nr i j : ℕ} {l₀ u₀ l u : List ℕ} {b : Bool} → Ended el eu nc nr i j l₀ u₀ l u b
-    → b ≡ true → (along l j i ≢ 0) ⊎ (along u i j ≢ 0)
-found-some (found m r p) e = p
-found-some (stuck r zl zu p q) e = clash e refl
+below-top : {m n v : ℕ} {lab : List ℕ} → v < labelTop → Below m n lab v → Below m n lab labelTop
+below-top l B = record { le = λ i li k lk. let b = B .le i li k lk in omega arith }
 
--- What `labels` answers.
+-- What the choice is asked of, and what `labels` answers.
 module _ {t : List ℕ} {n d w h : ℕ} {S T : Point} (P : Posed t n d w h S T) {cols rows el eu : List ℕ} {nc nr : ℕ}
-    (G : Grid t n d w h S T cols rows el eu nc nr) {i j : ℕ} {l u : List ℕ}
-    (ll : area ≤ length l) (lu : area ≤ length u) (le : area ≤ length el) (ue : area ≤ length eu) where
-  searched-none : Labelling cols rows el eu nc nr S T i j false l u
-      → Searched (layoutOf w h d n t) S T cols rows el eu l u
+    (G : Grid t n d w h S T cols rows el eu nc nr) {i j : ℕ} {l u wl wu : List ℕ} where
+  pub found-some : {b : Bool} → Labelling cols rows el eu nc nr S T i j b l u wl wu → b ≡ true
+      → Choosing l u wl nr i j
+  found-some {b} B e = go b (B .ended) e
+    where
+      go : (b : Bool) → Ended el eu cols rows nc nr i j (B .l₀) (B .u₀) (B .wl₀) (B .wu₀) l u wl wu b → b ≡ true
+          → Choosing l u wl nr i j
+      go true (found m r p) e =
+          let low = below P G B r .0 .le j (B .j-in) i (B .i-in) in
+          record {
+            some = p;
+            top = omega arith;
+            low = λ v one. lean-low i v (lean P G B r .1) (B .i-in) one;
+          }
+      go false (stuck r zl zu p q) e = clash e refl
+
+module _ {t : List ℕ} {n d w h : ℕ} {S T : Point} (P : Posed t n d w h S T) {cols rows el eu : List ℕ} {nc nr : ℕ}
+    (G : Grid t n d w h S T cols rows el eu nc nr) {i j : ℕ} {l u wl wu : List ℕ} (ll : area ≤ length l)
+    (lu : area ≤ length u) (li : area ≤ length wl) (ui : area ≤ length wu) (le : area ≤ length el)
+    (ue : area ≤ length eu) where
+  searched-none : Labelling cols rows el eu nc nr S T i j false l u wl wu
+      → Searched (layoutOf w h d n t) S T cols rows el eu l u wl wu
       (record { columns = nc; rows = nr; i = i; j = j; upright = false; corners = 0 })
   unfolding cornersOf noPath
   searched-none B = go (B .ended)
     where
-      go : Ended el eu nc nr i j (B .l₀) (B .u₀) l u false
-          → Searched (layoutOf w h d n t) S T cols rows el eu l u
+      go : Ended el eu cols rows nc nr i j (B .l₀) (B .u₀) (B .wl₀) (B .wu₀) l u wl wu false
+          → Searched (layoutOf w h d n t) S T cols rows el eu l u wl wu
           (record { columns = nc; rows = nr; i = i; j = j; upright = false; corners = 0 })
       go (stuck r zl zu p q) =
           let e = path-is P G B none
@@ -199,14 +238,14 @@ module _ {t : List ℕ} {n d w h : ℕ} {S T : Point} (P : Posed t n d w h S T) 
             ready = λ one. absurd (omega arith);
           }
 
-  searched-some : Labelling cols rows el eu nc nr S T i j true l u → (up : Bool) → Choice l u eu nr i j up
-      → Searched (layoutOf w h d n t) S T cols rows el eu l u
+  searched-some : Labelling cols rows el eu nc nr S T i j true l u wl wu → (up : Bool) → Choice l u wl wu eu rows nr i j up
+      → Searched (layoutOf w h d n t) S T cols rows el eu l u wl wu
       (record { columns = nc; rows = nr; i = i; j = j; upright = up; corners = labelAt up l u i j })
   unfolding noPath
   searched-some B up c = go (B .ended)
     where
-      go : Ended el eu nc nr i j (B .l₀) (B .u₀) l u true
-          → Searched (layoutOf w h d n t) S T cols rows el eu l u
+      go : Ended el eu cols rows nc nr i j (B .l₀) (B .u₀) (B .wl₀) (B .wu₀) l u wl wu true
+          → Searched (layoutOf w h d n t) S T cols rows el eu l u wl wu
           (record { columns = nc; rows = nr; i = i; j = j; upright = up; corners = labelAt up l u i j })
       go (found m r p) =
           let one = choice-some up c in
@@ -220,17 +259,21 @@ module _ {t : List ℕ} {n d w h : ℕ} {S T : Point} (P : Posed t n d w h S T) 
             ready = λ s. record {
               walkable = record {
                 sized = record {
-                  few-cols = G .column-axis .fits .few;
-                  few-rows = G .row-axis .fits .few;
+                  column-lines = G .column-axis .fits;
+                  row-lines = G .row-axis .fits;
                   level = ll;
                   upright = lu;
+                  level-inks = li;
+                  upright-inks = ui;
                   level-edges = le;
                   upright-edges = ue;
                 };
-                cols-size = G .column-axis .fits .fit;
-                rows-size = G .row-axis .fits .fit;
                 level = grounded P G B r .0;
                 upright = grounded P G B r .1;
+                level-low = below-top m (below P G B r .0);
+                upright-low = below-top m (below P G B r .1);
+                level-lean = lean P G B r .1;
+                upright-lean = lean P G B r .2;
               };
               i-in = B .i-in;
               j-in = B .j-in;
@@ -238,11 +281,11 @@ module _ {t : List ℕ} {n d w h : ℕ} {S T : Point} (P : Posed t n d w h S T) 
               label = refl;
               takes = λ qs tr.
                   takes P G B r (labelAt up l u i j - 1) qs up c e
-                  (subst (λ (v : ℕ). Trails up l u el eu nc nr i j v qs) e tr);
+                  (subst (λ (v : ℕ). Trails up l u wl wu el eu cols rows nc nr i j v qs) e tr);
             };
           }
 
-  pub searched : {b : Bool} {s : Start} → Labelling cols rows el eu nc nr S T i j b l u
-      → Starts l u eu nc nr i j b s → Searched (layoutOf w h d n t) S T cols rows el eu l u s
+  pub searched : {b : Bool} {s : Start} → Labelling cols rows el eu nc nr S T i j b l u wl wu
+      → Starts l u wl wu eu rows nc nr i j b s → Searched (layoutOf w h d n t) S T cols rows el eu l u wl wu s
   searched B nowhere = searched-none B
   searched B (goes up c) = searched-some B up c

@@ -1,20 +1,34 @@
--- Which way the first path goes from the crossing of column i and row j, by its labels.
+-- Which way the first path goes from the crossing of column i and row j, by its labels l and u and its inks wl and wu.
 use Prim.Native.Nat.{ℕ, _+_, _≤_, _<_}
 use mathlib.Core.Path.{_≡_}
 use mathlib.Core.Logic.{_≢_, _⊎_}
 use mathlib.Core.Bool.{Bool, true, false}
 use mathlib.Core.List.{List}
-use Rattle.labels.specs.Line.{along, Stop}
+use Rattle.labels.specs.Line.{along, labelTop, Stop}
+use Rattle.labels.specs.Ink.{Low}
 
--- true is upright first; where both ways need as many segments, the first stop of the upright one decides
-pub data Choice (l u eu : List ℕ) (nr i j : ℕ) : Bool → Type 0 where
-  level-only : along l j i ≢ 0 → (along u i j ≡ 0) ⊎ (along l j i < along u i j) → Choice l u eu nr i j false
-  upright-only : along u i j ≢ 0 → (along l j i ≡ 0) ⊎ (along u i j < along l j i) → Choice l u eu nr i j true
-  here : along l j i ≡ 1 → along u i j ≡ 1 → Choice l u eu nr i j false
-  tie-level : (v r : ℕ) → 1 ≤ v → along l j i ≡ v + 1 → along u i j ≡ v + 1 → Stop l eu i nr j v r → j ≤ r
-      → Choice l u eu nr i j false
-  tie-upright : (v r : ℕ) → 1 ≤ v → along l j i ≡ v + 1 → along u i j ≡ v + 1 → Stop l eu i nr j v r → r < j
-      → Choice l u eu nr i j true
+-- what the choice is asked of: the crossing has a label, and the inks of the upright line's stops are small
+pub record Choosing (l u wl : List ℕ) (nr i j : ℕ) : Type 0 where
+  pub some : (along l j i ≢ 0) ⊎ (along u i j ≢ 0)
+  pub top : along l j i ≤ labelTop
+  pub low : (v : ℕ) → 1 ≤ v → Low l wl i nr v
+
+-- true is upright first; where both ways need as many segments, the inks decide, and where these are equal, the first
+-- stop of the upright one
+pub data Choice (l u wl wu eu rows : List ℕ) (nr i j : ℕ) : Bool → Type 0 where
+  level-only : along l j i ≢ 0 → (along u i j ≡ 0) ⊎ (along l j i < along u i j)
+      → Choice l u wl wu eu rows nr i j false
+  upright-only : along u i j ≢ 0 → (along l j i ≡ 0) ⊎ (along u i j < along l j i)
+      → Choice l u wl wu eu rows nr i j true
+  level-less : along l j i ≢ 0 → along l j i ≡ along u i j → along wl j i < along wu i j
+      → Choice l u wl wu eu rows nr i j false
+  upright-less : along l j i ≢ 0 → along l j i ≡ along u i j → along wu i j < along wl j i
+      → Choice l u wl wu eu rows nr i j true
+  here : along l j i ≡ 1 → along u i j ≡ 1 → Choice l u wl wu eu rows nr i j false
+  tie-level : (v r : ℕ) → 1 ≤ v → along l j i ≡ v + 1 → along u i j ≡ v + 1 → along wl j i ≡ along wu i j
+      → Stop l wl eu rows i nr j v (along wu i j) r → j ≤ r → Choice l u wl wu eu rows nr i j false
+  tie-upright : (v r : ℕ) → 1 ≤ v → along l j i ≡ v + 1 → along u i j ≡ v + 1 → along wl j i ≡ along wu i j
+      → Stop l wl eu rows i nr j v (along wu i j) r → r < j → Choice l u wl wu eu rows nr i j true
 
 -- the label of the chosen way
 unfoldable pub labelAt : Bool → List ℕ → List ℕ → ℕ → ℕ → ℕ

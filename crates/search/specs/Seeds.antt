@@ -17,9 +17,10 @@ pub record Placed (lines : List ℕ) (n x r : ℕ) : Type 0 where
   pub below : r < n
   pub at : getD lines r 0 ≡ x
 
--- crossing k of a line has the label 1 and all others 0, and the queue begins with that crossing
-pub record Seeded (lab queue : List ℕ) (line k : ℕ) : Type 0 where
+-- crossing k of a line has the label 1 and the ink 0, all others the label 0, and the queue begins with that crossing
+pub record Seeded (lab inks queue : List ℕ) (line k : ℕ) : Type 0 where
   pub one : along lab line k ≡ 1
+  pub ink : along inks line k ≡ 0
   pub rest : (p : ℕ) → p < area → p ≢ line * stride + k → getD lab p 0 ≡ 0
   pub queue-line : getD queue 0 0 ≡ line
   pub queue-crossing : getD queue 1 0 ≡ k

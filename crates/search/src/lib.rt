@@ -1,35 +1,33 @@
-// The search for the first path of fewest bends: the escape grid, its labels, and the walk put together.
+// The search for the first path of fewest bends and least length: the escape grid, its labels, and the walk put together.
 //
 // The caller makes two calls. `labels` says how many corners the path has, so that the caller can decide whether there
 // is room for them, and `walk` then writes them. All work lists are lent: `level` and `upright` for the labels of the
-// grid's crossings in the two directions (AREA places), `ql` and `qu` for their queues (twice as many), `cols` and
-// `rows` for the lines of the grid (STRIDE places), `el` and `eu` for the level and the upright edges between its
-// crossings (AREA places), and `mark` for marks on an axis (4,096 places).
+// grid's crossings in the two directions, `il` and `iu` for their inks (AREA places), `ql` and `qu` for their queues
+// (twice as many), `cols` and `rows` for the lines of the grid (STRIDE places), `el` and `eu` for the level and the
+// upright edges between its crossings (AREA places), and `mark` for marks on an axis (4,096 places).
 use grid::AREA;
 use grid::STRIDE;
 use grid::collect;
 use grid::edges;
 use grid::mark_lines;
 use labels::level_step;
-use labels::next_stop;
 use labels::put_corner;
 use labels::rounds;
+use labels::run::next_stop;
 use labels::upright_step;
 ghost use mathlib.Core.Path.{_≡_};
-ghost use mathlib.Core.Logic.{_≢_, _⊎_};
 ghost use mathlib.Core.Bool.{true};
 ghost use mathlib.Core.List.{List};
-ghost use Prim.Native.Nat.{ℕ, _+_, _*_, _≤_, _<_};
+ghost use Prim.Native.Nat.{_+_, _*_, _≤_, _<_};
 ghost use lib.ListN.{length};
 ghost use Rattle.foil_spec.specs.Foil.{Point, point};
 ghost use Rattle.foil_spec.specs.Lent.{layoutOf};
 ghost use Rattle.grid.specs.Size.{stride, area};
 ghost use Rattle.grid.specs.Lines.{Lines};
 ghost use Rattle.grid.specs.Edges.{Filled};
-ghost use Rattle.labels.specs.Line.{along};
 ghost use Rattle.search.specs.Grid.{Posed, GridRoom, Axis, Grid};
 ghost use Rattle.search.specs.Seeds.{Has, Placed, Seeded};
-ghost use Rattle.search.specs.Choice.{Choice};
+ghost use Rattle.search.specs.Choice.{Choosing, Choice};
 ghost use Rattle.search.specs.Search.{LabelRoom, Labelling, Starts, Ready, Searched, Walked};
 
 // How many columns and rows the grid has.
@@ -148,13 +146,15 @@ fn clear(labels: &mut [u32])
     }
 }
 
-// Labels crossing k of a line 1 and no other crossing; the queue begins with that crossing.
-fn seed(labels: &mut [u32], queue: &mut [u16], line: usize, k: usize)
-    requires { ⌜ (line < stride) × (k < stride) × (area ≡ length (now labels)) × (2 * area ≤ length (now queue)) ⌝ }
-    ensures { λ _. ⌜ Seeded (now (labels .exit)) (now (queue .exit)) line k ⌝ }
+// Labels crossing k of a line 1, with the ink 0, and no other crossing; the queue begins with that crossing.
+fn seed(labels: &mut [u32], inks: &mut [u32], queue: &mut [u16], line: usize, k: usize)
+    requires { ⌜ (line < stride) × (k < stride) × (area ≡ length (now labels)) × (area ≤ length (now inks))
+        × (2 * area ≤ length (now queue)) ⌝ }
+    ensures { λ _. ⌜ Seeded (now (labels .exit)) (now (inks .exit)) (now (queue .exit)) line k ⌝ }
 {
     clear(labels);
     labels[line * STRIDE + k] = 1;
+    inks[line * STRIDE + k] = 0;
     queue[0] = line as u16;
     queue[1] = k as u16;
 }
@@ -170,6 +170,8 @@ struct Found {
 fn label(
     level: &mut [u32],
     upright: &mut [u32],
+    il: &mut [u32],
+    iu: &mut [u32],
     ql: &mut [u16],
     qu: &mut [u16],
     el: &[u8],
@@ -184,31 +186,61 @@ fn label(
     ty: u16,
 ) -> Found
     requires { ⌜ (area ≤ length (now el)) × (area ≤ length (now eu)) × Lines (now cols) nc × Lines (now rows) nr ⌝ }
-    requires { ⌜ LabelRoom (now level) (now upright) (now ql) (now qu) ⌝ }
+    requires { ⌜ LabelRoom (now level) (now upright) (now il) (now iu) (now ql) (now qu) ⌝ }
     requires { ⌜ Has (now cols) nc sx × Has (now rows) nr sy × Has (now cols) nc tx × Has (now rows) nr ty ⌝ }
     ensures { λ r. ⌜ Labelling (now (cols .entry)) (now (rows .entry)) (now (el .entry)) (now (eu .entry)) nc nr
-        (point sx sy) (point tx ty) (r .i) (r .j) (r .found) (now (level .exit)) (now (upright .exit)) ⌝ }
+        (point sx sy) (point tx ty) (r .i) (r .j) (r .found) (now (level .exit)) (now (upright .exit))
+        (now (il .exit)) (now (iu .exit)) ⌝ }
 {
     let i = index_of(cols, nc, sx);
     let j = index_of(rows, nr, sy);
     let ti = index_of(cols, nc, tx);
     let tj = index_of(rows, nr, ty);
-    seed(level, ql, tj, ti);
-    seed(upright, qu, ti, tj);
-    let found = rounds(level, upright, ql, qu, el, eu, nc, nr, i, j);
+    seed(level, il, ql, tj, ti);
+    seed(upright, iu, qu, ti, tj);
+    let found = rounds(
+        level,
+        upright,
+        il,
+        iu,
+        ql,
+        qu,
+        el,
+        eu,
+        cols,
+        rows,
+        nc,
+        nr,
+        i,
+        j,
+    );
     Found { i, j, found }
 }
 
 // Whether the first path goes upright from the crossing of column i and row j, which has a label. Where both ways
-// need as many segments, it does so if that leads to a smaller y.
-fn starts_upright(level: &[u32], upright: &[u32], eu: &[u8], nr: usize, i: usize, j: usize) -> bool
-    requires { ⌜ (nr ≤ stride) × (i < stride) × (j < nr) × (area ≤ length (now level)) ⌝ }
-    requires { ⌜ (area ≤ length (now upright)) × (area ≤ length (now eu)) ⌝ }
-    requires { ⌜ (along (now level) j i ≢ 0) ⊎ (along (now upright) i j ≢ 0) ⌝ }
-    ensures { λ r. ⌜ Choice (now (level .entry)) (now (upright .entry)) (now (eu .entry)) nr i j r ⌝ }
+// need as many segments and steps, it does so if that leads to a smaller y.
+fn starts_upright(
+    level: &[u32],
+    upright: &[u32],
+    il: &[u32],
+    iu: &[u32],
+    eu: &[u8],
+    rows: &[u16],
+    nr: usize,
+    i: usize,
+    j: usize,
+) -> bool
+    requires { ⌜ Lines (now rows) nr × (i < stride) × (j < nr) × (area ≤ length (now level)) ⌝ }
+    requires { ⌜ (area ≤ length (now upright)) × (area ≤ length (now il)) × (area ≤ length (now iu))
+        × (area ≤ length (now eu)) ⌝ }
+    requires { ⌜ Choosing (now level) (now upright) (now il) nr i j ⌝ }
+    ensures { λ r. ⌜ Choice (now (level .entry)) (now (upright .entry)) (now (il .entry)) (now (iu .entry))
+        (now (eu .entry)) (now (rows .entry)) nr i j r ⌝ }
 {
     let a = level[j * STRIDE + i];
     let b = upright[i * STRIDE + j];
+    let s = il[j * STRIDE + i];
+    let t = iu[i * STRIDE + j];
     if a == 0 {
         return true;
     }
@@ -221,10 +253,16 @@ fn starts_upright(level: &[u32], upright: &[u32], eu: &[u8], nr: usize, i: usize
     if a < b {
         return false;
     }
+    if t < s {
+        return true;
+    }
+    if s < t {
+        return false;
+    }
     if a == 1 {
         return false;
     }
-    if next_stop(level, eu, i, nr, j, a - 1) < j {
+    if next_stop(level, il, eu, rows, i, nr, j, a - 1, t) < j {
         return true;
     }
     false
@@ -234,17 +272,22 @@ fn starts_upright(level: &[u32], upright: &[u32], eu: &[u8], nr: usize, i: usize
 fn start_at(
     level: &[u32],
     upright: &[u32],
+    il: &[u32],
+    iu: &[u32],
     eu: &[u8],
+    rows: &[u16],
     nc: usize,
     nr: usize,
     i: usize,
     j: usize,
     found: bool,
 ) -> Start
-    requires { ⌜ (nr ≤ stride) × (i < stride) × (j < nr) × (area ≤ length (now level)) ⌝ }
-    requires { ⌜ (area ≤ length (now upright)) × (area ≤ length (now eu)) ⌝ }
-    requires { ⌜ (found ≡ true → (along (now level) j i ≢ 0) ⊎ (along (now upright) i j ≢ 0)) ⌝ }
-    ensures { λ r. ⌜ Starts (now (level .entry)) (now (upright .entry)) (now (eu .entry)) nc nr i j found r ⌝ }
+    requires { ⌜ Lines (now rows) nr × (i < stride) × (j < nr) × (area ≤ length (now level)) ⌝ }
+    requires { ⌜ (area ≤ length (now upright)) × (area ≤ length (now il)) × (area ≤ length (now iu))
+        × (area ≤ length (now eu)) ⌝ }
+    requires { ⌜ (found ≡ true → Choosing (now level) (now upright) (now il) nr i j) ⌝ }
+    ensures { λ r. ⌜ Starts (now (level .entry)) (now (upright .entry)) (now (il .entry)) (now (iu .entry))
+        (now (eu .entry)) (now (rows .entry)) nc nr i j found r ⌝ }
 {
     if !found {
         return Start {
@@ -256,7 +299,7 @@ fn start_at(
             corners: 0,
         };
     }
-    if starts_upright(level, upright, eu, nr, i, j) {
+    if starts_upright(level, upright, il, iu, eu, rows, nr, i, j) {
         return Start {
             columns: nc,
             rows: nr,
@@ -281,6 +324,8 @@ fn start_at(
 pub fn labels(
     level: &mut [u32],
     upright: &mut [u32],
+    il: &mut [u32],
+    iu: &mut [u32],
     ql: &mut [u16],
     qu: &mut [u16],
     cols: &mut [u16],
@@ -300,10 +345,10 @@ pub fn labels(
 ) -> Start
     requires { ⌜ Posed (now table) count d w h (point sx sy) (point tx ty) ⌝ }
     requires { ⌜ GridRoom (now cols) (now rows) (now el) (now eu) (now mark) ⌝ }
-    requires { ⌜ LabelRoom (now level) (now upright) (now ql) (now qu) ⌝ }
+    requires { ⌜ LabelRoom (now level) (now upright) (now il) (now iu) (now ql) (now qu) ⌝ }
     ensures { λ r. ⌜ Searched (layoutOf w h d count (now (table .entry))) (point sx sy) (point tx ty)
         (now (cols .exit)) (now (rows .exit)) (now (el .exit)) (now (eu .exit))
-        (now (level .exit)) (now (upright .exit)) r ⌝ }
+        (now (level .exit)) (now (upright .exit)) (now (il .exit)) (now (iu .exit)) r ⌝ }
 {
     let size = build(
         cols,
@@ -326,6 +371,8 @@ pub fn labels(
     let s = label(
         level,
         upright,
+        il,
+        iu,
         ql,
         qu,
         el,
@@ -339,7 +386,7 @@ pub fn labels(
         tx,
         ty,
     );
-    start_at(level, upright, eu, nc, nr, s.i, s.j, s.found)
+    start_at(level, upright, il, iu, eu, rows, nc, nr, s.i, s.j, s.found)
 }
 
 // Writes the corners of the first path to the front of `out` and nothing else, from what `labels` left.
@@ -347,16 +394,20 @@ pub fn walk(
     out: &mut [u16],
     level: &[u32],
     upright: &[u32],
+    il: &[u32],
+    iu: &[u32],
     el: &[u8],
     eu: &[u8],
     cols: &[u16],
     rows: &[u16],
     s: Start,
 )
-    requires { ⌜ ((cs : List Point) × Ready cs (now cols) (now rows) (now el) (now eu) (now level) (now upright) s) ⌝ }
+    requires { ⌜ ((cs : List Point) × Ready cs (now cols) (now rows) (now el) (now eu) (now level) (now upright)
+        (now il) (now iu) s) ⌝ }
     requires { ⌜ 2 * s .corners ≤ length (now out) ⌝ }
     ensures { λ _. ⌜ Walked (now (cols .entry)) (now (rows .entry)) (now (el .entry)) (now (eu .entry))
-        (now (level .entry)) (now (upright .entry)) s (now (out .entry)) (now (out .exit)) ⌝ }
+        (now (level .entry)) (now (upright .entry)) (now (il .entry)) (now (iu .entry)) s
+        (now (out .entry)) (now (out .exit)) ⌝ }
 {
     let nc = s.columns;
     let nr = s.rows;
@@ -368,6 +419,8 @@ pub fn walk(
             out,
             level,
             upright,
+            il,
+            iu,
             el,
             eu,
             cols,
@@ -385,6 +438,8 @@ pub fn walk(
         out,
         level,
         upright,
+        il,
+        iu,
         el,
         eu,
         cols,

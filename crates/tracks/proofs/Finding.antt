@@ -11,8 +11,8 @@ use Rattle.search.specs.Search.{Ready, Searched, Walked}
 use Rattle.search.specs.declared.Start.{Start}
 use Rattle.tracks.specs.Found.{Found}
 
-module _ (l : Layout) (S T : Point) (cols rows el eu lv up : List ℕ) (s : Start)
-    (k : Searched l S T cols rows el eu lv up s) (out : List ℕ) where
+module _ (l : Layout) (S T : Point) (cols rows el eu lv up il iu : List ℕ) (s : Start)
+    (k : Searched l S T cols rows el eu lv up il iu s) (out : List ℕ) where
   pub found-none : s .corners ≡ 0 → Found l S T out out 0
   found-none e =
       record {
@@ -26,11 +26,11 @@ module _ (l : Layout) (S T : Point) (cols rows el eu lv up : List ℕ) (s : Star
   found-many h =
       record { none = k .none; count = k .count; corners = λ a b. absurd (omega arith); untouched = λ a. refl }
 
-  pub walk-ready : (s .corners ≡ 0 → ⊥) → (cs : List Point) × Ready cs cols rows el eu lv up s
+  pub walk-ready : (s .corners ≡ 0 → ⊥) → (cs : List Point) × Ready cs cols rows el eu lv up il iu s
   walk-ready n = (cornersOf l S T, k .ready (omega arith))
 
   pub found-some : (out′ : List ℕ) → (s .corners ≡ 0 → ⊥) → s .corners ≤ 129
-      → Walked cols rows el eu lv up s out out′ → Found l S T out out′ (s .corners)
+      → Walked cols rows el eu lv up il iu s out out′ → Found l S T out out′ (s .corners)
   found-some out′ some few w =
       record {
         none = k .none;

@@ -75,8 +75,9 @@ pub fn append_legs(rows: &mut [u16], n: usize, net: u16, path: &[u16], k: usize)
     n + j
 }
 
-// Searches the first path of fewest bends between two free points. Answers how many corners it has, 0
-// where there is no path. Up to 129 corners, as many as a table can take, are written to the front of out.
+// Searches the first path of fewest bends and least length between two free points. Answers how many
+// corners it has, 0 where there is no path. Up to 129 corners, as many as a table can take, are written
+// to the front of out.
 pub fn find(
     out: &mut [u16],
     table: &[u16],
@@ -92,10 +93,13 @@ pub fn find(
     ensures { λ r. ⌜ Found (layoutOf (board .width) (board .height) (board .clearance) (board .entries)
         (now (table .entry))) (point sx sy) (point tx ty) (now (out .entry)) (now (out .exit)) r ⌝ }
 {
-    let mut level = [0u32; 67600];
-    let mut upright = [0u32; 67600];
-    let mut ql = [0u16; 135200];
-    let mut qu = [0u16; 135200];
+    // What these lists hold before the search does not matter.
+    let mut level = [1u32; 67600];
+    let mut upright = [1u32; 67600];
+    let mut il = [1u32; 67600];
+    let mut iu = [1u32; 67600];
+    let mut ql = [1u16; 135200];
+    let mut qu = [1u16; 135200];
     let mut cols = [0u16; 260];
     let mut rows = [0u16; 260];
     let mut el = [0u8; 67600];
@@ -104,6 +108,8 @@ pub fn find(
     let start = labels(
         &mut level,
         &mut upright,
+        &mut il,
+        &mut iu,
         &mut ql,
         &mut qu,
         &mut cols,
@@ -128,6 +134,17 @@ pub fn find(
     if 129 < k {
         return k;
     }
-    walk(out, &level, &upright, &el, &eu, &cols, &rows, start);
+    walk(
+        out,
+        &level,
+        &upright,
+        &il,
+        &iu,
+        &el,
+        &eu,
+        &cols,
+        &rows,
+        start,
+    );
     k
 }

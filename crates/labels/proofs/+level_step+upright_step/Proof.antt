@@ -1,6 +1,7 @@
 -- The two steps of the walk call each other by turns; the label falls by one at each call.
 use native.Mathlib.Omega.{arith}
 use mathlib.Core.Path.{_∙_}
+use Rattle.labels.proofs.Inks.{lean-low}
 use Rattle.labels.proofs.Walk.{grounded-next, level-done, level-more, upright-done, upright-more}
 use Prim.Native.Nat.{ℕ, _<_}
 use borrow.Fn.Kinds.{In}
@@ -11,35 +12,35 @@ use Rattle.labels.proofs.+level_step+upright_step.Lts-level_step as lev
 use Rattle.labels.proofs.upright_step.Reads as upright-step
 use Rattle.labels.proofs.upright_step.Kinds as upright-step-kinds
 use Rattle.labels.proofs.+level_step+upright_step.Lts-upright_step as upright-lts
-use Rattle.labels.proofs.next_stop.Reads as next-stop-reads
+use Rattle.labels.proofs.run.next_stop.Reads as next-stop-reads
 use Rattle.labels.proofs.put_corner.Reads as put-corner-reads
 use Rattle.labels.proofs.+level_step+upright_step.{statement}
 use Rattle.labels.proofs.+level_step+upright_step.Tie.{close}
 
-abbrev μ-level-step : Measures 7 level-step-kinds.ps ℕ
-μ-level-step κs a = a .1 .1 .1 .1 .1 .1 .1 .1 .1 .1 .1 .0
+abbrev μ-level-step : Measures 9 level-step-kinds.ps ℕ
+μ-level-step κs a = a .1 .1 .1 .1 .1 .1 .1 .1 .1 .1 .1 .1 .1 .0
 
-abbrev μ-upright-step : Measures 7 upright-step-kinds.ps ℕ
-μ-upright-step κs a = a .1 .1 .1 .1 .1 .1 .1 .1 .1 .1 .1 .0
+abbrev μ-upright-step : Measures 9 upright-step-kinds.ps ℕ
+μ-upright-step κs a = a .1 .1 .1 .1 .1 .1 .1 .1 .1 .1 .1 .1 .1 .0
 
-abbrev level-step-at : ℕ → In 7 level-step-kinds.ps
+abbrev level-step-at : ℕ → In 9 level-step-kinds.ps
 level-step-at t =
-    and 7 level-step-kinds.ps (is 7 level-step-kinds.ps μ-level-step t) level-step.Pre
+    and 9 level-step-kinds.ps (is 9 level-step-kinds.ps μ-level-step t) level-step.Pre
 
-abbrev level-step-below : ℕ → In 7 level-step-kinds.ps
+abbrev level-step-below : ℕ → In 9 level-step-kinds.ps
 level-step-below t =
-    and 7 level-step-kinds.ps (falls 7 level-step-kinds.ps _<_ μ-level-step t) level-step.Pre
+    and 9 level-step-kinds.ps (falls 9 level-step-kinds.ps _<_ μ-level-step t) level-step.Pre
 
-abbrev upright-step-at : ℕ → In 7 upright-step-kinds.ps
+abbrev upright-step-at : ℕ → In 9 upright-step-kinds.ps
 upright-step-at t =
-    and 7 upright-step-kinds.ps (is 7 upright-step-kinds.ps μ-upright-step t) upright-step.Pre
+    and 9 upright-step-kinds.ps (is 9 upright-step-kinds.ps μ-upright-step t) upright-step.Pre
 
-abbrev upright-step-below : ℕ → In 7 upright-step-kinds.ps
+abbrev upright-step-below : ℕ → In 9 upright-step-kinds.ps
 upright-step-below t =
     and
-    7
+    9
     upright-step-kinds.ps
-    (falls 7 upright-step-kinds.ps _<_ μ-upright-step t)
+    (falls 9 upright-step-kinds.ps _<_ μ-upright-step t)
     upright-step.Pre
 
 -- what the two steps know of the functions that they call, the other step among them, where the label is less
@@ -71,9 +72,48 @@ level-step-sub-next-stop : (t : ℕ) →
     level-lts.Need-sub-next-stop (level-calls t) (level-step-at t) level-step.Post
 level-step-sub-next-stop t c = omega arith
 
+level-step-mul-next-stop : (t : ℕ) →
+    level-lts.Need-mul-next-stop (level-calls t) (level-step-at t) level-step.Post
+level-step-mul-next-stop t c = let sized = c .before .before .before .before .before .before .before .before
+    .before .before .pre .1 .0 .sized in omega (arith, sized .row-lines .few)
+
+level-step-add-next-stop : (t : ℕ) →
+    level-lts.Need-add-next-stop (level-calls t) (level-step-at t) level-step.Post
+level-step-add-next-stop t c =
+    let sized = c .before .before .before .before .before .before .before .before .before .before .pre .1 .0 .sized in
+    omega (arith, sized .row-lines .few, sized .column-lines .few)
+
+level-step-mul-next-stop-2 : (t : ℕ) →
+    level-lts.Need-mul-next-stop-2 (level-calls t) (level-step-at t) level-step.Post
+level-step-mul-next-stop-2 t c =
+    let sized = c .before .before .before .before .before .before .before .before .before .before .pre .1 .0 .sized in
+    omega (arith, sized .row-lines .few, sized .column-lines .few)
+
+level-step-shared-slice-read-next-stop :
+    (t : ℕ) → level-lts.Need-shared-slice-read-next-stop (level-calls t) (level-step-at t) level-step.Post
+level-step-shared-slice-read-next-stop t c =
+    let sized = c .before .before .before .before .before .before .before .before .before .before .before
+    .pre .1 .0 .sized in
+    omega (arith, sized .row-lines .few, sized .column-lines .few, sized .level-inks)
+
 level-step-next-stop-requires : (t : ℕ) →
     level-lts.Need-next-stop-requires (level-calls t) (level-step-at t) level-step.Post
-level-step-next-stop-requires t c κs = omega arith
+level-step-next-stop-requires t c κs =
+    let at-if1 = c .before in
+    let at-start = at-if1 .before .before .before .before .before .before .before .before .before .before in
+    let pre = at-start .pre .1 in
+    let sized = pre .0 .sized in
+    let above = at-if1 .if1 .left in
+    let low = pre .0 .level-low .le (at-start .args .j) (pre .1 .1) (at-start .args .i) (pre .1 .0) in (
+      (
+        omega (arith, pre .1 .1, sized .row-lines .few),
+        sized .column-lines,
+        pre .1 .0,
+        omega (arith, low, pre .1 .3),
+        sized .level-edges,
+      ),
+      (sized .upright, sized .upright-inks, lean-low _ _ (pre .0 .upright-lean) (pre .1 .1) (omega (arith, pre .1 .2))),
+    )
 
 level-step-mul-put-corner : (t : ℕ) →
     level-lts.Need-mul-put-corner (level-calls t) (level-step-at t) level-step.Post
@@ -83,13 +123,13 @@ level-step-shared-slice-read-put-corner :
     (t : ℕ) → level-lts.Need-shared-slice-read-put-corner (level-calls t) (level-step-at t) level-step.Post
 level-step-shared-slice-read-put-corner t c =
     let at-stop = c .before .before in
-    let at-if1 = at-stop .before in
-    let at-start = at-if1 .before .before .before .before .before .before .before .before in
+    let at-if1 = at-stop .before .before in
+    let at-start = at-if1 .before .before .before .before .before .before .before .before .before .before in
     let pre = at-start .pre .1 in
     let stop = at-stop .next-stop .ensures in
     let above = at-if1 .if1 .left in
     let next = grounded-next _ _ _ _ (pre .0 .level) (pre .1 .1) (pre .1 .0) (pre .1 .2) above (pre .1 .3) stop in
-    omega (arith, pre .0 .cols-size)
+    omega (arith, pre .0 .sized .column-lines .fit)
 
 level-step-mul-put-corner-2 : (t : ℕ) →
     level-lts.Need-mul-put-corner-2 (level-calls t) (level-step-at t) level-step.Post
@@ -99,8 +139,9 @@ level-step-shared-slice-read-put-corner-2 :
     (t : ℕ) → level-lts.Need-shared-slice-read-put-corner-2 (level-calls t) (level-step-at t) level-step.Post
 level-step-shared-slice-read-put-corner-2 t c =
     let at-stop = c .before .before .before in
-    let at-start = at-stop .before .before .before .before .before .before .before .before .before in
-    omega (arith, at-start .pre .1)
+    let at-start = at-stop .before .before .before .before .before .before .before .before .before .before
+    .before .before in
+    omega (arith, at-start .pre .1 .1, at-start .pre .1 .0 .sized .row-lines .fit)
 
 level-step-put-corner-requires : (t : ℕ) →
     level-lts.Need-put-corner-requires (level-calls t) (level-step-at t) level-step.Post
@@ -118,8 +159,8 @@ level-step-upright-step-requires : (t : ℕ) →
     level-lts.Need-upright-step-requires (level-calls t) (level-step-at t) level-step.Post
 level-step-upright-step-requires t c κs =
     let at-stop = c .before .before .before .before .before .before .before in
-    let at-if1 = at-stop .before in
-    let at-start = at-if1 .before .before .before .before .before .before .before .before in
+    let at-if1 = at-stop .before .before in
+    let at-start = at-if1 .before .before .before .before .before .before .before .before .before .before in
     let pre = at-start .pre .1 in
     let stop = at-stop .next-stop .ensures in
     let above = at-if1 .if1 .left in
@@ -143,8 +184,8 @@ level-step-returns-2 : (t : ℕ) →
     level-lts.Need-returns-2 (level-calls t) (level-step-at t) level-step.Post
 level-step-returns-2 t c =
     let at-stop = c .before .before .before .before .before .before .before .before .before .before in
-    let at-if1 = at-stop .before in
-    let at-start = at-if1 .before .before .before .before .before .before .before .before in
+    let at-if1 = at-stop .before .before in
+    let at-start = at-if1 .before .before .before .before .before .before .before .before .before .before in
     let pre = at-start .pre .1 in
     let stop = at-stop .next-stop .ensures in
     let above = at-if1 .if1 .left in
@@ -161,9 +202,48 @@ upright-step-sub-next-stop : (t : ℕ) →
     upright-lts.Need-sub-next-stop (upright-calls t) (upright-step-at t) upright-step.Post
 upright-step-sub-next-stop t c = omega arith
 
+upright-step-mul-next-stop : (t : ℕ) →
+    upright-lts.Need-mul-next-stop (upright-calls t) (upright-step-at t) upright-step.Post
+upright-step-mul-next-stop t c = let sized = c .before .before .before .before .before .before .before .before
+    .before .before .pre .1 .0 .sized in omega (arith, sized .column-lines .few)
+
+upright-step-add-next-stop : (t : ℕ) →
+    upright-lts.Need-add-next-stop (upright-calls t) (upright-step-at t) upright-step.Post
+upright-step-add-next-stop t c =
+    let sized = c .before .before .before .before .before .before .before .before .before .before .pre .1 .0 .sized in
+    omega (arith, sized .column-lines .few, sized .row-lines .few)
+
+upright-step-mul-next-stop-2 : (t : ℕ) →
+    upright-lts.Need-mul-next-stop-2 (upright-calls t) (upright-step-at t) upright-step.Post
+upright-step-mul-next-stop-2 t c =
+    let sized = c .before .before .before .before .before .before .before .before .before .before .pre .1 .0 .sized in
+    omega (arith, sized .column-lines .few, sized .row-lines .few)
+
+upright-step-shared-slice-read-next-stop :
+    (t : ℕ) → upright-lts.Need-shared-slice-read-next-stop (upright-calls t) (upright-step-at t) upright-step.Post
+upright-step-shared-slice-read-next-stop t c =
+    let sized = c .before .before .before .before .before .before .before .before .before .before .before
+    .pre .1 .0 .sized in
+    omega (arith, sized .column-lines .few, sized .row-lines .few, sized .upright-inks)
+
 upright-step-next-stop-requires : (t : ℕ) →
     upright-lts.Need-next-stop-requires (upright-calls t) (upright-step-at t) upright-step.Post
-upright-step-next-stop-requires t c κs = omega arith
+upright-step-next-stop-requires t c κs =
+    let at-if1 = c .before in
+    let at-start = at-if1 .before .before .before .before .before .before .before .before .before .before in
+    let pre = at-start .pre .1 in
+    let sized = pre .0 .sized in
+    let above = at-if1 .if1 .left in
+    let low = pre .0 .upright-low .le (at-start .args .i) (pre .1 .0) (at-start .args .j) (pre .1 .1) in (
+      (
+        omega (arith, pre .1 .0, sized .column-lines .few),
+        sized .row-lines,
+        pre .1 .1,
+        omega (arith, low, pre .1 .3),
+        sized .upright-edges,
+      ),
+      (sized .level, sized .level-inks, lean-low _ _ (pre .0 .level-lean) (pre .1 .0) (omega (arith, pre .1 .2))),
+    )
 
 upright-step-mul-put-corner : (t : ℕ) →
     upright-lts.Need-mul-put-corner (upright-calls t) (upright-step-at t) upright-step.Post
@@ -173,8 +253,9 @@ upright-step-shared-slice-read-put-corner :
     (t : ℕ) → upright-lts.Need-shared-slice-read-put-corner (upright-calls t) (upright-step-at t) upright-step.Post
 upright-step-shared-slice-read-put-corner t c =
     let at-stop = c .before .before in
-    let at-start = at-stop .before .before .before .before .before .before .before .before .before in
-    omega (arith, at-start .pre .1)
+    let at-start = at-stop .before .before .before .before .before .before .before .before .before .before
+    .before .before in
+    omega (arith, at-start .pre .1 .1, at-start .pre .1 .0 .sized .column-lines .fit)
 
 upright-step-mul-put-corner-2 : (t : ℕ) →
     upright-lts.Need-mul-put-corner-2 (upright-calls t) (upright-step-at t) upright-step.Post
@@ -184,13 +265,13 @@ upright-step-shared-slice-read-put-corner-2 :
     (t : ℕ) → upright-lts.Need-shared-slice-read-put-corner-2 (upright-calls t) (upright-step-at t) upright-step.Post
 upright-step-shared-slice-read-put-corner-2 t c =
     let at-stop = c .before .before .before in
-    let at-if1 = at-stop .before in
-    let at-start = at-if1 .before .before .before .before .before .before .before .before in
+    let at-if1 = at-stop .before .before in
+    let at-start = at-if1 .before .before .before .before .before .before .before .before .before .before in
     let pre = at-start .pre .1 in
     let stop = at-stop .next-stop .ensures in
     let above = at-if1 .if1 .left in
     let next = grounded-next _ _ _ _ (pre .0 .upright) (pre .1 .0) (pre .1 .1) (pre .1 .2) above (pre .1 .3) stop in
-    omega (arith, pre .0 .rows-size)
+    omega (arith, pre .0 .sized .row-lines .fit)
 
 upright-step-put-corner-requires : (t : ℕ) →
     upright-lts.Need-put-corner-requires (upright-calls t) (upright-step-at t) upright-step.Post
@@ -208,8 +289,8 @@ upright-step-level-step-requires : (t : ℕ) →
     upright-lts.Need-level-step-requires (upright-calls t) (upright-step-at t) upright-step.Post
 upright-step-level-step-requires t c κs =
     let at-stop = c .before .before .before .before .before .before .before in
-    let at-if1 = at-stop .before in
-    let at-start = at-if1 .before .before .before .before .before .before .before .before in
+    let at-if1 = at-stop .before .before in
+    let at-start = at-if1 .before .before .before .before .before .before .before .before .before .before in
     let pre = at-start .pre .1 in
     let stop = at-stop .next-stop .ensures in
     let above = at-if1 .if1 .left in
@@ -233,8 +314,8 @@ upright-step-returns-2 : (t : ℕ) →
     upright-lts.Need-returns-2 (upright-calls t) (upright-step-at t) upright-step.Post
 upright-step-returns-2 t c =
     let at-stop = c .before .before .before .before .before .before .before .before .before .before in
-    let at-if1 = at-stop .before in
-    let at-start = at-if1 .before .before .before .before .before .before .before .before in
+    let at-if1 = at-stop .before .before in
+    let at-start = at-if1 .before .before .before .before .before .before .before .before .before .before in
     let pre = at-start .pre .1 in
     let stop = at-stop .next-stop .ensures in
     let above = at-if1 .if1 .left in
@@ -249,6 +330,10 @@ pub +level-step+upright-step-spec : {M : Type 1} → statement M
     level-step.Post
     (level-step-returns t)
     (level-step-sub-next-stop t)
+    (level-step-mul-next-stop t)
+    (level-step-add-next-stop t)
+    (level-step-mul-next-stop-2 t)
+    (level-step-shared-slice-read-next-stop t)
     (level-step-next-stop-requires t)
     (level-step-mul-put-corner t)
     (level-step-shared-slice-read-put-corner t)
@@ -265,6 +350,10 @@ pub +level-step+upright-step-spec : {M : Type 1} → statement M
     upright-step.Post
     (upright-step-returns t)
     (upright-step-sub-next-stop t)
+    (upright-step-mul-next-stop t)
+    (upright-step-add-next-stop t)
+    (upright-step-mul-next-stop-2 t)
+    (upright-step-shared-slice-read-next-stop t)
     (upright-step-next-stop-requires t)
     (upright-step-mul-put-corner t)
     (upright-step-shared-slice-read-put-corner t)

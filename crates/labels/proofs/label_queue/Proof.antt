@@ -1,23 +1,32 @@
 -- Place after place of the other queue is visited.
 use Prim.Native.Nat.{_+_, _-_, _*_, _≤_}
 use native.Mathlib.Omega.{arith}
-use mathlib.Core.Path.{refl}
+use mathlib.Core.Path.{_≡_, refl, _∙_}
+use lib.ListN.{length}
+use borrow.Author.Needs.{needs}
 use Rattle.labels.specs.Pass.{PassTo}
+use Rattle.labels.proofs.Inks.{lean-low}
 use Rattle.labels.proofs.Pass.{passing-none, passing-room, passing-more, passing-done}
 use Rattle.labels.proofs.label_queue.Statement.{statement}
 use Rattle.labels.proofs.label_queue.Tie as tie
 
 abbrev Inv-loop : tie.InvT-loop
-Inv-loop labels₀ queue₀ other edge from a b m n v q end₀ p₀ labels queue end p =
-    (a ≤ p) × (p ≤ b) × PassTo other edge from m n v a p labels₀ labels queue₀ queue q end
+Inv-loop labels₀ own₀ queue₀ ahead₀ behind₀ other inks edge cross from a b m n v q low end₀ p₀
+    labels own queue ahead behind end p =
+    (a ≤ p) × (p ≤ b) × (length ahead ≡ length ahead₀) × (length behind ≡ length behind₀)
+    × PassTo other inks edge cross from m n v a p labels₀ labels own₀ own queue₀ queue q end
 
 abbrev μ-loop : tie.MeasureT-loop
-μ-loop labels₀ queue₀ other edge from a b m n v q end₀ p₀ labels queue end p = b - p
+μ-loop labels₀ own₀ queue₀ ahead₀ behind₀ other inks edge cross from a b m n v q low end₀ p₀
+    labels own queue ahead behind end p = b - p
+
+floor-of-requires : tie.Need-floor-of-requires Inv-loop μ-loop
+floor-of-requires c κs = search needs
 
 loop-holds : tie.Need-loop-holds Inv-loop μ-loop
 loop-holds c =
-    let pre = c .before .before .before .before .before .pre in
-    (omega arith, omega (arith, pre .0 .3), passing-none _ _ _ _ _ _ _ _ _ _ (pre .1 .1 .1))
+    let pre = c .before .before .before .before .before .before .before .before .before .before .before .pre in
+    (omega arith, omega (arith, pre .0 .4), refl, refl, passing-none _ _ _ _ _ _ _ _ _ _ _ _ _ (pre .1 .1 .1 .1 .1))
 
 mul-k : tie.Need-mul-k Inv-loop μ-loop
 mul-k c = omega arith
@@ -29,7 +38,7 @@ shared-slice-read-k : tie.Need-shared-slice-read-k Inv-loop μ-loop
 shared-slice-read-k c = omega arith
 
 cast-k : tie.Need-cast-k Inv-loop μ-loop
-cast-k c = omega (arith, c .shared-slice-known4 .given (2 * c .before .before .loop .p))
+cast-k c = omega (arith, c .shared-slice-known6 .given (2 * c .before .before .loop .p))
 
 mul-line : tie.Need-mul-line Inv-loop μ-loop
 mul-line c = omega arith
@@ -44,49 +53,79 @@ shared-slice-read-line : tie.Need-shared-slice-read-line Inv-loop μ-loop
 shared-slice-read-line c = omega arith
 
 cast-line : tie.Need-cast-line Inv-loop μ-loop
-cast-line c = omega (arith, c .shared-slice-known5 .given (2 * c .before .before .before .loop .p + 1))
+cast-line c = omega (arith, c .shared-slice-known7 .given (2 * c .before .before .before .loop .p + 1))
 
 visit-requires : tie.Need-visit-requires Inv-loop μ-loop
 visit-requires c κs =
-    let at-loop = c .before .before .before .before .before in
-    let pre = at-loop .before .before .before .before .before .before .pre in
+    let at-loop = c .before .before .before .before .before .before .before .before in
+    let at-floor = at-loop .before in
+    let pre = at-floor .before .before .before .before .before .before .before .before .before .before .before .pre in
     let p = at-loop .loop .p in
-    let queued = pre .1 .1 .0 in (
+    let inv = at-loop .loop .inv in
+    let room = pre .1 .1 .0 in
+    let queued = pre .1 .1 .1 .1 .0 in
+    let line = queued .cross-in p (inv .0) (omega arith) in (
+      (omega (arith, line, pre .0), pre .0 .1, queued .line-in p (inv .0) (omega arith), pre .0 .3, room .0),
       (
-        omega (arith, queued .cross-in p (at-loop .loop .inv .0) (omega arith), pre .0),
-        pre .0 .1,
-        queued .line-in p (at-loop .loop .inv .0) (omega arith),
-        pre .0 .2,
-        pre .1 .0 .0,
+        (pre .1 .0 .0, pre .1 .0 .1, omega (arith, pre .1 .0 .2, inv .4 .inked .size)),
+        (
+          (lean-low _ _ (pre .1 .1 .1 .0 .1) line (pre .0 .2), queued .sound p (inv .0) (omega arith)),
+          (
+            (
+              passing-room (pre .1 .1 .1 .0 .0) (inv .4),
+              omega (arith, room .2, inv .2),
+              omega (arith, room .3, inv .3),
+            ),
+            (at-floor .floor-of .ensures, inv .4 .visited .full .joined _ line),
+          ),
+        ),
       ),
-      passing-room (pre .1 .0 .2) (at-loop .loop .inv .2),
     )
 
 add-p : tie.Need-add-p Inv-loop μ-loop
-add-p c = omega arith
+add-p c =
+    let at-test = c .before .before .before .before .before .before .before .before .before .before .before
+    .before .before .before .before .before .before .before in
+    let pre = at-test .before .before .before .before .before .before .before .before .before .before .before
+    .before .before .pre in
+    omega (arith, at-test .loop-test .taken, pre .0 .5)
 
 loop-less : tie.Need-loop-less Inv-loop μ-loop
 loop-less c = omega arith
 
 loop-again : tie.Need-loop-again Inv-loop μ-loop
 loop-again c =
-    let at-visit = c .before .before .before .before in
-    let at-loop = at-visit .before .before .before .before .before .before in
-    let pre = at-loop .before .before .before .before .before .before .pre in (
+    let at-visit = c .before .before .before .before .before .before .before .before .before .before in
+    let at-loop = at-visit .before .before .before .before .before .before .before .before .before in
+    let pre = at-loop .before .before .before .before .before .before .before .before .before .before .before
+    .before .pre in
+    let inv = at-loop .loop .inv in
+    let kept = at-visit .visit .kept .1 .1 .1 in (
       omega arith,
       omega arith,
-      passing-more (pre .0 .1) (at-loop .loop .inv .0) (omega arith) refl refl (pre .1 .1 .0) (at-loop .loop .inv .2)
+      kept .0 ∙ inv .2,
+      kept .1 .0 ∙ inv .3,
+      passing-more (pre .0 .1 .few) (inv .0) (omega arith) refl refl (pre .1 .1 .1 .1 .0) (inv .4)
           (at-visit .visit .ensures),
     )
 
 same-length : tie.Need-same-length Inv-loop μ-loop
-same-length c = c .before .loop .inv .2 .visited .size
+same-length c = c .before .loop .inv .4 .visited .size
 
 same-length-2 : tie.Need-same-length-2 Inv-loop μ-loop
-same-length-2 c = c .before .loop .inv .2 .added .size
+same-length-2 c = c .before .loop .inv .4 .inked .size
+
+same-length-3 : tie.Need-same-length-3 Inv-loop μ-loop
+same-length-3 c = c .before .loop .inv .4 .added .size
+
+same-length-4 : tie.Need-same-length-4 Inv-loop μ-loop
+same-length-4 c = c .before .loop .inv .2
+
+same-length-5 : tie.Need-same-length-5 Inv-loop μ-loop
+same-length-5 c = c .before .loop .inv .3
 
 returns : tie.Need-returns Inv-loop μ-loop
-returns c = passing-done (omega arith) (c .before .loop .inv .2)
+returns c = passing-done (omega arith) (c .before .loop .inv .4)
 
 pub label-queue-spec : {M : Type 1} → statement M
 label-queue-spec =
@@ -94,6 +133,7 @@ label-queue-spec =
     (tie.spec
     Inv-loop
     μ-loop
+    floor-of-requires
     loop-holds
     mul-k
     mul-k-2
@@ -110,4 +150,7 @@ label-queue-spec =
     loop-again
     same-length
     same-length-2
+    same-length-3
+    same-length-4
+    same-length-5
     returns)

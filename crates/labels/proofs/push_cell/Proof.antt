@@ -1,11 +1,7 @@
 -- A crossing without a label is one of those that the queue has room for.
-use Prim.Native.Nat.{_+_, _-_, _*_}
 use native.Mathlib.Omega.{arith}
-use lib.ListN.{length-set}
 use borrow.Author.Needs.{needs}
-use Rattle.grid.specs.Size.{stride}
 use Rattle.labels.specs.Pass.{Push}
-use Rattle.labels.proofs.Runs.{zeros-some}
 use Rattle.labels.proofs.push_cell.Statement.{statement}
 use Rattle.labels.proofs.push_cell.Tie as tie
 
@@ -24,56 +20,11 @@ slice-read-if1 c = omega arith
 returns : tie.Need-returns
 returns c = Push.stays (c .if1 .taken)
 
-add-labels : tie.Need-add-labels
-add-labels c = omega arith
-
-mul-labels : tie.Need-mul-labels
-mul-labels c = omega arith
-
-add-labels-2 : tie.Need-add-labels-2
-add-labels-2 c = omega arith
-
-mul-labels-2 : tie.Need-mul-labels-2
-mul-labels-2 c = omega arith
-
-slice-write-labels : tie.Need-slice-write-labels
-slice-write-labels c = omega arith
-
-cast-queue : tie.Need-cast-queue
-cast-queue c = omega arith
-
-mul-queue : tie.Need-mul-queue
-mul-queue c = omega arith
-
-mul-queue-2 : tie.Need-mul-queue-2
-mul-queue-2 c = omega arith
-
-slice-write-queue : tie.Need-slice-write-queue
-slice-write-queue c =
-    let args = c .before .before .args in
-    let at = args .line * stride + args .k in
-    omega (arith, zeros-some (args .labels .now) at (omega arith) (c .if1 .left))
-
-cast-queue-2 : tie.Need-cast-queue-2
-cast-queue-2 c = omega arith
-
-mul-queue-3 : tie.Need-mul-queue-3
-mul-queue-3 c = omega arith
-
-add-queue : tie.Need-add-queue
-add-queue c = omega arith
-
-mul-queue-4 : tie.Need-mul-queue-4
-mul-queue-4 c = omega arith
-
-slice-write-queue-2 : tie.Need-slice-write-queue-2
-slice-write-queue-2 c =
-    let args = c .before .before .args in
-    let at = args .line * stride + args .k in
-    simp length-set (omega (arith, zeros-some (args .labels .now) at (omega arith) (c .if1 .left)))
-
-add-result : tie.Need-add-result
-add-result c = omega arith
+put-cell-requires : tie.Need-put-cell-requires
+put-cell-requires c κs =
+    let at-test = c .before .before in
+    let pre = at-test .before .before .before .before .pre in
+    (pre .0, pre .1, pre .2, pre .3, at-test .if1 .left)
 
 same-length : tie.Need-same-length
 same-length c = search needs
@@ -82,7 +33,7 @@ same-length-2 : tie.Need-same-length-2
 same-length-2 c = search needs
 
 returns-2 : tie.Need-returns-2
-returns-2 c = Push.puts (c .if1 .left)
+returns-2 c = c .before .before .before .before .put-cell .ensures
 
 pub push-cell-spec : {M : Type 1} → statement M
 push-cell-spec =
@@ -93,21 +44,7 @@ push-cell-spec =
     mul-if1-2
     slice-read-if1
     returns
-    add-labels
-    mul-labels
-    add-labels-2
-    mul-labels-2
-    slice-write-labels
-    cast-queue
-    mul-queue
-    mul-queue-2
-    slice-write-queue
-    cast-queue-2
-    mul-queue-3
-    add-queue
-    mul-queue-4
-    slice-write-queue-2
-    add-result
+    put-cell-requires
     same-length
     same-length-2
     returns-2)

@@ -4,36 +4,54 @@ use native.Mathlib.Omega.{arith}
 use mathlib.Core.Path.{_≡_, refl, _∙_}
 use mathlib.Core.Logic.{inl, inr}
 use lib.ListN.{length}
+use borrow.Author.Needs.{needs}
+use Rattle.grid.specs.Size.{stride}
 use Rattle.labels.specs.Pass.{zeros}
 use Rattle.labels.specs.Rounds.{found}
 use Rattle.labels.proofs.Pass.{passing-room}
-use Rattle.labels.proofs.Going.{Going, going-start, going-second, going-next, going-stuck}
+use Rattle.labels.proofs.Going.{Going, going-start, going-second, going-lean, going-next, going-stuck}
 use Rattle.labels.proofs.rounds.Statement.{statement}
 use Rattle.labels.proofs.rounds.Tie as tie
 
 abbrev Inv-loop : tie.InvT-loop
-Inv-loop level₀ upright₀ ql₀ qu₀ el eu nc nr i j v₀ la₀ lb₀ ua₀ ub₀ level upright ql qu v la lb ua ub =
-    (length level ≡ length level₀) × (length upright ≡ length upright₀) × (length ql ≡ length ql₀)
-    × (length qu ≡ length qu₀) × Going el eu nc nr level₀ upright₀ v level upright ql qu la lb ua ub
+Inv-loop level₀ upright₀ il₀ iu₀ ql₀ qu₀ el eu cols rows nc nr i j ahead₀ behind₀ v₀ la₀ lb₀ ua₀ ub₀
+    level upright il iu ql qu ahead behind v la lb ua ub =
+    (length level ≡ length level₀) × (length upright ≡ length upright₀) × (length il ≡ length il₀)
+    × (length iu ≡ length iu₀) × (length ql ≡ length ql₀) × (length qu ≡ length qu₀) × (length ahead ≡ stride)
+    × (length behind ≡ stride)
+    × Going el eu cols rows nc nr level₀ upright₀ il₀ iu₀ v level upright il iu ql qu la lb ua ub
 
 abbrev μ-loop : tie.MeasureT-loop
-μ-loop level₀ upright₀ ql₀ qu₀ el eu nc nr i j v₀ la₀ lb₀ ua₀ ub₀ level upright ql qu v la lb ua ub =
+μ-loop level₀ upright₀ il₀ iu₀ ql₀ qu₀ el eu cols rows nc nr i j ahead₀ behind₀ v₀ la₀ lb₀ ua₀ ub₀
+    level upright il iu ql qu ahead behind v la lb ua ub =
     zeros level + zeros upright
 
 loop-holds : tie.Need-loop-holds Inv-loop μ-loop
-loop-holds c = (refl, refl, refl, refl, going-start _ _ (c .before .before .before .before .before .before .pre .1))
+loop-holds c =
+    let pre = c .before .before .before .before .before .before .before .before .before .before .pre in
+    (refl, refl, refl, refl, refl, refl, refl, refl, going-start _ _ _ _ (pre .1))
 
 mul-if1 : tie.Need-mul-if1 Inv-loop μ-loop
-mul-if1 c = omega arith
+mul-if1 c =
+    let sized = c .before .before .before .before .before .before .before .before .before .before .before .pre .0 .0 in
+    omega (arith, sized .column-lines .few, sized .row-lines .few)
 
 add-if1 : tie.Need-add-if1 Inv-loop μ-loop
-add-if1 c = omega arith
+add-if1 c =
+    let sized = c .before .before .before .before .before .before .before .before .before .before .before .pre .0 .0 in
+    omega (arith, sized .column-lines .few, sized .row-lines .few)
 
 mul-if1-2 : tie.Need-mul-if1-2 Inv-loop μ-loop
-mul-if1-2 c = omega arith
+mul-if1-2 c =
+    let sized = c .before .before .before .before .before .before .before .before .before .before .before .pre .0 .0 in
+    omega (arith, sized .column-lines .few, sized .row-lines .few)
 
 slice-read-if1 : tie.Need-slice-read-if1 Inv-loop μ-loop
-slice-read-if1 c = omega (arith, c .before .loop .inv .4 .level-room .labels)
+slice-read-if1 c =
+    let at-loop = c .before in
+    let sized = at-loop .before .before .before .before .before .before .before .before .before .before
+    .before .pre .0 .0 in
+    omega (arith, at-loop .loop .inv .8 .level-room .labels, sized .column-lines .few, sized .row-lines .few)
 
 same-length : tie.Need-same-length Inv-loop μ-loop
 same-length c = c .before .before .loop .inv .0
@@ -47,159 +65,281 @@ same-length-3 c = c .before .before .loop .inv .2
 same-length-4 : tie.Need-same-length-4 Inv-loop μ-loop
 same-length-4 c = c .before .before .loop .inv .3
 
-returns : tie.Need-returns Inv-loop μ-loop
-returns c =
-    let going = c .before .before .loop .inv .4 in
-    found {v = c .before .before .loop .v} (omega (arith, going .top)) (going .rounds) (inl (c .if1 .taken))
-
-mul-if2 : tie.Need-mul-if2 Inv-loop μ-loop
-mul-if2 c = omega arith
-
-add-if2 : tie.Need-add-if2 Inv-loop μ-loop
-add-if2 c = omega arith
-
-mul-if2-2 : tie.Need-mul-if2-2 Inv-loop μ-loop
-mul-if2-2 c = omega arith
-
-slice-read-if2 : tie.Need-slice-read-if2 Inv-loop μ-loop
-slice-read-if2 c = omega (arith, c .before .before .before .loop .inv .4 .upright-room .labels)
-
 same-length-5 : tie.Need-same-length-5 Inv-loop μ-loop
-same-length-5 c = c .before .before .before .before .loop .inv .0
+same-length-5 c = c .before .before .loop .inv .4
 
 same-length-6 : tie.Need-same-length-6 Inv-loop μ-loop
-same-length-6 c = c .before .before .before .before .loop .inv .1
+same-length-6 c = c .before .before .loop .inv .5
+
+returns : tie.Need-returns Inv-loop μ-loop
+returns c =
+    let at-loop = c .before .before in
+    let going = at-loop .loop .inv .8 in
+    found {v = at-loop .loop .v} (omega (arith, going .top)) (going .rounds) (inl (c .if1 .taken))
+
+mul-if2 : tie.Need-mul-if2 Inv-loop μ-loop
+mul-if2 c =
+    let sized = c .before .before .before .before .before .before .before .before .before .before .before
+    .before .before .pre .0 .0 in
+    omega (arith, sized .column-lines .few, sized .row-lines .few)
+
+add-if2 : tie.Need-add-if2 Inv-loop μ-loop
+add-if2 c =
+    let sized = c .before .before .before .before .before .before .before .before .before .before .before
+    .before .before .pre .0 .0 in
+    omega (arith, sized .column-lines .few, sized .row-lines .few)
+
+mul-if2-2 : tie.Need-mul-if2-2 Inv-loop μ-loop
+mul-if2-2 c =
+    let sized = c .before .before .before .before .before .before .before .before .before .before .before
+    .before .before .pre .0 .0 in
+    omega (arith, sized .column-lines .few, sized .row-lines .few)
+
+slice-read-if2 : tie.Need-slice-read-if2 Inv-loop μ-loop
+slice-read-if2 c =
+    let at-loop = c .before .before .before in
+    let sized = at-loop .before .before .before .before .before .before .before .before .before .before
+    .before .pre .0 .0 in
+    omega (arith, at-loop .loop .inv .8 .upright-room .labels, sized .column-lines .few, sized .row-lines .few)
 
 same-length-7 : tie.Need-same-length-7 Inv-loop μ-loop
-same-length-7 c = c .before .before .before .before .loop .inv .2
+same-length-7 c = c .before .before .before .before .loop .inv .0
 
 same-length-8 : tie.Need-same-length-8 Inv-loop μ-loop
-same-length-8 c = c .before .before .before .before .loop .inv .3
+same-length-8 c = c .before .before .before .before .loop .inv .1
+
+same-length-9 : tie.Need-same-length-9 Inv-loop μ-loop
+same-length-9 c = c .before .before .before .before .loop .inv .2
+
+same-length-10 : tie.Need-same-length-10 Inv-loop μ-loop
+same-length-10 c = c .before .before .before .before .loop .inv .3
+
+same-length-11 : tie.Need-same-length-11 Inv-loop μ-loop
+same-length-11 c = c .before .before .before .before .loop .inv .4
+
+same-length-12 : tie.Need-same-length-12 Inv-loop μ-loop
+same-length-12 c = c .before .before .before .before .loop .inv .5
 
 returns-2 : tie.Need-returns-2 Inv-loop μ-loop
 returns-2 c =
     let at-loop = c .before .before .before .before in
-    let going = at-loop .loop .inv .4 in
+    let going = at-loop .loop .inv .8 in
     found {v = at-loop .loop .v} (omega (arith, going .top)) (going .rounds) (inr (c .if2 .taken))
+
+slice-aggregate-label-queue : tie.Need-slice-aggregate-label-queue Inv-loop μ-loop
+slice-aggregate-label-queue c = search needs
+
+slice-aggregate-label-queue-2 : tie.Need-slice-aggregate-label-queue-2 Inv-loop μ-loop
+slice-aggregate-label-queue-2 c = search needs
 
 label-queue-requires : tie.Need-label-queue-requires Inv-loop μ-loop
 label-queue-requires c κs =
-    let at-loop = c .before .before .before .before .before .before .before .before in
-    let sized = at-loop .before .before .before .before .before .before .before .pre .0 .0 in
-    let going = at-loop .loop .inv .4 in (
+    let at-loop = c .before .before .before .before .before .before .before .before .before .before .before .before in
+    let sized = at-loop .before .before .before .before .before .before .before .before .before .before
+    .before .pre .0 .0 in
+    let inv = at-loop .loop .inv in
+    let going = inv .8 in (
       (
-        sized .few-rows,
-        sized .few-cols,
+        sized .row-lines .few,
+        sized .column-lines,
+        going .pos,
         omega (arith, going .top),
         going .upright-order,
         omega (arith, going .upright-room .left),
       ),
-      ((sized .level-edges, going .upright-room .places, going .level-room), (going .upright-queue, going .level-full)),
+      (
+        (
+          going .upright-room .labels,
+          omega (arith, sized .upright-inks, inv .3),
+          omega (arith, sized .level-inks, inv .2),
+        ),
+        (
+          (sized .level-edges, going .upright-room .places, omega (arith, inv .6), omega (arith, inv .7)),
+          ((going .level-room, going .upright-lean), (going .upright-queue, going .level-full)),
+        ),
+      ),
     )
+
+slice-aggregate-label-queue-3 : tie.Need-slice-aggregate-label-queue-3 Inv-loop μ-loop
+slice-aggregate-label-queue-3 c = search needs
+
+slice-aggregate-label-queue-4 : tie.Need-slice-aggregate-label-queue-4 Inv-loop μ-loop
+slice-aggregate-label-queue-4 c = search needs
 
 label-queue-requires-2 : tie.Need-label-queue-requires-2 Inv-loop μ-loop
 label-queue-requires-2 c κs =
-    let at-first = c .before .before .before .before .before .before .before .before in
-    let at-loop = at-first .before .before .before .before .before .before .before .before .before in
-    let sized = at-loop .before .before .before .before .before .before .before .pre .0 .0 in
-    let going = at-loop .loop .inv .4 in
-    let first = at-first .label-queue .ensures in (
+    let at-first = c .before .before .before .before .before .before .before .before .before .before .before
+    .before .before .before .before .before in
+    let at-loop = at-first .before .before .before .before .before .before .before .before .before .before
+    .before .before .before in
+    let sized = at-loop .before .before .before .before .before .before .before .before .before .before
+    .before .pre .0 .0 in
+    let inv = at-loop .loop .inv in
+    let going = inv .8 in
+    let C = sized .column-lines in
+    let R = sized .row-lines in
+    let first = at-first .label-queue .ensures in
+    let kept = at-first .label-queue .kept .1 .1 .1 in (
       (
-        sized .few-cols,
-        sized .few-rows,
+        C .few,
+        R,
+        going .pos,
         omega (arith, going .top),
         going .level-order,
         omega (arith, going .level-room .left),
       ),
       (
-        (sized .upright-edges, omega (arith, going .level-room .places, first .added .size), going .upright-room),
-        (going-second going first, going .upright-full),
+        (
+          omega (arith, going .level-room .labels, first .visited .size),
+          omega (arith, sized .level-inks, inv .2, first .inked .size),
+          omega (arith, sized .upright-inks, inv .3),
+        ),
+        (
+          (
+            sized .upright-edges,
+            omega (arith, going .level-room .places, first .added .size),
+            omega (arith, inv .6, kept .0),
+            omega (arith, inv .7, kept .1 .0),
+          ),
+          ((going .upright-room, going-lean C R going first), (going-second C R going first, going .upright-full)),
+        ),
       ),
     )
 
 add-if3 : tie.Need-add-if3 Inv-loop μ-loop
 add-if3 c =
-    let at-second = c .before .before .before .before in
-    let at-first = at-second .before .before .before .before .before .before .before .before .before in
-    let going = at-first .before .before .before .before .before .before .before .before .before .loop .inv .4 in
+    let at-second = c .before .before .before .before .before .before .before .before in
+    let at-first = at-second .before .before .before .before .before .before .before .before .before .before
+    .before .before .before .before .before .before .before in
+    let at-loop = at-first .before .before .before .before .before .before .before .before .before .before
+    .before .before .before in
+    let going = at-loop .loop .inv .8 in
     let level = passing-room (going .level-room) (at-first .label-queue .ensures) in
     let upright = passing-room (going .upright-room) (at-second .label-queue2 .ensures) in
     omega (arith, level .left, upright .left, going .level-room .left, going .upright-room .left)
 
 add-if3-2 : tie.Need-add-if3-2 Inv-loop μ-loop
 add-if3-2 c =
-    let at-second = c .before .before .before .before in
-    let at-first = at-second .before .before .before .before .before .before .before .before .before in
-    let going = at-first .before .before .before .before .before .before .before .before .before .loop .inv .4 in
+    let at-second = c .before .before .before .before .before .before .before .before in
+    let at-first = at-second .before .before .before .before .before .before .before .before .before .before
+    .before .before .before .before .before .before .before in
+    let at-loop = at-first .before .before .before .before .before .before .before .before .before .before
+    .before .before .before in
+    let going = at-loop .loop .inv .8 in
     let level = passing-room (going .level-room) (at-first .label-queue .ensures) in
     let upright = passing-room (going .upright-room) (at-second .label-queue2 .ensures) in
     omega (arith, level .left, upright .left, going .level-room .left, going .upright-room .left)
 
-same-length-9 : tie.Need-same-length-9 Inv-loop μ-loop
-same-length-9 c =
-    let at-second = c .before .before .before .before .before in
-    let at-first = at-second .before .before .before .before .before .before .before .before .before in
-    let at-loop = at-first .before .before .before .before .before .before .before .before .before in
+same-length-13 : tie.Need-same-length-13 Inv-loop μ-loop
+same-length-13 c =
+    let at-second = c .before .before .before .before .before .before .before .before .before in
+    let at-first = at-second .before .before .before .before .before .before .before .before .before .before
+    .before .before .before .before .before .before .before in
+    let at-loop = at-first .before .before .before .before .before .before .before .before .before .before
+    .before .before .before in
     at-first .label-queue .ensures .visited .size ∙ at-loop .loop .inv .0
 
-same-length-10 : tie.Need-same-length-10 Inv-loop μ-loop
-same-length-10 c =
-    let at-second = c .before .before .before .before .before in
-    let at-first = at-second .before .before .before .before .before .before .before .before .before in
-    let at-loop = at-first .before .before .before .before .before .before .before .before .before in
+same-length-14 : tie.Need-same-length-14 Inv-loop μ-loop
+same-length-14 c =
+    let at-second = c .before .before .before .before .before .before .before .before .before in
+    let at-first = at-second .before .before .before .before .before .before .before .before .before .before
+    .before .before .before .before .before .before .before in
+    let at-loop = at-first .before .before .before .before .before .before .before .before .before .before
+    .before .before .before in
     at-second .label-queue2 .ensures .visited .size ∙ at-loop .loop .inv .1
 
-same-length-11 : tie.Need-same-length-11 Inv-loop μ-loop
-same-length-11 c =
-    let at-second = c .before .before .before .before .before in
-    let at-first = at-second .before .before .before .before .before .before .before .before .before in
-    let at-loop = at-first .before .before .before .before .before .before .before .before .before in
-    at-first .label-queue .ensures .added .size ∙ at-loop .loop .inv .2
+same-length-15 : tie.Need-same-length-15 Inv-loop μ-loop
+same-length-15 c =
+    let at-second = c .before .before .before .before .before .before .before .before .before in
+    let at-first = at-second .before .before .before .before .before .before .before .before .before .before
+    .before .before .before .before .before .before .before in
+    let at-loop = at-first .before .before .before .before .before .before .before .before .before .before
+    .before .before .before in
+    at-first .label-queue .ensures .inked .size ∙ at-loop .loop .inv .2
 
-same-length-12 : tie.Need-same-length-12 Inv-loop μ-loop
-same-length-12 c =
-    let at-second = c .before .before .before .before .before in
-    let at-first = at-second .before .before .before .before .before .before .before .before .before in
-    let at-loop = at-first .before .before .before .before .before .before .before .before .before in
-    at-second .label-queue2 .ensures .added .size ∙ at-loop .loop .inv .3
+same-length-16 : tie.Need-same-length-16 Inv-loop μ-loop
+same-length-16 c =
+    let at-second = c .before .before .before .before .before .before .before .before .before in
+    let at-first = at-second .before .before .before .before .before .before .before .before .before .before
+    .before .before .before .before .before .before .before in
+    let at-loop = at-first .before .before .before .before .before .before .before .before .before .before
+    .before .before .before in
+    at-second .label-queue2 .ensures .inked .size ∙ at-loop .loop .inv .3
+
+same-length-17 : tie.Need-same-length-17 Inv-loop μ-loop
+same-length-17 c =
+    let at-second = c .before .before .before .before .before .before .before .before .before in
+    let at-first = at-second .before .before .before .before .before .before .before .before .before .before
+    .before .before .before .before .before .before .before in
+    let at-loop = at-first .before .before .before .before .before .before .before .before .before .before
+    .before .before .before in
+    at-first .label-queue .ensures .added .size ∙ at-loop .loop .inv .4
+
+same-length-18 : tie.Need-same-length-18 Inv-loop μ-loop
+same-length-18 c =
+    let at-second = c .before .before .before .before .before .before .before .before .before in
+    let at-first = at-second .before .before .before .before .before .before .before .before .before .before
+    .before .before .before .before .before .before .before in
+    let at-loop = at-first .before .before .before .before .before .before .before .before .before .before
+    .before .before .before in
+    at-second .label-queue2 .ensures .added .size ∙ at-loop .loop .inv .5
 
 returns-3 : tie.Need-returns-3 Inv-loop μ-loop
 returns-3 c =
-    let at-second = c .before .before .before .before .before in
-    let at-first = at-second .before .before .before .before .before .before .before .before .before in
-    let at-if2 = at-first .before .before .before .before .before in
+    let at-second = c .before .before .before .before .before .before .before .before .before in
+    let at-first = at-second .before .before .before .before .before .before .before .before .before .before
+    .before .before .before .before .before .before .before in
+    let at-if2 = at-first .before .before .before .before .before .before .before .before .before in
     let at-if1 = at-if2 .before .before in
-    let going = at-if1 .before .before .loop .inv .4 in
-    going-stuck going (at-first .label-queue .ensures) (at-second .label-queue2 .ensures) _ _
-    (c .if3 .taken) (at-if1 .if1 .left) (at-if2 .if2 .left)
+    let at-loop = at-if1 .before .before in
+    let sized = at-loop .before .before .before .before .before .before .before .before .before .before
+    .before .pre .0 .0 in
+    going-stuck (sized .column-lines) (sized .row-lines) (at-loop .loop .inv .8) (at-first .label-queue .ensures)
+    (at-second .label-queue2 .ensures) _ _ (c .if3 .taken) (at-if1 .if1 .left) (at-if2 .if2 .left)
 
 add-v : tie.Need-add-v Inv-loop μ-loop
 add-v c =
-    let at-second = c .before .before .before .before .before in
-    let at-first = at-second .before .before .before .before .before .before .before .before .before in
-    let at-loop = at-first .before .before .before .before .before .before .before .before .before in
-    omega (arith, at-loop .loop .inv .4 .top)
+    let at-second = c .before .before .before .before .before .before .before .before .before in
+    let at-first = at-second .before .before .before .before .before .before .before .before .before .before
+    .before .before .before .before .before .before .before in
+    let at-loop = at-first .before .before .before .before .before .before .before .before .before .before
+    .before .before .before in
+    omega (arith, at-loop .loop .inv .8 .top)
 
 loop-less : tie.Need-loop-less Inv-loop μ-loop
 loop-less c =
-    let at-second = c .before .before .before .before .before in
-    let at-first = at-second .before .before .before .before .before .before .before .before .before in
+    let at-second = c .before .before .before .before .before .before .before .before .before in
+    let at-first = at-second .before .before .before .before .before .before .before .before .before .before
+    .before .before .before .before .before .before .before in
+    let at-loop = at-first .before .before .before .before .before .before .before .before .before .before
+    .before .before .before in
     let first = at-first .label-queue .ensures in
     let second = at-second .label-queue2 .ensures in
     omega (arith, c .if3 .left, first .visited .count, first .added .grew, second .visited .count, second .added .grew)
 
 loop-again : tie.Need-loop-again Inv-loop μ-loop
 loop-again c =
-    let at-second = c .before .before .before .before .before in
-    let at-first = at-second .before .before .before .before .before .before .before .before .before in
+    let at-second = c .before .before .before .before .before .before .before .before .before in
+    let at-first = at-second .before .before .before .before .before .before .before .before .before .before
+    .before .before .before .before .before .before .before in
+    let at-loop = at-first .before .before .before .before .before .before .before .before .before .before
+    .before .before .before in
     let first = at-first .label-queue .ensures in
     let second = at-second .label-queue2 .ensures in
-    let inv = at-first .before .before .before .before .before .before .before .before .before .loop .inv in (
+    let kept = at-first .label-queue .kept .1 .1 .1 in
+    let kept2 = at-second .label-queue2 .kept .1 .1 .1 in
+    let sized = at-loop .before .before .before .before .before .before .before .before .before .before
+    .before .pre .0 .0 in
+    let inv = at-loop .loop .inv in (
       first .visited .size ∙ inv .0,
       second .visited .size ∙ inv .1,
-      first .added .size ∙ inv .2,
-      second .added .size ∙ inv .3,
-      going-next (inv .4) first second (c .if3 .left),
+      first .inked .size ∙ inv .2,
+      second .inked .size ∙ inv .3,
+      first .added .size ∙ inv .4,
+      second .added .size ∙ inv .5,
+      kept2 .0 ∙ (kept .0 ∙ inv .6),
+      kept2 .1 .0 ∙ (kept .1 .0 ∙ inv .7),
+      going-next (sized .column-lines) (sized .row-lines) (inv .8) first second (c .if3 .left),
     )
 
 pub rounds-spec : {M : Type 1} → statement M
@@ -217,24 +357,34 @@ rounds-spec =
     same-length-2
     same-length-3
     same-length-4
+    same-length-5
+    same-length-6
     returns
     mul-if2
     add-if2
     mul-if2-2
     slice-read-if2
-    same-length-5
-    same-length-6
     same-length-7
     same-length-8
-    returns-2
-    label-queue-requires
-    label-queue-requires-2
-    add-if3
-    add-if3-2
     same-length-9
     same-length-10
     same-length-11
     same-length-12
+    returns-2
+    slice-aggregate-label-queue
+    slice-aggregate-label-queue-2
+    label-queue-requires
+    slice-aggregate-label-queue-3
+    slice-aggregate-label-queue-4
+    label-queue-requires-2
+    add-if3
+    add-if3-2
+    same-length-13
+    same-length-14
+    same-length-15
+    same-length-16
+    same-length-17
+    same-length-18
     returns-3
     add-v
     loop-less

@@ -20,54 +20,64 @@ index-of-requires-4 c κs = search needs
 
 seed-requires : tie.Need-seed-requires
 seed-requires c κs =
-    let at-tj = c .before .before in
+    let at-tj = c .before .before .before in
     let at-ti = at-tj .before in
-    let start = at-ti .before .before .before .before .before .before .before .before .before .before .before in (
+    let start = at-ti .before .before .before .before .before .before .before .before .before .before .before
+    .before .before in (
       omega (arith, at-tj .index-of4 .ensures .below, start .pre .0 .3 .few),
       omega (arith, at-ti .index-of3 .ensures .below, start .pre .0 .2 .few),
       start .pre .1 .0 .level,
+      start .pre .1 .0 .level-inks,
       start .pre .1 .0 .level-queue,
     )
 
 seed-requires-2 : tie.Need-seed-requires-2
 seed-requires-2 c κs =
-    let at-tj = c .before .before .before .before .before .before .before .before .before in
+    let at-tj = c .before .before .before .before .before .before .before .before .before .before .before
+    .before .before in
     let at-ti = at-tj .before in
-    let start = at-ti .before .before .before .before .before .before .before .before .before .before .before in (
+    let start = at-ti .before .before .before .before .before .before .before .before .before .before .before
+    .before .before in (
       omega (arith, at-ti .index-of3 .ensures .below, start .pre .0 .2 .few),
       omega (arith, at-tj .index-of4 .ensures .below, start .pre .0 .3 .few),
       start .pre .1 .0 .upright,
+      start .pre .1 .0 .upright-inks,
       start .pre .1 .0 .upright-queue,
     )
 
 rounds-requires : tie.Need-rounds-requires
 rounds-requires c κs =
-    let at-upright = c .before .before .before .before .before .before .before .before in
-    let at-level = at-upright .before .before .before .before .before .before .before in
-    let at-tj = at-level .before .before .before in
+    let at-upright = c .before .before .before .before .before .before .before .before .before .before .before
+    .before in
+    let at-level = at-upright .before .before .before .before .before .before .before .before .before .before in
+    let at-tj = at-level .before .before .before .before in
     let at-ti = at-tj .before in
     let at-j = at-ti .before in
     let at-i = at-j .before in
-    let start = at-i .before .before .before .before .before .before .before .before .before in
+    let start = at-i .before .before .before .before .before .before .before .before .before .before .before in
+    let room = start .pre .1 .0 in
+    let cols = start .pre .0 .2 in
+    let rows = start .pre .0 .3 in
     let level = at-level .seed in
     let upright = at-upright .seed2 in (
       (
         record {
-          few-cols = start .pre .0 .2 .few;
-          few-rows = start .pre .0 .3 .few;
-          level = omega (arith, start .pre .1 .0 .level, level .kept .0);
-          upright = omega (arith, start .pre .1 .0 .upright, upright .kept .0);
+          column-lines = cols;
+          row-lines = rows;
+          level = omega (arith, room .level, level .kept .0);
+          upright = omega (arith, room .upright, upright .kept .0);
+          level-inks = omega (arith, room .level-inks, level .kept .1 .0);
+          upright-inks = omega (arith, room .upright-inks, upright .kept .1 .0);
           level-edges = start .pre .0 .0;
           upright-edges = start .pre .0 .1;
         },
         at-i .index-of .ensures .below,
         at-j .index-of2 .ensures .below,
       ),
-      begun (start .pre .0 .2 .few) (start .pre .0 .3 .few) (at-ti .index-of3 .ensures .below)
-          (at-tj .index-of4 .ensures .below) (start .pre .1 .0 .level ∙ sym (level .kept .0))
-          (start .pre .1 .0 .upright ∙ sym (upright .kept .0))
-          (omega (arith, start .pre .1 .0 .level-queue, level .kept .1 .0))
-          (omega (arith, start .pre .1 .0 .upright-queue, upright .kept .1 .0)) (level .ensures) (upright .ensures),
+      begun (cols .few) (rows .few) (at-ti .index-of3 .ensures .below) (at-tj .index-of4 .ensures .below)
+          (room .level ∙ sym (level .kept .0)) (room .upright ∙ sym (upright .kept .0))
+          (omega (arith, room .level-queue, level .kept .1 .1 .0))
+          (omega (arith, room .upright-queue, upright .kept .1 .1 .0)) (level .ensures) (upright .ensures),
     )
 
 same-length : tie.Need-same-length
@@ -82,12 +92,19 @@ same-length-3 c = search needs
 same-length-4 : tie.Need-same-length-4
 same-length-4 c = search needs
 
+same-length-5 : tie.Need-same-length-5
+same-length-5 c = search needs
+
+same-length-6 : tie.Need-same-length-6
+same-length-6 c = search needs
+
 returns : tie.Need-returns
 returns c =
-    let at-rounds = c .before .before .before .before .before .before .before .before in
-    let at-upright = at-rounds .before .before .before .before .before .before .before .before .before in
-    let at-level = at-upright .before .before .before .before .before .before .before in
-    let at-tj = at-level .before .before .before in
+    let at-rounds = c .before .before .before .before .before .before .before .before .before .before .before .before in
+    let at-upright = at-rounds .before .before .before .before .before .before .before .before .before .before
+    .before .before .before in
+    let at-level = at-upright .before .before .before .before .before .before .before .before .before .before in
+    let at-tj = at-level .before .before .before .before in
     let at-ti = at-tj .before in
     let at-j = at-ti .before in
     let at-i = at-j .before in
@@ -96,8 +113,10 @@ returns c =
       tj = at-tj .index-of4 .result;
       l₀ = at-level .seed .last .0;
       u₀ = at-upright .seed2 .last .0;
-      ql = at-level .seed .last .1 .0;
-      qu = at-upright .seed2 .last .1 .0;
+      wl₀ = at-level .seed .last .1 .0;
+      wu₀ = at-upright .seed2 .last .1 .0;
+      ql = at-level .seed .last .1 .1 .0;
+      qu = at-upright .seed2 .last .1 .1 .0;
       i-in = at-i .index-of .ensures .below;
       j-in = at-j .index-of2 .ensures .below;
       i-at = at-i .index-of .ensures .at;
@@ -126,4 +145,6 @@ label-spec =
     same-length-2
     same-length-3
     same-length-4
+    same-length-5
+    same-length-6
     returns)

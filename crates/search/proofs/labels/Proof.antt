@@ -11,47 +11,48 @@ build-requires c κs = search needs
 
 label-requires : tie.Need-label-requires
 label-requires c κs =
-    let at-build = c .before .before .before .before .before .before .before .before .before
+    let at-build = c .before .before .before .before .before .before .before .before .before .before
+    .before .before .before .before .before .before .before .before .before .before in
+    let start = at-build .before .before .before .before .before .before .before .before .before
     .before .before .before .before .before .before .before .before .before in
-    let start = at-build .before .before .before .before .before .before .before .before
-    .before .before .before .before .before .before .before .before in
     let grid = at-build .build in
-    let room = start .pre .1 .0 in
-    let cols = grid .ensures .column-axis .fits in
-    let rows = grid .ensures .row-axis .fits in (
+    let room = start .pre .1 .0 in (
       (
         omega (arith, room .level-edges, grid .kept .1 .1 .0),
         omega (arith, room .upright-edges, grid .kept .1 .1 .1 .0),
-        cols,
-        rows,
+        grid .ensures .column-axis .fits,
+        grid .ensures .row-axis .fits,
       ),
       (start .pre .1 .1, points-on (grid .ensures) (start .pre .0)),
     )
 
 start-at-requires : tie.Need-start-at-requires
 start-at-requires c κs =
-    let at-label = c .before .before .before .before .before .before .before .before .before .before .before in
-    let at-build = at-label .before .before .before .before .before .before .before .before .before .before
+    let at-label = c .before .before .before .before .before .before .before .before .before
     .before .before .before .before .before .before .before .before .before in
-    let start = at-build .before .before .before .before .before .before .before .before
-    .before .before .before .before .before .before .before .before in
+    let at-build = at-label .before .before .before .before .before .before .before .before .before .before
+    .before .before .before .before .before .before .before .before .before .before .before in
+    let start = at-build .before .before .before .before .before .before .before .before .before
+    .before .before .before .before .before .before .before .before .before in
     let grid = at-build .build in
-    let labelling = at-label .label .ensures in
-    let room = start .pre .1 .0 in
-    let cols = grid .ensures .column-axis .fits in
-    let rows = grid .ensures .row-axis .fits in (
+    let label = at-label .label in
+    let lists = start .pre .1 .1 in
+    let edges = start .pre .1 .0 .upright-edges in
+    let cols = grid .ensures .column-axis .fits in (
       (
-        rows .few,
-        omega (arith, labelling .i-in, cols .few),
-        labelling .j-in,
-        omega (arith, start .pre .1 .1 .level, at-label .label .kept .0),
+        grid .ensures .row-axis .fits,
+        omega (arith, label .ensures .i-in, cols .few),
+        label .ensures .j-in,
+        omega (arith, lists .level, label .kept .0),
       ),
       (
         (
-          omega (arith, start .pre .1 .1 .upright, at-label .label .kept .1 .0),
-          omega (arith, room .upright-edges, grid .kept .1 .1 .1 .0),
+          omega (arith, lists .upright, label .kept .1 .0),
+          omega (arith, lists .level-inks, label .kept .1 .1 .0),
+          omega (arith, lists .upright-inks, label .kept .1 .1 .1 .0),
+          omega (arith, edges, grid .kept .1 .1 .1 .0),
         ),
-        found-some (labelling .ended),
+        found-some (start .pre .0) (grid .ensures) (label .ensures),
       ),
     )
 
@@ -68,51 +69,68 @@ same-length-4 : tie.Need-same-length-4
 same-length-4 c = search needs
 
 same-length-5 : tie.Need-same-length-5
-same-length-5 c =
-    let at-label = c .before .before .before .before .before .before .before .before .before .before .before .before in
-    let at-build = at-label .before .before .before .before .before .before .before .before .before .before
-    .before .before .before .before .before .before .before .before .before in
-    at-build .build .kept .0
+same-length-5 c = search needs
 
 same-length-6 : tie.Need-same-length-6
-same-length-6 c =
-    let at-label = c .before .before .before .before .before .before .before .before .before .before .before .before in
-    let at-build = at-label .before .before .before .before .before .before .before .before .before .before
-    .before .before .before .before .before .before .before .before .before in
-    at-build .build .kept .1 .0
+same-length-6 c = search needs
 
 same-length-7 : tie.Need-same-length-7
 same-length-7 c =
-    let at-label = c .before .before .before .before .before .before .before .before .before .before .before .before in
+    let at-label = c .before .before .before .before .before .before .before .before .before
+    .before .before .before .before .before .before .before .before .before .before in
     let at-build = at-label .before .before .before .before .before .before .before .before .before .before
-    .before .before .before .before .before .before .before .before .before in
-    at-build .build .kept .1 .1 .0
+    .before .before .before .before .before .before .before .before .before .before .before in
+    at-build .build .kept .0
 
 same-length-8 : tie.Need-same-length-8
 same-length-8 c =
-    let at-label = c .before .before .before .before .before .before .before .before .before .before .before .before in
+    let at-label = c .before .before .before .before .before .before .before .before .before
+    .before .before .before .before .before .before .before .before .before .before in
     let at-build = at-label .before .before .before .before .before .before .before .before .before .before
-    .before .before .before .before .before .before .before .before .before in
-    at-build .build .kept .1 .1 .1 .0
+    .before .before .before .before .before .before .before .before .before .before .before in
+    at-build .build .kept .1 .0
 
 same-length-9 : tie.Need-same-length-9
-same-length-9 c = search needs
+same-length-9 c =
+    let at-label = c .before .before .before .before .before .before .before .before .before
+    .before .before .before .before .before .before .before .before .before .before in
+    let at-build = at-label .before .before .before .before .before .before .before .before .before .before
+    .before .before .before .before .before .before .before .before .before .before .before in
+    at-build .build .kept .1 .1 .0
+
+same-length-10 : tie.Need-same-length-10
+same-length-10 c =
+    let at-label = c .before .before .before .before .before .before .before .before .before
+    .before .before .before .before .before .before .before .before .before .before in
+    let at-build = at-label .before .before .before .before .before .before .before .before .before .before
+    .before .before .before .before .before .before .before .before .before .before .before in
+    at-build .build .kept .1 .1 .1 .0
+
+same-length-11 : tie.Need-same-length-11
+same-length-11 c =
+    let at-label = c .before .before .before .before .before .before .before .before .before
+    .before .before .before .before .before .before .before .before .before .before in
+    let at-build = at-label .before .before .before .before .before .before .before .before .before .before
+    .before .before .before .before .before .before .before .before .before .before .before in
+    at-build .build .kept .1 .1 .1 .1 .0
 
 returns : tie.Need-returns
 returns c =
-    let at-label = c .before .before .before .before .before .before .before .before .before .before .before .before in
+    let at-label = c .before .before .before .before .before .before .before .before .before
+    .before .before .before .before .before .before .before .before .before .before in
     let at-build = at-label .before .before .before .before .before .before .before .before .before .before
+    .before .before .before .before .before .before .before .before .before .before .before in
+    let start = at-build .before .before .before .before .before .before .before .before .before
     .before .before .before .before .before .before .before .before .before in
-    let start = at-build .before .before .before .before .before .before .before .before
-    .before .before .before .before .before .before .before .before in
     let grid = at-build .build in
+    let label = at-label .label in
+    let lists = start .pre .1 .1 in
     let room = start .pre .1 .0 in
-    searched (start .pre .0) (grid .ensures)
-    (omega (arith, start .pre .1 .1 .level, at-label .label .kept .0))
-    (omega (arith, start .pre .1 .1 .upright, at-label .label .kept .1 .0))
+    searched (start .pre .0) (grid .ensures) (omega (arith, lists .level, label .kept .0))
+    (omega (arith, lists .upright, label .kept .1 .0)) (omega (arith, lists .level-inks, label .kept .1 .1 .0))
+    (omega (arith, lists .upright-inks, label .kept .1 .1 .1 .0))
     (omega (arith, room .level-edges, grid .kept .1 .1 .0))
-    (omega (arith, room .upright-edges, grid .kept .1 .1 .1 .0))
-    (at-label .label .ensures) (c .start-at .ensures)
+    (omega (arith, room .upright-edges, grid .kept .1 .1 .1 .0)) (label .ensures) (c .start-at .ensures)
 
 pub labels-spec : {M : Type 1} → statement M
 labels-spec =
@@ -130,4 +148,6 @@ labels-spec =
     same-length-7
     same-length-8
     same-length-9
+    same-length-10
+    same-length-11
     returns)

@@ -13,25 +13,25 @@ returns c = no-start (not-t _ (c .if1 .taken))
 
 starts-upright-requires : tie.Need-starts-upright-requires
 starts-upright-requires c κs =
-    let start = c .before .before .before .before in
+    let start = c .before .before .before .before .before .before .before in
     (start .pre .0, (start .pre .1 .0, start .pre .1 .1 (not-ff _ (c .if1 .left))))
 
-mul-t11 : tie.Need-mul-t11
-mul-t11 c = search needs
+mul-t14 : tie.Need-mul-t14
+mul-t14 c = search needs
 
-add-t12 : tie.Need-add-t12
-add-t12 c = search needs
+add-t15 : tie.Need-add-t15
+add-t15 c = search needs
 
-mul-t13 : tie.Need-mul-t13
-mul-t13 c = search needs
+mul-t16 : tie.Need-mul-t16
+mul-t16 c = search needs
 
-shared-slice-read-t15 : tie.Need-shared-slice-read-t15
-shared-slice-read-t15 c = search needs
+shared-slice-read-t18 : tie.Need-shared-slice-read-t18
+shared-slice-read-t18 c = search needs
 
-cast-t16 : tie.Need-cast-t16
-cast-t16 c =
-    let start = c .before .before .before .before .before .before .before in
-    omega (arith, c .shared-slice-known4 .given (start .args .i * stride + start .args .j))
+cast-t19 : tie.Need-cast-t19
+cast-t19 c =
+    let start = c .before .before .before .before .before .before .before .before .before .before in
+    omega (arith, c .shared-slice-known7 .given (start .args .i * stride + start .args .j))
 
 returns-2 : tie.Need-returns-2
 returns-2 c =
@@ -39,22 +39,22 @@ returns-2 c =
     upright-start (not-ff _ (at-choice .before .if1 .left))
     (rw (c .before .if2 .taken) at (at-choice .starts-upright .ensures))
 
-mul-t17 : tie.Need-mul-t17
-mul-t17 c = search needs
+mul-t20 : tie.Need-mul-t20
+mul-t20 c = search needs
 
-add-t18 : tie.Need-add-t18
-add-t18 c = search needs
+add-t21 : tie.Need-add-t21
+add-t21 c = search needs
 
-mul-t19 : tie.Need-mul-t19
-mul-t19 c = search needs
+mul-t22 : tie.Need-mul-t22
+mul-t22 c = search needs
 
-shared-slice-read-t21 : tie.Need-shared-slice-read-t21
-shared-slice-read-t21 c = search needs
+shared-slice-read-t24 : tie.Need-shared-slice-read-t24
+shared-slice-read-t24 c = search needs
 
-cast-t22 : tie.Need-cast-t22
-cast-t22 c =
-    let start = c .before .before .before .before .before .before .before in
-    omega (arith, c .shared-slice-known5 .given (start .args .j * stride + start .args .i))
+cast-t25 : tie.Need-cast-t25
+cast-t25 c =
+    let start = c .before .before .before .before .before .before .before .before .before .before in
+    omega (arith, c .shared-slice-known8 .given (start .args .j * stride + start .args .i))
 
 returns-3 : tie.Need-returns-3
 returns-3 c =
@@ -68,15 +68,15 @@ start-at-spec =
     (tie.spec
     returns
     starts-upright-requires
-    mul-t11
-    add-t12
-    mul-t13
-    shared-slice-read-t15
-    cast-t16
+    mul-t14
+    add-t15
+    mul-t16
+    shared-slice-read-t18
+    cast-t19
     returns-2
-    mul-t17
-    add-t18
-    mul-t19
-    shared-slice-read-t21
-    cast-t22
+    mul-t20
+    add-t21
+    mul-t22
+    shared-slice-read-t24
+    cast-t25
     returns-3)

@@ -3,7 +3,8 @@ use native.Mathlib.Omega.{arith}
 use mathlib.Core.Logic.{inl, inr}
 use borrow.Author.Needs.{needs}
 use Rattle.search.specs.Choice.{level-only, upright-only, here}
-use Rattle.search.proofs.Choice.{choose-upright, choose-tie-upright, choose-tie-level}
+use Rattle.search.proofs.Choice.{choose-upright, choose-less-upright, choose-less-level}
+use Rattle.search.proofs.Choice.{choose-tie-upright, choose-tie-level}
 use Rattle.search.proofs.starts_upright.Statement.{statement}
 use Rattle.search.proofs.starts_upright.Tie as tie
 
@@ -31,8 +32,33 @@ mul-b-2 c = search needs
 shared-slice-read-b : tie.Need-shared-slice-read-b
 shared-slice-read-b c = search needs
 
+mul-s : tie.Need-mul-s
+mul-s c = search needs
+
+add-s : tie.Need-add-s
+add-s c = search needs
+
+mul-s-2 : tie.Need-mul-s-2
+mul-s-2 c = search needs
+
+shared-slice-read-s : tie.Need-shared-slice-read-s
+shared-slice-read-s c = search needs
+
+mul-t : tie.Need-mul-t
+mul-t c = search needs
+
+add-t : tie.Need-add-t
+add-t c = search needs
+
+mul-t-2 : tie.Need-mul-t-2
+mul-t-2 c = search needs
+
+shared-slice-read-t : tie.Need-shared-slice-read-t
+shared-slice-read-t c = search needs
+
 returns : tie.Need-returns
-returns c = choose-upright (c .before .before .before .before .before .before .pre .1 .1) (c .if1 .taken)
+returns c = choose-upright (c .before .before .before .before .before .before .before .before .before .before
+    .before .pre .1 .1 .some) (c .if1 .taken)
 
 returns-2 : tie.Need-returns-2
 returns-2 c = level-only (c .before .if1 .left) (inl (c .if2 .taken))
@@ -44,27 +70,52 @@ returns-4 : tie.Need-returns-4
 returns-4 c = level-only (c .before .before .before .if1 .left) (inr (c .if4 .taken))
 
 returns-5 : tie.Need-returns-5
-returns-5 c = here (c .if5 .taken) (omega (arith, c .if5 .taken, c .before .if4 .left, c .before .before .if3 .left))
-
-sub-next-stop : tie.Need-sub-next-stop
-sub-next-stop c = search needs
-
-next-stop-requires : tie.Need-next-stop-requires
-next-stop-requires c κs = search needs
+returns-5 c =
+    let at-if4 = c .before in
+    let at-if3 = at-if4 .before in
+    choose-less-upright (at-if3 .before .before .if1 .left) (at-if3 .if3 .left) (at-if4 .if4 .left) (c .if5 .taken)
 
 returns-6 : tie.Need-returns-6
 returns-6 c =
-    let at-if5 = c .before .before in
-    let at-if3 = at-if5 .before .before in
-    choose-tie-upright (at-if3 .before .before .if1 .left) (at-if5 .if5 .left) (at-if3 .if3 .left)
-    (at-if5 .before .if4 .left) (c .before .next-stop .ensures) (c .if6 .taken)
+    let at-if4 = c .before .before in
+    let at-if3 = at-if4 .before in
+    choose-less-level (at-if3 .before .before .if1 .left) (at-if3 .if3 .left) (at-if4 .if4 .left) (c .if6 .taken)
 
 returns-7 : tie.Need-returns-7
 returns-7 c =
-    let at-if5 = c .before .before in
-    let at-if3 = at-if5 .before .before in
-    choose-tie-level (at-if3 .before .before .if1 .left) (at-if5 .if5 .left) (at-if3 .if3 .left)
-    (at-if5 .before .if4 .left) (c .before .next-stop .ensures) (c .if6 .left)
+    let at-if4 = c .before .before .before in
+    here (c .if7 .taken) (omega (arith, c .if7 .taken, at-if4 .if4 .left, at-if4 .before .if3 .left))
+
+sub-next-stop : tie.Need-sub-next-stop
+sub-next-stop c = omega arith
+
+next-stop-requires : tie.Need-next-stop-requires
+next-stop-requires c κs =
+    let at-if1 = c .before .before .before .before .before .before in
+    let pre = at-if1 .before .before .before .before .before .before .before .before .before .before .before .pre in
+    let choosing = pre .1 .1 in
+    let one = at-if1 .if1 .left in (
+      (pre .0 .1, pre .0 .0, pre .0 .2, omega (arith, choosing .top), pre .1 .0 .3),
+      (pre .0 .3, pre .1 .0 .1, choosing .low _ (omega (arith, one, c .if7 .left))),
+    )
+
+returns-8 : tie.Need-returns-8
+returns-8 c =
+    let at-if7 = c .before .before in
+    let at-if6 = at-if7 .before in
+    let at-if4 = at-if6 .before .before in
+    let at-if3 = at-if4 .before in
+    choose-tie-upright (at-if3 .before .before .if1 .left) (at-if3 .if3 .left) (at-if4 .if4 .left) (at-if7 .if7 .left)
+    (at-if6 .before .if5 .left) (at-if6 .if6 .left) (c .before .next-stop .ensures) (c .if8 .taken)
+
+returns-9 : tie.Need-returns-9
+returns-9 c =
+    let at-if7 = c .before .before in
+    let at-if6 = at-if7 .before in
+    let at-if4 = at-if6 .before .before in
+    let at-if3 = at-if4 .before in
+    choose-tie-level (at-if3 .before .before .if1 .left) (at-if3 .if3 .left) (at-if4 .if4 .left) (at-if7 .if7 .left)
+    (at-if6 .before .if5 .left) (at-if6 .if6 .left) (c .before .next-stop .ensures) (c .if8 .left)
 
 pub starts-upright-spec : {M : Type 1} → statement M
 starts-upright-spec =
@@ -78,12 +129,22 @@ starts-upright-spec =
     add-b
     mul-b-2
     shared-slice-read-b
+    mul-s
+    add-s
+    mul-s-2
+    shared-slice-read-s
+    mul-t
+    add-t
+    mul-t-2
+    shared-slice-read-t
     returns
     returns-2
     returns-3
     returns-4
     returns-5
+    returns-6
+    returns-7
     sub-next-stop
     next-stop-requires
-    returns-6
-    returns-7)
+    returns-8
+    returns-9)

@@ -37,7 +37,8 @@ upright-step-requires : tie.Need-upright-step-requires
 upright-step-requires c κs =
     let at-if = c .before .before in
     let at-first = at-if .before .before .before in
-    let start = at-first .before .before .before .before .before .before .before .before .before .before .before in
+    let start = at-first .before .before .before .before .before .before .before .before .before .before .before
+    .before .before in
     let ready = start .pre .0 .1 in
     let label = upright-label ready (at-if .if1 .taken) in (
       ready .walkable,
@@ -58,10 +59,11 @@ returns c =
     let at-step = c .before .before in
     let at-if = at-step .before .before .before in
     let at-first = at-if .before .before .before in
-    let start = at-first .before .before .before .before .before .before .before .before .before .before .before in
+    let start = at-first .before .before .before .before .before .before .before .before .before .before .before
+    .before .before in
     record {
       writes = λ cs ready.
-          upright-written cs _ _ _ _ _ _ _ ready _ _ (start .pre .1) (at-if .if1 .taken)
+          upright-written cs _ _ _ _ _ _ _ _ _ ready _ _ (start .pre .1) (at-if .if1 .taken)
           (upright-label ready (at-if .if1 .taken)) (at-first .put-corner .ensures) (at-step .upright-step .ensures);
     }
 
@@ -81,7 +83,8 @@ level-step-requires : tie.Need-level-step-requires
 level-step-requires c κs =
     let at-if = c .before .before in
     let at-first = at-if .before .before .before in
-    let start = at-first .before .before .before .before .before .before .before .before .before .before .before in
+    let start = at-first .before .before .before .before .before .before .before .before .before .before .before
+    .before .before in
     let ready = start .pre .0 .1 in
     let label = level-label ready (at-if .if1 .left) in (
       ready .walkable,
@@ -102,10 +105,11 @@ returns-2 c =
     let at-step = c .before .before in
     let at-if = at-step .before .before .before in
     let at-first = at-if .before .before .before in
-    let start = at-first .before .before .before .before .before .before .before .before .before .before .before in
+    let start = at-first .before .before .before .before .before .before .before .before .before .before .before
+    .before .before in
     record {
       writes = λ cs ready.
-          level-written cs _ _ _ _ _ _ _ ready _ _ (start .pre .1) (at-if .if1 .left)
+          level-written cs _ _ _ _ _ _ _ _ _ ready _ _ (start .pre .1) (at-if .if1 .left)
           (level-label ready (at-if .if1 .left)) (at-first .put-corner .ensures) (at-step .level-step .ensures);
     }
 

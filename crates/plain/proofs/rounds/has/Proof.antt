@@ -5,10 +5,10 @@ use Rattle.plain.proofs.rounds.has.Statement.{statement}
 use Rattle.plain.proofs.rounds.has.Tie as tie
 
 abbrev Inv-loop : tie.InvT-loop
-Inv-loop labels k p₀ p = p ≤ 4096
+Inv-loop costs k p₀ p = p ≤ 4096
 
 abbrev μ-loop : tie.MeasureT-loop
-μ-loop labels k p₀ p = 4096 - p
+μ-loop costs k p₀ p = 4096 - p
 
 loop-holds : tie.Need-loop-holds Inv-loop μ-loop
 loop-holds c = search needs

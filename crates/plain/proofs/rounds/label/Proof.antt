@@ -1,14 +1,14 @@
--- `plain::rounds::label` is safe and ends: the loop counts up to 8,192.
+-- `plain::rounds::label` is safe and ends: the loop counts up to 8,191.
 use Prim.Native.Nat.{_≤_, _-_}
 use borrow.Author.Needs.{needs}
 use Rattle.plain.proofs.rounds.label.Statement.{statement}
 use Rattle.plain.proofs.rounds.label.Tie as tie
 
 abbrev Inv-loop : tie.InvT-loop
-Inv-loop level₀ upright₀ map t k₀ level upright k = k ≤ 8192
+Inv-loop level₀ upright₀ map t k₀ level upright k = k ≤ 8191
 
 abbrev μ-loop : tie.MeasureT-loop
-μ-loop level₀ upright₀ map t k₀ level upright k = 8192 - k
+μ-loop level₀ upright₀ map t k₀ level upright k = 8191 - k
 
 spread-requires : tie.Need-spread-requires Inv-loop μ-loop
 spread-requires c κs = search needs

@@ -5,19 +5,19 @@ use Rattle.plain.proofs.rounds.round.Statement.{statement}
 use Rattle.plain.proofs.rounds.round.Tie as tie
 
 abbrev Inv-loop : tie.InvT-loop
-Inv-loop labels₀ rest map back on k p₀ labels p = p ≤ 4096
+Inv-loop costs₀ rest map back on k p₀ costs p = p ≤ 4096
 
 abbrev μ-loop : tie.MeasureT-loop
-μ-loop labels₀ rest map back on k p₀ labels p = 4096 - p
+μ-loop costs₀ rest map back on k p₀ costs p = 4096 - p
 
 loop-holds : tie.Need-loop-holds Inv-loop μ-loop
 loop-holds c = search needs
 
-mul-if1 : tie.Need-mul-if1 Inv-loop μ-loop
-mul-if1 c = search needs
+mul-cost : tie.Need-mul-cost Inv-loop μ-loop
+mul-cost c = search needs
 
-element-copy-out-if1 : tie.Need-element-copy-out-if1 Inv-loop μ-loop
-element-copy-out-if1 c = search needs
+element-copy-out-cost : tie.Need-element-copy-out-cost Inv-loop μ-loop
+element-copy-out-cost c = search needs
 
 add-spread : tie.Need-add-spread Inv-loop μ-loop
 add-spread c = search needs
@@ -50,8 +50,8 @@ round-spec =
     Inv-loop
     μ-loop
     loop-holds
-    mul-if1
-    element-copy-out-if1
+    mul-cost
+    element-copy-out-cost
     add-spread
     spread-requires
     add-spread-2

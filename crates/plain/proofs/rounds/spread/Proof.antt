@@ -1,14 +1,14 @@
--- `plain::rounds::spread` is safe and ends: the loop counts up to 64, and p is a point.
+-- `plain::rounds::spread` is safe and ends: the loop counts up to 64.
 use Prim.Native.Nat.{_≤_, _<_, _-_}
 use borrow.Author.Needs.{needs}
 use Rattle.plain.proofs.rounds.spread.Statement.{statement}
 use Rattle.plain.proofs.rounds.spread.Tie as tie
 
 abbrev Inv-loop : tie.InvT-loop
-Inv-loop labels₀ map from toward k p₀ counter₀ labels p counter = (p < 4096) × (counter ≤ 64)
+Inv-loop costs₀ map from toward cost p₀ i₀ costs p i = (p < 4096) × (i ≤ 64)
 
 abbrev μ-loop : tie.MeasureT-loop
-μ-loop labels₀ map from toward k p₀ counter₀ labels p counter = 64 - counter
+μ-loop costs₀ map from toward cost p₀ i₀ costs p i = 64 - i
 
 loop-holds : tie.Need-loop-holds Inv-loop μ-loop
 loop-holds c = search needs
@@ -25,11 +25,14 @@ element-copy-out-if2 c = search needs
 returns-2 : tie.Need-returns-2 Inv-loop μ-loop
 returns-2 c = search needs
 
+add-mark : tie.Need-add-mark Inv-loop μ-loop
+add-mark c = search needs
+
 mark-requires : tie.Need-mark-requires Inv-loop μ-loop
 mark-requires c κs = search needs
 
-add-counter : tie.Need-add-counter Inv-loop μ-loop
-add-counter c = search needs
+add-i : tie.Need-add-i Inv-loop μ-loop
+add-i c = search needs
 
 loop-less : tie.Need-loop-less Inv-loop μ-loop
 loop-less c = search needs
@@ -51,8 +54,9 @@ spread-spec =
     returns
     element-copy-out-if2
     returns-2
+    add-mark
     mark-requires
-    add-counter
+    add-i
     loop-less
     loop-again
     returns-3)

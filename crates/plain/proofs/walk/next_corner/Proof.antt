@@ -5,10 +5,10 @@ use Rattle.plain.proofs.walk.next_corner.Statement.{statement}
 use Rattle.plain.proofs.walk.next_corner.Tie as tie
 
 abbrev Inv-loop : tie.InvT-loop
-Inv-loop level upright map heading p t left q₀ q = q ≤ 4096
+Inv-loop level upright map heading p t cost q₀ q = q ≤ 4096
 
 abbrev μ-loop : tie.MeasureT-loop
-μ-loop level upright map heading p t left q₀ q = 4096 - q
+μ-loop level upright map heading p t cost q₀ q = 4096 - q
 
 loop-holds : tie.Need-loop-holds Inv-loop μ-loop
 loop-holds c = search needs
@@ -18,6 +18,9 @@ segment-requires c κs = search needs
 
 after-requires : tie.Need-after-requires Inv-loop μ-loop
 after-requires c κs = search needs
+
+rest-requires : tie.Need-rest-requires Inv-loop μ-loop
+rest-requires c κs = search needs
 
 leads-requires : tie.Need-leads-requires Inv-loop μ-loop
 leads-requires c κs = search needs
@@ -46,6 +49,7 @@ next-corner-spec =
     loop-holds
     segment-requires
     after-requires
+    rest-requires
     leads-requires
     returns
     add-q

@@ -1,43 +1,42 @@
--- All crossings from lo up to k are joined, and none of them has the label.
+-- All crossings from lo up to k are joined, and none of them is such a stop.
 use Prim.Native.Nat.{ℕ, _-_, _≤_, _<_}
 use native.Mathlib.Omega.{arith}
-use mathlib.Core.Logic.{_≢_}
+use mathlib.Core.Path.{_≡_, sym, _∙_}
+use mathlib.Core.Bool.{false}
 use borrow.Author.Count.{below-more}
-use Rattle.labels.specs.Line.{across, Linked}
+use Rattle.labels.specs.Line.{Linked, isStop}
 use Rattle.labels.specs.Rounds.{found}
 use Rattle.labels.proofs.Line.{linked-refl, linked-up, blocked}
-use Rattle.labels.proofs.scan.Statement.{statement}
-use Rattle.labels.proofs.scan.Tie as tie
+use Rattle.labels.proofs.run.scan.Statement.{statement}
+use Rattle.labels.proofs.run.scan.Tie as tie
 
 abbrev Inv-loop : tie.InvT-loop
-Inv-loop other edge line n lo v k₀ k =
-    (lo ≤ k) × (k ≤ n) × Linked edge line lo k × ((j : ℕ) → j < k → lo ≤ j → across other line j ≢ v)
+Inv-loop other inks edge cross line n lo x v s k₀ k =
+    (lo ≤ k) × (k ≤ n) × Linked edge line lo k
+    × ((j : ℕ) → j < k → lo ≤ j → isStop other inks cross line x v s j ≡ false)
 
 abbrev μ-loop : tie.MeasureT-loop
-μ-loop other edge line n lo v k₀ k = n - k
+μ-loop other inks edge cross line n lo x v s k₀ k = n - k
 
 loop-holds : tie.Need-loop-holds Inv-loop μ-loop
 loop-holds c = (omega arith, omega arith, linked-refl _ _ _, λ j q p. absurd (omega arith))
 
-mul-if1 : tie.Need-mul-if1 Inv-loop μ-loop
-mul-if1 c = omega arith
-
-add-if1 : tie.Need-add-if1 Inv-loop μ-loop
-add-if1 c = omega arith
-
-mul-if1-2 : tie.Need-mul-if1-2 Inv-loop μ-loop
-mul-if1-2 c = omega arith
-
-shared-slice-read-if1 : tie.Need-shared-slice-read-if1 Inv-loop μ-loop
-shared-slice-read-if1 c = omega arith
+is-stop-requires : tie.Need-is-stop-requires Inv-loop μ-loop
+is-stop-requires c κs =
+    let at-loop = c .before in
+    let pre = at-loop .before .before .before .before .before .pre in (
+      (pre .0 .0, omega arith, omega arith, pre .0 .3),
+      ((pre .1 .0, pre .1 .1), pre .1 .2 .le (at-loop .loop .k) (c .loop-test .taken)),
+    )
 
 returns : tie.Need-returns Inv-loop μ-loop
 returns c =
-    let at-loop = c .before .before .before in
+    let at-stop = c .before in
+    let at-loop = at-stop .before .before in
     record {
       le = omega arith;
       before = λ j q p h. at-loop .loop .inv .3 j q p;
-      found = λ z. (omega arith, at-loop .loop .inv .2, c .if1 .taken);
+      found = λ z. (omega arith, at-loop .loop .inv .2, sym (at-stop .is-stop .ensures) ∙ c .if1 .taken);
     }
 
 mul-if2 : tie.Need-mul-if2 Inv-loop μ-loop
@@ -51,9 +50,10 @@ shared-slice-read-if2 c = omega arith
 
 returns-2 : tie.Need-returns-2 Inv-loop μ-loop
 returns-2 c =
-    let at-loop = c .before .before .before .before .before in
-    blocked _ _ _ _ _ _ (at-loop .loop .k) (omega arith) (at-loop .loop .inv .3) (c .before .before .if1 .left)
-    (c .if2 .taken)
+    let at-if1 = c .before .before in
+    let at-loop = at-if1 .before .before .before in
+    blocked _ _ _ _ _ _ _ _ _ _ (at-loop .loop .k) (omega arith) (at-loop .loop .inv .3)
+    (sym (at-if1 .before .is-stop .ensures) ∙ at-if1 .if1 .left) (c .if2 .taken)
 
 add-k : tie.Need-add-k Inv-loop μ-loop
 add-k c = omega arith
@@ -63,11 +63,12 @@ loop-less c = omega arith
 
 loop-again : tie.Need-loop-again Inv-loop μ-loop
 loop-again c =
-    let at-loop = c .before .before .before .before .before in (
+    let at-if1 = c .before .before in
+    let at-loop = at-if1 .before .before .before in (
       omega arith,
       omega arith,
       linked-up _ _ _ _ (omega arith) (at-loop .loop .inv .2) (c .if2 .left),
-      below-more _ _ (at-loop .loop .inv .3) (λ p. c .before .before .if1 .left),
+      below-more _ _ (at-loop .loop .inv .3) (λ p. sym (at-if1 .before .is-stop .ensures) ∙ at-if1 .if1 .left),
     )
 
 returns-3 : tie.Need-returns-3 Inv-loop μ-loop
@@ -86,10 +87,7 @@ scan-spec =
     Inv-loop
     μ-loop
     loop-holds
-    mul-if1
-    add-if1
-    mul-if1-2
-    shared-slice-read-if1
+    is-stop-requires
     returns
     mul-if2
     add-if2

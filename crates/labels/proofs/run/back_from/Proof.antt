@@ -3,8 +3,8 @@ use Prim.Native.Nat.{_-_, _≤_}
 use native.Mathlib.Omega.{arith}
 use Rattle.labels.specs.Line.{Linked}
 use Rattle.labels.proofs.Line.{linked-refl, linked-down}
-use Rattle.labels.proofs.run_start.Statement.{statement}
-use Rattle.labels.proofs.run_start.Tie as tie
+use Rattle.labels.proofs.run.back_from.Statement.{statement}
+use Rattle.labels.proofs.run.back_from.Tie as tie
 
 abbrev Inv-loop : tie.InvT-loop
 Inv-loop edge line at lo₀ lo = (lo ≤ at) × Linked edge line lo at
@@ -46,8 +46,8 @@ loop-again c =
 returns-2 : tie.Need-returns-2 Inv-loop μ-loop
 returns-2 c = record { le = omega arith; linked = c .before .loop .inv .1; stop = λ z. absurd (omega arith) }
 
-pub run-start-spec : {M : Type 1} → statement M
-run-start-spec =
+pub back-from-spec : {M : Type 1} → statement M
+back-from-spec =
     tie.close
     (tie.spec
     Inv-loop

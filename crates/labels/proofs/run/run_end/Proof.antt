@@ -3,8 +3,8 @@ use Prim.Native.Nat.{_-_, _≤_, _<_}
 use native.Mathlib.Omega.{arith}
 use Rattle.labels.specs.Line.{Linked}
 use Rattle.labels.proofs.Line.{linked-first, linked-on}
-use Rattle.labels.proofs.run_end.Statement.{statement}
-use Rattle.labels.proofs.run_end.Tie as tie
+use Rattle.labels.proofs.run.run_end.Statement.{statement}
+use Rattle.labels.proofs.run.run_end.Tie as tie
 
 abbrev Inv-loop : tie.InvT-loop
 Inv-loop edge line n at hi₀ hi = (at < hi) × (hi ≤ n) × Linked edge line at (hi - 1)
