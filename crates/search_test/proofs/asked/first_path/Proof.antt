@@ -33,8 +33,8 @@ find-requires c κs =
     posed _ _ _ _ _ _ _ _ _ (omega (arith, c .find-arg2 .given .0))
     (omega arith) (omega arith) (omega arith) (omega arith)
     (boxes .before .boxes-ok .ensures (not-false _ (boxes .if1 .left)))
-    (first .before .is-free .ensures (not-false _ (first .if2 .left)))
-    (last .before .is-free2 .ensures (not-false _ (last .if3 .left))) in
+    (first .before .is-free .ensures .0 (not-false _ (first .if2 .left)))
+    (last .before .is-free2 .ensures .0 (not-false _ (last .if3 .left))) in
     (question, omega arith)
 
 returns-4 : tie.Need-returns-4
