@@ -21,6 +21,7 @@ use Rattle.ledger_laws.proofs.Refusals.{none-applies}
 use Rattle.list_laws.proofs.Tests.{not-ff}
 use Rattle.ledger_laws.proofs.Lay.{laid-fits}
 use Rattle.ledger_laws.proofs.Opening.{end-no-board}
+use Rattle.foil.specs.declared.Answer.{Answer as Answered}
 use Rattle.job.specs.Contract.{toldAt, restAfter, answersOf, nextOf, replyOf}
 use Rattle.job.specs.Parts.{Whole, boardStep, patchStep, trackStep, liftStep, stepIf, endedAfter}
 use Rattle.job.specs.declared.Told.the-variants.{Said}

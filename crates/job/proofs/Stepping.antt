@@ -12,6 +12,7 @@ use Rattle.foil_spec.specs.Ledger.{Step, Answer, refused, accepted, laid, found
 use Rattle.foil_spec.specs.Lent.{lent, stepOn}
 use Rattle.foil_spec.specs.Calls.{endsJob}
 use Rattle.foil.specs.Contract.{answerOf, StepDone}
+use Rattle.foil.specs.declared.Answer.{Answer as Answered}
 use Rattle.foil.specs.declared.Answer.the-variants.{Refused}
 use Rattle.foil.specs.declared.Done.{Done}
 use Rattle.job.specs.Parts.{stepIf, toldOf, endedAfter, Ends, skipped, Ran, Went, Apart}

@@ -8,6 +8,7 @@ use Rattle.foil_spec.specs.Strips.{rowOf}
 use Rattle.foil_spec.specs.Lent.{layoutOf}
 use Rattle.strips.specs.Sweep.{Sweep}
 use Rattle.strips.specs.declared.sweep.Swept.{Swept}
+use Rattle.strips.specs.declared.sweep.Swept.the-variants.{Run as found}
 use Rattle.strips.specs.Join.{Opened}
 use Rattle.strips.proofs.JoiningRow.{JoiningRow, row-start, row-old, row-new, row-full, row-none, row-end}
 use Rattle.strips.proofs.join.join_row.Statement.{statement}
