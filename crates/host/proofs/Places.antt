@@ -37,7 +37,7 @@ use Rattle.host.proofs.Plain.{calls-known}
 use Rattle.host.proofs.flat.places_lent as counted
 use Rattle.host.proofs.flat.places_lent.Symbol.{name as #host·flat·places-lent}
 
--- the bytes before place i of a table of l are counted by a usize, and so is the next place
+-- the bytes before place i of a table of l are counted by a usize, ten a place, and so is the next place
 pub before : (i l : ℕ) → i < l → l * 10 < 2 ^ 63 → i * 10 < 2 ^ 64
 before i l within room = omega arith
 
@@ -58,6 +58,7 @@ machE e = LL.tuple-val TE.the-type TE′.the-laws (TE.the-type .to e)
 abbrev pub machF : Flat → Val
 machF g = LL.tuple-val TF.the-type TF′.the-laws (TF.the-type .to g)
 
+-- that these are values of their types
 abbrev pub IsE : Entry → Type 0
 IsE e = Is TE.the-row e (machE e ∷ [])
 
@@ -71,7 +72,7 @@ module _ {M : Type 1} (𝓤 : URA M) (H : Heap 𝓤) (A : Atoms 𝓤) (W : Given
   pub typedF : (g : Flat) → IsF g → Holds (hasTy TF′.mir (machF g)) × WT (machF g)
   typedF g is = LL.lawful TF.the-type TF′.the-laws 𝓤 H A W .typed g _ is .0
 
-  -- how many places of n are lent on
+  -- the call of `places_lent`: what it asks, what it ensures, and the step of a walk that makes it
   module _ (at-mem : Memory → SProp 𝓤) (run : Routine → Fun 𝓤) where
     abbrev pub Counts : Contract 𝓤
     Counts = tripleOf 𝓤 H A counted.signature (counted.spec 𝓤 H A at-mem run)

@@ -1,3 +1,4 @@
+-- Five times what `places_lent` answers.
 use borrow.Author.Needs.{needs}
 use Rattle.host.specs.Flats.{numbersLent}
 use Rattle.host.proofs.flat.numbers_lent.Statement.{statement}

@@ -1,3 +1,4 @@
+-- The first 128 places are read; past them there is no number, so that the entry is one of zeros.
 use borrow.Author.Needs.{needs}
 use mathlib.Core.Path.{refl}
 use Rattle.foil_spec.specs.Lent.{entryAt}

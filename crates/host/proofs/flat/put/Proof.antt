@@ -1,3 +1,4 @@
+-- In the first 128 places five numbers are laid in; past them there is nowhere to lay them.
 use borrow.Author.Needs.{needs}
 use mathlib.Core.Path.{refl}
 use Rattle.host.specs.Flats.{setFive, withEntry}

@@ -1,3 +1,4 @@
+-- The first number that differs tells two entries apart; where the first four are equal, the last one decides.
 use mathlib.Core.Path.{ap}
 use Rattle.foil_spec.specs.Foil.{Entry}
 use Rattle.host.proofs.Flats.{last-tells}
