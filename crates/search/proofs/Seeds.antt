@@ -42,8 +42,8 @@ seeded lab₀ lab inks queue line k ll lk l li lq F =
 -- what `rounds` asks of it, for m lines with n crossings each
 module _ (lab inks queue : List ℕ) (line k m n : ℕ) (S : Seeded lab inks queue line k) (fm : m ≤ stride) (fn : n ≤ stride) where
   -- the only crossing with the label 1
-  seeded-at : (a b : ℕ) → a < m → b < n → along lab a b ≡ 1 → (line ≡ a) × (k ≡ b)
-  seeded-at a b la lb e = place (ℕ-discrete (a * stride + b) (line * stride + k))
+  seeded-at : line < m → k < n → (a b : ℕ) → a < m → b < n → along lab a b ≡ 1 → (line ≡ a) × (k ≡ b)
+  seeded-at ll lk a b la lb e = place (ℕ-discrete (a * stride + b) (line * stride + k))
     where
       place : Dec (a * stride + b ≡ line * stride + k) → (line ≡ a) × (k ≡ b)
       place (yes q) = (omega arith, omega arith)
@@ -56,7 +56,7 @@ module _ (lab inks queue : List ℕ) (line k m n : ℕ) (S : Seeded lab inks que
         cross-in = λ p a b. let e : p ≡ 0 = omega arith in rw e (omega (arith, S .queue-crossing));
         sound = λ p a b. let e : p ≡ 0 = omega arith in rw e (rw (S .queue-line, S .queue-crossing) (S .one));
         whole = λ a la b lb e.
-            let w = seeded-at a b la lb e in
+            let w = seeded-at ll lk a b la lb e in
             (0, omega arith, omega arith, S .queue-line ∙ w .0, S .queue-crossing ∙ w .1);
       }
 
@@ -84,8 +84,10 @@ begun {l} {u} {wl} {wu} {ql} {qu} {nc} {nr} {i} {j} fc fr li lj al au bl bu L U 
       level = seeded-queue l wl ql j i nr nc L fr fc lj li;
       upright = seeded-queue u wu qu i j nc nr U fc fr li lj;
       twin = record {
-        level = λ a la b lb e. let w = seeded-at l wl ql j i nr nc L fr fc a b la lb e in rw (← w .0, ← w .1) (U .one);
-        upright = λ a la b lb e. let w = seeded-at u wu qu i j nc nr U fc fr a b la lb e in rw (← w .0, ← w .1) (L .one);
+        level = λ a la b lb e.
+            let w = seeded-at l wl ql j i nr nc L fr fc lj li a b la lb e in rw (← w .0, ← w .1) (U .one);
+        upright = λ a la b lb e.
+            let w = seeded-at u wu qu i j nc nr U fc fr li lj a b la lb e in rw (← w .0, ← w .1) (L .one);
       };
       level-low = seeded-below l wl ql j i nr nc L fr fc;
       upright-low = seeded-below u wu qu i j nc nr U fc fr;
