@@ -11,7 +11,7 @@ use lib.ListN.{length}
 use borrow.Author.Tests.{eq-eqb, ne-eqb}
 use Rattle.foil_spec.specs.Foil.{Point, point, Layout, free}
 use Rattle.foil_spec.specs.Strips.{strips}
-use Rattle.foil_spec.specs.Paths.{bends}
+use Rattle.foil_spec.specs.Paths.{at, bends}
 use Rattle.foil_spec.specs.Ledger.{stripsOf, pathOf}
 use Rattle.foil_spec.specs.Lent.{held, sound, roomOf}
 use Rattle.list_laws.proofs.Tests.{not-ff}
@@ -46,7 +46,7 @@ bound-covers (suc n) K l =
 
 pub fewest-bends : FewestBends
 fewest-bends f W H inside S T cs path fewest =
-    let r = of-path f S T cs path in
+    let r = of-path f S (at T) cs path in
     let k = either-path f T S (r .rest) (r .on) in
     let t = path-trail f W H T inside (k .0) (k .1) (S .x) (S .y) (r .start) (k .2) in
     let t-free = target-free f W H T S (t .0) (t .1) in
@@ -61,7 +61,7 @@ pub track-bends : TrackBends
 unfolding pathOf stripsOf
 track-bends l S T cs h =
     let inside = free-inside l in
-    let a = gives-first (free l) (l .width) (l .height) inside S T cs h in
+    let a = gives-first (free l) (l .width) (l .height) inside S (at T) cs h in
     fewest-bends (free l) (l .width) (l .height) inside S T cs (a .path) (a .fewest)
 
 pub joined-bends : JoinedBends
@@ -70,7 +70,7 @@ joined-bends l S T ds h = go (pathOf l S T) refl
   where
     go : (o : Option (List Point)) → pathOf l S T ≡ o
         → (cs : List Point) × (o ≡ some cs) × (bends cs ≤ bendBound (length (stripsOf l)))
-    go none e = absurd (gives-none (free l) (l .width) (l .height) (free-inside l) S T e ds h)
+    go none e = absurd (gives-none (free l) (l .width) (l .height) (free-inside l) S (at T) e ds h)
     go (some cs) e = (cs, refl, track-bends l S T cs e)
 
 pub laid-bends : LaidBends

@@ -9,7 +9,7 @@ use Rattle.foil_spec.specs.Foil.{sizeOk, clearanceOk, netOk, boxOk, with
 use Rattle.foil_spec.specs.Strips.{Strip, stopIn, stop, scan, scanAt, starts, isRun, isTop, begun}
 use Rattle.foil_spec.specs.Strips.{stripsFrom, holds, placeOf}
 use Rattle.foil_spec.specs.Paths.{after, between, levelFree, uprightFree, segment, bends, points, goings}
-use Rattle.foil_spec.specs.Paths.{stepsFrom, shortest, firstFrom, firstPath}
+use Rattle.foil_spec.specs.Paths.{stepsFrom, shortest, firstFrom, firstPathTo}
 use Rattle.foil_spec.specs.Ledger.{stripsOf, pathOf, noPath, cornersOf, leg, legsFrom, legs, ofNet, inUse}
 use Rattle.foil_spec.specs.Ledger.{offFoil, blocked}
 use Rattle.foil_spec.specs.Ledger.{tooLong, tooFine, next, says, first, short, refusals, settle, ledgerStep, Room}
@@ -177,7 +177,7 @@ starred : map (λ (c : Case). outcomeFrom blank [] (c .calls)) cases ≡ map (λ
 unfolding outcomeFrom cases jobBytes
     sizeOk clearanceOk netOk boxOk within blocks free
     stopIn stop scan scanAt starts isRun isTop begun stripsFrom holds placeOf
-    after between levelFree uprightFree segment bends points goings stepsFrom shortest firstFrom firstPath
+    after between levelFree uprightFree segment bends points goings stepsFrom shortest firstFrom firstPathTo
     stripsOf pathOf noPath cornersOf leg legsFrom legs ofNet inUse offFoil blocked
     tooLong tooFine next says first short refusals settle ledgerStep
     number fieldCount mapByte has fieldsAt recordEnd field steps isEnd recordChecks

@@ -8,6 +8,10 @@ use lib.ListN.{length}
 use Rattle.foil_spec.specs.Lists.{range, keep, all, each}
 use Rattle.foil_spec.specs.Foil.{Point, point, same}
 
+-- a target is a test on points; this one is passed by the point T alone
+abbrev pub at : Point → Point → Bool
+at T = λ p. same p T
+
 -- which way the next segment (document 01: leg) may go
 pub data Heading : Type 0 where
   either level upright : Heading
@@ -41,15 +45,19 @@ module _ (f : ℕ → ℕ → Bool) where
   segment level p q = levelFree p q
   segment upright p q = uprightFree p q
 
-  -- from p over the corners to T by segments that alternate, the first as the heading says
-  unfoldable pub leads : Point → Heading → Point → List Point → Bool
-  leads T h p [] = same p T
+  -- from p over the corners to a point of the target T by segments that alternate, the first as the heading says
+  unfoldable pub leads : (Point → Bool) → Heading → Point → List Point → Bool
+  leads T h p [] = T p
   leads T h p (q ∷ cs) = segment h p q && leads T (after p q) q cs
 
-  -- the corners are a path from S to T
-  unfoldable pub isPath : Point → Point → List Point → Bool
-  isPath S T [] = false
-  isPath S T (p ∷ cs) = same p S && f (p .x) (p .y) && leads T either p cs
+  -- the corners are a path from S to a point of the target T
+  unfoldable pub isPathTo : Point → (Point → Bool) → List Point → Bool
+  isPathTo S T [] = false
+  isPathTo S T (p ∷ cs) = same p S && f (p .x) (p .y) && leads T either p cs
+
+  -- the corners are a path from S to the point T
+  abbrev pub isPath : Point → Point → List Point → Bool
+  isPath S T cs = isPathTo S (at T) cs
 
 -- the corners less two, and 0 for one or two corners
 unfoldable pub bends : List Point → ℕ
@@ -89,10 +97,10 @@ unfoldable pub shortest : Point → List Point → List (List Point) → List Po
 shortest p cs [] = cs
 shortest p cs (ds ∷ more) = shortest p (cond (ltb (stepsFrom p ds) (stepsFrom p cs)) ds cs) more
 
-module _ (f : ℕ → ℕ → Bool) (W H : ℕ) (T : Point) where
-  -- every way to go on from p to T by n segments, in order: each point is tried as the next corner
+module _ (f : ℕ → ℕ → Bool) (W H : ℕ) (T : Point → Bool) where
+  -- every way to go on from p to the target by n segments, in order: each point is tried as the next corner
   unfoldable pub goings : ℕ → Heading → Point → List (List Point)
-  goings zero h p = cond (same p T) ([] ∷ []) []
+  goings zero h p = cond (T p) ([] ∷ []) []
   goings (suc n) h p =
       each (λ (q : Point). map (λ (cs : List Point). q ∷ cs) (goings n (after p q) q))
       (keep (segment f h p) (points W H))
@@ -103,6 +111,11 @@ module _ (f : ℕ → ℕ → Bool) (W H : ℕ) (T : Point) where
   firstFrom S (suc tries) n =
       elim (goings n either S) [ [] ↦ firstFrom S tries (suc n) | cs ∷ more ↦ some (S ∷ shortest S cs more) ]
 
--- the first path of fewest bends from S to T, if there is one; none needs more than W * H segments
-unfoldable pub firstPath : (ℕ → ℕ → Bool) → ℕ → ℕ → Point → Point → Option (List Point)
-firstPath f W H S T = cond (f (S .x) (S .y)) (firstFrom f W H T S (suc (W * H)) 0) none
+-- the first path of fewest bends from S to a point of the target T, if there is one; none needs more than W * H
+-- segments
+unfoldable pub firstPathTo : (ℕ → ℕ → Bool) → ℕ → ℕ → Point → (Point → Bool) → Option (List Point)
+firstPathTo f W H S T = cond (f (S .x) (S .y)) (firstFrom f W H T S (suc (W * H)) 0) none
+
+-- the first path of fewest bends from S to the point T, if there is one
+abbrev pub firstPath : (ℕ → ℕ → Bool) → ℕ → ℕ → Point → Point → Option (List Point)
+firstPath f W H S T = firstPathTo f W H S (at T)

@@ -10,7 +10,7 @@ use borrow.Author.Tests.{le-leb, eq-eqb}
 use Rattle.foil_spec.specs.Lists.{all, any, each}
 use Rattle.foil_spec.specs.Foil.{Point, Layout, free}
 use Rattle.foil_spec.specs.Strips.{Strip}
-use Rattle.foil_spec.specs.Paths.{bends}
+use Rattle.foil_spec.specs.Paths.{at, bends}
 use Rattle.foil_spec.specs.Ledger.{stripsOf, pathOf, noPath, cornersOf, tooFine, says, first, short, refusals}
 use Rattle.foil_spec.specs.Ledger.{Step, newFoil, draw, lay, lift, lookUp, Answer, numberOf, After, settle}
 use Rattle.foil_spec.specs.Ledger.{ledgerStep}
@@ -73,8 +73,8 @@ corner-there l S T h = go (pathOf l S T) refl h
     go : (o : Option (List Point)) → pathOf l S T ≡ o → noPath o ≡ false → 1 ≤ length (Option·getD o [])
     go none e k = clash refl k
     go (some cs) e k =
-        let a = gives-first (free l) (l .width) (l .height) (free-inside l) S T cs e in
-        omega (arith, ap length (of-path (free l) S T cs (a .path) .is))
+        let a = gives-first (free l) (l .width) (l .height) (free-inside l) S (at T) cs e in
+        omega (arith, ap length (of-path (free l) S (at T) cs (a .path) .is))
 
 -- a track that is laid has a path, and room for its corners
 laid-possible : (l : Layout) (net : ℕ) (S T : Point) → tooFine l ≡ false

@@ -8,7 +8,7 @@ use lib.ListN.{length, length-append, take, drop}
 use lib.Seq.{paste, take-at}
 use Rattle.foil_spec.specs.Lists.{all, each}
 use Rattle.foil_spec.specs.Foil.{Point}
-use Rattle.foil_spec.specs.Paths.{Heading, either, after, segment, leads, isPath}
+use Rattle.foil_spec.specs.Paths.{at, Heading, either, after, segment, leads, isPath, isPathTo}
 use Rattle.foil_spec.specs.Ledger.{legsFrom, legs}
 use Rattle.foil_spec.specs.Lent.{pointNumbers, cornerAt, cornersIn}
 use Rattle.list_laws.proofs.Tests.{and-l, and-r, and-i, parts}
@@ -21,21 +21,21 @@ use Rattle.tracks.specs.Legs.{Corners}
 -- ---- every corner of a path is free
 
 module _ (f : ℕ → ℕ → Bool) (S T : Point) where
-  free-on : (h : Heading) (p : Point) (cs : List Point) → leads f T h p cs ≡ true
+  free-on : (h : Heading) (p : Point) (cs : List Point) → leads f (at T) h p cs ≡ true
       → all (λ (q : Point). f (q .x) (q .y)) cs ≡ true
   unfolding leads
   free-on h p [] l = refl
   free-on h p (q ∷ cs) l =
       and-i {a = f (q .x) (q .y)}
-      (end-free f h p q (and-l (segment f h p q) (leads f T (after p q) q cs) l))
-      (free-on (after p q) q cs (and-r (segment f h p q) (leads f T (after p q) q cs) l))
+      (end-free f h p q (and-l (segment f h p q) (leads f (at T) (after p q) q cs) l))
+      (free-on (after p q) q cs (and-r (segment f h p q) (leads f (at T) (after p q) q cs) l))
 
   pub corners-free : (cs : List Point) → isPath f S T cs ≡ true → all (λ (q : Point). f (q .x) (q .y)) cs ≡ true
-  unfolding isPath
+  unfolding isPathTo
   corners-free [] h = refl
   corners-free (p ∷ cs) h =
       let e : f (p .x) (p .y) ≡ true = search parts in
-      let l : leads f T either p cs ≡ true = search parts in
+      let l : leads f (at T) either p cs ≡ true = search parts in
       and-i {a = f (p .x) (p .y)} e (free-on either p cs l)
 
 -- ---- the legs, counted

@@ -11,7 +11,7 @@ use lib.Seq.{paste}
 use borrow.Author.Tests.{lt-ltb, le-ltb, eq-eqb, ne-eqb}
 use Rattle.foil_spec.specs.Lists.{range, all, each}
 use Rattle.foil_spec.specs.Foil.{Point, Layout, entryOk, free}
-use Rattle.foil_spec.specs.Paths.{bends}
+use Rattle.foil_spec.specs.Paths.{at, bends}
 use Rattle.foil_spec.specs.Ledger.{Step, lay, pathOf, noPath, cornersOf, legs, tooLong, tooFine}
 use Rattle.foil_spec.specs.Ledger.{next, says, laid, _⇒_, first}
 use Rattle.foil_spec.specs.Lent.{Lent, lent, withCorners, store, pointNumbers, entryAt, layoutOf, held, sound, roomOf}
@@ -165,7 +165,7 @@ module _ (b : Board) (t s ks : List ℕ) (net : ℕ) (S T : Point) (y : ReadyToL
           is-path none e z h = refl
           is-path (some ds) e z h =
               corners-free (free l) S T ds
-              (gives-first (free l) (l .width) (l .height) (free-inside l) S T ds e .path)
+              (gives-first (free l) (l .width) (l .height) (free-inside l) S (at T) ds e .path)
 
           pub small : Corners path k
           unfolding cornersOf held layoutOf

@@ -10,6 +10,7 @@ use borrow.Author.Tests.{ltb-false, leb-true, lt-ltb, le-ltb}
 use lib.ListN.{length}
 use Rattle.foil_spec.specs.Lists.{all, keep, consIf}
 use Rattle.foil_spec.specs.Foil.{Point, Entry, entry, Layout, sizeOk, clearanceOk, netOk, boxOk, shapeOk, entryOk, free}
+use Rattle.foil_spec.specs.Paths.{at}
 use Rattle.foil_spec.specs.Ledger.{stripsOf, pathOf, cornersOf, legs, ofNet, withEntries, tooLong, tooFine, next}
 use Rattle.foil_spec.specs.Ledger.{Step, newFoil, draw, lay, lift, lookUp, Answer, After, first, Room, refusals}
 use Rattle.foil_spec.specs.Ledger.{settle, ledgerStep}
@@ -93,7 +94,7 @@ laid-ok l net S T none e h = refl
 laid-ok l net S T (some cs) e h =
     let i = free-inside l in
     legs-ok (l .width) (l .height) net h (free l) i T S cs
-    (gives-first (free l) (l .width) (l .height) i S T cs e .path)
+    (gives-first (free l) (l .width) (l .height) i S (at T) cs e .path)
 
 length-consIf : {A : Type 0} (t : Bool) (x : A) (xs : List A) → length (consIf t x xs) ≤ suc (length xs)
 length-consIf true x xs = omega arith

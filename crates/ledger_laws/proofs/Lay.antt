@@ -11,7 +11,7 @@ use borrow.Author.Tests.{eq-eqb, lt-leb, ltb-false}
 use lib.ListN.{length}
 use Rattle.foil_spec.specs.Lists.{keep, any}
 use Rattle.foil_spec.specs.Foil.{Point, Entry, Layout, netOk, free}
-use Rattle.foil_spec.specs.Paths.{isPath, bends}
+use Rattle.foil_spec.specs.Paths.{at, isPath, isPathTo, bends}
 use Rattle.foil_spec.specs.Ledger.{pathOf, noPath, cornersOf, leg, legsFrom, legs, ofNet, inUse, withEntries}
 use Rattle.foil_spec.specs.Ledger.{offFoil, blocked}
 use Rattle.foil_spec.specs.Ledger.{tooLong, tooFine, next, says, _⇒_, first, Room, short, refusals, settle, ledgerStep}
@@ -89,9 +89,9 @@ unfolding pathOf ledgerStep
 ledger-9 r l net S T long k = (
   λ h.
       let e = settled-9 (first (refusals (lay net S T) r false l)) net S T l h in
-      gives-none (free l) (l .width) (l .height) (free-inside l) S T
+      gives-none (free l) (l .width) (l .height) (free-inside l) S (at T)
       (only-9 (pathOf l S T) _ _ _ (sym (lay-from-9 r false l net S T long refl k) ∙ e)),
-  λ h. answers-9 r l net S T long k (none-is (free l) (l .width) (l .height) (free-inside l) S T h),
+  λ h. answers-9 r l net S T long k (none-is (free l) (l .width) (l .height) (free-inside l) S (at T) h),
 )
 
 -- ---- the track
@@ -156,17 +156,17 @@ path-is l S T (some cs) e h = rw e refl
 -- the corners that the ledger answers are those of the first path of fewest bends, and so are the bends
 -- a track that was laid is the first path, with the bends that are answered
 pub first-laid : (r : Room) (b : Bool) (l : Layout) (net : ℕ) (S T : Point) (cs : List Point) (n : ℕ)
-    → Laid r b l net S T cs n → IsFirst (free l) S T cs × (n ≡ bends cs)
+    → Laid r b l net S T cs n → IsFirst (free l) S (at T) cs × (n ≡ bends cs)
 unfolding pathOf cornersOf
 first-laid r b l net S T cs n a =
     let e = path-is l S T (pathOf l S T) refl (has-path r b l net S T (a .unrefused)) in (
-      subst (λ (ds : List Point). IsFirst (free l) S T ds) (sym (a .corners))
-          (gives-first (free l) (l .width) (l .height) (free-inside l) S T (cornersOf l S T) e),
+      subst (λ (ds : List Point). IsFirst (free l) S (at T) ds) (sym (a .corners))
+          (gives-first (free l) (l .width) (l .height) (free-inside l) S (at T) (cornersOf l S T) e),
       a .bent ∙ ap bends (sym (a .corners)),
     )
 
 pub ledger-first : (r : Room) (l : Layout) (net : ℕ) (S T : Point) (cs : List Point) (n : ℕ)
-    → ledgerStep r (lay net S T) l .answer ≡ laid cs n → IsFirst (free l) S T cs × (n ≡ bends cs)
+    → ledgerStep r (lay net S T) l .answer ≡ laid cs n → IsFirst (free l) S (at T) cs × (n ≡ bends cs)
 ledger-first r l net S T cs n h = first-laid r false l net S T cs n (of-laid r l net S T cs n h)
 
 -- and the state was not broken
@@ -213,7 +213,7 @@ legs-used net p (q ∷ cs) = rw (leg-net net p q) refl
 
 path-used : (f : ℕ → ℕ → Bool) (S T : Point) (net : ℕ) (cs : List Point) → isPath f S T cs ≡ true
     → inUse net (legs net cs) ≡ true
-unfolding isPath
+unfolding isPathTo
 path-used f S T net [] h = clash h refl
 path-used f S T net (p ∷ cs) h = legs-used net p cs
 

@@ -9,7 +9,7 @@ use lib.Dec.{ltb, eqb}
 use borrow.Author.Tests.{ltb-true, lt-ltb, le-leb, eq-eqb}
 use Rattle.foil_spec.specs.Lists.{all}
 use Rattle.foil_spec.specs.Foil.{Point, Layout, netOk, boxOk, shapeOk, entryOk, free}
-use Rattle.foil_spec.specs.Paths.{Heading, either, segment, after, leads, isPath}
+use Rattle.foil_spec.specs.Paths.{at, Heading, either, segment, after, leads, isPath, isPathTo}
 use Rattle.foil_spec.specs.Ledger.{leg, legsFrom, legs}
 use Rattle.list_laws.proofs.Tests.{and-l, and-r, and-i, parts}
 use Rattle.path_laws.proofs.Segments.{Level, Upright, of-segment, end-free}
@@ -46,19 +46,19 @@ module _ (W H net : ℕ) (ok : netOk net ≡ true) where
     in-line h p q s =
         ⊎-elim (λ (a : Level f p q). inr (a .row)) (λ (a : Upright f p q). inl (a .column)) (of-segment f h p q s)
 
-    from-ok : (h : Heading) (p : Point) (cs : List Point) → f (p .x) (p .y) ≡ true → leads f T h p cs ≡ true
+    from-ok : (h : Heading) (p : Point) (cs : List Point) → f (p .x) (p .y) ≡ true → leads f (at T) h p cs ≡ true
         → all (entryOk W H) (legsFrom net p cs) ≡ true
     unfolding leads legsFrom
     from-ok h p [] e l = refl
     from-ok h p (q ∷ cs) e l =
-        let s : segment f h p q ≡ true = and-l (segment f h p q) (leads f T (after p q) q cs) l in
+        let s : segment f h p q ≡ true = and-l (segment f h p q) (leads f (at T) (after p q) q cs) l in
         let e′ = end-free f h p q s in
         and-i {a = entryOk W H (leg net p q)}
         (leg-ok p q (inside (p .x) (p .y) e) (inside (q .x) (q .y) e′) (in-line h p q s))
-        (from-ok (after p q) q cs e′ (and-r (segment f h p q) (leads f T (after p q) q cs) l))
+        (from-ok (after p q) q cs e′ (and-r (segment f h p q) (leads f (at T) (after p q) q cs) l))
 
     pub legs-ok : (S : Point) (cs : List Point) → isPath f S T cs ≡ true → all (entryOk W H) (legs net cs) ≡ true
-    unfolding isPath legs
+    unfolding isPathTo legs
     legs-ok S [] h = refl
     legs-ok S (p ∷ []) h =
         let e : f (p .x) (p .y) ≡ true = search parts in
@@ -66,5 +66,5 @@ module _ (W H net : ℕ) (ok : netOk net ≡ true) where
         and-i {a = entryOk W H (leg net p p)} (leg-ok p p i i (inl refl)) refl
     legs-ok S (p ∷ q ∷ cs) h =
         let e : f (p .x) (p .y) ≡ true = search parts in
-        let l : leads f T either p (q ∷ cs) ≡ true = search parts in
+        let l : leads f (at T) either p (q ∷ cs) ≡ true = search parts in
         from-ok either p (q ∷ cs) e l

@@ -6,7 +6,7 @@ use mathlib.Core.Logic.{_↔_}
 use mathlib.Core.List.{List, _∷_}
 use lib.ListN.{length}
 use Rattle.foil_spec.specs.Foil.{Point, Layout, netOk, free}
-use Rattle.foil_spec.specs.Paths.{isPath, bends}
+use Rattle.foil_spec.specs.Paths.{at, isPath, bends}
 use Rattle.foil_spec.specs.Ledger.{inUse, lay, lift, refused, accepted, laid, short}
 use Rattle.foil_spec.specs.Lent.{Lent, cornersIn}
 use Rattle.foil_spec.specs.Sequence.{Lending, Begins, runLent, told, runLedger}
@@ -41,7 +41,7 @@ abbrev pub LaysFirst : Type 0
 LaysFirst =
     AtEvery (λ k later.
     (net : ℕ) (S T : Point) (cs : List Point) (n : ℕ) → k .step ≡ lay net S T → k .answer ≡ laid cs n
-    → IsFirst (free (k .ledgerBefore)) S T cs × (n ≡ bends cs) × (cornersIn (k .after .corners) (length cs) ≡ cs))
+    → IsFirst (free (k .ledgerBefore)) S (at T) cs × (n ≡ bends cs) × (cornersIn (k .after .corners) (length cs) ≡ cs))
 
 -- lifting it as the next step, in the same record or by another call, lent any front parts that are long enough and any
 -- corner list, is accepted and gives back the record, the table and the strips

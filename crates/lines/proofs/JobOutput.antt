@@ -6,7 +6,7 @@ use mathlib.Core.List.{List, [], _∷_}
 use Rattle.foil_spec.specs.Foil.{sizeOk, clearanceOk, netOk, boxOk, within, blocks, free}
 use Rattle.foil_spec.specs.Strips.{stopIn, stop, scan, scanAt, starts, isRun, isTop, begun, stripsFrom}
 use Rattle.foil_spec.specs.Paths.{after, between, levelFree, uprightFree, segment, bends, points, goings}
-use Rattle.foil_spec.specs.Paths.{stepsFrom, shortest, firstFrom, firstPath}
+use Rattle.foil_spec.specs.Paths.{stepsFrom, shortest, firstFrom, firstPathTo}
 use Rattle.foil_spec.specs.Ledger.{stripsOf, pathOf, noPath, cornersOf, leg, legsFrom, legs, ofNet, inUse}
 use Rattle.foil_spec.specs.Ledger.{offFoil, blocked, tooLong, tooFine, next, says, first, short, refusals, settle}
 use Rattle.foil_spec.specs.Ledger.{numberOf, ledgerStep}
@@ -30,7 +30,7 @@ job-output : output jobBytes
 unfolding jobBytes
     sizeOk clearanceOk netOk boxOk within blocks free
     stopIn stop scan scanAt starts isRun isTop begun stripsFrom
-    after between levelFree uprightFree segment bends points goings stepsFrom shortest firstFrom firstPath
+    after between levelFree uprightFree segment bends points goings stepsFrom shortest firstFrom firstPathTo
     stripsOf pathOf noPath cornersOf leg legsFrom legs ofNet inUse offFoil blocked
     tooLong tooFine next says first short refusals settle ledgerStep
     number fieldCount mapByte has fieldsAt recordEnd field steps isEnd recordChecks

@@ -23,12 +23,12 @@ use Rattle.path_laws.proofs.Segments.{between-join, leads-either, after
 unfoldable linked : (ℕ → ℕ → Bool) → Point → Point → Bool
 linked f p q = same p q || segment f either p q
 
--- T is reached from p by n segments, each of which may stand still or go on the same way
-unfoldable reachedBy : (ℕ → ℕ → Bool) → ℕ → ℕ → Point → ℕ → Point → Bool
-reachedBy f W H T zero p = same p T && f (p .x) (p .y)
+-- the target T is reached from p by n segments, each of which may stand still or go on the same way
+unfoldable reachedBy : (ℕ → ℕ → Bool) → ℕ → ℕ → (Point → Bool) → ℕ → Point → Bool
+reachedBy f W H T zero p = T p && f (p .x) (p .y)
 reachedBy f W H T (suc n) p = any (λ (q : Point). linked f p q && reachedBy f W H T n q) (points W H)
 
-module _ (f : ℕ → ℕ → Bool) (W H : ℕ) (inside : (x y : ℕ) → f x y ≡ true → (x < W) × (y < H)) (T : Point) where
+module _ (f : ℕ → ℕ → Bool) (W H : ℕ) (inside : (x y : ℕ) → f x y ≡ true → (x < W) × (y < H)) (T : Point → Bool) where
   abbrev reach : ℕ → Point → Bool
   reach = reachedBy f W H T
 
@@ -45,7 +45,7 @@ module _ (f : ℕ → ℕ → Bool) (W H : ℕ) (inside : (x y : ℕ) → f x y 
 
   reach-free : (n : ℕ) (p : Point) → reach n p ≡ true → f (p .x) (p .y) ≡ true
   unfolding reachedBy
-  reach-free zero p h = and-r (same p T) (f (p .x) (p .y)) h
+  reach-free zero p h = and-r (T p) (f (p .x) (p .y)) h
   reach-free (suc n) p h =
       let r = of-reach n p h in
       ⊎-elim
@@ -71,7 +71,7 @@ module _ (f : ℕ → ℕ → Bool) (W H : ℕ) (inside : (x y : ℕ) → f x y 
   leads-reach : (h : Heading) (p : Point) (cs : List Point)
       → f (p .x) (p .y) ≡ true → leads f T h p cs ≡ true → reach (length cs) p ≡ true
   unfolding leads reachedBy linked
-  leads-reach h p [] e l = and-i {a = same p T} l e
+  leads-reach h p [] e l = and-i {a = T p} l e
   leads-reach h p (q ∷ cs) e l =
       let s : segment f h p q ≡ true = and-l (segment f h p q) (leads f T (after p q) q cs) l in
       reach-more (length cs) p q (or-ir (same p q) (either-segment f h p q s))
@@ -230,7 +230,7 @@ module _ (f : ℕ → ℕ → Bool) (W H : ℕ) (inside : (x y : ℕ) → f x y 
 
   alternate : (n : ℕ) (p : Point) → reach n p ≡ true → Going p n
   unfolding reachedBy leads
-  alternate zero p h = ([], and-l (same p T) (f (p .x) (p .y)) h, omega arith)
+  alternate zero p h = ([], and-l (T p) (f (p .x) (p .y)) h, omega arith)
   alternate (suc n) p h =
       let r = of-reach n p h in
       let g = alternate n (r .0) (r .2) in

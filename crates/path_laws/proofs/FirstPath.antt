@@ -1,4 +1,4 @@
--- How `firstPath` finds what it gives: the first of the ways to go on by the fewest segments, and no path is missed.
+-- How `firstPathTo` finds what it gives: the first of the ways to go on by the fewest segments, and no path is missed.
 use Prim.Native.Nat.{ℕ, zero, suc, _+_, _*_, _≤_, _<_}
 use native.Mathlib.Omega.{arith}
 use native.Mathlib.Decide.{ℕ-discrete, decLe}
@@ -9,20 +9,16 @@ use mathlib.Core.Option.{none, some, Option·some-injective, Option·none-ne-som
 use mathlib.Core.Logic.{_⊎_, inl, inr, ⊎-elim, by-cases}
 use lib.ListN.{length}
 use Rattle.foil_spec.specs.Foil.{Point, same}
-use Rattle.foil_spec.specs.Paths.{either, segment, leads, isPath, bends, cornersBefore, before}
-use Rattle.foil_spec.specs.Paths.{shortest, goings, firstFrom, firstPath}
+use Rattle.foil_spec.specs.Paths.{either, segment, leads, isPathTo, bends, cornersBefore, stepsFrom, pathLength, before, at}
+use Rattle.foil_spec.specs.Paths.{shortest, goings, firstFrom, firstPathTo}
 use Rattle.list_laws.proofs.Tests.{clash, and-l, and-r, parts, true-or-false}
 use Rattle.list_laws.proofs.Members.{In, Sorted}
 use Rattle.path_laws.proofs.Segments.{same-eq, same-self, Level, Upright, of-segment}
 use Rattle.path_laws.proofs.Goings.{of-goings, in-goings, sorted-goings}
-use Rattle.path_laws.proofs.Order.{in-shortest, shortest-first}
+use Rattle.path_laws.proofs.Order.{by-length, in-shortest, shortest-first}
 use Rattle.path_laws.proofs.Bound.{enough}
 
-is-nil : (cs : List Point) → length cs ≡ 0 → cs ≡ []
-is-nil [] e = refl
-is-nil (c ∷ cs) e = absurd (omega arith)
-
-module _ (f : ℕ → ℕ → Bool) (S T : Point) where
+module _ (f : ℕ → ℕ → Bool) (S : Point) (T : Point → Bool) where
   -- a path, taken apart
   pub record Parts (cs : List Point) : Type 0 where
     pub rest : List Point
@@ -30,8 +26,8 @@ module _ (f : ℕ → ℕ → Bool) (S T : Point) where
     pub start : f (S .x) (S .y) ≡ true
     pub on : leads f T either S rest ≡ true
 
-  pub of-path : (cs : List Point) → isPath f S T cs ≡ true → Parts cs
-  unfolding isPath
+  pub of-path : (cs : List Point) → isPathTo f S T cs ≡ true → Parts cs
+  unfolding isPathTo
   of-path [] h = clash h refl
   of-path (p ∷ cs) h =
       let a : same p S ≡ true = search parts in
@@ -46,12 +42,36 @@ module _ (f : ℕ → ℕ → Bool) (S T : Point) where
       }
 
   pub to-path : (cs : List Point) → f (S .x) (S .y) ≡ true → leads f T either S cs ≡ true
-      → isPath f S T (S ∷ cs) ≡ true
-  unfolding isPath
+      → isPathTo f S T (S ∷ cs) ≡ true
+  unfolding isPathTo
   to-path cs e h = simp (same-self S, e, h)
 
+  -- a segment has at least one step
+  one-step : (q : Point) → leads f T either S (q ∷ []) ≡ true → pathLength (S ∷ []) < pathLength (S ∷ q ∷ [])
+  unfolding leads pathLength stepsFrom
+  one-step q h =
+      ⊎-elim
+      (λ (a : Level f S q). omega (arith, a .apart))
+      (λ (a : Upright f S q). omega (arith, a .apart))
+      (of-segment f either S q (and-l (segment f either S q) (T q) h))
+
+  -- of two ways to go on from S with equal bends, of which the first has fewer segments, the first is shorter
+  fewer-shorter : (cs ds : List Point) → leads f T either S ds ≡ true → length cs < length ds
+      → bends (S ∷ ds) ≡ bends (S ∷ cs) → pathLength (S ∷ cs) < pathLength (S ∷ ds)
+  unfolding bends
+  fewer-shorter [] [] h l e = absurd (omega arith)
+  fewer-shorter [] (q ∷ []) h l e = one-step q h
+  fewer-shorter [] (q ∷ r ∷ ds) h l e = absurd (omega arith)
+  fewer-shorter (c ∷ cs) ds h l e = absurd (omega arith)
+
+is-nil : (cs : List Point) → length cs ≡ 0 → cs ≡ []
+is-nil [] e = refl
+is-nil (c ∷ cs) e = absurd (omega arith)
+
+-- where the target is one point
+module _ (f : ℕ → ℕ → Bool) (S T : Point) where
   -- no path leaves S and is back by one segment
-  no-loop : (cs : List Point) → leads f T either S [] ≡ true → leads f T either S cs ≡ true → length cs ≡ 1 → ⊥
+  no-loop : (cs : List Point) → leads f (at T) either S [] ≡ true → leads f (at T) either S cs ≡ true → length cs ≡ 1 → ⊥
   unfolding leads
   no-loop [] h k e = omega arith
   no-loop (q ∷ r ∷ cs) h k e = omega arith
@@ -66,7 +86,7 @@ module _ (f : ℕ → ℕ → Bool) (S T : Point) where
           (of-segment f either S S s)
 
   -- of two ways to go on from S with equal bends, one no shorter than the other, both have as many segments
-  pub same-bends : (cs ds : List Point) → leads f T either S cs ≡ true → leads f T either S ds ≡ true
+  pub same-bends : (cs ds : List Point) → leads f (at T) either S cs ≡ true → leads f (at T) either S ds ≡ true
       → length cs ≤ length ds → bends (S ∷ ds) ≡ bends (S ∷ cs) → length ds ≡ length cs
   unfolding bends
   same-bends cs ds h k l e =
@@ -74,9 +94,9 @@ module _ (f : ℕ → ℕ → Bool) (S T : Point) where
       (λ q.
       let one : length ds ≡ 1 = omega arith in
       let nil : length cs ≡ 0 = omega arith in
-      absurd (no-loop ds (subst (λ (l : List Point). leads f T either S l ≡ true) (is-nil cs nil) h) k one))
+      absurd (no-loop ds (subst (λ (l : List Point). leads f (at T) either S l ≡ true) (is-nil cs nil) h) k one))
 
-module _ (f : ℕ → ℕ → Bool) (W H : ℕ) (S T : Point) where
+module _ (f : ℕ → ℕ → Bool) (W H : ℕ) (S : Point) (T : Point → Bool) where
   -- the ways to go on from S by n segments
   abbrev goingOn : ℕ → List (List Point)
   goingOn n = goings f W H T n either S
@@ -143,8 +163,8 @@ module _ (f : ℕ → ℕ → Bool) (W H : ℕ) (S T : Point) where
   empty zero n h k l u = absurd (omega arith)
   empty (suc tries) n h k l u = empty-step tries n (goingOn n) refl h (empty tries (suc n)) k l u
 
-  some-found : (cs : List Point) → firstPath f W H S T ≡ some cs → (f (S .x) (S .y) ≡ true) × Found 0 cs
-  unfolding firstPath
+  some-found : (cs : List Point) → firstPathTo f W H S T ≡ some cs → (f (S .x) (S .y) ≡ true) × Found 0 cs
+  unfolding firstPathTo
   some-found cs h =
       ⊎-elim (λ (e : f (S .x) (S .y) ≡ true). (e, found (suc (W * H)) 0 cs (given true e)))
       (λ (e : f (S .x) (S .y) ≡ false). absurd (Option·none-ne-some cs (given false e)))
@@ -157,9 +177,9 @@ module _ (f : ℕ → ℕ → Bool) (W H : ℕ) (S T : Point) where
     not-empty : (cs : List Point) → leads f T either S cs ≡ true → goingOn (length cs) ≡ [] → ⊥
     not-empty cs h e = subst (λ (l : List (List Point)). In cs l) e (in-goings f W H T inside either S cs h)
 
-    -- firstPath gives nothing only where there is no path
-    pub nothing-missed : firstPath f W H S T ≡ none → (cs : List Point) → isPath f S T cs ≡ true → ⊥
-    unfolding firstPath
+    -- firstPathTo gives nothing only where there is no path
+    pub nothing-missed : firstPathTo f W H S T ≡ none → (cs : List Point) → isPathTo f S T cs ≡ true → ⊥
+    unfolding firstPathTo
     nothing-missed h cs k =
         let a = of-path f S T cs k in
         let e = enough f W H inside T either S (a .rest) (a .start) (a .on) in
@@ -197,15 +217,15 @@ module _ (f : ℕ → ℕ → Bool) (W H : ℕ) (S T : Point) where
           (λ (q : before (S ∷ best) (S ∷ es) ≡ true). inr q)
           (shortest-first S (r .head) (r .more) s es j)
 
-    -- what firstPath gives is a path, has fewest bends, and comes first among the paths with as few
-    module _ (cs : List Point) (given : firstPath f W H S T ≡ some cs) where
-      pub given-path : isPath f S T cs ≡ true
+    -- what firstPathTo gives is a path, has fewest bends, and comes first among the paths with as few
+    module _ (cs : List Point) (given : firstPathTo f W H S T ≡ some cs) where
+      pub given-path : isPathTo f S T cs ≡ true
       given-path =
           let a = some-found cs given in
-          subst (λ (l : List Point). isPath f S T l ≡ true) (sym (a .1 .is))
+          subst (λ (l : List Point). isPathTo f S T l ≡ true) (sym (a .1 .is))
           (to-path f S T (best cs (a .1)) (a .0) (first-on cs (a .1) .0))
 
-      pub given-fewest : (ds : List Point) → isPath f S T ds ≡ true → bends cs ≤ bends ds
+      pub given-fewest : (ds : List Point) → isPathTo f S T ds ≡ true → bends cs ≤ bends ds
       unfolding bends
       given-fewest ds k =
           let r = some-found cs given .1 in
@@ -215,12 +235,16 @@ module _ (f : ℕ → ℕ → Bool) (W H : ℕ) (S T : Point) where
           let v : length ds ≡ suc (length (b .rest)) = ap length (b .is) in
           omega arith
 
-      pub given-first : (ds : List Point) → isPath f S T ds ≡ true → bends ds ≡ bends cs
+      pub given-first : (ds : List Point) → isPathTo f S T ds ≡ true → bends ds ≡ bends cs
           → (cs ≡ ds) ⊎ (before cs ds ≡ true)
       given-first ds k e =
           let r = some-found cs given .1 in
           let b = of-path f S T ds k in
           let w : bends (S ∷ b .rest) ≡ bends (S ∷ best cs r) = ap bends (sym (b .is)) ∙ e ∙ ap bends (r .is) in
           subst₂ (λ (l m : List Point). (l ≡ m) ⊎ (before l m ≡ true)) (sym (r .is)) (sym (b .is))
-          (same-length cs r (b .rest) (b .on)
-          (same-bends f S T (best cs r) (b .rest) (first-on cs r .0) (b .on) (no-fewer cs r (b .rest) (b .on)) w))
+          (by-cases (ℕ-discrete (length (b .rest)) (length (best cs r)))
+          (λ q. same-length cs r (b .rest) (b .on) q)
+          (λ q.
+          let l = no-fewer cs r (b .rest) (b .on) in
+          inr (by-length (S ∷ best cs r) (S ∷ b .rest)
+          (fewer-shorter f S T (best cs r) (b .rest) (b .on) (omega (arith, q)) w))))

@@ -32,7 +32,7 @@ pub before-tail : (p : Point) (cs ds : List Point) → cornersBefore cs ds ≡ t
 unfolding cornersBefore
 before-tail p cs ds b = or-ir (pointBefore p p) (and-i {a = same p p} (same-self p) b)
 
-module _ (f : ℕ → ℕ → Bool) (W H : ℕ) (T : Point) where
+module _ (f : ℕ → ℕ → Bool) (W H : ℕ) (T : Point → Bool) where
   -- the ways to go on from p by n segments, over the next corner q
   abbrev over : ℕ → Point → Point → List (List Point)
   over n p q = map (λ (cs : List Point). q ∷ cs) (goings f W H T n (after p q) q)
@@ -41,7 +41,7 @@ module _ (f : ℕ → ℕ → Bool) (W H : ℕ) (T : Point) where
       → In cs (goings f W H T n h p) → (leads f T h p cs ≡ true) × (length cs ≡ n)
   unfolding goings leads
   of-goings zero h p cs i =
-      let r = of-one (same p T) cs i in
+      let r = of-one (T p) cs i in
       (subst (λ (l : List Point). leads f T h p l ≡ true) (sym (r .1)) (r .0), ap length (r .1))
   of-goings (suc n) h p cs i =
       let a = of-each (over n p) cs (keep (segment f h p) (points W H)) i in
@@ -67,7 +67,7 @@ module _ (f : ℕ → ℕ → Bool) (W H : ℕ) (T : Point) where
 
   pub sorted-goings : (n : ℕ) (h : Heading) (p : Point) → Sorted cornersBefore (goings f W H T n h p)
   unfolding goings
-  sorted-goings zero h p = sorted-one (same p T)
+  sorted-goings zero h p = sorted-one (T p)
   sorted-goings (suc n) h p =
       sorted-each pointBefore cornersBefore (over n p) (keep (segment f h p) (points W H))
       (sorted-keep pointBefore (segment f h p) (points W H) (sorted-points W H))

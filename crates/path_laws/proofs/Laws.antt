@@ -1,4 +1,4 @@
--- What `firstPath` gives, in document 01's words, for every test f of free points that passes on the foil only.
+-- What `firstPathTo` gives, in document 01's words, for every test f of free points that passes on the foil only.
 use Prim.Native.Nat.{ℕ, _≤_, _<_}
 use native.Mathlib.Omega.{arith}
 use mathlib.Core.Path.{_≡_, refl, sym, ap}
@@ -7,13 +7,13 @@ use mathlib.Core.List.{List}
 use mathlib.Core.Option.{Option, none, some}
 use mathlib.Core.Logic.{_⊎_, inl, inr, ⊎-elim}
 use Rattle.foil_spec.specs.Foil.{Point}
-use Rattle.foil_spec.specs.Paths.{isPath, bends, cornersBefore, pathLength, before, firstPath}
+use Rattle.foil_spec.specs.Paths.{isPathTo, bends, cornersBefore, pathLength, before, firstPathTo}
 use Rattle.path_laws.specs.First.{IsFirst}
 use Rattle.path_laws.proofs.Order.{of-before, corners-both}
 use Rattle.path_laws.proofs.FirstPath.{nothing-missed, given-path, given-fewest, given-first}
 
 -- a path of fewest bends that no other one comes before, in the order of paths, is the first one
-module _ (f : ℕ → ℕ → Bool) (S T : Point) (cs : List Point) where
+module _ (f : ℕ → ℕ → Bool) (S : Point) (T : Point → Bool) (cs : List Point) where
   -- cs is that path, or comes before it
   abbrev NoLater : List Point → Type 0
   NoLater ds = (cs ≡ ds) ⊎ (before cs ds ≡ true)
@@ -27,8 +27,8 @@ module _ (f : ℕ → ℕ → Bool) (S T : Point) (cs : List Point) where
   by-corners-first ds e (inl q) = inl q
   by-corners-first ds e (inr b) = ⊎-elim (λ l. absurd (omega arith)) (λ l. inr (l .1)) (of-before cs ds b)
 
-  pub to-first : isPath f S T cs ≡ true → ((ds : List Point) → isPath f S T ds ≡ true → bends cs ≤ bends ds)
-      → ((ds : List Point) → isPath f S T ds ≡ true → bends ds ≡ bends cs → NoLater ds) → IsFirst f S T cs
+  pub to-first : isPathTo f S T cs ≡ true → ((ds : List Point) → isPathTo f S T ds ≡ true → bends cs ≤ bends ds)
+      → ((ds : List Point) → isPathTo f S T ds ≡ true → bends ds ≡ bends cs → NoLater ds) → IsFirst f S T cs
   to-first path fewest no-later =
       record {
         path = path;
@@ -38,7 +38,7 @@ module _ (f : ℕ → ℕ → Bool) (S T : Point) (cs : List Point) where
       }
 
 -- there is only one such list
-pub unique : (f : ℕ → ℕ → Bool) (S T : Point) (cs ds : List Point) → IsFirst f S T cs → IsFirst f S T ds → cs ≡ ds
+pub unique : (f : ℕ → ℕ → Bool) (S : Point) (T : Point → Bool) (cs ds : List Point) → IsFirst f S T cs → IsFirst f S T ds → cs ≡ ds
 unique f S T cs ds a b =
     let ab = a .fewest ds (b .path) in
     let ba = b .fewest cs (a .path) in
@@ -53,29 +53,29 @@ unique f S T cs ds a b =
     (b .first cs (a .path) (sym e) (sym l)))
     (a .first ds (b .path) e l)
 
-module _ (f : ℕ → ℕ → Bool) (W H : ℕ) (inside : (x y : ℕ) → f x y ≡ true → (x < W) × (y < H)) (S T : Point) where
-  -- what firstPath gives is the first way of fewest bends
-  pub gives-first : (cs : List Point) → firstPath f W H S T ≡ some cs → IsFirst f S T cs
+module _ (f : ℕ → ℕ → Bool) (W H : ℕ) (inside : (x y : ℕ) → f x y ≡ true → (x < W) × (y < H)) (S : Point) (T : Point → Bool) where
+  -- what firstPathTo gives is the first way of fewest bends
+  pub gives-first : (cs : List Point) → firstPathTo f W H S T ≡ some cs → IsFirst f S T cs
   gives-first cs h =
       to-first f S T cs (given-path f W H S T inside cs h) (given-fewest f W H S T inside cs h)
       (given-first f W H S T inside cs h)
 
   -- it gives nothing only where "there is no way from S to T"
-  pub gives-none : firstPath f W H S T ≡ none → (cs : List Point) → isPath f S T cs ≡ true → ⊥
+  pub gives-none : firstPathTo f W H S T ≡ none → (cs : List Point) → isPathTo f S T cs ≡ true → ⊥
   gives-none = nothing-missed f W H S T inside
 
-  -- whoever has the first way of fewest bends has what firstPath gives
-  pub first-is : (cs : List Point) → IsFirst f S T cs → firstPath f W H S T ≡ some cs
-  first-is cs a = go (firstPath f W H S T) refl
+  -- whoever has the first way of fewest bends has what firstPathTo gives
+  pub first-is : (cs : List Point) → IsFirst f S T cs → firstPathTo f W H S T ≡ some cs
+  first-is cs a = go (firstPathTo f W H S T) refl
     where
-      go : (o : Option (List Point)) → firstPath f W H S T ≡ o → o ≡ some cs
+      go : (o : Option (List Point)) → firstPathTo f W H S T ≡ o → o ≡ some cs
       go none e = absurd (gives-none e cs (a .path))
       go (some ds) e = ap {A = List Point} {B = Option (List Point)} some (unique f S T ds cs (gives-first ds e) a)
 
   -- where there is no way from S to T, it gives nothing
-  pub none-is : ((cs : List Point) → isPath f S T cs ≡ true → ⊥) → firstPath f W H S T ≡ none
-  none-is h = go (firstPath f W H S T) refl
+  pub none-is : ((cs : List Point) → isPathTo f S T cs ≡ true → ⊥) → firstPathTo f W H S T ≡ none
+  none-is h = go (firstPathTo f W H S T) refl
     where
-      go : (o : Option (List Point)) → firstPath f W H S T ≡ o → o ≡ none
+      go : (o : Option (List Point)) → firstPathTo f W H S T ≡ o → o ≡ none
       go none e = refl
       go (some ds) e = absurd (h ds (gives-first ds e .path))

@@ -130,7 +130,7 @@ module _ (f : ℕ → ℕ → Bool) where
   unfolding after
   after-upright p q s = rw (ne-eqb (p .y) (q .y) (s .apart)) refl
 
-  pub leads-either : (T : Point) (h : Heading) (p : Point) (cs : List Point)
+  pub leads-either : (T : Point → Bool) (h : Heading) (p : Point) (cs : List Point)
       → leads f T h p cs ≡ true → leads f T either p cs ≡ true
   unfolding leads
   leads-either T h p [] l = l

@@ -5,13 +5,13 @@ use mathlib.Core.Bool.{Bool, true}
 use mathlib.Core.List.{List}
 use mathlib.Core.Logic.{_⊎_}
 use Rattle.foil_spec.specs.Foil.{Point}
-use Rattle.foil_spec.specs.Paths.{isPath, bends, pathLength, cornersBefore}
+use Rattle.foil_spec.specs.Paths.{isPathTo, bends, pathLength, cornersBefore}
 
--- cs is a path from S to T; no path has fewer bends; of those with as many none is shorter; and of those as short it
+-- cs is a path from S to the target T; no path has fewer bends; of those with as many none is shorter; and of those as short it
 -- comes first by its corners
-pub record IsFirst (f : ℕ → ℕ → Bool) (S T : Point) (cs : List Point) : Type 0 where
-  pub path : isPath f S T cs ≡ true
-  pub fewest : (ds : List Point) → isPath f S T ds ≡ true → bends cs ≤ bends ds
-  pub shortest : (ds : List Point) → isPath f S T ds ≡ true → bends ds ≡ bends cs → pathLength cs ≤ pathLength ds
-  pub first : (ds : List Point) → isPath f S T ds ≡ true → bends ds ≡ bends cs → pathLength ds ≡ pathLength cs
+pub record IsFirst (f : ℕ → ℕ → Bool) (S : Point) (T : Point → Bool) (cs : List Point) : Type 0 where
+  pub path : isPathTo f S T cs ≡ true
+  pub fewest : (ds : List Point) → isPathTo f S T ds ≡ true → bends cs ≤ bends ds
+  pub shortest : (ds : List Point) → isPathTo f S T ds ≡ true → bends ds ≡ bends cs → pathLength cs ≤ pathLength ds
+  pub first : (ds : List Point) → isPathTo f S T ds ≡ true → bends ds ≡ bends cs → pathLength ds ≡ pathLength cs
       → (cs ≡ ds) ⊎ (cornersBefore cs ds ≡ true)

@@ -8,7 +8,7 @@ use mathlib.Core.List.{List, _∷_}
 use mathlib.Core.Logic.{by-cases}
 use lib.ListN.{length}
 use Rattle.foil_spec.specs.Foil.{Point}
-use Rattle.foil_spec.specs.Paths.{isPath, bends}
+use Rattle.foil_spec.specs.Paths.{at, isPath, bends}
 use Rattle.path_laws.proofs.Segments.{leads-either}
 use Rattle.path_laws.proofs.FirstPath.{to-path}
 use Rattle.reach.specs.Reach.{flip, Reach, TargetFree}
@@ -25,8 +25,8 @@ module _ (f : ℕ → ℕ → Bool) (S T : Point) (s-free : f (S .x) (S .y) ≡ 
       let ps : List Point = corners (F .up) (F .cs) (S .x) (S .y) in
       let n : length ps ≡ m = corners-length (F .up) (F .cs) (S .x) (S .y) ∙ F .many in
       let l = fewest (S ∷ ps)
-      (to-path f S T ps s-free
-      (leads-either f T (heading (F .up)) S ps (path-leads f T (F .up) (F .cs) (S .x) (S .y) (F .path)))) in
+      (to-path f S (at T) ps s-free
+      (leads-either f (at T) (heading (F .up)) S ps (path-leads f T (F .up) (F .cs) (S .x) (S .y) (F .path)))) in
       omega arith
 
   -- T is not reached by m segments, whichever way the first goes

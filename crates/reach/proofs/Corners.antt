@@ -9,7 +9,7 @@ use lib.Dec.{eqb}
 use borrow.Author.Tests.{eq-eqb, eqb-true}
 use lib.ListN.{length}
 use Rattle.foil_spec.specs.Foil.{Point, point, same}
-use Rattle.foil_spec.specs.Paths.{Heading, either, level, upright, between, levelFree, uprightFree, segment}
+use Rattle.foil_spec.specs.Paths.{at, Heading, either, level, upright, between, levelFree, uprightFree, segment}
 use Rattle.foil_spec.specs.Paths.{after, leads, cornersBefore, stepsFrom}
 use Rattle.list_laws.proofs.Tests.{and-l, and-r, and-i, or-cases}
 use Rattle.path_laws.proofs.Segments.{between-at, between-to, Level, Upright, of-level, of-upright}
@@ -48,7 +48,7 @@ module _ (f : ℕ → ℕ → Bool) where
 module _ (f : ℕ → ℕ → Bool) (T : Point) where
   -- a path by coordinates, by its corners
   pub path-leads : (up : Bool) (cs : List ℕ) (x y : ℕ) → PathD up cs f (At T) x y
-      → leads f T (heading up) (point x y) (corners up cs x y) ≡ true
+      → leads f (at T) (heading up) (point x y) (corners up cs x y) ≡ true
   unfolding leads segment
   path-leads false [] x y t = and-i {a = eqb x (T .x)} (eq-eqb x (T .x) (t .0)) (eq-eqb y (T .y) (t .1))
   path-leads true [] x y t = and-i {a = eqb x (T .x)} (eq-eqb x (T .x) (t .0)) (eq-eqb y (T .y) (t .1))
@@ -93,32 +93,32 @@ module _ (f : ℕ → ℕ → Bool) (T : Point) where
     eqb-true y (T .y) (and-r (eqb x (T .x)) (eqb y (T .y)) h),
   )
 
-  leads-path : (up : Bool) (x y : ℕ) (ps : List Point) → leads f T (heading up) (point x y) ps ≡ true
+  leads-path : (up : Bool) (x y : ℕ) (ps : List Point) → leads f (at T) (heading up) (point x y) ps ≡ true
       → Coordinates up x y ps
   unfolding leads segment
   leads-path false x y [] h = ([], ends x y h, refl)
   leads-path true x y [] h = ([], ends x y h, refl)
   leads-path false x y (q ∷ ps) h =
-      let s = of-level f (point x y) q (and-l (levelFree f (point x y) q) (leads f T (after (point x y) q) q ps) h) in
+      let s = of-level f (point x y) q (and-l (levelFree f (point x y) q) (leads f (at T) (after (point x y) q) q ps) h) in
       level-more x y q ps s
       (leads-path true (q .x) (q .y) ps
       (rw (after-level f (point x y) q s) at
-      (and-r (levelFree f (point x y) q) (leads f T (after (point x y) q) q ps) h)))
+      (and-r (levelFree f (point x y) q) (leads f (at T) (after (point x y) q) q ps) h)))
   leads-path true x y (q ∷ ps) h =
       let s =
-      of-upright f (point x y) q (and-l (uprightFree f (point x y) q) (leads f T (after (point x y) q) q ps) h) in
+      of-upright f (point x y) q (and-l (uprightFree f (point x y) q) (leads f (at T) (after (point x y) q) q ps) h) in
       upright-more x y q ps s
       (leads-path false (q .x) (q .y) ps
       (rw (after-upright f (point x y) q s) at
-      (and-r (uprightFree f (point x y) q) (leads f T (after (point x y) q) q ps) h)))
+      (and-r (uprightFree f (point x y) q) (leads f (at T) (after (point x y) q) q ps) h)))
 
   -- a path by corners goes one way or the other at first
-  pub either-path : (S : Point) (ps : List Point) → leads f T either S ps ≡ true
+  pub either-path : (S : Point) (ps : List Point) → leads f (at T) either S ps ≡ true
       → (up : Bool) × (cs : List ℕ) × PathD up cs f (At T) (S .x) (S .y) × (ps ≡ corners up cs (S .x) (S .y))
   unfolding leads segment
   either-path S [] h = let r = leads-path false (S .x) (S .y) [] h in (false, r .0, r .1, r .2)
   either-path S (q ∷ ps) h =
-      let on = and-r (segment f either S q) (leads f T (after S q) q ps) h in
+      let on = and-r (segment f either S q) (leads f (at T) (after S q) q ps) h in
       ⊎-elim
       (λ (k : levelFree f S q ≡ true).
       let r = leads-path false (S .x) (S .y) (q ∷ ps) (and-i {a = levelFree f S q} k on) in
@@ -126,7 +126,7 @@ module _ (f : ℕ → ℕ → Bool) (T : Point) where
       (λ (k : uprightFree f S q ≡ true).
       let r = leads-path true (S .x) (S .y) (q ∷ ps) (and-i {a = uprightFree f S q} k on) in
       (true, r .0, r .1, r .2))
-      (or-cases (levelFree f S q) (uprightFree f S q) (and-l (segment f either S q) (leads f T (after S q) q ps) h))
+      (or-cases (levelFree f S q) (uprightFree f S q) (and-l (segment f either S q) (leads f (at T) (after S q) q ps) h))
 
 -- the first list of corners comes before the second or is the same
 abbrev NoLater : List Point → List Point → Type 0

@@ -9,7 +9,7 @@ use mathlib.Core.List.{List, _∷_}
 use mathlib.Core.Option.{Option, none, some}
 use lib.ListN.{length}
 use Rattle.foil_spec.specs.Foil.{Point}
-use Rattle.foil_spec.specs.Paths.{either, leads, isPath, bends, cornersBefore, pathLength, before, firstPath}
+use Rattle.foil_spec.specs.Paths.{at, either, leads, isPath, bends, cornersBefore, pathLength, before, firstPath}
 use Rattle.path_laws.proofs.Segments.{leads-either}
 use Rattle.path_laws.proofs.Goings.{before-tail}
 use Rattle.path_laws.proofs.Order.{by-length, by-corners}
@@ -22,9 +22,9 @@ use Rattle.reach.proofs.Corners.{corners-length, corners-ink, heading, 
 
 module _ (f : ℕ → ℕ → Bool) (W H : ℕ) (inside : (x y : ℕ) → f x y ≡ true → (x < W) × (y < H)) (S T : Point) where
   module _ (s-free : f (S .x) (S .y) ≡ true) (up : Bool) (cs : List ℕ) (B : Best up cs f (At T) (S .x) (S .y)) where
-    best-leads : leads f T either S (corners up cs (S .x) (S .y)) ≡ true
+    best-leads : leads f (at T) either S (corners up cs (S .x) (S .y)) ≡ true
     best-leads =
-        leads-either f T (heading up) S (corners up cs (S .x) (S .y)) (path-leads f T up cs (S .x) (S .y) (B .path))
+        leads-either f (at T) (heading up) S (corners up cs (S .x) (S .y)) (path-leads f T up cs (S .x) (S .y) (B .path))
 
     abbrev best : List Point
     best = S ∷ corners up cs (S .x) (S .y)
@@ -47,9 +47,9 @@ module _ (f : ℕ → ℕ → Bool) (W H : ℕ) (inside : (x y : ℕ) → f x y 
         (lexd-before up d cs ks (S .x) (S .y) m (B .first d ks q m (omega arith))))
 
     module _ (ds : List Point) (p : isPath f S T ds ≡ true) where
-      fewest : length (corners up cs (S .x) (S .y)) ≤ length (of-path f S T ds p .rest)
+      fewest : length (corners up cs (S .x) (S .y)) ≤ length (of-path f S (at T) ds p .rest)
       fewest =
-          let r = of-path f S T ds p in
+          let r = of-path f S (at T) ds p in
           let k = either-path f T S (r .rest) (r .on) in
           let l = B .fewest (k .0) (k .1) (k .2) in
           let a = corners-length up cs (S .x) (S .y) in
@@ -59,7 +59,7 @@ module _ (f : ℕ → ℕ → Bool) (W H : ℕ) (inside : (x y : ℕ) → f x y 
 
       no-later : bends ds ≡ bends best → (best ≡ ds) ⊎ (before best ds ≡ true)
       no-later e =
-          let r = of-path f S T ds p in
+          let r = of-path f S (at T) ds p in
           let k = either-path f T S (r .rest) (r .on) in
           let n =
           same-bends f S T (corners up cs (S .x) (S .y)) (r .rest) best-leads (r .on) fewest
@@ -71,20 +71,20 @@ module _ (f : ℕ → ℕ → Bool) (W H : ℕ) (inside : (x y : ℕ) → f x y 
           (ap (λ (l : List Point). S ∷ l) (sym (k .3)) ∙ sym (r .is))
           (best-before (k .0) (k .1) (k .2) (omega arith))
 
-    best-is-first : IsFirst f S T best
+    best-is-first : IsFirst f S (at T) best
     unfolding bends
     best-is-first =
-        to-first f S T best (to-path f S T (corners up cs (S .x) (S .y)) s-free best-leads)
-        (λ ds p. let l = fewest ds p in let e = ap length (of-path f S T ds p .is) in omega arith) no-later
+        to-first f S (at T) best (to-path f S (at T) (corners up cs (S .x) (S .y)) s-free best-leads)
+        (λ ds p. let l = fewest ds p in let e = ap length (of-path f S (at T) ds p .is) in omega arith) no-later
 
     pub best-first : firstPath f W H S T ≡ some (S ∷ corners up cs (S .x) (S .y))
-    best-first = first-is f W H inside S T best best-is-first
+    best-first = first-is f W H inside S (at T) best best-is-first
 
   pub none-first : ((d : Bool) (ks : List ℕ) → PathD d ks f (At T) (S .x) (S .y) → ⊥) → firstPath f W H S T ≡ none
   none-first h =
-      none-is f W H inside S T
+      none-is f W H inside S (at T)
       (λ ds p.
-      let r = of-path f S T ds p in
+      let r = of-path f S (at T) ds p in
       let k = either-path f T S (r .rest) (r .on) in
       h (k .0) (k .1) (k .2))
 
@@ -97,16 +97,16 @@ module _ (f : ℕ → ℕ → Bool) (W H : ℕ) (inside : (x y : ℕ) → f x y 
       ps : List Point
       ps = corners (F .up) (F .cs) (S .x) (S .y)
 
-      leads-ps : leads f T either S ps ≡ true
-      leads-ps = leads-either f T (heading (F .up)) S ps (path-leads f T (F .up) (F .cs) (S .x) (S .y) (F .path))
+      leads-ps : leads f (at T) either S ps ≡ true
+      leads-ps = leads-either f (at T) (heading (F .up)) S ps (path-leads f T (F .up) (F .cs) (S .x) (S .y) (F .path))
 
       go : (o : Option (List Point)) → firstPath f W H S T ≡ o
           → (cs : List Point) × (o ≡ some cs) × (length cs ≡ suc n)
-      go none h = absurd (gives-none f W H inside S T h (S ∷ ps) (to-path f S T ps s-free leads-ps))
+      go none h = absurd (gives-none f W H inside S (at T) h (S ∷ ps) (to-path f S (at T) ps s-free leads-ps))
       go (some cs) h =
-          let a = gives-first f W H inside S T cs h in
-          let b = a .fewest (S ∷ ps) (to-path f S T ps s-free leads-ps) in
-          let r = of-path f S T cs (a .path) in
+          let a = gives-first f W H inside S (at T) cs h in
+          let b = a .fewest (S ∷ ps) (to-path f S (at T) ps s-free leads-ps) in
+          let r = of-path f S (at T) cs (a .path) in
           let k = either-path f T S (r .rest) (r .on) in
           let l = F .least (k .0) (k .1) (k .2) in
           let e = F .many in
