@@ -16,7 +16,8 @@ function must be just as it stands here.
     look     pub fn f(board: &Board, table: &[Entry], s1: &[u16], .., n1: u16, ..) -> Answer
              { let b = *board; let t = load(table); core(s1, .., t, b, n1, ..) }
 
-The lists that are lent as `&mut` (`slices` below) come first, then those lent as `&` (`shared`).
+The lists that are lent as `&mut` (`slices` below) come first, then those lent as `&` (`shared`). Among the numbers of a
+look there may be structs by value, each named by its type.
 
 A walk hands on unopened what the callees ensure, so that it knows no contract but by its term. Terms are written over
 h (the record at entry), h' (at exit), y0, y1, .. (the lists at entry), z0, z1, .. (at exit), n1, .. (the numbers),
@@ -1013,8 +1014,10 @@ def look(function, core, answer, slices, numbers, core_post, post, made, terms):
     }, numbers, slices)
     if law == 'LE':
         lines += ['use denote.Enum.Laws as LE']
-    lines += ['use %s.{%s}' % (specs_of(e), e) for e in ['Board', 'Entry', 'Flat', answer] + structs_in(numbers)] + terms
-    lines += struct_uses([('TA', answer), ('T', 'Board'), ('TF', 'Flat')] + [(own(e), e) for e in structs_in(numbers)]) + ['use %s as T-Entry' % proofs_of('Entry')]
+    lines += ['use %s.{%s}' % (specs_of(e), e) for e in ['Board', 'Entry', 'Flat', answer] + structs_in(numbers)]
+    lines += terms
+    lines += struct_uses([('TA', answer), ('T', 'Board'), ('TF', 'Flat')] + [(own(e), e) for e in structs_in(numbers)])
+    lines += ['use %s as T-Entry' % proofs_of('Entry')]
     lines += callee_uses([('core', core), ('ld', LOAD)]) + own_uses(function)
     lines += ['abbrev stayed : Stays (f.ended .signature .params) (f.ended .kept)',
               'stayed = ' + nest(['stay-none-ref (0 ∷ []) tt (plain (λ _. T.the-row)) yes']
@@ -1031,7 +1034,8 @@ def look(function, core, answer, slices, numbers, core_post, post, made, terms):
     lines += [
         '  -- what was loaded', '  abbrev loaded : Flat', '  loaded = ' + fill(LOADED, env), '',
         '  abbrev Arg : Type 0',
-        '  Arg = ' + product(['RefT Board'] + ['RefT (List %s)' % denotes(e) for e in elements] + [denotes(w) for w in numbers]), '',
+        '  Arg = ' + product(['RefT Board'] + ['RefT (List %s)' % denotes(e) for e in elements]
+                             + [denotes(w) for w in numbers]), '',
         '  abbrev a : Arg', '  a = ' + nest(['record { ptr = (b, o); name = γ; now = h }'] + xs + ns), '',
         '  abbrev vals : ' + product(['List Val'] * params), '  vals = ' + nest(['%s ∷ []' % v for v in arguments]), '',
         '  abbrev Post : Val → SProp 𝓤',
@@ -1080,7 +1084,8 @@ def look(function, core, answer, slices, numbers, core_post, post, made, terms):
 
     s = '    walk %s =\n        ' % ' '.join(rooms)
     s += begin(tokens(ks, qs, 0), ['ShrRef (named 0) κ₀ T.the-row']
-               + ['ShrSlice (named %d) %s %s' % (i + 1, ks[i + 1], row(elements[i])) for i in whole] + [param_row(w) for w in numbers],
+               + ['ShrSlice (named %d) %s %s' % (i + 1, ks[i + 1], row(elements[i])) for i in whole]
+               + [param_row(w) for w in numbers],
                arguments, locals_)
     s += 'pass1 ! (init ! %d refl (tt, tt)) $ ' % place(1)
     s += ''.join('pass1 ! (init ! %d refl %s) $ ' % (place(2 + i), SLICE_TYPED % rooms[i]) for i in whole)

@@ -41,7 +41,7 @@ use denote.Triple.Walked.{stay-none-ref, stay-none-slice, goes-none-ref, goes-no
 use denote.Exit.{yes}
 use denote.Memory.{partAt}
 use denote.Struct.Steps.{spelt}
-use Rattle.host.specs.Flats.{loadTo}
+use Rattle.host.specs.Flats.{frontOf}
 use denote.Struct.Laws as LL
 use denote.Enum.Laws as LE
 use Rattle.foil_spec.specs.declared.Board.{Board}
@@ -49,7 +49,7 @@ use Rattle.foil_spec.specs.declared.Entry.{Entry}
 use Rattle.host.specs.declared.flat.Flat.{Flat}
 use Rattle.ohms.specs.declared.Resistance.{Resistance}
 use Rattle.foil_spec.specs.declared.Ink.{Ink}
-use Rattle.host.specs.Calls.{HostTold}
+use Rattle.host.specs.Calls.{HostOhms}
 use Rattle.host.proofs.Tables.{whole-ohms}
 use Rattle.host.specs.Flats.{entriesOf}
 use Rattle.ohms.proofs.Resistance as TA
@@ -118,11 +118,9 @@ module _ {M : Type 1} (𝓤 : URA M) (H : Heap 𝓤) (A : Atoms 𝓤) (mem : Mem
   Core = tripleOf 𝓤 H A core.signature (core.spec 𝓤 H A mem run)
 
   loaded-of : (κ : Lft) (x : RefT (List Entry)) (r : Flat)
-      → ent 𝓤 (ensured 𝓤 H A ld.ended (ld.clauses 𝓤 H A mem run) (κ, tt) (x, tt) tt r) (fact 𝓤 (r ≡ loadTo (x .now)
-      (length (x .now))))
+      → ent 𝓤 (ensured 𝓤 H A ld.ended (ld.clauses 𝓤 H A mem run) (κ, tt) (x, tt) tt r) (fact 𝓤 (r ≡ frontOf (x .now)))
   loaded-of κ x r =
-      exE 𝓤 _ (λ ws. snd∗ 𝓤 (sem 𝓤 H A (lasts ld.ended (κ, tt) (x, tt) ws)) (fact 𝓤 (r ≡ loadTo (x .now) (length (x
-      .now)))))
+      exE 𝓤 _ (λ ws. snd∗ 𝓤 (sem 𝓤 H A (lasts ld.ended (κ, tt) (x, tt) ws)) (fact 𝓤 (r ≡ frontOf (x .now))))
 
 module _ {M : Type 1} (𝓤 : URA M) (H : Heap 𝓤) (A : Atoms 𝓤) (W : Given 𝓤 H A) (at-mem : Memory → SProp 𝓤) (run :
     Routine → Fun 𝓤)
@@ -144,7 +142,7 @@ module _ {M : Type 1} (𝓤 : URA M) (H : Heap 𝓤) (A : Atoms 𝓤) (W : Given
 
   -- what was loaded
   abbrev loaded : Flat
-  loaded = loadTo y₀ (length y₀)
+  loaded = frontOf y₀
 
   abbrev Arg : Type 0
   Arg = RefT Board × (RefT (List Entry) × (RefT (List ℕ) × (ℕ × (Ink × Unit {0}))))
@@ -218,12 +216,12 @@ module _ {M : Type 1} (𝓤 : URA M) (H : Heap 𝓤) (A : Atoms 𝓤) (W : Given
       (h, (n₁, (n₂, tt))),
     ),
   ) tt r)
-      (fact 𝓤 (HostTold n₁ n₂ h (entriesOf loaded) y₁ r))
+      (fact 𝓤 (HostOhms n₁ n₂ h (entriesOf loaded) y₁ r))
   post-of r =
       exE 𝓤 _ (λ ws. snd∗ 𝓤 (sem 𝓤 H A (lasts core.ended (κ₂, tt) (x₁, (loaded, (h, (n₁, (n₂, tt))))) ws)) (fact 𝓤
-      (HostTold n₁ n₂ h (entriesOf loaded) y₁ r)))
+      (HostOhms n₁ n₂ h (entriesOf loaded) y₁ r)))
 
-  exits : (r : Resistance) (w : Val) → HostTold n₁ n₂ h y₀ y₁ r
+  exits : (r : Resistance) (w : Val) → HostOhms n₁ n₂ h y₀ y₁ r
       → ent 𝓤 (⋆ 𝓤 H A (‵ (flft κ₀ q₀) ∷ (‵ (flft κ₁ q₁) ⊛ ‵ ftrue) ∷ (‵ (flft κ₂ q₂) ⊛ ‵ ftrue) ∷ ‵ (fshr-bor κ₀ (λ
       s. partAt T.the-row s h b o)) ∷ ‵ (fres γ (T.the-row .coded .code h)) ∷ ‵ (ShrSlice (named 1) κ₁
       T-Entry.the-row .own x₀ (s₀ ∷ [])) ∷ ‵ (ShrSlice (named 2) κ₂ u16 .own x₁ (s₁ ∷ [])) ∷ ‵ (TA.the-row .own r
@@ -313,8 +311,8 @@ module _ {M : Type 1} (𝓤 : URA M) (H : Heap 𝓤) (A : Atoms 𝓤) (W : Given
         use1 W (later (some (λ (r : Resistance). ((‵ (flft κ₂ q₂) ⊛ ‵ ftrue) ⊛ ‵ (TA.the-row .own r (w ∷ []))) ⊛ raw
         (ensured 𝓤 H A core.ended (core.clauses 𝓤 H A at-mem run) (κ₂, tt) (x₁, (loaded, (h, (n₁, (n₂, tt))))) tt
         r)))) (id⊢ 𝓤 _) $ await ! tt $ pick ! (λ r.
-        split ! $ move ! (1 ∷ []) $ use1 W (raw (fact 𝓤 (HostTold n₁ n₂ h (entriesOf loaded) y₁ r))) (post-of r) $
-        heard ! (HostTold n₁ n₂ h (entriesOf loaded) y₁ r) (λ e₂. split ! $ move ! (1 ∷ []) $
+        split ! $ move ! (1 ∷ []) $ use1 W (raw (fact 𝓤 (HostOhms n₁ n₂ h (entriesOf loaded) y₁ r))) (post-of r) $
+        heard ! (HostOhms n₁ n₂ h (entriesOf loaded) y₁ r) (λ e₂. split ! $ move ! (1 ∷ []) $
         peeks ! TA.the-row (Is TA.the-row) (shows 𝓤 H A TA.the-row) r (w ∷ []) (λ is₂.
         land ! (from ! (stop !)) (init ! 23 refl (LE.lawful TA.the-type TA′.the-laws 𝓤 H A W tt .typed r _ is₂ .0)) $
         returns ! (look ! 23 refl) $ forget ! 9 refl $ forget ! 11 refl $ forget ! 13 refl $ forget ! 15 refl $

@@ -1,10 +1,9 @@
+-- The ends of a leg lie after its beginnings, so nothing is taken from less.
 use mathlib.Core.Path.{refl}
 use Rattle.foil_spec.specs.Nets.{legSteps}
 use borrow.Author.Needs.{needs}
 use Rattle.nets.proofs.leg_steps.Statement.{statement}
 use Rattle.nets.proofs.leg_steps.Tie as tie
-use Rattle.nets.proofs.leg_steps.Reads as reads
-use Rattle.nets.proofs.leg_steps.Lts as lts
 
 sub-across : tie.Need-sub-across
 sub-across c = search needs

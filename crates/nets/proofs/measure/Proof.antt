@@ -1,3 +1,4 @@
+-- The entries before k are counted.
 use native.Mathlib.Omega.{arith}
 use Prim.Native.Nat.{_-_, _≤_}
 use mathlib.Core.Path.{refl}
@@ -5,9 +6,6 @@ use Rattle.nets.specs.Measured.{Measured}
 use Rattle.nets.proofs.Measuring.{measured-none, measured-done}
 use Rattle.nets.proofs.measure.Statement.{statement}
 use Rattle.nets.proofs.measure.Tie as tie
-use Rattle.nets.proofs.measure.Reads as reads
-use Rattle.nets.proofs.measure.Lts as lts
-use Rattle.nets.proofs.with_entry.Reads as with-entry-reads
 
 abbrev Inv-loop : tie.InvT-loop
 Inv-loop table n net track₀ k₀ track k = (k ≤ n) × Measured table k net track

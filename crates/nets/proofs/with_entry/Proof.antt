@@ -1,11 +1,9 @@
+-- One entry more: it is of another net and nothing changes, or it is one leg more and its steps.
 use native.Mathlib.Omega.{arith}
 use Rattle.nets.proofs.Measuring.{box-at, steps-most, measured-skip, measured-more}
 use borrow.Author.Needs.{needs}
 use Rattle.nets.proofs.with_entry.Statement.{statement}
 use Rattle.nets.proofs.with_entry.Tie as tie
-use Rattle.nets.proofs.with_entry.Reads as reads
-use Rattle.nets.proofs.with_entry.Lts as lts
-use Rattle.nets.proofs.leg_steps.Reads as leg-steps-reads
 
 mul-if1 : tie.Need-mul-if1
 mul-if1 c = search needs
@@ -68,27 +66,33 @@ shared-slice-read-leg-steps-4 : tie.Need-shared-slice-read-leg-steps-4
 shared-slice-read-leg-steps-4 c = search needs
 
 leg-steps-requires : tie.Need-leg-steps-requires
-leg-steps-requires c κs = box-at _ _ (c .before .before .before .before .before .before .before .pre .1 .0)
+leg-steps-requires c κs =
+    let entered = c .before .before .before .before in
+    box-at _ _ (entered .before .before .before .pre .1 .0)
 
 add-t28 : tie.Need-add-t28
 add-t28 c = search needs
 
 add-t29 : tie.Need-add-t29
 add-t29 c =
+    let called = c .before .before in
+    let entered = called .before .before .before .before in
+    let start = entered .before .before .before .before in
     omega (
       arith,
-      c .before .before .before .before .before .before .before .before .before .before .pre .0 .0,
-      c .before .before .before .before .before .before .before .before .before .before .pre .1 .1 .short,
-      c .before .before .leg-steps .ensures,
-      steps-most _ (box-at _ _ (c .before .before .before .before .before .before .before .before .before .before
-          .pre .1 .0)),
+      start .pre .0 .0,
+      start .pre .1 .1 .short,
+      called .leg-steps .ensures,
+      steps-most _ (box-at _ _ (start .pre .1 .0)),
     )
 
 returns-2 : tie.Need-returns-2
 returns-2 c =
-    measured-more _ _ _ _ (c .before .before .before .before .before .before .before .before .before .before .pre .1
-    .1) _ (c .before .before .before .before .before .before .before .if1 .left) (c .before .before .before .before
-    .before .before .before .before .before .before .pre .1 .0) (c .before .before .leg-steps .ensures)
+    let called = c .before .before in
+    let entered = called .before .before .before .before in
+    let start = entered .before .before .before .before in
+    measured-more _ _ _ _ (start .pre .1 .1) _ (entered .before .if1 .left) (start .pre .1 .0)
+    (called .leg-steps .ensures)
 
 pub with-entry-spec : {M : Type 1} → statement M
 with-entry-spec =

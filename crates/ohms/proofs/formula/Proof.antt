@@ -1,10 +1,9 @@
+-- The code has the four operations in the order of the definition.
 use mathlib.Core.Path.{refl}
 use Rattle.foil_spec.specs.Ohms.{whole, formula}
 use borrow.Author.Needs.{needs}
 use Rattle.ohms.proofs.formula.Statement.{statement}
 use Rattle.ohms.proofs.formula.Tie as tie
-use Rattle.ohms.proofs.formula.Reads as reads
-use Rattle.ohms.proofs.formula.Lts as lts
 
 int-to-float-result : tie.Need-int-to-float-result
 int-to-float-result c = search needs

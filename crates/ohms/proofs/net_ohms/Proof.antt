@@ -1,14 +1,8 @@
+-- 4, 6, 22, and else the formula of the steps and of the legs less one.
 use Rattle.ohms.proofs.Answering.{no-net, not-there, no-ink, ohms-are, has-leg}
 use borrow.Author.Needs.{needs}
 use Rattle.ohms.proofs.net_ohms.Statement.{statement}
 use Rattle.ohms.proofs.net_ohms.Tie as tie
-use Rattle.ohms.proofs.net_ohms.Reads as reads
-use Rattle.ohms.proofs.net_ohms.Lts as lts
-use Rattle.booking.proofs.in_use.Reads as in-use-reads
-use Rattle.nets.proofs.measure.Reads as measure-reads
-use Rattle.ohms.proofs.formula.Reads as formula-reads
-use Rattle.ohms.proofs.ink_ok.Reads as ink-ok-reads
-use Rattle.state.proofs.net_ok.Reads as net-ok-reads
 
 net-ok-requires : tie.Need-net-ok-requires
 net-ok-requires c κs = search needs

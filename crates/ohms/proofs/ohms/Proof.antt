@@ -1,13 +1,9 @@
+-- 12, 13, and else the answer for the net.
 use Rattle.foil.proofs.Refusing.{ready}
 use Rattle.ohms.proofs.Answering.{too-short, broken, boxes, answered-by}
 use borrow.Author.Needs.{needs}
 use Rattle.ohms.proofs.ohms.Statement.{statement}
 use Rattle.ohms.proofs.ohms.Tie as tie
-use Rattle.ohms.proofs.ohms.Reads as reads
-use Rattle.ohms.proofs.ohms.Lts as lts
-use Rattle.foil.proofs.lists_short.Reads as lists-short-reads
-use Rattle.ohms.proofs.net_ohms.Reads as net-ohms-reads
-use Rattle.state.proofs.is_sound.Reads as is-sound-reads
 
 lists-short-requires : tie.Need-lists-short-requires
 lists-short-requires c κs = search needs

@@ -1,3 +1,4 @@
+-- The call on the table's numbers, for as many places as are lent.
 use borrow.Author.Needs.{needs}
 use native.Mathlib.Omega.{arith}
 use lib.ListN.{length-take}
@@ -6,10 +7,6 @@ use Rattle.host.proofs.Flats.{full}
 use Rattle.host.proofs.Tables.{flat-ohms}
 use Rattle.host.proofs.flat.ohms.Statement.{statement}
 use Rattle.host.proofs.flat.ohms.Tie as tie
-use Rattle.host.proofs.flat.ohms.Reads as reads
-use Rattle.host.proofs.flat.ohms.Lts as lts
-use Rattle.ohms.proofs.ohms.Reads as ohms-reads
-use Rattle.host.proofs.flat.numbers_lent.Reads as numbers-lent-reads
 
 numbers-lent-requires : tie.Need-numbers-lent-requires
 numbers-lent-requires c κs = search needs

@@ -1,3 +1,4 @@
+-- What equals itself is no NaN, so it has a bit pattern.
 use mathlib.Core.Path.{_≡_}
 use mathlib.Core.Bool.{not, false, true≢false}
 use lib.Dec.{T}
@@ -5,10 +6,6 @@ use lib.Ieee.{Float, nan, inf, fin, eq, isNan}
 use borrow.Author.Needs.{needs}
 use Rattle.ohms_test.proofs.show.pattern.Statement.{statement}
 use Rattle.ohms_test.proofs.show.pattern.Tie as tie
-use Rattle.ohms_test.proofs.show.pattern.Reads as reads
-use Rattle.ohms_test.proofs.show.pattern.Lts as lts
-use Rattle.io.proofs.print_hex.Reads as print-hex-reads
-use Rattle.io.proofs.write_all.Reads as write-all-reads
 
 -- what equals itself is no NaN
 no-nan : (x : Float) → not (eq x x) ≡ false → T (not (isNan x))
