@@ -1,9 +1,12 @@
 // The ink's figures from their bytes.
 use foil_spec::Ink;
-ghost use Prim.Native.Nat.{_≤_};
+ghost use Prim.Native.Nat.{_+_, _≤_, _<_};
+ghost use lib.ListN.{length};
 
 // The three figures, in the order in which they are given.
-pub(crate) fn ink_of(given: &[u8; 24]) -> Ink {
+pub(crate) fn ink_of(given: &[u8]) -> Ink
+    requires { ⌜ 24 ≤ length (now given) ⌝ }
+{
     Ink {
         sheet: figure(word(given, 0)),
         width: figure(word(given, 8)),
@@ -21,17 +24,24 @@ fn figure(bits: u64) -> f64 {
 }
 
 // The eight bytes at a place as a number, low byte first.
-fn word(given: &[u8; 24], at: usize) -> u64
-    requires { ⌜ at ≤ 16 ⌝ }
+fn word(given: &[u8], at: usize) -> u64
+    requires { ⌜ at + 8 ≤ length (now given) ⌝ }
 {
     half(given, at) | (half(given, at + 4) << 32)
 }
 
 // The four bytes at a place as a number, low byte first.
-fn half(given: &[u8; 24], at: usize) -> u64
-    requires { ⌜ at ≤ 20 ⌝ }
+fn half(given: &[u8], at: usize) -> u64
+    requires { ⌜ at + 4 ≤ length (now given) ⌝ }
 {
-    let low = given[at] as u64 | ((given[at + 1] as u64) << 8);
-    let high = given[at + 2] as u64 | ((given[at + 3] as u64) << 8);
+    let low = byte(given, at) | (byte(given, at + 1) << 8);
+    let high = byte(given, at + 2) | (byte(given, at + 3) << 8);
     low | (high << 16)
+}
+
+// The byte at a place.
+fn byte(given: &[u8], at: usize) -> u64
+    requires { ⌜ at < length (now given) ⌝ }
+{
+    given[at] as u64
 }

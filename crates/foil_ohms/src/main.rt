@@ -4,10 +4,12 @@
 mod figures;
 mod show;
 
+use booking::in_use;
 use figures::ink_of;
 use foil_spec::Board;
 use foil_spec::Ink;
 use job::Next;
+use job::Replied;
 use job::Reply;
 use job::run_record;
 use job_report::no_board;
@@ -35,14 +37,27 @@ fn write_job(bytes: &[u8], ink: Ink) {
     let mut board = no_board();
     let mut at: usize = 0;
     for _ in 0..RECORDS {
-        let done = run_record(&mut table, &mut strips, &mut corners, board, bytes, at);
+        let done = run(&mut table, &mut strips, &mut corners, board, bytes, at);
         board = done.board;
-        let next = after(done.reply, &table, &strips, board, ink);
+        let reply = done.reply;
+        let next = after(reply, &table, &strips, board, ink);
         let Next::At(place) = next else {
             return;
         };
         at = place;
     }
+}
+
+// Runs the record at a place, on lists as long as the calls ask for and 8,192 corner places.
+fn run(
+    table: &mut [u16; 640],
+    strips: &mut [u16; 16384],
+    corners: &mut [u16; 16384],
+    board: Board,
+    bytes: &[u8],
+    at: usize,
+) -> Replied {
+    run_record(table, strips, corners, board, bytes, at)
 }
 
 // Where the job goes on after a record. At its end the ohms are written; a file that is at fault or a
@@ -54,7 +69,8 @@ fn after(reply: Reply, table: &[u16; 640], strips: &[u16; 16384], board: Board, 
             Next::Nowhere
         }
         Reply::Ran(answers, next) => {
-            show::board(answers.board);
+            let told = answers.board;
+            show::board(told);
             next
         }
         Reply::AtEnd => {
@@ -73,21 +89,9 @@ fn write_nets(table: &[u16; 640], strips: &[u16; 16384], board: Board, ink: Ink)
     }
 }
 
-// Writes the ohms of a net, if it is on the foil.
+// Writes the ohms of a net, if it is on the foil. The places after the last entry are of net 0.
 fn write_net(table: &[u16; 640], strips: &[u16; 16384], board: Board, net: u16, ink: Ink) {
-    if is_laid(table, net) {
+    if in_use(table, 128, net) {
         show::answer(net, ohms(table, strips, board, net, ink));
     }
-}
-
-// Whether an entry of the table is of the net. The places after the last entry have net 0.
-fn is_laid(table: &[u16; 640], net: u16) -> bool {
-    let mut k = 0;
-    while k < 128 {
-        if table[k * 5] == net {
-            return true;
-        }
-        k += 1;
-    }
-    false
 }
