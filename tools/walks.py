@@ -16,7 +16,8 @@ function must be just as it stands here.
     look     pub fn f(board: &Board, table: &[Entry], s1: &[u16], .., n1: u16, ..) -> Answer
              { let b = *board; let t = load(table); core(s1, .., t, b, n1, ..) }
 
-The lists that are lent as `&mut` (`slices` below) come first, then those lent as `&` (`shared`).
+The lists that are lent as `&mut` (`slices` below) come first, then those lent as `&` (`shared`). Among the numbers of a
+look there may be structs by value, each named by its type.
 
 A walk hands on unopened what the callees ensure, so that it knows no contract but by its term. Terms are written over
 h (the record at entry), h' (at exit), y0, y1, .. (the lists at entry), z0, z1, .. (at exit), n1, .. (the numbers),
@@ -38,8 +39,11 @@ TYPES = {
     'Reply': ('job', 'Reply'),
     'RecordSaid': ('host', 'records.RecordSaid'),
     'Ran': ('host', 'records.Ran'),
+    'Ink': ('foil_spec', 'Ink'),
+    'Resistance': ('ohms', 'Resistance'),
+    'OhmsSaid': ('host', 'flat.OhmsSaid'),
 }
-ENUMS = ('Answer', 'Reply')
+ENUMS = ('Answer', 'Reply', 'Resistance')
 LOAD, STORE = 'table.load', 'table.store'
 LOADED = 'frontOf y0'
 STORED = 'overFront (r .table) y0'
@@ -155,8 +159,38 @@ def tokens(ks, qs, i):
 
 
 def owned_numbers(numbers):
-    return ''.join('owned ! %s (Is %s) (uint-makes 𝓤 H A W %s) %s _ (refl, %s) $ fjoin ! $ '
-                   % (w, w, width(w), low('n', i), low('fits', i)) for i, w in reversed(list(enumerate(numbers, 1))))
+    return ''.join(('owned ! %s (Is %s) (uint-makes 𝓤 H A W %s) %s _ (refl, %s) $ fjoin ! $ '
+                    % (w, w, width(w), low('n', i), low('fits', i))) if is_number(w)
+                   else owned_struct(own(w), low('n', i), low('fits', i)) + 'fjoin ! $ '
+                   for i, w in reversed(list(enumerate(numbers, 1))))
+
+
+# a parameter that is a struct by value stands among the numbers, by its type's name
+
+def own(kind):
+    return 'T' + kind
+
+
+def param_row(w):
+    return w if is_number(w) else own(w) + '.the-row'
+
+
+def param_vals(w):
+    return 'uint-vals %s' % width(w) if is_number(w) else 'LL.vals %s.the-type %s′.the-laws' % (own(w), own(w))
+
+
+def param_tells(w):
+    return 'uint-tells %s' % width(w) if is_number(w) else 'LL.tells %s.the-type %s′.the-laws' % (own(w), own(w))
+
+
+def param_typed(w, i):
+    if is_number(w):
+        return '(tt, record { fits = %s })' % low('fits', i)
+    return '(%s)' % typed(own(w), low('n', i), low('fits', i))
+
+
+def structs_in(numbers):
+    return sorted({w for w in numbers if not is_number(w)})
 
 
 def owned_struct(prefix, value, fact):
@@ -226,8 +260,8 @@ def uses(words, numbers, elements):
         'denote.Exit': 'yes',
     }
     words = dict(words)
-    words['mir.Syntax'] = ', '.join([words.get('mir.Syntax', '')] + sorted({width(n) for n in numbers}))
-    words['denote.Builtin'] = ', '.join(sorted(set(numbers) | {e for e in elements if is_number(e)}))
+    words['mir.Syntax'] = ', '.join([words.get('mir.Syntax', '')] + sorted({width(n) for n in numbers if is_number(n)}))
+    words['denote.Builtin'] = ', '.join(sorted({e for e in list(numbers) + list(elements) if is_number(e)}))
     lines = []
     for module in list(common) + [m for m in words if m not in common]:
         names = []
@@ -346,12 +380,15 @@ def binders(elements, indices):
 
 
 def number_binders(numbers):
-    return ''.join(' (%s : ℕ) (%s : %s < 2 ^ %s)' % (low('n', i), low('fits', i), low('n', i), bits(w))
+    return ''.join(' (%s : ℕ) (%s : %s < 2 ^ %s)' % (low('n', i), low('fits', i), low('n', i), bits(w)) if is_number(w)
+                   else ' (%s : %s) (%s : Is %s %s (mach%s %s ∷ []))'
+                   % (low('n', i), w, low('fits', i), param_row(w), low('n', i), w, low('n', i))
                    for i, w in enumerate(numbers, 1))
 
 
 def number_values(numbers):
-    return ['vint %s %s' % (width(w), low('n', i)) for i, w in enumerate(numbers, 1)]
+    return ['vint %s %s' % (width(w), low('n', i)) if is_number(w) else 'mach%s %s' % (w, low('n', i))
+            for i, w in enumerate(numbers, 1)]
 
 
 # further `use` lines of a walk that has a `&` slice among its parameters
@@ -977,14 +1014,18 @@ def look(function, core, answer, slices, numbers, core_post, post, made, terms):
     }, numbers, slices)
     if law == 'LE':
         lines += ['use denote.Enum.Laws as LE']
-    lines += ['use %s.{%s}' % (specs_of(e), e) for e in ['Board', 'Entry', 'Flat', answer]] + terms
-    lines += struct_uses([('TA', answer), ('T', 'Board'), ('TF', 'Flat')]) + ['use %s as T-Entry' % proofs_of('Entry')]
+    lines += ['use %s.{%s}' % (specs_of(e), e) for e in ['Board', 'Entry', 'Flat', answer] + structs_in(numbers)]
+    lines += terms
+    lines += struct_uses([('TA', answer), ('T', 'Board'), ('TF', 'Flat')] + [(own(e), e) for e in structs_in(numbers)])
+    lines += ['use %s as T-Entry' % proofs_of('Entry')]
     lines += callee_uses([('core', core), ('ld', LOAD)]) + own_uses(function)
     lines += ['abbrev stayed : Stays (f.ended .signature .params) (f.ended .kept)',
               'stayed = ' + nest(['stay-none-ref (0 ∷ []) tt (plain (λ _. T.the-row)) yes']
                                  + ['stay-none-slice (%d ∷ []) tt (plain (λ _. %s)) yes' % (i + 1, row(elements[i]))
-                                    for i in whole] + ['stay-none (λ _. %s) yes' % w for w in numbers]), '']
+                                    for i in whole] + ['stay-none (λ _. %s) yes' % param_row(w) for w in numbers]), '']
     lines += machine('mach', 'Board', 'T') + machine('machF', 'Flat', 'TF') + named_is()
+    for e in structs_in(numbers):
+        lines += machine('mach' + e, e, own(e))
     lines += contracts([('Load', 'ld'), ('Core', 'core')]) + loaded_of()
     lines += ['module _ %s (W : Given 𝓤 H A) (at-mem : Memory → SProp 𝓤) (run : Routine → Fun 𝓤)' % LOGIC,
               '    (%s : Lft) (%s : Share) (b o : ℕ) (γ : GName) (h : Board)%s%s where'
@@ -993,7 +1034,8 @@ def look(function, core, answer, slices, numbers, core_post, post, made, terms):
     lines += [
         '  -- what was loaded', '  abbrev loaded : Flat', '  loaded = ' + fill(LOADED, env), '',
         '  abbrev Arg : Type 0',
-        '  Arg = ' + product(['RefT Board'] + ['RefT (List %s)' % denotes(e) for e in elements] + ['ℕ'] * m), '',
+        '  Arg = ' + product(['RefT Board'] + ['RefT (List %s)' % denotes(e) for e in elements]
+                             + [denotes(w) for w in numbers]), '',
         '  abbrev a : Arg', '  a = ' + nest(['record { ptr = (b, o); name = γ; now = h }'] + xs + ns), '',
         '  abbrev vals : ' + product(['List Val'] * params), '  vals = ' + nest(['%s ∷ []' % v for v in arguments]), '',
         '  abbrev Post : Val → SProp 𝓤',
@@ -1042,12 +1084,13 @@ def look(function, core, answer, slices, numbers, core_post, post, made, terms):
 
     s = '    walk %s =\n        ' % ' '.join(rooms)
     s += begin(tokens(ks, qs, 0), ['ShrRef (named 0) κ₀ T.the-row']
-               + ['ShrSlice (named %d) %s %s' % (i + 1, ks[i + 1], row(elements[i])) for i in whole] + numbers,
+               + ['ShrSlice (named %d) %s %s' % (i + 1, ks[i + 1], row(elements[i])) for i in whole]
+               + [param_row(w) for w in numbers],
                arguments, locals_)
     s += 'pass1 ! (init ! %d refl (tt, tt)) $ ' % place(1)
     s += ''.join('pass1 ! (init ! %d refl %s) $ ' % (place(2 + i), SLICE_TYPED % rooms[i]) for i in whole)
-    s += ''.join('pass1 ! (init ! %d refl (tt, record { fits = %s })) $ ' % (place(2 + k + i), low('fits', i))
-                 for i in range(1, m + 1))
+    s += ''.join('pass1 ! (init ! %d refl %s) $ ' % (place(2 + k + i), param_typed(w, i))
+                 for i, w in enumerate(numbers, 1))
     s += 'pass0 ! $\n        -- the record is looked into, and copied out\n        '
     s += move([2 * locals_ + 1]) + 'fsplit ! $ fsplit3 ! $ drop ! $ ' + move([2 * locals_
         + 3]) + 'split ! $ ' + move([3, 0])
@@ -1106,18 +1149,19 @@ def look(function, core, answer, slices, numbers, core_post, post, made, terms):
     walk = '%s %s (a .0 .ptr .0) (a .0 .ptr .1) (a .0 .name) (a .0 .now)\n      %s %s %%s %s' % (
         ' '.join('(%s)' % at('κs', i) for i in range(k + 2)), ' '.join('(%s)' % at('qs', i) for i in range(k + 2)),
         ' '.join('(%s .ptr .0) (%s .ptr .1) (%s .name) (%s .now)' % ((at('a', i + 1),) * 4) for i in whole),
-        ' '.join('(%s) (%s .1)' % (at('a', k + 1 + i), at('are', k + 1 + i)) for i in range(1, m + 1)),
+        ' '.join('(%s) (%s%s)' % (at('a', k + 1 + i), at('are', k + 1 + i), ' .1' if is_number(w) else '')
+                 for i, w in enumerate(numbers, 1)),
         ' '.join('(%s .0 .1)' % at('are', i + 1) for i in whole))
     lines += ending(
         function, [(n, c, f, p) for (n, c, f), p in zip(callees, ('ld', 'core'))],
-        ['ptr-vals'] + ['slice-vals'] * (k + 1) + ['uint-vals %s' % width(w) for w in numbers],
+        ['ptr-vals'] + ['slice-vals'] * (k + 1) + [param_vals(w) for w in numbers],
         ['shr-tells (named 0) (κs .0) T.the-row']
         + ['shr-slice-tells (named %d) (%s) %s' % (i + 1, at('κs', i + 1), row(elements[i])) for i in whole]
-        + ['uint-tells %s' % width(w) for w in numbers], walk,
+        + [param_tells(w) for w in numbers], walk,
         ['goes-none-ref 𝓤 H A W %d (0 ∷ []) tt (plain (λ _. T.the-row)) yes' % (k + 2)]
         + ['goes-none-slice 𝓤 H A W %d (%d ∷ []) tt (plain (λ _. %s)) yes' % (k + 2, i + 1,
             row(elements[i])) for i in whole]
-        + ['goes-none 𝓤 H A W %d (λ _. %s) yes (λ κs x f. refl)' % (k + 2, w) for w in numbers])
+        + ['goes-none 𝓤 H A W %d (λ _. %s) yes (λ κs x f. refl)' % (k + 2, param_row(w)) for w in numbers])
     return lines
 
 
@@ -1188,6 +1232,13 @@ if __name__ == '__main__':
             function, core, answer, ['u16'], ['u16'] * 2,
             post + ' (point n1 n2) h (entriesOf t) y1 r', post + ' (point n1 n2) h y0 y1 r', law + ' _ _ _ _ _ e2',
             [POINT, CALLS % post, TABLES % law, 'use Rattle.host.specs.Flats.{entriesOf}']))
+    for function, core, answer, post, law in (
+            ('ohms', 'flat.ohms', 'Resistance', 'HostOhms', 'whole-ohms'),
+            ('exported.foil_ohms', 'flat.ohms_told', 'OhmsSaid', 'OhmsTold', 'whole-ohms-told')):
+        write(function, look(
+            function, core, answer, ['u16'], ['u16', 'Ink'],
+            post + ' n1 n2 h (entriesOf t) y1 r', post + ' n1 n2 h y0 y1 r', law + ' _ _ _ _ _ _ e2',
+            [CALLS % post, TABLES % law, 'use Rattle.host.specs.Flats.{entriesOf}']))
     write('table.run_record', inner(
         'table.run_record', 'records.run_record', 'Ran', ['u16', 'u16'], ['u8'], ['usize'],
         'FlatRan y3 n1 h t y1 y2 r z1 z2', 'ThinRan y3 n1 h y0 y1 y2 r z0 z1 z2', 'whole-ran _ _ _ _ _ _ _ _ _ _ e2 e3',

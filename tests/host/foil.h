@@ -48,6 +48,17 @@ struct foil_record {
     size_t next;
 };
 
+/* the ink: ohms a square, the width of a track in points, squares counted for a bend */
+struct foil_ink {
+    double sheet, width, bend;
+};
+
+/* ohms: the number of a refusal, 0 for none; the ohms, 0 where they are refused */
+struct foil_resistance {
+    uint8_t number;
+    double ohms;
+};
+
 /* begins a foil of w by h with clearance d */
 struct foil_said foil_new_foil(struct foil_board *board, struct foil_entry *table, size_t entries, uint16_t *strips,
                                size_t strip_numbers, uint16_t w, uint16_t h, uint16_t d);
@@ -68,6 +79,10 @@ struct foil_said foil_lift(struct foil_board *board, struct foil_entry *table, s
 /* looks a point up */
 struct foil_said foil_look_up(const struct foil_board *board, const struct foil_entry *table, size_t entries,
                               const uint16_t *strips, size_t strip_numbers, uint16_t x, uint16_t y);
+
+/* the ohms of a net */
+struct foil_resistance foil_ohms(const struct foil_board *board, const struct foil_entry *table, size_t entries,
+                                 const uint16_t *strips, size_t strip_numbers, uint16_t net, struct foil_ink ink);
 
 /* runs the record that begins at place `at` of a job file's bytes; a lay's corners are written as by foil_lay */
 struct foil_record foil_run_record(struct foil_board *board, struct foil_entry *table, size_t entries, uint16_t *strips,

@@ -45,6 +45,13 @@ static void show_lay(unsigned net, struct foil_said said)
     printf("\n");
 }
 
+static void show_ohms(unsigned net, double sheet, double width, double bend)
+{
+    struct foil_ink ink = {sheet, width, bend};
+    struct foil_resistance r = foil_ohms(LENT, net, ink);
+    printf("ohms %u %u %.17g\n", net, r.number, r.ohms);
+}
+
 /* runs a job file of `count` bytes, record by record */
 static void run_job(size_t count)
 {
@@ -100,6 +107,10 @@ static void document_01(void)
     printf("place %u %zu\n", said.number, said.place);
     said = foil_look_up(LENT, 2, 2);
     printf("place %u %zu\n", said.number, said.place);
+    show_ohms(5, 0.5, 2, 0.5);
+    show_ohms(5, 0.1, 3, 0.7);
+    show_ohms(5, 1000, 65, 4);
+    show_ohms(6, 1000, 65, 4);
     /* a table of 127 places is too short, and stays as it is */
     printf("lift 5 %u\n", foil_lift(&board, table, 127, strips, strip_numbers, 5).number);
     printf("lift 5 %u\n", foil_lift(LENT, 5).number);

@@ -19,6 +19,8 @@ use Rattle.foil_spec.specs.Ledger.{Step, newFoil, draw, lay, lift, lookUp, refu
 use Rattle.foil_spec.specs.Strips.{stripsFrom}
 use Rattle.foil_spec.specs.Lent.{Lent, held, sound, roomOf, finish, stepOn}
 use Rattle.foil_spec.specs.Job.{recordChecks}
+use Rattle.foil_spec.specs.Ohms.{ohmsRefusals}
+use Rattle.foil_spec.specs.declared.Ink.{Ink}
 use Rattle.foil_spec.specs.Calls.{Reply}
 use Rattle.foil_spec.specs.Sequence.{Lending, front, told, shown, runLent, runLedger}
 use Rattle.list_laws.proofs.Tests.{both, not-ff, parts}
@@ -100,6 +102,11 @@ file-but-12 : (r : Room) → short r ≡ false → (bs : List ℕ) (at n : ℕ) 
 unfolding recordChecks but
 file-but-12 r long bs at = first-passes (but 12) _ (simp (long, or-true))
 
+ohms-but-12 : (r : Room) → short r ≡ false → (net : ℕ) (i : Ink) (l : Layout) (n : ℕ)
+    → first (ohmsRefusals net i r false l) ≡ some n → but 12 n ≡ true
+unfolding ohmsRefusals but
+ohms-but-12 r long net i l = first-passes (but 12) _ (simp (long, or-true))
+
 -- a ledger that holds no foil yet is not too fine
 pub bare-fine : tooFine (bare 0 0 0) ≡ false
 unfolding tooFine stripsOf stripsFrom
@@ -165,7 +172,8 @@ fine-passes m c e =
     let room : cornerPlaces ≤ r .corners = leb-true cornerPlaces (r .corners) places in
     record {
       answers =
-          call-passes (but 12) refl Fine r (step-but-12 r long room) (fine-kept r) (file-but-12 r long) (c .call);
+          call-passes (but 12) refl Fine r (step-but-12 r long room) (fine-kept r) (file-but-12 r long)
+          (ohms-but-12 r long) (c .call);
       keeps = call-keeps Fine r (fine-kept r) (c .call);
     }
 

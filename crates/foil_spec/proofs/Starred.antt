@@ -1,9 +1,11 @@
--- The starred test foils of document 01: one list of cases, and one fact over it.
+-- The starred test foils of document 01, and the ohms of its track: one list of cases, and one fact over it.
 use Prim.Native.Nat.{ℕ}
 use mathlib.Core.Path.{_≡_, refl}
-use mathlib.Core.Bool.{xor}
+use mathlib.Core.Bool.{true, false, xor}
 use mathlib.Core.List.{List, [], _∷_, map, reverse}
 use mathlib.Core.Option.{some}
+use lib.IntN.{pos, negsuc}
+use lib.Ieee.{Float, nan, inf, fin, binary64, ofInt, ofBits, add, mul, div, lt, le, eq}
 use Rattle.foil_spec.specs.Foil.{Point, point, Entry, entry, Layout}
 use Rattle.foil_spec.specs.Foil.{sizeOk, clearanceOk, netOk, boxOk, within, blocks, free}
 use Rattle.foil_spec.specs.Strips.{Strip, stopIn, stop, scan, scanAt, starts, isRun, isTop, begun}
@@ -16,8 +18,10 @@ use Rattle.foil_spec.specs.Ledger.{tooLong, tooFine, next, says, first, 
 use Rattle.foil_spec.specs.Ledger.{newFoil, draw, lay, lift, lookUp, refused, accepted, laid, found}
 use Rattle.foil_spec.specs.Job.{number, fieldCount, mapByte, has, fieldsAt, recordEnd, field, steps, isEnd}
 use Rattle.foil_spec.specs.Job.{recordChecks}
-use Rattle.foil_spec.specs.Calls.{Call, step, runRecord, Reply, answered, ran, atEnd}
-use Rattle.foil_spec.specs.Calls.{endsJob, andThen, actAll, actRecord, tooLarge, ledgerCall}
+use Rattle.foil_spec.specs.Nets.{legsOf, legSteps, stepsOf, netLength, netBends}
+use Rattle.foil_spec.specs.Ohms.{whole, sheetOk, widthOk, bendOk, inkOk, formula, ohmsRefusals, ohmsOf}
+use Rattle.foil_spec.specs.Calls.{Call, step, runRecord, ohms, Reply, answered, ran, atEnd, measured}
+use Rattle.foil_spec.specs.Calls.{endsJob, andThen, actAll, actRecord, tooLarge, ohmsReply, ledgerCall}
 
 -- lists as long as the job program lends them
 abbrev enough : Room
@@ -62,6 +66,18 @@ jobEntries = entry 0 2 0 3 3 ∷ entry 5 0 0 1 4 ∷ entry 5 0 3 5 4 ∷ entry 5
 
 abbrev jobStrips : List Strip
 jobStrips = strip 1 0 2 3 ∷ strip 3 0 4 3 ∷ strip 5 0 6 4 ∷ []
+
+-- the ohms of a net for R, w and c
+abbrev asked : ℕ → Float → Float → Float → Call
+asked net R w c = ohms net (record { sheet = R; width = w; bend = c })
+
+-- a half
+half : Float
+half = fin false 1 (negsuc 0)
+
+-- the f64 of a bit pattern
+bits : ℕ → Float
+bits n = ofBits binary64 n
 
 cases : List Case
 cases =
@@ -170,6 +186,44 @@ cases =
             strips = strip 0 0 2 3 ∷ strip 3 0 6 3 ∷ strip 0 3 6 4 ∷ [];
           };
     }
+    -- the ohms of the job's track, 10 steps with 2 bends: exact, at the upper limits, with 0.1 and 0.7, and with c = −0;
+    -- then figures out of their ranges, and 6 and 4 before 22
+    ∷ record {
+      calls =
+          runRecord jobBytes 0 ∷ runRecord jobBytes 15
+          ∷ asked 5 half (whole 2) half
+          ∷ asked 5 (whole 1000) (whole 64) (whole 4)
+          ∷ asked 5 (bits 0x3fb9_9999_9999_999a) (whole 3) (bits 0x3fe6_6666_6666_6666)
+          ∷ asked 5 (whole 1) (whole 1) (fin true 0 (pos 0))
+          ∷ asked 5 (whole 0) (whole 1) (whole 0)
+          ∷ asked 5 (whole 1) half (whole 0)
+          ∷ asked 5 nan (whole 1) (whole 0)
+          ∷ asked 5 (whole 1) (inf false) (whole 0)
+          ∷ asked 5 (whole 1) (whole 1) (bits 0x4012_0000_0000_0000)
+          ∷ asked 6 nan (whole 1) (whole 0)
+          ∷ asked 0 (whole 0) (whole 1) (whole 1)
+          ∷ [];
+      outcome =
+          record {
+            replies =
+                ran (accepted ∷ accepted ∷ []) (some 15)
+                ∷ ran (laid jobCorners 2 ∷ []) (some 26)
+                ∷ measured (whole 3)
+                ∷ measured (bits 0x40bf_dc40_0000_0000)
+                ∷ measured (bits 0x3fde_4b17_e4b1_7e4c)
+                ∷ measured (whole 10)
+                ∷ answered (refused 22)
+                ∷ answered (refused 22)
+                ∷ answered (refused 22)
+                ∷ answered (refused 22)
+                ∷ answered (refused 22)
+                ∷ answered (refused 6)
+                ∷ answered (refused 4)
+                ∷ [];
+            entries = jobEntries;
+            strips = jobStrips;
+          };
+    }
     ∷ []
 
 -- every case comes out as document 01 says
@@ -181,5 +235,7 @@ unfolding outcomeFrom cases jobBytes
     stripsOf pathOf noPath cornersOf leg legsFrom legs ofNet inUse offFoil blocked
     tooLong tooFine next says first short refusals settle ledgerStep
     number fieldCount mapByte has fieldsAt recordEnd field steps isEnd recordChecks
-    endsJob andThen actAll actRecord tooLarge ledgerCall xor
+    endsJob andThen actAll actRecord tooLarge ohmsReply ledgerCall xor
+    legsOf legSteps stepsOf netLength netBends whole sheetOk widthOk bendOk inkOk formula ohmsRefusals ohmsOf half bits
+    ofInt ofBits add mul div lt le eq
 starred = refl

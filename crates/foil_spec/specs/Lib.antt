@@ -1,4 +1,4 @@
--- The definitions of document 01, in its order.
+-- The definitions of document 01, in its order, and of what document 02 adds.
 pub mod Lists
 pub mod Foil
 pub mod Strips
@@ -6,5 +6,7 @@ pub mod Paths
 pub mod Ledger
 pub mod Lent
 pub mod Job
+pub mod Nets
+pub mod Ohms
 pub mod Calls
 pub mod Sequence

@@ -8,7 +8,8 @@ use lib.ListN.{take, drop}
 use Rattle.foil_spec.specs.Foil.{Layout}
 use Rattle.foil_spec.specs.Ledger.{newFoil, Answer, accepted, After}
 use Rattle.foil_spec.specs.Lent.{Lent, withCorners, store, roomOf, cornersAfter}
-use Rattle.foil_spec.specs.Calls.{Call, step, runRecord, Reply, answered, ran, atEnd, ledgerCall, callOn}
+use Rattle.foil_spec.specs.Calls.{Call, step, runRecord, Reply, answered, ran, atEnd, measured}
+use Rattle.foil_spec.specs.Calls.{ledgerCall, callOn}
 
 -- a call, how many numbers of the table and of the strip list it is lent, and its own corner list
 pub record Lending : Type 0 where
@@ -56,6 +57,7 @@ unfoldable pub answersIn : Reply → List Answer
 answersIn (answered a) = a ∷ []
 answersIn (ran given place) = given
 answersIn atEnd = []
+answersIn (measured x) = []
 
 -- a corner list after some answers
 unfoldable pub cornersAll : List Answer → List ℕ → List ℕ

@@ -1,5 +1,5 @@
-// The definitions of document 01, in specs/, and the two structs that they and the calls share: the
-// board's record, and an entry of the patch table.
+// The definitions of document 01, in specs/, and the structs that they and the calls share: the
+// board's record, an entry of the patch table, and the figures of an ink.
 
 // The board's record: its width and height, the clearance (document 01: reach), and how many entries
 // and strips the lent lists hold.
@@ -20,4 +20,12 @@ pub struct Entry {
     pub y0: u16,
     pub x1: u16,
     pub y1: u16,
+}
+
+// The ink: ohms a square (R), the width of a track in points (w), squares counted for a bend (c).
+#[repr(C)]
+pub struct Ink {
+    pub sheet: f64,
+    pub width: f64,
+    pub bend: f64,
 }

@@ -14,7 +14,9 @@ use Rattle.foil_spec.specs.Ledger.{Step, newFoil, draw, lay, lift, lookUp, Answ
 use Rattle.foil_spec.specs.Ledger.{After, says, next}
 use Rattle.foil_spec.specs.Lent.{Lent, lent, withCorners, written, entryNumbers, boardOf, layoutOf, store, held}
 use Rattle.foil_spec.specs.Lent.{layoutOk, sound, roomOf, cornersAfter, finish, stepOn}
-use Rattle.foil_spec.specs.Calls.{runRecord, endsJob, andThen, actAll, actRecord, callOn}
+use Rattle.foil_spec.specs.Calls.{runRecord, ohms, ohmsReply, endsJob, andThen, actAll, actRecord, callOn}
+use Rattle.foil_spec.specs.Ohms.{ohmsRefusals}
+use Rattle.foil_spec.specs.declared.Ink.{Ink}
 use Rattle.foil_spec.proofs.Written.{length-written}
 use Rattle.list_laws.proofs.Tests.{both, clash}
 use Rattle.ledger_laws.proofs.Refusals.{short-refused, Reads, broken-refused}
@@ -262,3 +264,15 @@ pub record-longer : (rest : List ℕ) (bs : List ℕ) (at : ℕ) (m : Lent) → 
 unfolding callOn
 record-longer rest bs at m full =
     rw (short-longer rest m full, sound-longer rest m full) (ran-longer rest _ _ _ _ m full)
+
+-- ---- the ohms
+
+pub ohms-longer : (rest : List ℕ) (net : ℕ) (i : Ink) (m : Lent) → length (m .table) ≡ 640
+    → callOn (ohms net i) (longer rest m) ≡ andMore rest (callOn (ohms net i) m)
+unfolding callOn ohmsRefusals first ohmsReply
+ohms-longer rest net i m full =
+    both (sound m)
+    (λ g. rw (short-longer rest m full, sound-longer rest m full, held-longer rest m full g) refl)
+    (λ g. both (short (roomOf m))
+    (λ e. rw (short-longer rest m full, e) refl)
+    (λ e. rw (short-longer rest m full, sound-longer rest m full, e, g) refl))

@@ -1,5 +1,5 @@
 -- From the numbers of a table's first 128 places to the table of entries: said once for whatever a call promises of
--- the table's numbers before and after, then for a step and for a look up.
+-- the table's numbers before and after, then for a step, for a look up and for the ohms.
 use Prim.Native.Nat.{ℕ, _<_, _≤_}
 use native.Mathlib.Omega.{arith}
 use mathlib.Core.Path.{_≡_, refl, sym, ap, ap₂, _∙_, subst, subst₂}
@@ -12,19 +12,23 @@ use Rattle.foil_spec.specs.Foil.{Point, Entry}
 use Rattle.foil_spec.specs.Ledger.{Step, lookUp}
 use Rattle.foil_spec.specs.Lent.{lent, entryNumbers, entryAt}
 use Rattle.foil_spec.specs.declared.Board.{Board}
+use Rattle.foil_spec.specs.declared.Ink.{Ink}
 use Rattle.list_laws.proofs.Tests.{lt-or-le}
 use Rattle.list_laws.proofs.Members.{each-append}
 use Rattle.ledger_laws.proofs.Stored.{length-entries, read-back}
 use Rattle.foil.specs.Contract.{StepDone, Looked, answerOf}
 use Rattle.foil.specs.declared.Answer.{Answer}
 use Rattle.foil.specs.declared.Done.{Done}
+use Rattle.ohms.specs.Contract.{OhmsAnswered, resistanceOf}
+use Rattle.ohms.specs.declared.Resistance.{Resistance}
 use Rattle.host.specs.declared.flat.Flat.{Flat}
 use Rattle.host.specs.declared.flat.Said.{Said}
+use Rattle.host.specs.declared.flat.OhmsSaid.{OhmsSaid}
 use Rattle.host.specs.declared.flat.Left.{Left}
 use Rattle.host.specs.Flats.{numbersLent, entriesOf, frontOf, overFront}
-use Rattle.host.specs.Calls.{saidOf, HostLooked, LookTold, ThinDone, FlatDone}
+use Rattle.host.specs.Calls.{saidOf, HostLooked, LookTold, HostOhms, OhmsTold, ThinDone, FlatDone}
 use Rattle.host.proofs.Flats.{front-places, loaded, stored, lent-on}
-use Rattle.host.proofs.Fronts.{longer, step-longer}
+use Rattle.host.proofs.Fronts.{longer, step-longer, ohms-longer}
 
 -- ---- what a call promises of the table's numbers
 
@@ -159,3 +163,32 @@ whole-told p b es s r d =
 pub flat-looked : (p : Point) (b : Board) (t : Flat) (s : List ℕ) (a : Answer) (n : ℕ) → length (t .at) ≡ 640
     → n ≡ numbersLent (t .len) → Looked p (lent b (take n (t .at)) s []) a → HostLooked p b (entriesOf t) s a
 flat-looked p b t s a n full e d = on-entries (LooksUp p b s a) t (take n (t .at)) n full e refl d
+
+-- ---- the ohms, which leave the table as it is
+
+module _ (net : ℕ) (i : Ink) (b : Board) (s : List ℕ) (r : Resistance) where
+  abbrev Tells : List ℕ → List ℕ → Type 0
+  Tells t t′ = OhmsAnswered net i (lent b t s []) r
+
+  tells-more : (t t′ rest : List ℕ) → length t ≡ 640 → Tells t t′ → Tells (t ++ rest) (t′ ++ rest)
+  tells-more t t′ rest full d =
+      let e = ohms-longer rest net i (lent b t s []) full in
+      record {
+        answer = d .answer ∙ sym (ap (λ x. resistanceOf (x .answer)) e);
+        state = ap (longer rest) (d .state) ∙ sym (ap (λ x. x .state) e);
+      }
+
+pub whole-ohms : (net : ℕ) (i : Ink) (b : Board) (es : List Entry) (s : List ℕ) (r : Resistance)
+    → HostOhms net i b (entriesOf (frontOf es)) s r → HostOhms net i b es s r
+whole-ohms net i b es s r d =
+    on-table (Tells net i b s r) (tells-more net i b s r) es _ (frontOf es) refl refl d
+
+pub whole-ohms-told : (net : ℕ) (i : Ink) (b : Board) (es : List Entry) (s : List ℕ) (r : OhmsSaid)
+    → OhmsTold net i b (entriesOf (frontOf es)) s r → OhmsTold net i b es s r
+whole-ohms-told net i b es s r d =
+    record { answer = d .answer; said = d .said; ohms = whole-ohms net i b es s (d .answer) (d .ohms) }
+
+pub flat-ohms : (net : ℕ) (i : Ink) (b : Board) (t : Flat) (s : List ℕ) (r : Resistance) (n : ℕ)
+    → length (t .at) ≡ 640 → n ≡ numbersLent (t .len) → OhmsAnswered net i (lent b (take n (t .at)) s []) r
+    → HostOhms net i b (entriesOf t) s r
+flat-ohms net i b t s r n full e d = on-entries (Tells net i b s r) t (take n (t .at)) n full e refl d

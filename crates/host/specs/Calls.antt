@@ -6,12 +6,18 @@ use Rattle.foil_spec.specs.Lists.{each}
 use Rattle.foil_spec.specs.Foil.{Point, Entry}
 use Rattle.foil_spec.specs.Ledger.{Step}
 use Rattle.foil_spec.specs.Lent.{lent, entryNumbers}
+use Rattle.foil_spec.specs.Ohms.{whole}
 use Rattle.foil_spec.specs.declared.Board.{Board}
+use Rattle.foil_spec.specs.declared.Ink.{Ink}
 use Rattle.foil.specs.declared.Answer.{Answer}
 use Rattle.foil.specs.declared.Answer.the-variants.{Refused, Accepted, Laid, Found}
 use Rattle.foil.specs.Contract.{StepDone, Looked}
+use Rattle.ohms.specs.Contract.{OhmsAnswered}
+use Rattle.ohms.specs.declared.Resistance.{Resistance}
+use Rattle.ohms.specs.declared.Resistance.the-variants.{Refused as RefusedOhms, Ohms}
 use Rattle.host.specs.declared.flat.Flat.{Flat}
 use Rattle.host.specs.declared.flat.Said.{Said}
+use Rattle.host.specs.declared.flat.OhmsSaid.{OhmsSaid}
 use Rattle.host.specs.declared.flat.Left.{Left}
 use Rattle.host.specs.Flats.{entriesOf}
 
@@ -24,6 +30,10 @@ HostDone c b es s ks a b′ es′ s′ ks′ =
 -- a look up of p on the table es, which it only reads, answered a
 abbrev pub HostLooked : Point → Board → List Entry → List ℕ → Answer → Type 0
 HostLooked p b es s a = Looked p (lent b (each entryNumbers es) s []) a
+
+-- the ohms of a net were asked of the table es, which is only read, and r was answered
+abbrev pub HostOhms : ℕ → Ink → Board → List Entry → List ℕ → Resistance → Type 0
+HostOhms net i b es s r = OhmsAnswered net i (lent b (each entryNumbers es) s []) r
 
 -- ---- answers as numbers
 
@@ -46,6 +56,17 @@ pub record LookTold (p : Point) (b : Board) (es : List Entry) (s : List ℕ) (r 
   pub answer : Answer
   pub said : r ≡ saidOf answer
   pub looked : HostLooked p b es s answer
+
+-- the number of a refusal, 0 for none, and the ohms, 0 where they are refused
+unfoldable pub ohmsSaid : Resistance → OhmsSaid
+ohmsSaid (RefusedOhms n) = record { number = n; ohms = whole 0 }
+ohmsSaid (Ohms x) = record { number = 0; ohms = x }
+
+-- ohms that are told by these two numbers
+pub record OhmsTold (net : ℕ) (i : Ink) (b : Board) (es : List Entry) (s : List ℕ) (r : OhmsSaid) : Type 0 where
+  pub answer : Resistance
+  pub said : r ≡ ohmsSaid answer
+  pub ohms : HostOhms net i b es s answer
 
 -- ---- what the thin functions leave
 

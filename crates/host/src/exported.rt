@@ -1,15 +1,17 @@
 // The calls for programs in C, under plain names: an answer is told by its numbers.
 use crate::flat;
+use crate::flat::OhmsSaid;
 use crate::flat::Said;
 use crate::records::RecordSaid;
 use crate::table;
 use crate::table::load;
 use foil_spec::Board;
 use foil_spec::Entry;
+use foil_spec::Ink;
 ghost use mathlib.Core.List.{[]};
 ghost use Rattle.foil_spec.specs.Foil.{point};
 ghost use Rattle.foil_spec.specs.Ledger.{newFoil, draw as draws, lay as lays, lift as lifts};
-ghost use Rattle.host.specs.Calls.{StepTold, LookTold};
+ghost use Rattle.host.specs.Calls.{StepTold, LookTold, OhmsTold};
 ghost use Rattle.host.specs.Records.{RecordTold};
 
 // Begins a foil of w by h with clearance d: an empty table, and one strip, the whole foil.
@@ -109,6 +111,22 @@ pub extern "C" fn foil_look_up(
     let b = *board;
     let t = load(table);
     flat::look_up_told(strips, t, b, x, y)
+}
+
+// The ohms of a net. Nothing is changed.
+#[no_mangle]
+pub extern "C" fn foil_ohms(
+    board: &Board,
+    table: &[Entry],
+    strips: &[u16],
+    net: u16,
+    ink: Ink,
+) -> OhmsSaid
+    ensures { λ r. ⌜ OhmsTold net ink (now (board .entry)) (now (table .entry)) (now (strips .entry)) r ⌝ }
+{
+    let b = *board;
+    let t = load(table);
+    flat::ohms_told(strips, t, b, net, ink)
 }
 
 // Runs the record that begins at place `at` of a job file's bytes.

@@ -3,6 +3,8 @@ use foil::Answer;
 use foil::Done;
 use foil_spec::Board;
 use foil_spec::Entry;
+use foil_spec::Ink;
+use ohms::Resistance;
 ghost use mathlib.Core.Path.{_≡_};
 ghost use mathlib.Core.List.{[]};
 ghost use Rattle.foil_spec.specs.Foil.{point};
@@ -10,7 +12,7 @@ ghost use Rattle.foil_spec.specs.Ledger.{newFoil, draw as draws, lay as lays, l
 ghost use Rattle.foil_spec.specs.Lent.{entryAt};
 ghost use Rattle.strips.specs.Told.{Told};
 ghost use Rattle.host.specs.Flats.{zeros, withEntry, placesLent, numbersLent, entriesOf};
-ghost use Rattle.host.specs.Calls.{saidOf, FlatDone, HostLooked, LookTold};
+ghost use Rattle.host.specs.Calls.{saidOf, ohmsSaid, FlatDone, HostLooked, LookTold, HostOhms, OhmsTold};
 
 // The first 128 places of a lent table as numbers, five a place, and how many places are lent.
 pub struct Flat {
@@ -26,6 +28,13 @@ pub struct Said {
     pub corners: usize,
     pub bends: usize,
     pub place: usize,
+}
+
+// Ohms as numbers: the number of a refusal, 0 for none, and the ohms, 0 where they are refused.
+#[repr(C)]
+pub struct OhmsSaid {
+    pub number: u8,
+    pub ohms: f64,
 }
 
 // What a call leaves: the board's record, its answer, the table's numbers, and the answer as numbers.
@@ -228,4 +237,31 @@ pub fn look_up_told(strips: &[u16], t: Flat, b: Board, x: u16, y: u16) -> Said
 {
     let answer = look_up(strips, t, b, x, y);
     said_of(answer)
+}
+
+// The ohms of a net.
+pub fn ohms(strips: &[u16], t: Flat, b: Board, net: u16, ink: Ink) -> Resistance
+    ensures { λ r. ⌜ HostOhms net ink b (entriesOf t) (now (strips .entry)) r ⌝ }
+{
+    let a = t.at;
+    let n = numbers_lent(t.len);
+    ohms::ohms(&a[..n], strips, b, net, ink)
+}
+
+// The ohms of a net, told by two numbers.
+pub fn ohms_told(strips: &[u16], t: Flat, b: Board, net: u16, ink: Ink) -> OhmsSaid
+    ensures { λ r. ⌜ OhmsTold net ink b (entriesOf t) (now (strips .entry)) r ⌝ }
+{
+    let answer = ohms(strips, t, b, net, ink);
+    ohms_said(answer)
+}
+
+// The numbers of an answer for ohms.
+fn ohms_said(answer: Resistance) -> OhmsSaid
+    ensures { λ r. ⌜ r ≡ ohmsSaid answer ⌝ }
+{
+    match answer {
+        Resistance::Refused(number) => OhmsSaid { number, ohms: 0.0 },
+        Resistance::Ohms(ohms) => OhmsSaid { number: 0, ohms },
+    }
 }

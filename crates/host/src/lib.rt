@@ -9,12 +9,14 @@ mod table;
 use foil::Answer;
 use foil_spec::Board;
 use foil_spec::Entry;
+use foil_spec::Ink;
 use job::Reply;
+use ohms::Resistance;
 use table::load;
 ghost use mathlib.Core.List.{[]};
 ghost use Rattle.foil_spec.specs.Foil.{point};
 ghost use Rattle.foil_spec.specs.Ledger.{newFoil, draw as draws, lay as lays, lift as lifts};
-ghost use Rattle.host.specs.Calls.{HostDone, HostLooked};
+ghost use Rattle.host.specs.Calls.{HostDone, HostLooked, HostOhms};
 ghost use Rattle.host.specs.Records.{HostRan};
 
 // Begins a foil of w by h with clearance d: an empty table, and one strip, the whole foil.
@@ -98,6 +100,15 @@ pub fn look_up(board: &Board, table: &[Entry], strips: &[u16], x: u16, y: u16) -
     let b = *board;
     let t = load(table);
     flat::look_up(strips, t, b, x, y)
+}
+
+// The ohms of a net. Nothing is changed.
+pub fn ohms(board: &Board, table: &[Entry], strips: &[u16], net: u16, ink: Ink) -> Resistance
+    ensures { λ r. ⌜ HostOhms net ink (now (board .entry)) (now (table .entry)) (now (strips .entry)) r ⌝ }
+{
+    let b = *board;
+    let t = load(table);
+    flat::ohms(strips, t, b, net, ink)
 }
 
 // Runs the record that begins at place `at` of a job file's bytes.

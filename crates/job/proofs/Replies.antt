@@ -15,7 +15,7 @@ use Rattle.foil_spec.specs.Ledger.{Step, lay, Answer, laid, numberOf, _⇒_, fi
 use Rattle.foil_spec.specs.Ledger.{Refusal, short, refusals}
 use Rattle.foil_spec.specs.Lent.{Lent, held, sound, roomOf, cornersAfter, finish, stepOn}
 use Rattle.foil_spec.specs.Job.{has, isEnd, recordEnd, steps, recordChecks}
-use Rattle.foil_spec.specs.Calls.{Reply as Outcome, answered, ran, atEnd, runRecord, endsJob, andThen, actAll}
+use Rattle.foil_spec.specs.Calls.{Reply as Outcome, answered, ran, atEnd, measured, runRecord, endsJob, andThen, actAll}
 use Rattle.foil_spec.specs.Calls.{actRecord, tooLarge, callOn}
 use Rattle.ledger_laws.proofs.Refusals.{none-applies}
 use Rattle.list_laws.proofs.Tests.{not-ff}
@@ -44,6 +44,7 @@ unfolding replyOf
 was-refused on (answered a) n e = record { answer = a; is = refl; number = cc }
 was-refused on (ran given p) n e = absurd (let z : _≡_ {A = ℕ} 0 1 = cc in omega arith)
 was-refused on atEnd n e = absurd (let z : _≡_ {A = ℕ} 0 1 = cc in omega arith)
+was-refused on (measured x) n e = absurd (let z : _≡_ {A = ℕ} 0 1 = cc in omega arith)
 
 -- the answers of the steps
 pub record HasRun (on : ℕ → Bool) (o : Outcome) (a : Answers) (n : Next) : Type 0 where
@@ -58,13 +59,7 @@ unfolding replyOf
 has-run on (answered x) a n e = absurd (let z : _≡_ {A = ℕ} 0 1 = cc in omega arith)
 has-run on (ran given p) a n e = record { given = given; place = p; is = refl; answers = cc; next = cc }
 has-run on atEnd a n e = absurd (let z : _≡_ {A = ℕ} 0 1 = cc in omega arith)
-
--- the end mark
-pub has-ended : (on : ℕ → Bool) (o : Outcome) → AtEnd ≡ replyOf on o → o ≡ atEnd
-unfolding replyOf
-has-ended on (answered a) e = absurd (let z : _≡_ {A = ℕ} 0 1 = cc in omega arith)
-has-ended on (ran given p) e = absurd (let z : _≡_ {A = ℕ} 0 1 = cc in omega arith)
-has-ended on atEnd e = refl
+has-run on (measured x) a n e = absurd (let z : _≡_ {A = ℕ} 0 1 = cc in omega arith)
 
 -- ---- the checks that it has passed
 
@@ -83,12 +78,12 @@ module _ {S : Type 0} (act : Step → S → After Answer S) where
   ran-all none false ss p s given n h = record { unrefused = refl; not-end = refl; answers = cc }
 
   -- the end mark that was met
-  pub met-end : (o : Option ℕ) (e : Bool) (ss : List Step) (p : ℕ) (s : S) → actRecord act o e ss p s .answer ≡ atEnd
-      → (o ≡ none) × (e ≡ true)
-  unfolding actRecord
-  met-end (some k) e ss p s h = absurd (let z : _≡_ {A = ℕ} 0 1 = cc in omega arith)
-  met-end none true ss p s h = (refl, refl)
-  met-end none false ss p s h = absurd (let z : _≡_ {A = ℕ} 0 1 = cc in omega arith)
+  met-end : (on : ℕ → Bool) (o : Option ℕ) (e : Bool) (ss : List Step) (p : ℕ) (s : S)
+      → AtEnd ≡ replyOf on (actRecord act o e ss p s .answer) → (o ≡ none) × (e ≡ true)
+  unfolding actRecord replyOf
+  met-end on (some k) e ss p s h = absurd (let z : _≡_ {A = ℕ} 0 1 = cc in omega arith)
+  met-end on none true ss p s h = (refl, refl)
+  met-end on none false ss p s h = absurd (let z : _≡_ {A = ℕ} 0 1 = cc in omega arith)
 
 module _ (bs : List ℕ) (at : ℕ) (m : Lent) where
   abbrev checks : List Refusal
@@ -128,6 +123,7 @@ module _ (bs : List ℕ) (at : ℕ) (m : Lent) where
 
   -- a place at which the end mark was met is not 0, so that 13 was tried, and nothing is changed
   pub record Ended : Type 0 where
+    pub answer : callOn (runRecord bs at) m .answer ≡ atEnd
     pub fine : sound m ≡ true
     pub state : callOn (runRecord bs at) m .state ≡ m
 
@@ -141,15 +137,15 @@ module _ (bs : List ℕ) (at : ℕ) (m : Lent) where
       go true q = q
       go false q = refl
 
-  pub ended : callOn (runRecord bs at) m .answer ≡ atEnd → Ended
+  pub ended : (on : ℕ → Bool) → AtEnd ≡ replyOf on (callOn (runRecord bs at) m .answer) → Ended
   unfolding callOn actRecord
-  ended h =
-      let a = met-end stepOn (first checks) (isEnd bs at) (steps bs at) (recordEnd bs at) m h in
+  ended on h =
+      let a = met-end stepOn on (first checks) (isEnd bs at) (steps bs at) (recordEnd bs at) m h in
       let e = a .0 in
       let checked : first (recordChecks bs at) ≡ none = search none-applies depth 9 in
       let broken : (not (eqb at 0) && not (sound m)) ≡ false = search none-applies depth 9 in
       let tried : not (sound m) ≡ false = rw (later-place checked (a .1)) at broken in
-      record { fine = not-ff (sound m) tried; state = rw (a .0, a .1) refl }
+      record { answer = rw (a .0, a .1) refl; fine = not-ff (sound m) tried; state = rw (a .0, a .1) refl }
 
 -- ---- the bits that its answers come from
 

@@ -7,7 +7,7 @@ use mathlib.Core.Option.{Option, none, some}
 use Rattle.foil_spec.specs.Ledger.{Answer, numberOf}
 use Rattle.foil_spec.specs.Lent.{Lent}
 use Rattle.foil_spec.specs.Job.{has}
-use Rattle.foil_spec.specs.Calls.{runRecord, callOn, answered, ran, atEnd}
+use Rattle.foil_spec.specs.Calls.{runRecord, callOn, answered, ran, atEnd, measured}
 use Rattle.foil_spec.specs.Calls.{Reply as Outcome}
 use Rattle.foil.specs.Contract.{answerOf}
 use Rattle.job.specs.declared.Told.{Told}
@@ -46,11 +46,12 @@ unfoldable pub nextOf : Option ℕ → Next
 nextOf (some n) = At n
 nextOf none = Nowhere
 
--- document 01's number and values for each case of a reply; `on` says which bits are set
+-- document 01's number and values for each case of a record's reply, which is never ohms; `on` says which bits are set
 unfoldable pub replyOf : (ℕ → Bool) → Outcome → Reply
 replyOf on (answered a) = Refused (numberOf a)
 replyOf on (ran l n) = Ran (answersOf on l) (nextOf n)
 replyOf on atEnd = AtEnd
+replyOf on (measured x) = AtEnd
 
 -- the record at a place was lent m, answered r, and left the table t, the strips s and the corner list ks
 pub record RecordDone (bs : List ℕ) (at : ℕ) (m : Lent) (r : Replied) (t s ks : List ℕ) : Type 0 where

@@ -14,8 +14,8 @@ use Rattle.foil_spec.specs.Foil.{Layout}
 use Rattle.foil_spec.specs.Ledger.{Step, Answer, Refusal, _⇒_, first, Room, short, After, ledgerStep}
 use Rattle.foil_spec.specs.Lent.{Lent, withCorners, store, held, layoutOk, roomOf}
 use Rattle.foil_spec.specs.Job.{fieldCount, has, fieldsAt, recordEnd, steps, isEnd, recordChecks}
-use Rattle.foil_spec.specs.Calls.{runRecord, Reply, answered, ran, atEnd, endsJob, actAll, actRecord, tooLarge}
-use Rattle.foil_spec.specs.Calls.{ledgerCall, callOn}
+use Rattle.foil_spec.specs.Calls.{runRecord, Reply, answered, ran, atEnd, measured, endsJob, actAll, actRecord}
+use Rattle.foil_spec.specs.Calls.{tooLarge, ledgerCall, callOn}
 use Rattle.foil_spec.specs.Sequence.{answersIn, cornersAll, shown}
 use Rattle.ledger_laws.proofs.Refusals.{none-applies}
 use Rattle.ledger_laws.proofs.Stored.{Long, held-store}
@@ -34,6 +34,7 @@ lines-part ss (answered a) l rest = append-nil _
 lines-part ss (ran given none) l rest = append-nil _
 lines-part ss (ran given (some n)) l rest = ap (λ (x : List ℕ). x ++ rest n) (append-nil (stepLines ss given))
 lines-part ss atEnd l rest = append-nil _
+lines-part ss (measured x) l rest = refl
 
 lines-over : (ss : List Step) (a : Reply) → Over a → (l l′ : Layout) (rest rest′ : ℕ → List ℕ)
     → replyLines ss a l rest ≡ replyLines ss a l′ rest′
@@ -42,6 +43,7 @@ lines-over ss (answered a) o l l′ rest rest′ = refl
 lines-over ss (ran given none) o l l′ rest rest′ = refl
 lines-over ss (ran given (some n)) o l l′ rest rest′ = absurd o
 lines-over ss atEnd o l l′ rest rest′ = absurd o
+lines-over ss (measured x) o l l′ rest rest′ = absurd o
 
 lines-rest : (ss : List Step) (a : Reply) (l : Layout) (rest rest′ : ℕ → List ℕ)
     → ((n : ℕ) → placeAfter a ≡ some n → rest n ≡ rest′ n) → replyLines ss a l rest ≡ replyLines ss a l rest′
@@ -50,6 +52,7 @@ lines-rest ss (answered a) l rest rest′ h = refl
 lines-rest ss (ran given none) l rest rest′ h = refl
 lines-rest ss (ran given (some n)) l rest rest′ h = ap (λ (x : List ℕ). stepLines ss given ++ x) (h n refl)
 lines-rest ss atEnd l rest rest′ h = refl
+lines-rest ss (measured x) l rest rest′ h = refl
 
 -- ---- a next place lies after the record, and among the bytes of a file that is not too large
 

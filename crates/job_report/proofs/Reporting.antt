@@ -20,7 +20,7 @@ use Rattle.job.specs.declared.Next.{Next}
 use Rattle.job.specs.declared.Next.the-variants.{Nowhere}
 use Rattle.job.specs.declared.Reply.the-variants.{Refused, Ran, AtEnd}
 use Rattle.job.specs.declared.Replied.{Replied}
-use Rattle.job.proofs.Replies.{was-refused, HasRun, has-run, has-ended, Stepped, stepped, Ended, ended, told-bit}
+use Rattle.job.proofs.Replies.{was-refused, HasRun, has-run, Stepped, stepped, Ended, ended, told-bit}
 use Rattle.lines.specs.Lines.{fileLine, stripLine}
 use Rattle.lines.specs.Output.{stepLines, replyLines}
 use Rattle.lines.specs.Put.{Put}
@@ -121,17 +121,17 @@ module _ (bs : List ℕ) (at : ℕ) (m : Lent) (d : Replied) (t s ks : List ℕ)
   -- ---- the end mark
 
   module _ (e : d .reply ≡ AtEnd) where
-    met : reply ≡ atEnd
-    met = has-ended (has bs at) reply (sym e ∙ done .reply)
+    end : Ended bs at m
+    end = ended bs at m (has bs at) (sym e ∙ done .reply)
 
     fine : Sound m
-    fine = of-sound m (ended bs at m met .fine)
+    fine = of-sound m (end .fine)
 
     board-is : d .board ≡ m .board
-    board-is = done .board ∙ ap (λ (n : Lent). n .board) (ended bs at m met .state)
+    board-is = done .board ∙ ap (λ (n : Lent). n .board) (end .state)
 
     strips-are : s ≡ m .strips
-    strips-are = done .strips ∙ ap (λ (n : Lent). n .strips) (ended bs at m met .state)
+    strips-are = done .strips ∙ ap (λ (n : Lent). n .strips) (end .state)
 
     pub count-few : d .board .strips ≤ 4096
     count-few = omega (arith, ap (λ b. b .strips) board-is, strips-few m fine)
@@ -143,8 +143,8 @@ module _ (bs : List ℕ) (at : ℕ) (m : Lent) (d : Replied) (t s ks : List ℕ)
     unfolding replyLines placeAfter nextOf
     strips-reported old new size p r q =
         subst (λ (x : Reported). RecordReported bs at m old new x t s ks) (sym q)
-        (reported old new _ atEnd (each stripLine (listedStrips s (d .board .strips))) met
-        (lines-by atEnd met ∙ ap (each stripLine)
-        (ap (λ (n : Lent). stripsOf (held n)) (ended bs at m met .state)
+        (reported old new _ atEnd (each stripLine (listedStrips s (d .board .strips))) (end .answer)
+        (lines-by atEnd (end .answer) ∙ ap (each stripLine)
+        (ap (λ (n : Lent). stripsOf (held n)) (end .state)
         ∙ sym (ap₂ (λ (l : List ℕ) (n : ℕ). listedStrips l n) strips-are (ap (λ b. b .strips) board-is)
         ∙ strips-listed m fine))) p refl refl)

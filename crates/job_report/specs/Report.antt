@@ -6,7 +6,7 @@ use mathlib.Core.Option.{Option, none, some}
 use lib.ListN.{length}
 use Rattle.foil_spec.specs.Lent.{Lent, held}
 use Rattle.foil_spec.specs.Job.{steps}
-use Rattle.foil_spec.specs.Calls.{runRecord, Reply, answered, ran, atEnd, callOn}
+use Rattle.foil_spec.specs.Calls.{runRecord, Reply, answered, ran, atEnd, measured, callOn}
 use Rattle.job.specs.Contract.{nextOf}
 use Rattle.lines.specs.Output.{replyLines, output}
 use Rattle.lines.specs.Put.{Put}
@@ -26,6 +26,7 @@ unfoldable pub placeAfter : Reply → Option ℕ
 placeAfter (answered a) = none
 placeAfter (ran given n) = n
 placeAfter atEnd = none
+placeAfter (measured x) = none
 
 -- the record at a place was lent m and the byte list `old`: it left its lines at the front of the byte list, answered r,
 -- and left the table t, the strips s and the corner list ks

@@ -15,7 +15,7 @@ use Rattle.foil_spec.specs.Ledger.{stripsOf, pathOf, cornersOf, legs, ofNet, wi
 use Rattle.foil_spec.specs.Ledger.{Step, newFoil, draw, lay, lift, lookUp, Answer, After, first, Room, refusals}
 use Rattle.foil_spec.specs.Ledger.{settle, ledgerStep}
 use Rattle.foil_spec.specs.Lent.{layoutOk}
-use Rattle.foil_spec.specs.Calls.{Call, step, runRecord, endsJob, andThen, actAll, actRecord, ledgerCall}
+use Rattle.foil_spec.specs.Calls.{Call, step, runRecord, ohms, endsJob, andThen, actAll, actRecord, ledgerCall}
 use Rattle.list_laws.proofs.Tests.{and-l, and-r, and-i, not-ff, parts, all-append, all-keep}
 use Rattle.path_laws.proofs.Laws.{gives-first}
 use Rattle.strip_laws.proofs.Laws.{one-strip}
@@ -213,6 +213,7 @@ module _ (Q : Layout → Type 0) where
     unfolding ledgerCall
     call-keeps (step s) l g = step-keeps s l g
     call-keeps (runRecord bs at) l g = record-keeps _ _ _ _ l g
+    call-keeps (ohms net i) l g = g
 
 -- ---- the rules
 

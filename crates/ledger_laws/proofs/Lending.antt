@@ -16,8 +16,9 @@ use Rattle.foil_spec.specs.Ledger.{Step, newFoil, Answer, refused, accepted}
 use Rattle.foil_spec.specs.Lent.{Lent, withCorners, entryNumbers, stripNumbers, store, held, layoutOk, sound}
 use Rattle.foil_spec.specs.Lent.{roomOf, cornersAfter, finish, stepOn}
 use Rattle.foil_spec.specs.Job.{has, steps, isEnd, recordEnd, recordChecks}
-use Rattle.foil_spec.specs.Calls.{Call, step, runRecord, Reply, answered, ran, endsJob, andThen, actAll, actRecord}
-use Rattle.foil_spec.specs.Calls.{tooLarge, ledgerCall, callOn}
+use Rattle.foil_spec.specs.Calls.{Call, step, runRecord, ohms, Reply, answered, ran, endsJob, andThen, actAll}
+use Rattle.foil_spec.specs.Calls.{actRecord, tooLarge, ohmsReply, ledgerCall, callOn}
+use Rattle.foil_spec.specs.Ohms.{ohmsRefusals}
 use Rattle.foil_spec.specs.Sequence.{Lending, front, back, lend, told, answersIn, cornersAll, shown, Begins}
 use Rattle.foil_spec.proofs.Written.{length-written}
 use Rattle.list_laws.proofs.Tests.{clash, both}
@@ -44,6 +45,7 @@ ledger-short r s l e = rw (short-refused s r false l e) refl
 pub shortNumber : Call → ℕ
 shortNumber (step s) = 12
 shortNumber (runRecord bs at) = cond (tooLarge bs) 18 12
+shortNumber (ohms net i) = 12
 
 short-second : (a s : Bool) (rs : List Refusal) → s ≡ true → first ((a ⇒ 18) ∷ (s ⇒ 12) ∷ rs) ≡ some (cond a 18 12)
 unfolding first
@@ -52,17 +54,19 @@ short-second false s rs e = rw e refl
 
 call-short : (c : Call) (m : Lent) → short (roomOf m) ≡ true
     → callOn c m ≡ record { answer = answered (refused (shortNumber c)); state = m }
-unfolding callOn shortNumber actRecord
+unfolding callOn shortNumber actRecord ohmsRefusals first ohmsReply
 call-short (step s) m e = rw (step-short s m e) refl
 call-short (runRecord bs at) m e =
     let rs : List Refusal = (not (eqb at 0) && not (sound m) ⇒ 13) ∷ recordChecks bs at in
     rw (short-second (tooLarge bs) (short (roomOf m)) rs e) refl
+call-short (ohms net i) m e = rw e refl
 
 pub told-short : (r : Room) (c : Call) (l : Layout) → short r ≡ true
     → ledgerCall r c l ≡ record { answer = answered (refused (shortNumber c)); state = l }
-unfolding ledgerCall shortNumber actRecord
+unfolding ledgerCall shortNumber actRecord ohmsRefusals first ohmsReply
 told-short r (step s) l e = rw (ledger-short r s l e) refl
 told-short r (runRecord bs at) l e = rw (short-second (tooLarge bs) (short r) (recordChecks bs at) e) refl
+told-short r (ohms net i) l e = rw e refl
 
 -- ---- front parts
 

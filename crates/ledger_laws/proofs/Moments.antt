@@ -9,7 +9,8 @@ use Rattle.foil_spec.specs.Foil.{Layout}
 use Rattle.foil_spec.specs.Ledger.{Step, newFoil, Answer, Room, short, After, ledgerStep}
 use Rattle.foil_spec.specs.Lent.{Lent, withCorners, store, layoutOk, roomOf, cornersAfter, stepOn}
 use Rattle.foil_spec.specs.Job.{steps}
-use Rattle.foil_spec.specs.Calls.{Call, step, runRecord, Reply, endsJob, andThen, actAll, actRecord, ledgerCall}
+use Rattle.foil_spec.specs.Calls.{Call, step, runRecord, ohms, Reply, endsJob, andThen, actAll, actRecord}
+use Rattle.foil_spec.specs.Calls.{ledgerCall}
 use Rattle.foil_spec.specs.Sequence.{Lending, Begins, front, back, lend, told, answersIn, cornersAll, shown}
 use Rattle.list_laws.proofs.Tests.{both}
 use Rattle.ledger_laws.specs.Moments.{Moment, momentOf, momentsOf, stepsRun, moments}
@@ -164,6 +165,7 @@ module _ (c : Lending) (n m : Lent) (long : Long (front c m))
   call-chain (step s) l ks g q =
       subst (Chain m l (momentsOf c n (s ∷ []) (store l (f ks)) l)) (step-alone r s l) (chain (s ∷ []) l ks g q)
   call-chain (runRecord bs at) l ks g q = record-chain _ _ bs at _ l ks g q
+  call-chain (ohms net i) l ks g q = unfold momentsOf in refl
 
 -- ---- one call of the list
 
@@ -230,6 +232,7 @@ module _ (m : Lent) (long : Long m) (c : Lending) (l : Layout) (ks : List ℕ) (
   short-steps e (runRecord bs at) =
       let q = told-short (roomOf (front c lists)) (runRecord bs at) l e in
       unfold ledgerCall in rw q refl
+  short-steps e (ohms net i) = refl
 
   long-steps : LongFront c m → (k : Call) → Steps k
   long-steps n k =

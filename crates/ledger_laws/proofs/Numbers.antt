@@ -6,6 +6,7 @@ use mathlib.Core.List.{List, [], _∷_, map}
 use mathlib.Core.Logic.{inl, inr}
 use mathlib.Core.Option.{Option, none, some}
 use lib.Dec.{eqb}
+use lib.Ieee.{Float}
 use borrow.Author.Tests.{eqb-true}
 use Rattle.foil_spec.specs.Lists.{all}
 use Rattle.foil_spec.specs.Foil.{Layout}
@@ -13,8 +14,10 @@ use Rattle.foil_spec.specs.Ledger.{Step, newFoil, draw, lay, lift, lookUp, Answ
 use Rattle.foil_spec.specs.Ledger.{Refusal, _⇒_, first, Room, short, refusals, After, settle, ledgerStep}
 use Rattle.foil_spec.specs.Lent.{Lent, roomOf}
 use Rattle.foil_spec.specs.Job.{isEnd, steps, recordEnd, recordChecks}
-use Rattle.foil_spec.specs.Calls.{Call, step, runRecord, Reply, endsJob, andThen, actAll, actRecord, tooLarge}
-use Rattle.foil_spec.specs.Calls.{ledgerCall}
+use Rattle.foil_spec.specs.Calls.{Call, step, runRecord, ohms, Reply, endsJob, andThen, actAll, actRecord}
+use Rattle.foil_spec.specs.Calls.{tooLarge, ohmsReply, ledgerCall}
+use Rattle.foil_spec.specs.Ohms.{ohmsRefusals}
+use Rattle.foil_spec.specs.declared.Ink.{Ink}
 use Rattle.foil_spec.specs.Sequence.{Lending, front, told, answersIn, shown, runLedger}
 use Rattle.list_laws.proofs.Tests.{and-i, not-t, all-append}
 use Rattle.list_laws.proofs.Members.{In, of-all, of-any, none-of}
@@ -36,7 +39,7 @@ says-zero (lookUp p) l = refl
 abbrev pub fileChecks : Room → List ℕ → ℕ → List Refusal
 fileChecks r bs at = (tooLarge bs ⇒ 18) ∷ (short r ⇒ 12) ∷ recordChecks bs at
 
--- a test p that 0 passes, and each number that a step on a layout with Q or a record is refused by
+-- a test p that 0 passes, and each number that a step on a layout with Q, a record or the ohms are refused by
 module _ (p : ℕ → Bool) (zero-passes : p 0 ≡ true) (Q : Layout → Type 0) (r : Room)
     (step-passes : (s : Step) (l : Layout) → Q l → (n : ℕ) → first (refusals s r false l) ≡ some n → p n ≡ true)
     (next-keeps : (s : Step) (l : Layout) → Q l → first (refusals s r false l) ≡ none → Q (next s l)) where
@@ -79,12 +82,19 @@ module _ (p : ℕ → Bool) (zero-passes : p 0 ≡ true) (Q : Layout → Type 0)
   record-passes none true ss place l g h = refl
   record-passes none false ss place l g h = steps-pass ss l g
 
+  ohms-pass : (o : Option ℕ) (x : Float) → ((n : ℕ) → o ≡ some n → p n ≡ true) → all p (numbersIn (ohmsReply o x)) ≡ true
+  unfolding ohmsReply numbersIn answersIn numberOf
+  ohms-pass (some n) x h = and-i {a = p n} (h n refl) refl
+  ohms-pass none x h = refl
+
   pub call-passes : ((bs : List ℕ) (at n : ℕ) → first (fileChecks r bs at) ≡ some n → p n ≡ true)
+      → ((net : ℕ) (i : Ink) (l : Layout) (n : ℕ) → first (ohmsRefusals net i r false l) ≡ some n → p n ≡ true)
       → (c : Call) (l : Layout) → Q l → all p (numbersIn (ledgerCall r c l .answer)) ≡ true
   unfolding ledgerCall
-  call-passes h (step s) l g =
+  call-passes h k (step s) l g =
       unfold numbersIn answersIn in and-i {a = p (numberOf (ledgerStep r s l .answer))} (answer-passes s l g) refl
-  call-passes h (runRecord bs at) l g = record-passes _ (isEnd bs at) (steps bs at) (recordEnd bs at) l g (h bs at)
+  call-passes h k (runRecord bs at) l g = record-passes _ (isEnd bs at) (steps bs at) (recordEnd bs at) l g (h bs at)
+  call-passes h k (ohms net i) l g = ohms-pass _ _ (k net i l)
 
 -- the numbers of a list of calls each of which passes the test and keeps Q
 module _ (p : ℕ → Bool) (Q : Layout → Type 0) (m : Lent) where
@@ -135,6 +145,11 @@ file-but-13 : (r : Room) (bs : List ℕ) (at n : ℕ) → first (fileChecks r bs
 unfolding recordChecks but
 file-but-13 r bs at = first-passes (but 13) _ (simp or-true)
 
+ohms-but-13 : (r : Room) (net : ℕ) (i : Ink) (l : Layout) (n : ℕ) → first (ohmsRefusals net i r false l) ≡ some n
+    → but 13 n ≡ true
+unfolding ohmsRefusals but
+ohms-but-13 r net i l = first-passes (but 13) _ (simp or-true)
+
 pub never-broken : NeverBroken
 unfolding told but
 never-broken m l c cs h =
@@ -146,6 +161,7 @@ never-broken m l c cs h =
     let r : Room = roomOf (front d m) in
     record {
       answers =
-          call-passes (but 13) refl any r (λ s k g. step-but-13 r s k) (λ s k g e. tt) (file-but-13 r) (d .call);
+          call-passes (but 13) refl any r (λ s k g. step-but-13 r s k) (λ s k g e. tt) (file-but-13 r) (ohms-but-13 r)
+          (d .call);
       keeps = λ k g. tt;
     }))

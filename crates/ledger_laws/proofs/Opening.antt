@@ -14,7 +14,7 @@ use Rattle.foil_spec.specs.Ledger.{Step, newFoil, Answer, refused, accepted, _�
 use Rattle.foil_spec.specs.Ledger.{After, settle, says, ledgerStep}
 use Rattle.foil_spec.specs.Lent.{Lent, held, sound, roomOf, finish, stepOn}
 use Rattle.foil_spec.specs.Job.{mapByte, has, isEnd, steps, recordEnd, recordChecks}
-use Rattle.foil_spec.specs.Calls.{runRecord, Reply, answered, ran, atEnd, endsJob, andThen, actAll, actRecord}
+use Rattle.foil_spec.specs.Calls.{runRecord, Reply, answered, ran, atEnd, measured, endsJob, andThen, actAll, actRecord}
 use Rattle.foil_spec.specs.Calls.{tooLarge, ledgerCall, callOn}
 use Rattle.list_laws.proofs.Tests.{both, clash}
 use Rattle.ledger_laws.proofs.Refusals.{no-more, none-applies}
@@ -27,6 +27,7 @@ Over (answered a) = Unit {0}
 Over (ran given none) = Unit {0}
 Over (ran given (some n)) = ⊥
 Over atEnd = ⊥
+Over (measured x) = ⊥
 
 -- how a record at place 0 goes on lists that hold anything
 pub data Opening (bs : List ℕ) (l : Layout) (m : Lent) : Type 0 where

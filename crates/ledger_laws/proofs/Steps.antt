@@ -7,6 +7,7 @@ use mathlib.Core.List.{List, [], _∷_}
 use mathlib.Core.Option.{Option, none, some}
 use lib.Dec.{ltb, eqb}
 use borrow.Author.Tests.{ltb-false}
+use lib.Ieee.{Float}
 use lib.ListN.{length, length-append, length-drop}
 use Rattle.foil_spec.specs.Lists.{each}
 use Rattle.foil_spec.specs.Foil.{Layout}
@@ -16,8 +17,8 @@ use Rattle.foil_spec.specs.Ledger.{After, settle, ledgerStep}
 use Rattle.foil_spec.specs.Lent.{Lent, withCorners, entryNumbers, stripNumbers, store, layoutOk, sound}
 use Rattle.foil_spec.specs.Lent.{roomOf, cornersAfter, finish, stepOn}
 use Rattle.foil_spec.specs.Job.{recordChecks, isEnd, steps, recordEnd}
-use Rattle.foil_spec.specs.Calls.{Call, step, runRecord, endsJob, andThen, actAll, actRecord}
-use Rattle.foil_spec.specs.Calls.{tooLarge, ledgerCall, callOn}
+use Rattle.foil_spec.specs.Calls.{Call, step, runRecord, ohms, Reply, endsJob, andThen, actAll, actRecord}
+use Rattle.foil_spec.specs.Calls.{tooLarge, ohmsReply, ledgerCall, callOn}
 use Rattle.foil_spec.specs.Sequence.{answersIn, cornersAll, shown}
 use Rattle.foil_spec.proofs.Written.{length-written}
 use Rattle.list_laws.proofs.Tests.{both, parts}
@@ -167,11 +168,17 @@ reply-corners r (some n) e ss p l ks f = refl
 reply-corners r none true ss p l ks f = refl
 reply-corners r none false ss p l ks f = steps-corners r ss l ks f
 
+ohms-corners : (o : Option ℕ) (x : Float) (ks : List ℕ) → length (cornersAll (answersIn (ohmsReply o x)) ks) ≡ length ks
+unfolding ohmsReply answersIn cornersAll cornersAfter
+ohms-corners (some n) x ks = refl
+ohms-corners none x ks = refl
+
 pub call-corners : (r : Room) (c : Call) (l : Layout) (ks : List ℕ) → r .corners ≡ length ks / 2
     → length (cornersAll (answersIn (ledgerCall r c l .answer)) ks) ≡ length ks
 unfolding ledgerCall
 call-corners r (step s) l ks f = unfold answersIn cornersAll in step-corners r s l ks f
 call-corners r (runRecord bs at) l ks f = reply-corners r _ (isEnd bs at) (steps bs at) (recordEnd bs at) l ks f
+call-corners r (ohms net i) l ks f = ohms-corners _ _ ks
 
 -- ---- a record as a whole, and every call
 
@@ -198,6 +205,14 @@ still-sound : (t : Bool) (l : Layout) (m : Lent) → layoutOk l ≡ true → (t 
 still-sound true l m g = rw (sound-store l m g) refl
 still-sound false l m g = refl
 
+-- the ohms leave all as it is
+ohms-shown : (o : Option ℕ) (x : Float) (l : Layout) (m : Lent)
+    → _≡_ {A = After Reply Lent} (record { answer = ohmsReply o x; state = store l m })
+    (shown m (m .corners) (record { answer = ohmsReply o x; state = l }))
+unfolding ohmsReply shown answersIn cornersAll cornersAfter store
+ohms-shown (some n) x l m = refl
+ohms-shown none x l m = refl
+
 -- a call on long lists that hold a layout
 pub call-is : (c : Call) (l : Layout) (m : Lent) → Long m → layoutOk l ≡ true
     → callOn c (store l m) ≡ shown m (m .corners) (ledgerCall (roomOf m) c l)
@@ -213,3 +228,4 @@ call-is (runRecord bs at) l m n g =
     )
     (record-is (first ((tooLarge bs ⇒ 18) ∷ (short (roomOf m) ⇒ 12) ∷ recordChecks bs at)) (isEnd bs at) (steps bs at)
     (recordEnd bs at) l m n g)
+call-is (ohms net i) l m n g = rw (held-store l m, sound-store l m g, room-store l m n g) (ohms-shown _ _ l m)

@@ -5,11 +5,13 @@ use mathlib.Core.Path.{_≡_, refl, sym, ap, _∙_, subst}
 use mathlib.Core.Bool.{Bool, true, false, cond}
 use mathlib.Core.List.{List, [], _∷_, map, append-nil}
 use mathlib.Core.Option.{Option, none, some}
+use lib.Ieee.{Float}
 use Rattle.foil_spec.specs.Foil.{Layout}
 use Rattle.foil_spec.specs.Ledger.{Step, Answer, After}
 use Rattle.foil_spec.specs.Lent.{Lent, stepOn}
 use Rattle.foil_spec.specs.Job.{steps}
-use Rattle.foil_spec.specs.Calls.{Call, step, runRecord, ran, endsJob, andThen, actAll, actRecord, callOn}
+use Rattle.foil_spec.specs.Calls.{Call, step, runRecord, ohms, Reply, ran, ohmsReply, endsJob, andThen, actAll}
+use Rattle.foil_spec.specs.Calls.{actRecord, callOn}
 use Rattle.foil_spec.specs.Sequence.{Lending, front, lend, answersIn}
 use Rattle.ledger_laws.specs.Moments.{Moment, momentOf, momentsOf, stepsRun, moments}
 
@@ -58,11 +60,17 @@ module _ (c : Lending) (m : Lent) where
         let q : actAll stepOn (steps bs at) n .answer ≡ given = cc in
         steps-answers (steps bs at) n l ∙ q
 
+    no-record : (o : Option ℕ) (x : Float) (given : List Answer) (place : Option ℕ) → ohmsReply o x ≡ ran given place → ⊥
+    unfolding ohmsReply
+    no-record (some j) x given place h = let z : _≡_ {A = ℕ} 0 1 = cc in omega arith
+    no-record none x given place h = let z : _≡_ {A = ℕ} 0 1 = cc in omega arith
+
     of-call : (k : Call) (given : List Answer) (place : Option ℕ) → callOn k n .answer ≡ ran given place
         → stepAnswers k ≡ given
     unfolding callOn
     of-call (step s) given place h = absurd (let z : _≡_ {A = ℕ} 0 1 = cc in omega arith)
     of-call (runRecord bs at) given place h = of-record _ _ bs at _ given place h
+    of-call (ohms net i) given place h = absurd (no-record _ _ given place h)
 
   one-call : (l : Layout) → answers (moments m l (c ∷ [])) ≡ stepAnswers (front c m) l (c .call)
   unfolding moments lend

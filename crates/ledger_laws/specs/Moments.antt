@@ -6,7 +6,7 @@ use Rattle.foil_spec.specs.Foil.{Layout}
 use Rattle.foil_spec.specs.Ledger.{Step, Answer, Room, ledgerStep}
 use Rattle.foil_spec.specs.Lent.{Lent, roomOf, stepOn}
 use Rattle.foil_spec.specs.Job.{steps}
-use Rattle.foil_spec.specs.Calls.{Call, step, runRecord, Reply, answered, ran, atEnd, endsJob}
+use Rattle.foil_spec.specs.Calls.{Call, step, runRecord, ohms, Reply, answered, ran, atEnd, measured, endsJob}
 use Rattle.foil_spec.specs.Sequence.{Lending, Begins, front, back, lend, told}
 
 -- a step that is run: how many places it is lent, what it answers, the record and the whole lists before it and after
@@ -43,12 +43,15 @@ module _ (c : Lending) (m : Lent) where
       ∷ cond (endsJob (stepOn s n .answer)) []
       (momentsOf ss (stepOn s n .state) (ledgerStep (roomOf (front c m)) s l .state))
 
--- the steps that a call runs, by its reply: none of a record that is refused as a whole or is the end mark
+-- the steps that a call runs, by its reply: none where a record is refused as a whole or is the end mark, and none where
+-- the ohms are asked for
 unfoldable pub stepsRun : Call → Reply → List Step
 stepsRun (step s) r = s ∷ []
 stepsRun (runRecord bs at) (answered a) = []
 stepsRun (runRecord bs at) (ran given place) = steps bs at
 stepsRun (runRecord bs at) atEnd = []
+stepsRun (runRecord bs at) (measured x) = []
+stepsRun (ohms net i) r = []
 
 -- the steps that a list of calls runs, on the whole lists m, where the ledger holds l before them
 unfoldable pub moments : Lent → Layout → List Lending → List Moment

@@ -11,7 +11,7 @@ use Rattle.foil_spec.specs.Lent.{Lent}
 use Rattle.foil_spec.specs.Calls.{Reply}
 use Rattle.foil_spec.specs.Sequence.{Lending, Begins, runLent, told, answersIn}
 
--- the numbers in a reply: that of each answer, 0 if accepted
+-- the numbers in a reply: that of each answer, 0 if accepted; ohms have none
 unfoldable pub numbersIn : Reply → List ℕ
 numbersIn r = map numberOf (answersIn r)
 

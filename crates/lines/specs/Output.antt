@@ -8,7 +8,7 @@ use Rattle.foil_spec.specs.Foil.{Layout}
 use Rattle.foil_spec.specs.Ledger.{Step, newFoil, draw, lay, lift, lookUp, stripsOf}
 use Rattle.foil_spec.specs.Ledger.{Answer, numberOf, refused, accepted, laid, found, Room}
 use Rattle.foil_spec.specs.Job.{steps}
-use Rattle.foil_spec.specs.Calls.{runRecord, Reply, answered, ran, atEnd, ledgerCall}
+use Rattle.foil_spec.specs.Calls.{runRecord, Reply, answered, ran, atEnd, measured, ledgerCall}
 use Rattle.lines.specs.Lines.{boardLine, patchLine, trackRefused, trackLaid, liftLine, stripLine, fileLine}
 
 -- the line of a lay, which is refused or lays a track
@@ -40,12 +40,14 @@ jobRoom = record { table = 128; strips = 4096; corners = 8192 }
 unfoldable pub noFoil : Layout
 noFoil = record { width = 0; height = 0; clearance = 0; entries = [] }
 
--- the lines of a record with these steps, its reply and what it left; `rest` gives those from the next place on
+-- the lines of a record with these steps, its reply, which is never ohms, and what it left; `rest` gives those from the
+-- next place on
 unfoldable pub replyLines : List Step → Reply → Layout → (ℕ → List ℕ) → List ℕ
 replyLines ss (answered a) l rest = fileLine (numberOf a)
 replyLines ss (ran given none) l rest = stepLines ss given
 replyLines ss (ran given (some n)) l rest = stepLines ss given ++ rest n
 replyLines ss atEnd l rest = each stripLine (stripsOf l)
+replyLines ss (measured x) l rest = []
 
 -- the lines from the record at a place on, of at most so many records
 unfoldable pub outputFrom : ℕ → List ℕ → ℕ → Layout → List ℕ

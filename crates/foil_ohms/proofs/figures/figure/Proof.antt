@@ -1,0 +1,19 @@
+-- A pattern whose exponent is not all ones is no NaN's.
+use borrow.Author.Needs.{needs}
+use borrow.Author.Tests.{ne-eqb}
+use lib.Ieee.{nanBits}
+use Rattle.foil_ohms.proofs.figures.figure.Statement.{statement}
+use Rattle.foil_ohms.proofs.figures.figure.Tie as tie
+
+returns : tie.Need-returns
+returns c = search needs
+
+float-from-bits-result : tie.Need-float-from-bits-result
+unfolding nanBits
+float-from-bits-result c = rw (ne-eqb _ _ (c .if1 .left)) tt
+
+returns-2 : tie.Need-returns-2
+returns-2 c = search needs
+
+pub figure-spec : {M : Type 1} → statement M
+figure-spec = tie.close (tie.spec returns float-from-bits-result returns-2)

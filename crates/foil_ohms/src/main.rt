@@ -1,0 +1,97 @@
+// The ohms of a job's tracks. Reads the ink's three figures from standard input (the bits of an f64 each,
+// 8 bytes, low byte first), then a job file; runs the job, and writes a line for each net on the foil
+// that it leaves, nets rising.
+mod figures;
+mod show;
+
+use booking::in_use;
+use figures::ink_of;
+use foil_spec::Board;
+use foil_spec::Ink;
+use job::Next;
+use job::Replied;
+use job::Reply;
+use job::run_record;
+use job_report::no_board;
+use ohms::ohms;
+
+// One byte more than a job file may have, so that a longer one is known.
+const BYTES: usize = 60001;
+
+// More records than any file has that is not too long, and one call more for its end.
+const RECORDS: usize = 60001;
+
+fn main() {
+    let mut given = [0u8; 24];
+    io::read_full(0, &mut given);
+    let mut bytes = [0u8; BYTES];
+    let n = io::read_full(0, &mut bytes);
+    write_job(&bytes[..n], ink_of(&given));
+}
+
+// Runs the records of a job file in turn, on a foil of its own, and writes what is asked at its end.
+fn write_job(bytes: &[u8], ink: Ink) {
+    let mut table = [0u16; 640];
+    let mut strips = [0u16; 16384];
+    let mut corners = [0u16; 16384];
+    let mut board = no_board();
+    let mut at: usize = 0;
+    for _ in 0..RECORDS {
+        let done = run(&mut table, &mut strips, &mut corners, board, bytes, at);
+        board = done.board;
+        let reply = done.reply;
+        let next = after(reply, &table, &strips, board, ink);
+        let Next::At(place) = next else {
+            return;
+        };
+        at = place;
+    }
+}
+
+// Runs the record at a place, on lists as long as the calls ask for and 8,192 corner places.
+fn run(
+    table: &mut [u16; 640],
+    strips: &mut [u16; 16384],
+    corners: &mut [u16; 16384],
+    board: Board,
+    bytes: &[u8],
+    at: usize,
+) -> Replied {
+    run_record(table, strips, corners, board, bytes, at)
+}
+
+// Where the job goes on after a record. At its end the ohms are written; a file that is at fault or a
+// board that is refused ends it too, and its number is written.
+fn after(reply: Reply, table: &[u16; 640], strips: &[u16; 16384], board: Board, ink: Ink) -> Next {
+    match reply {
+        Reply::Refused(number) => {
+            show::file(number);
+            Next::Nowhere
+        }
+        Reply::Ran(answers, next) => {
+            let told = answers.board;
+            show::board(told);
+            next
+        }
+        Reply::AtEnd => {
+            write_nets(table, strips, board, ink);
+            Next::Nowhere
+        }
+    }
+}
+
+// Writes the ohms of each net on the foil.
+fn write_nets(table: &[u16; 640], strips: &[u16; 16384], board: Board, ink: Ink) {
+    let mut net: u16 = 0;
+    while net < 999 {
+        net += 1;
+        write_net(table, strips, board, net, ink);
+    }
+}
+
+// Writes the ohms of a net, if it is on the foil. The places after the last entry are of net 0.
+fn write_net(table: &[u16; 640], strips: &[u16; 16384], board: Board, net: u16, ink: Ink) {
+    if in_use(table, 128, net) {
+        show::answer(net, ohms(table, strips, board, net, ink));
+    }
+}

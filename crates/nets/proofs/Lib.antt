@@ -1,0 +1,2 @@
+-- Laws of a net's legs and their steps.
+pub mod Measuring
