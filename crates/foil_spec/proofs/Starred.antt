@@ -186,8 +186,8 @@ cases =
             strips = strip 0 0 2 3 ∷ strip 3 0 6 3 ∷ strip 0 3 6 4 ∷ [];
           };
     }
-    -- the ohms of the job's track, 10 steps with 2 bends: exact, at the upper limits, with 0.1 and 0.7, and with c = −0;
-    -- then figures out of their ranges, and 6 and 4 before 22
+    -- the ohms of the job's track, 10 steps with 2 bends: exact, at the upper limits, with 0.1 and 0.7, and with
+    -- c = −0; then figures out of their ranges, and 6 and 4 before 22
     ∷ record {
       calls =
           runRecord jobBytes 0 ∷ runRecord jobBytes 15

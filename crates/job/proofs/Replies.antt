@@ -1,5 +1,5 @@
--- What a reply says of its record: which checks it has passed, which bits its answers come from, and where the corners of
--- its track stand.
+-- What a reply says of its record: which checks it has passed, which bits its answers come from, and where the
+-- corners of its track stand.
 use Prim.Native.Nat.{ℕ, _/_, _≤_}
 use native.Mathlib.Omega.{arith}
 use mathlib.Core.Path.{_≡_, refl, sym, ap, _∙_, subst, subst₂}

@@ -72,7 +72,8 @@ number-line line s h false given = refl
 
 -- ---- a lay
 
-track-read : (net : ℕ) (ks ks′ : List ℕ) (a : Answer) → Tracked a ks ks′ → trackLine net a ≡ layLine net ks′ (answerOf a)
+track-read : (net : ℕ) (ks ks′ : List ℕ) (a : Answer) → Tracked a ks ks′
+    → trackLine net a ≡ layLine net ks′ (answerOf a)
 unfolding trackLine layLine answerOf cornersAfter
 track-read net ks ks′ (refused n) t = refl
 track-read net ks ks′ accepted t = refl

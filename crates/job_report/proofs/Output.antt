@@ -1,5 +1,5 @@
--- The lines of all records of a job, one after the other, are the output of its file: after the first record the lists hold
--- what the ledger holds, and each record goes as on the ledger.
+-- The lines of all records of a job, one after the other, are the output of its file: after the first record the
+-- lists hold what the ledger holds, and each record goes as on the ledger.
 use Prim.Native.Nat.{ℕ, zero, suc, _+_, _*_, _/_, _≤_, _<_}
 use native.Mathlib.Omega.{arith}
 use mathlib.Core.Path.{_≡_, refl, sym, ap, _∙_, subst}
@@ -145,7 +145,8 @@ module _ (k : ℕ) (bs : List ℕ) (at : ℕ) (l : Layout) (m : Lent) (lists : J
       }
 
   shown-record : (n : Lent) → callOn (runRecord bs at) n ≡ shown m (m .corners) line
-      → ((j : Lent) → JobLists j → (p : ℕ) → reportFrom k bs p (store (line .state) j) ≡ outputFrom k bs p (line .state))
+      → ((j : Lent) → JobLists j → (p : ℕ)
+      → reportFrom k bs p (store (line .state) j) ≡ outputFrom k bs p (line .state))
       → reportFrom (suc k) bs at n
       ≡ replyLines (steps bs at) (line .answer) (line .state) (λ (p : ℕ). outputFrom k bs p (line .state))
   unfolding shown store

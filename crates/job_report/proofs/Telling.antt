@@ -41,7 +41,8 @@ no-laid (inr (inr e)) = omega arith
 
 -- ---- the net of a step that was run
 
-pub net-given : {bs : List ℕ} {at k : ℕ} {t : Told} (a : Answer) → t ≡ Said a → FromBit bs at k t → k < 4 → 0 < fieldCount k
+pub net-given : {bs : List ℕ} {at k : ℕ} {t : Told} (a : Answer) → t ≡ Said a → FromBit bs at k t → k < 4
+    → 0 < fieldCount k
     → Given bs at k 0
 net-given {bs} {at} {k} a e f l s = field-given bs at (f .whole) k 0 l s (f .set a e)
 
@@ -79,7 +80,8 @@ module _ (net : ℕ) (ks : List ℕ) {t : Told} {o : List ℕ} {at : ℕ} where
   unfolding toldTrack layLine
   other-told a e f g l = rw e (none a f g)
     where
-      none : (a : Answer) → ((k n : ℕ) → a ≡ Laid k n → ⊥) → ((n : ℕ) → a ≡ Refused n → ⊥) → Put o at (layLine net ks a) o at
+      none : (a : Answer) → ((k n : ℕ) → a ≡ Laid k n → ⊥) → ((n : ℕ) → a ≡ Refused n → ⊥)
+          → Put o at (layLine net ks a) o at
       none (Refused n) f g = absurd (g n refl)
       none Accepted f g = put-none o at l
       none (Laid k n) f g = absurd (f k n refl)

@@ -28,8 +28,8 @@ placeAfter (ran given n) = n
 placeAfter atEnd = none
 placeAfter (measured x) = none
 
--- the record at a place was lent m and the byte list `old`: it left its lines at the front of the byte list, answered r,
--- and left the table t, the strips s and the corner list ks
+-- the record at a place was lent m and the byte list `old`: it left its lines at the front of the byte list, answered
+-- r, and left the table t, the strips s and the corner list ks
 pub record RecordReported (bs : List ℕ) (at : ℕ) (m : Lent) (old new : List ℕ) (r : Reported) (t s ks : List ℕ)
     : Type 0 where
   pub lines : Put old 0 (recordLines bs at m) new (r .size)
@@ -59,7 +59,7 @@ pub record JobLists (m : Lent) : Type 0 where
   pub strips : length (m .strips) ≡ 16384
   pub corners : length (m .corners) ≡ 16384
 
--- for every file, the lines of its records from place 0 on, of at most 60,001, are its output, whatever the lists and the
--- record hold at first
+-- for every file, the lines of its records from place 0 on, of at most 60,001, are its output, whatever the lists and
+-- the record hold at first
 abbrev pub WritesOutput : Type 0
 WritesOutput = (bs : List ℕ) (m : Lent) → JobLists m → reportFrom 60001 bs 0 m ≡ output bs

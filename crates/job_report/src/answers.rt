@@ -1,5 +1,5 @@
-// The lines of the steps of a record, in bit order. Each function writes the line of a step at place `at`, if the step was
-// run, and answers the place after it.
+// The lines of the steps of a record, in bit order. Each function writes the line of a step at place `at`, if the
+// step was run, and answers the place after it.
 use foil::Answer;
 use job::Answers;
 use job::Told;

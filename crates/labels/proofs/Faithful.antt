@@ -18,8 +18,8 @@ use Rattle.grid.proofs.Board.{Edges}
 use Rattle.labels.specs.Line.{Linked}
 use Rattle.labels.proofs.Line.{linked-sym, linked-at, linked-part}
 
--- m lines with n crossings each: a next corner c anywhere has one on the grid that is on a path no longer, and no later,
--- or on a shorter one
+-- m lines with n crossings each: a next corner c anywhere has one on the grid that is on a path no longer, and no
+-- later, or on a shorter one
 pub record Faithful (f : ℕ → ℕ → Bool) (T : ℕ → ℕ → Type 0) (cross : List ℕ) (n : ℕ) (lines : List ℕ) (m : ℕ)
     (edge : List ℕ) : Type 0 where
   pub joined : (j a b : ℕ) → j < m → a < n → b < n → f (getD cross a 0) (getD lines j 0) ≡ true → Linked edge j a b →

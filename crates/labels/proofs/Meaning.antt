@@ -72,7 +72,8 @@ module _ {f : ℕ → ℕ → Bool} {T : ℕ → ℕ → Type 0} (tf : TargetFre
       Reach (suc k) f T (getD cross i 0) (getD lines j 0)
   step-reach i j q k li lj lq h e = (getD cross q 0, step-span i j q k li lj lq h e, O .says q lq j lj .reach k e)
 
-  -- what is joined with a point that no more than w segments leave, and is left by w segments itself, has the label w + 1
+  -- what is joined with a point that no more than w segments leave, and is left by w segments itself, has the
+  -- label w + 1
   pub exact : (i j q w : ℕ) → i < n → j < m → q < n → w ≤ r →
       ((k : ℕ) → k ≤ w → Reach k f T (getD cross i 0) (getD lines j 0) → ⊥) → Linked edge j i q →
       Reach w (flip f) (flip T) (getD lines j 0) (getD cross q 0) → across other j q ≡ w + 1
@@ -304,7 +305,8 @@ module _ {el eu cols rows : List ℕ} {nc nr : ℕ} {l₀ u₀ wl₀ wu₀ : Lis
 module _ {f : ℕ → ℕ → Bool} {T : ℕ → ℕ → Type 0} (tf : TargetFree f T) {cols : List ℕ} {nc : ℕ} {rows : List ℕ} {nr : ℕ}
     {el eu : List ℕ} (L : Faithful f T cols nc rows nr el) (U : Faithful (flip f) (flip T) rows nr cols nc eu)
     {l₀ u₀ wl₀ wu₀ : List ℕ} (S : Both f T cols nc rows nr 0 l₀ u₀) (bl : Below nr nc l₀ 1) (bu : Below nc nr u₀ 1)
-    {v : ℕ} {l u wl wu : List ℕ} (R : Rounds el eu cols rows nc nr l₀ u₀ wl₀ wu₀ v l u wl wu) (P : Pass u el nr nc v l l)
+    {v : ℕ} {l u wl wu : List ℕ} (R : Rounds el eu cols rows nc nr l₀ u₀ wl₀ wu₀ v l u wl wu)
+    (P : Pass u el nr nc v l l)
     (Q : Pass l eu nc nr v u u) where
   still : Both f T cols nc rows nr v l u
   still = let p = rounds-pos R in both-more tf L U (v - 1) v (omega arith) (rounds-labels tf L U S R) P Q

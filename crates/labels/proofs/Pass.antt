@@ -61,7 +61,8 @@ run-cases {line} {lo} {hi} {n} l₀ l few le low high i k lk {P} f g =
 -- The labels outside of a run that is filled stay, and so do those in it.
 module _ {line lo hi v n : ℕ} {l₀ l : List ℕ} {c : ℕ} (R : RunFilled line lo hi v l₀ l c) (few : n ≤ stride)
     (le : hi ≤ n) where
-  fill-cases : (i k : ℕ) → k < n → {P : Type 0} → (i ≡ line → lo ≤ k → k < hi → P) → (along l i k ≡ along l₀ i k → P) → P
+  fill-cases : (i k : ℕ) → k < n → {P : Type 0} → (i ≡ line → lo ≤ k → k < hi → P)
+      → (along l i k ≡ along l₀ i k → P) → P
   fill-cases = run-cases l₀ l few le (R .low) (R .high)
 
   run-held : (i k : ℕ) → k < n → along l₀ i k ≢ 0 → along l i k ≡ along l₀ i k

@@ -82,7 +82,8 @@ module _ (p : ℕ → Bool) (zero-passes : p 0 ≡ true) (Q : Layout → Type 0)
   record-passes none true ss place l g h = refl
   record-passes none false ss place l g h = steps-pass ss l g
 
-  ohms-pass : (o : Option ℕ) (x : Float) → ((n : ℕ) → o ≡ some n → p n ≡ true) → all p (numbersIn (ohmsReply o x)) ≡ true
+  ohms-pass : (o : Option ℕ) (x : Float) → ((n : ℕ) → o ≡ some n → p n ≡ true)
+      → all p (numbersIn (ohmsReply o x)) ≡ true
   unfolding ohmsReply numbersIn answersIn numberOf
   ohms-pass (some n) x h = and-i {a = p n} (h n refl) refl
   ohms-pass none x h = refl

@@ -60,7 +60,8 @@ module _ (c : Lending) (m : Lent) where
         let q : actAll stepOn (steps bs at) n .answer ≡ given = cc in
         steps-answers (steps bs at) n l ∙ q
 
-    no-record : (o : Option ℕ) (x : Float) (given : List Answer) (place : Option ℕ) → ohmsReply o x ≡ ran given place → ⊥
+    no-record : (o : Option ℕ) (x : Float) (given : List Answer) (place : Option ℕ)
+        → ohmsReply o x ≡ ran given place → ⊥
     unfolding ohmsReply
     no-record (some j) x given place h = let z : _≡_ {A = ℕ} 0 1 = cc in omega arith
     no-record none x given place h = let z : _≡_ {A = ℕ} 0 1 = cc in omega arith

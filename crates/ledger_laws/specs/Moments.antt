@@ -43,8 +43,8 @@ module _ (c : Lending) (m : Lent) where
       ∷ cond (endsJob (stepOn s n .answer)) []
       (momentsOf ss (stepOn s n .state) (ledgerStep (roomOf (front c m)) s l .state))
 
--- the steps that a call runs, by its reply: none where a record is refused as a whole or is the end mark, and none where
--- the ohms are asked for
+-- the steps that a call runs, by its reply: none where a record is refused as a whole or is the end mark, and none
+-- where the ohms are asked for
 unfoldable pub stepsRun : Call → Reply → List Step
 stepsRun (step s) r = s ∷ []
 stepsRun (runRecord bs at) (answered a) = []

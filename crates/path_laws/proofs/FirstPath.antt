@@ -9,7 +9,8 @@ use mathlib.Core.Option.{none, some, Option·some-injective, Option·none-ne-som
 use mathlib.Core.Logic.{_⊎_, inl, inr, ⊎-elim, by-cases}
 use lib.ListN.{length}
 use Rattle.foil_spec.specs.Foil.{Point, same}
-use Rattle.foil_spec.specs.Paths.{either, segment, leads, isPathTo, bends, cornersBefore, stepsFrom, pathLength, before, at}
+use Rattle.foil_spec.specs.Paths.{either, segment, leads, isPathTo, bends, cornersBefore}
+use Rattle.foil_spec.specs.Paths.{stepsFrom, pathLength, before, at}
 use Rattle.foil_spec.specs.Paths.{shortest, goings, firstFrom, firstPathTo}
 use Rattle.list_laws.proofs.Tests.{clash, and-l, and-r, parts, true-or-false}
 use Rattle.list_laws.proofs.Members.{In, Sorted}
@@ -71,7 +72,8 @@ is-nil (c ∷ cs) e = absurd (omega arith)
 -- where the target is one point
 module _ (f : ℕ → ℕ → Bool) (S T : Point) where
   -- no path leaves S and is back by one segment
-  no-loop : (cs : List Point) → leads f (at T) either S [] ≡ true → leads f (at T) either S cs ≡ true → length cs ≡ 1 → ⊥
+  no-loop : (cs : List Point) → leads f (at T) either S [] ≡ true → leads f (at T) either S cs ≡ true
+      → length cs ≡ 1 → ⊥
   unfolding leads
   no-loop [] h k e = omega arith
   no-loop (q ∷ r ∷ cs) h k e = omega arith

@@ -38,7 +38,8 @@ module _ (f : ℕ → ℕ → Bool) (S : Point) (T : Point → Bool) (cs : List 
       }
 
 -- there is only one such list
-pub unique : (f : ℕ → ℕ → Bool) (S : Point) (T : Point → Bool) (cs ds : List Point) → IsFirst f S T cs → IsFirst f S T ds → cs ≡ ds
+pub unique : (f : ℕ → ℕ → Bool) (S : Point) (T : Point → Bool) (cs ds : List Point) → IsFirst f S T cs
+    → IsFirst f S T ds → cs ≡ ds
 unique f S T cs ds a b =
     let ab = a .fewest ds (b .path) in
     let ba = b .fewest cs (a .path) in
@@ -53,7 +54,8 @@ unique f S T cs ds a b =
     (b .first cs (a .path) (sym e) (sym l)))
     (a .first ds (b .path) e l)
 
-module _ (f : ℕ → ℕ → Bool) (W H : ℕ) (inside : (x y : ℕ) → f x y ≡ true → (x < W) × (y < H)) (S : Point) (T : Point → Bool) where
+module _ (f : ℕ → ℕ → Bool) (W H : ℕ) (inside : (x y : ℕ) → f x y ≡ true → (x < W) × (y < H)) (S : Point)
+    (T : Point → Bool) where
   -- what firstPathTo gives is the first way of fewest bends
   pub gives-first : (cs : List Point) → firstPathTo f W H S T ≡ some cs → IsFirst f S T cs
   gives-first cs h =

@@ -7,8 +7,8 @@ use mathlib.Core.Logic.{_⊎_}
 use Rattle.foil_spec.specs.Foil.{Point}
 use Rattle.foil_spec.specs.Paths.{isPathTo, bends, pathLength, cornersBefore}
 
--- cs is a path from S to the target T; no path has fewer bends; of those with as many none is shorter; and of those as short it
--- comes first by its corners
+-- cs is a path from S to the target T; no path has fewer bends; of those with as many none is shorter; and of those
+-- as short it comes first by its corners
 pub record IsFirst (f : ℕ → ℕ → Bool) (S : Point) (T : Point → Bool) (cs : List Point) : Type 0 where
   pub path : isPathTo f S T cs ≡ true
   pub fewest : (ds : List Point) → isPathTo f S T ds ≡ true → bends cs ≤ bends ds

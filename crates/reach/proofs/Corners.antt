@@ -99,7 +99,8 @@ module _ (f : ℕ → ℕ → Bool) (T : Point) where
   leads-path false x y [] h = ([], ends x y h, refl)
   leads-path true x y [] h = ([], ends x y h, refl)
   leads-path false x y (q ∷ ps) h =
-      let s = of-level f (point x y) q (and-l (levelFree f (point x y) q) (leads f (at T) (after (point x y) q) q ps) h) in
+      let s =
+      of-level f (point x y) q (and-l (levelFree f (point x y) q) (leads f (at T) (after (point x y) q) q ps) h) in
       level-more x y q ps s
       (leads-path true (q .x) (q .y) ps
       (rw (after-level f (point x y) q s) at
@@ -126,7 +127,8 @@ module _ (f : ℕ → ℕ → Bool) (T : Point) where
       (λ (k : uprightFree f S q ≡ true).
       let r = leads-path true (S .x) (S .y) (q ∷ ps) (and-i {a = uprightFree f S q} k on) in
       (true, r .0, r .1, r .2))
-      (or-cases (levelFree f S q) (uprightFree f S q) (and-l (segment f either S q) (leads f (at T) (after S q) q ps) h))
+      (or-cases (levelFree f S q) (uprightFree f S q)
+      (and-l (segment f either S q) (leads f (at T) (after S q) q ps) h))
 
 -- the first list of corners comes before the second or is the same
 abbrev NoLater : List Point → List Point → Type 0

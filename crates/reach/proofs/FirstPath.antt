@@ -24,7 +24,8 @@ module _ (f : ℕ → ℕ → Bool) (W H : ℕ) (inside : (x y : ℕ) → f x y 
   module _ (s-free : f (S .x) (S .y) ≡ true) (up : Bool) (cs : List ℕ) (B : Best up cs f (At T) (S .x) (S .y)) where
     best-leads : leads f (at T) either S (corners up cs (S .x) (S .y)) ≡ true
     best-leads =
-        leads-either f (at T) (heading up) S (corners up cs (S .x) (S .y)) (path-leads f T up cs (S .x) (S .y) (B .path))
+        leads-either f (at T) (heading up) S (corners up cs (S .x) (S .y))
+        (path-leads f T up cs (S .x) (S .y) (B .path))
 
     abbrev best : List Point
     best = S ∷ corners up cs (S .x) (S .y)

@@ -1,4 +1,5 @@
--- Of the lists that lead to a target by fewest segments, each is a path, and a greedy one is the first of those as short.
+-- Of the lists that lead to a target by fewest segments, each is a path, and a greedy one is the first of those as
+-- short.
 use Prim.Native.Nat.{ℕ, zero, suc, _<_}
 use native.Mathlib.Omega.{arith}
 use native.Mathlib.Decide.{decLt}

@@ -17,7 +17,8 @@ use Rattle.labels.proofs.Faithful.{Faithful}
 use Rattle.labels.proofs.Meaning.{Says, Labelled, Measured}
 use Rattle.labels.proofs.First.{coords, coords-length, trail-length, trail-greedy, first-stop, trail-stop, stop-first}
 use Rattle.labels.specs.Line.{along, Stop}
-use Rattle.search.specs.Choice.{Choice, level-only, upright-only, level-less, upright-less, here, tie-level, tie-upright}
+use Rattle.search.specs.Choice.{Choice, level-only, upright-only, level-less, upright-less}
+use Rattle.search.specs.Choice.{here, tie-level, tie-upright}
 use Rattle.search.specs.Choice.{labelAt}
 use Rattle.search.specs.Search.{Starts, nowhere, goes}
 
@@ -75,7 +76,8 @@ module _ {l u wl wu eu rows : List ℕ} {nr i j : ℕ} where
     unfolding labelAt
     upright-start e c = rw e (goes true c)
 
--- the labels l and u and the inks wl and wu are right after n rounds, and the start is the crossing of column i and row j
+-- the labels l and u and the inks wl and wu are right after n rounds, and the start is the crossing of column i and
+-- row j
 module _ {f : ℕ → ℕ → Bool} {T : ℕ → ℕ → Type 0} (tf : TargetFree f T) {cols : List ℕ} {nc : ℕ} {rows : List ℕ} {nr : ℕ}
     {el eu : List ℕ} (L : Faithful f T cols nc rows nr el) (U : Faithful (flip f) (flip T) rows nr cols nc eu)
     (R : Rising rows nr) {n : ℕ} {l u wl wu : List ℕ} (A : Labelled f T cols nc rows nr n l)

@@ -238,7 +238,8 @@ module _ {t : List ℕ} {n d w h : ℕ} {S T : Point} (P : Posed t n d w h S T) 
             ready = λ one. absurd (omega arith);
           }
 
-  searched-some : Labelling cols rows el eu nc nr S T i j true l u wl wu → (up : Bool) → Choice l u wl wu eu rows nr i j up
+  searched-some : Labelling cols rows el eu nc nr S T i j true l u wl wu → (up : Bool)
+      → Choice l u wl wu eu rows nr i j up
       → Searched (layoutOf w h d n t) S T cols rows el eu l u wl wu
       (record { columns = nc; rows = nr; i = i; j = j; upright = up; corners = labelAt up l u i j })
   unfolding noPath

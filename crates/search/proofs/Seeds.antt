@@ -40,7 +40,8 @@ seeded lab₀ lab inks queue line k ll lk l li lq F =
     }
 
 -- what `rounds` asks of it, for m lines with n crossings each
-module _ (lab inks queue : List ℕ) (line k m n : ℕ) (S : Seeded lab inks queue line k) (fm : m ≤ stride) (fn : n ≤ stride) where
+module _ (lab inks queue : List ℕ) (line k m n : ℕ) (S : Seeded lab inks queue line k) (fm : m ≤ stride)
+    (fn : n ≤ stride) where
   -- the only crossing with the label 1
   seeded-at : line < m → k < n → (a b : ℕ) → a < m → b < n → along lab a b ≡ 1 → (line ≡ a) × (k ≡ b)
   seeded-at ll lk a b la lb e = place (ℕ-discrete (a * stride + b) (line * stride + k))

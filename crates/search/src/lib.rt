@@ -1,4 +1,5 @@
-// The search for the first path of fewest bends and least length: the escape grid, its labels, and the walk put together.
+// The search for the first path of fewest bends and least length: the escape grid, its labels, and the walk put
+// together.
 //
 // The caller makes two calls. `labels` says how many corners the path has, so that the caller can decide whether there
 // is room for them, and `walk` then writes them. All work lists are lent: `level` and `upright` for the labels of the

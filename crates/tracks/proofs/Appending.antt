@@ -97,7 +97,8 @@ single old new n net p k e l a =
 pub leg-appended : (old new : List ℕ) (n net : ℕ) (p : List ℕ) (i j x0 y0 x1 y1 : ℕ)
     → x0 ≡ min (cornerAt p i .x) (cornerAt p j .x) → y0 ≡ min (cornerAt p i .y) (cornerAt p j .y)
     → x1 ≡ max (cornerAt p i .x) (cornerAt p j .x) → y1 ≡ max (cornerAt p i .y) (cornerAt p j .y)
-    → Appended old new n (entry net x0 y0 (x1 + 1) (y1 + 1)) → Appended old new n (leg net (cornerAt p i) (cornerAt p j))
+    → Appended old new n (entry net x0 y0 (x1 + 1) (y1 + 1))
+    → Appended old new n (leg net (cornerAt p i) (cornerAt p j))
 unfolding leg
 leg-appended old new n net p i j x0 y0 x1 y1 a b c d h =
     let e : x1 + 1 ≡ suc (max (cornerAt p i .x) (cornerAt p j .x)) = omega arith in

@@ -217,7 +217,19 @@ returns-8 c =
 
 lay-between-requires : tie.Need-lay-between-requires
 lay-between-requires c κs =
-    ready-to-lay _ _ _ _ _ _ _ (ready _ _ _ _ _ (c .before .before .before .before .before .before .before .before .before .before .before .before .before .before .before .before .before .before .before .before .before .before .before .before .before .lists-short .ensures) (c .before .before .before .before .before .before .before .before .before .before .before .before .before .before .before .before .before .before .before .before .before .before .before .before .if1 .left) _ (c .before .before .before .before .before .before .before .before .before .before .before .before .before .before .before .before .before .before .before .before .before .is-sound .ensures) (c .before .before .before .before .before .before .before .before .before .before .before .before .before .before .before .before .before .before .before .before .if2 .left)) _ (c .before .before .before .before .before .before .before .before .before .before .before .before .before .before .before .before .before .before .before .net-ok .ensures) (c .before .before .before .before .before .before .before .before .before .before .before .before .before .before .before .before .before .before .if3 .left) _ (c .before .before .before .before .before .before .before .before .before .before .before .before .before .before .before .before .in-use .ensures) (c .before .before .before .before .before .before .before .before .before .before .before .before .before .before .before .if4 .left) _ (c .before .before .before .before .before .before .before .before .is-blocked .ensures) (c .before .before .before .before .before .before .before .if7 .left) _ (c .before .before .before .before .is-blocked2 .ensures) (c .before .before .before .if8 .left)
+    let end-free = c .before .before .before in
+    let start-free = end-free .before .before .before .before in
+    let on-foil = start-free .before .before .before .before in
+    let unused = on-foil .before .before .before .before in
+    let allowed = unused .before .before .before in
+    let sound = allowed .before .before in
+    let long = sound .before .before .before .before in
+    ready-to-lay _ _ _ _ _ _ _
+    (ready _ _ _ _ _ (long .before .lists-short .ensures) (long .if1 .left) _ (sound .before .is-sound .ensures)
+    (sound .if2 .left))
+    _ (allowed .before .net-ok .ensures) (allowed .if3 .left) _ (unused .before .in-use .ensures) (unused .if4 .left)
+    _ (start-free .before .is-blocked .ensures) (start-free .if7 .left)
+    _ (end-free .before .is-blocked2 .ensures) (end-free .if8 .left)
 
 same-length-17 : tie.Need-same-length-17
 same-length-17 c = search needs

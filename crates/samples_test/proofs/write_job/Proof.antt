@@ -1,4 +1,5 @@
--- `samples_test::write_job` is safe and ends: the loop counts the records, and each call gave no more bytes than were lent.
+-- `samples_test::write_job` is safe and ends: the loop counts the records, and each call gave no more bytes than were
+-- lent.
 use Prim.Native.Nat.{_≤_, _-_}
 use borrow.Author.Needs.{needs}
 use Rattle.samples_test.proofs.write_job.Statement.{statement}

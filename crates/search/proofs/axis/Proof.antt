@@ -26,7 +26,9 @@ returns c =
       marks = at-mark .mark-lines .last .0;
       marked = at-mark .mark-lines .ensures;
       collected = at-collect .collect .ensures;
-      fits = lines-of (start .pre .0 .1) (start .pre .1 .0) (omega (arith, start .pre .1 .2, at-collect .collect .kept .0))
+      fits =
+          lines-of (start .pre .0 .1) (start .pre .1 .0)
+          (omega (arith, start .pre .1 .2, at-collect .collect .kept .0))
           (at-mark .mark-lines .ensures) (at-collect .collect .ensures);
     }
 

@@ -1,4 +1,5 @@
--- `job_report::answers::put_lift` meets its contract: no line, or the line with the net that the record names and the number.
+-- `job_report::answers::put_lift` meets its contract: no line, or the line with the net that the record names and the
+-- number.
 use native.Mathlib.Omega.{arith}
 use borrow.Author.Needs.{needs}
 use Rattle.foil_spec.specs.Job.{fieldCount}

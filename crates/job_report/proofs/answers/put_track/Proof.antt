@@ -1,4 +1,5 @@
--- `job_report::answers::put_track` meets its contract: no line, or that of a track which is laid or refused, with the net that the record names.
+-- `job_report::answers::put_track` meets its contract: no line, or that of a track which is laid or refused, with the
+-- net that the record names.
 use native.Mathlib.Omega.{arith}
 use borrow.Author.Needs.{needs}
 use mathlib.Core.Path.{ap, _∙_}
