@@ -3,7 +3,7 @@
    y1), a corner 2 (x, y). A call may be lent any lists: one that is too short is refused by 12, and of a longer one the
    places past the first FOIL_ENTRIES or FOIL_STRIPS are neither read nor written. Lists must not overlap each other nor
    the record. A refused call writes to no list, and to the record what it held. A lay, or a record with one, needs up
-   to 1.5 MB of stack. */
+   to 1.9 MB of stack. */
 #ifndef FOIL_H
 #define FOIL_H
 
