@@ -15,7 +15,7 @@ shared-slice-read-if1 : tie.Need-shared-slice-read-if1
 shared-slice-read-if1 c = search needs
 
 returns : tie.Need-returns
-returns c = measured-skip _ _ _ _ (c .before .before .before .pre .1 .1) (c .if1 .taken)
+returns c = measured-skip _ _ _ _ (c .before .before .before .pre .1 .1) (λ e. omega (arith, c .if1 .taken, e))
 
 mul-leg-steps : tie.Need-mul-leg-steps
 mul-leg-steps c = search needs
@@ -91,7 +91,7 @@ returns-2 c =
     let called = c .before .before in
     let entered = called .before .before .before .before in
     let start = entered .before .before .before .before in
-    measured-more _ _ _ _ (start .pre .1 .1) _ (entered .before .if1 .left) (start .pre .1 .0)
+    measured-more _ _ _ _ (start .pre .1 .1) _ (omega (arith, entered .before .if1 .left)) (start .pre .1 .0)
     (called .leg-steps .ensures)
 
 pub with-entry-spec : {M : Type 1} → statement M
