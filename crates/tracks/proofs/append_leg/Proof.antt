@@ -10,75 +10,57 @@ use Rattle.booking.proofs.append.Reads as append-reads
 use Rattle.tracks.proofs.less.Reads as less-reads
 use Rattle.tracks.proofs.more.Reads as more-reads
 
--- src/lib.rt:37:19
 mul-ax : tie.Need-mul-ax
 mul-ax c = search needs
 
--- src/lib.rt:37:14
 mul-ax-2 : tie.Need-mul-ax-2
 mul-ax-2 c = search needs
 
--- src/lib.rt:37:14
 shared-slice-read-ax : tie.Need-shared-slice-read-ax
 shared-slice-read-ax c = search needs
 
--- src/lib.rt:38:19
 mul-ay : tie.Need-mul-ay
 mul-ay c = search needs
 
--- src/lib.rt:38:19
 add-ay : tie.Need-add-ay
 add-ay c = search needs
 
--- src/lib.rt:38:14
 mul-ay-2 : tie.Need-mul-ay-2
 mul-ay-2 c = search needs
 
--- src/lib.rt:38:14
 shared-slice-read-ay : tie.Need-shared-slice-read-ay
 shared-slice-read-ay c = search needs
 
--- src/lib.rt:39:19
 mul-bx : tie.Need-mul-bx
 mul-bx c = search needs
 
--- src/lib.rt:39:14
 mul-bx-2 : tie.Need-mul-bx-2
 mul-bx-2 c = search needs
 
--- src/lib.rt:39:14
 shared-slice-read-bx : tie.Need-shared-slice-read-bx
 shared-slice-read-bx c = search needs
 
--- src/lib.rt:40:19
 mul-by : tie.Need-mul-by
 mul-by c = search needs
 
--- src/lib.rt:40:19
 add-by : tie.Need-add-by
 add-by c = search needs
 
--- src/lib.rt:40:14
 mul-by-2 : tie.Need-mul-by-2
 mul-by-2 c = search needs
 
--- src/lib.rt:40:14
 shared-slice-read-by : tie.Need-shared-slice-read-by
 shared-slice-read-by c = search needs
 
--- src/lib.rt:45:9
 less-requires : tie.Need-less-requires
 less-requires c κs = search needs
 
--- src/lib.rt:46:9
 less-requires-2 : tie.Need-less-requires-2
 less-requires-2 c κs = search needs
 
--- src/lib.rt:47:9
 more-requires : tie.Need-more-requires
 more-requires c κs = search needs
 
--- src/lib.rt:47:9
 add-append : tie.Need-add-append
 unfolding cornerAt
 add-append c =
@@ -91,11 +73,9 @@ add-append c =
           .before .pre .1 .1 .1 .0,
     )
 
--- src/lib.rt:48:9
 more-requires-2 : tie.Need-more-requires-2
 more-requires-2 c κs = search needs
 
--- src/lib.rt:48:9
 add-append-2 : tie.Need-add-append-2
 unfolding cornerAt
 add-append-2 c =
@@ -108,15 +88,12 @@ add-append-2 c =
           .before .before .pre .1 .1 .1 .1,
     )
 
--- src/lib.rt:41:5
 append-requires : tie.Need-append-requires
 append-requires c κs = search needs
 
--- src/lib.rt:29:1
 same-length : tie.Need-same-length
 same-length c = search needs
 
--- src/lib.rt:29:1
 returns : tie.Need-returns
 unfolding cornerAt
 returns c =

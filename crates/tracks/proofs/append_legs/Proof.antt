@@ -15,7 +15,6 @@ Inv-loop rows₀ n net path k j₀ rows j = (length rows ≡ length rows₀) × 
 abbrev μ-loop : tie.MeasureT-loop
 μ-loop rows₀ n net path k j₀ rows j = k - (j + 1)
 
--- src/lib.rt:60:9
 append-leg-requires : tie.Need-append-leg-requires Inv-loop μ-loop
 append-leg-requires c κs = (
   (omega arith, omega arith),
@@ -40,37 +39,29 @@ append-leg-requires c κs = (
   ),
 )
 
--- src/lib.rt:61:16
 add-result : tie.Need-add-result Inv-loop μ-loop
 add-result c = omega arith
 
--- src/lib.rt:61:9
 same-length : tie.Need-same-length Inv-loop μ-loop
 same-length c = c .before .before .append-leg .kept .0
 
--- src/lib.rt:61:9
 returns : tie.Need-returns Inv-loop μ-loop
 returns c =
     single _ _ _ _ _ _ (c .before .before .before .before .if1 .taken) (omega arith)
     (c .before .before .append-leg .ensures)
 
--- src/lib.rt:64:5
 loop-holds : tie.Need-loop-holds Inv-loop μ-loop
 loop-holds c = (refl, going-none _ _ _ _ _ (omega arith) (omega arith))
 
--- src/lib.rt:64:11
 add-loop : tie.Need-add-loop Inv-loop μ-loop
 add-loop c = omega arith
 
--- src/lib.rt:65:26
 add-append-leg : tie.Need-add-append-leg Inv-loop μ-loop
 add-append-leg c = omega arith
 
--- src/lib.rt:65:47
 add-append-leg-2 : tie.Need-add-append-leg-2 Inv-loop μ-loop
 add-append-leg-2 c = omega arith
 
--- src/lib.rt:65:9
 append-leg-requires-2 : tie.Need-append-leg-requires-2 Inv-loop μ-loop
 append-leg-requires-2 c κs = (
   (omega arith, c .before .before .loop .inv .1 .long),
@@ -95,15 +86,12 @@ append-leg-requires-2 c κs = (
   ),
 )
 
--- src/lib.rt:66:9
 add-j : tie.Need-add-j Inv-loop μ-loop
 add-j c = omega arith
 
--- src/lib.rt:64:5
 loop-less : tie.Need-loop-less Inv-loop μ-loop
 loop-less c = omega arith
 
--- src/lib.rt:64:5
 loop-again : tie.Need-loop-again Inv-loop μ-loop
 loop-again c = (
   omega (arith, c .before .before .append-leg2 .kept .0, c .before .before .before .before .before .loop .inv .0),
@@ -111,15 +99,12 @@ loop-again c = (
       (c .before .before .append-leg2 .ensures),
 )
 
--- src/lib.rt:68:5
 add-result-2 : tie.Need-add-result-2 Inv-loop μ-loop
 add-result-2 c = omega arith
 
--- src/lib.rt:54:1
 same-length-2 : tie.Need-same-length-2 Inv-loop μ-loop
 same-length-2 c = c .before .loop .inv .0
 
--- src/lib.rt:54:1
 returns-2 : tie.Need-returns-2 Inv-loop μ-loop
 returns-2 c =
     going-all _ _ _ _ _ _ _ (omega arith) (omega arith) (omega arith) (c .before .loop .inv .1)
