@@ -4,12 +4,12 @@ use mathlib.Core.Bool.{Bool, not, _&&_, _||_}
 use mathlib.Core.List.{List}
 use lib.Dec.{leb, ltb, eqb}
 use Rattle.foil_spec.specs.Lists.{all}
-use Rattle.foil_spec.specs.declared.Entry as declared
+use Rattle.foil_spec.specs.declared.Point as declaredPoint
+use Rattle.foil_spec.specs.declared.Entry as declaredEntry
 
 -- a point of the foil
-pub record Point : Type 0 where
-  pub x : ℕ
-  pub y : ℕ
+abbrev pub Point : Type 0
+Point = declaredPoint.Point
 
 -- the point (x, y)
 abbrev pub point : ℕ → ℕ → Point
@@ -21,7 +21,7 @@ same p q = eqb (p .x) (q .x) && eqb (p .y) (q .y)
 
 -- an entry of the patch table: its net, and the points with x0 ≤ x < x1 and y0 ≤ y < y1
 abbrev pub Entry : Type 0
-Entry = declared.Entry
+Entry = declaredEntry.Entry
 
 -- an entry from its five numbers
 abbrev pub entry : ℕ → ℕ → ℕ → ℕ → ℕ → Entry

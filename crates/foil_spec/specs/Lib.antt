@@ -1,5 +1,6 @@
 -- The definitions of document 01, in its order, and of what document 02 adds.
 pub mod Lists
+pub mod Limits
 pub mod Foil
 pub mod Strips
 pub mod Paths

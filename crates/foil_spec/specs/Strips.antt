@@ -5,6 +5,7 @@ use mathlib.Core.List.{List, [], _∷_, map}
 use lib.Dec.{leb, ltb, eqb}
 use Rattle.foil_spec.specs.Lists.{range, keep, each}
 use Rattle.foil_spec.specs.Foil.{Point}
+use Rattle.foil_spec.specs.declared.Strip as declaredStrip
 
 -- the first of the n places from x on where the test g fails, or the place after them
 unfoldable pub stopIn : (ℕ → Bool) → ℕ → ℕ → ℕ
@@ -69,11 +70,8 @@ isTop f W zero r = true
 isTop f W (suc y) r = not (isRun (rowOf f y) W r)
 
 -- a joined block of equal runs, ends x1 and y1 excluded
-pub record Strip : Type 0 where
-  pub x0 : ℕ
-  pub y0 : ℕ
-  pub x1 : ℕ
-  pub y1 : ℕ
+abbrev pub Strip : Type 0
+Strip = declaredStrip.Strip
 
 -- the first row from y on, below H, of which r is no run
 abbrev pub until : (ℕ → ℕ → Bool) → ℕ → ℕ → Run → ℕ → ℕ

@@ -1,5 +1,28 @@
-// The definitions of document 01, in specs/, and the structs that they and the calls share: the
-// board's record, an entry of the patch table, and the figures of an ink.
+// The definitions of document 01, in specs/, and what they and the calls share: the limits, the structs
+// (the board's record, an entry of the patch table, a strip, a point, the figures of an ink), and the
+// places of flat lists read as such structs.
+ghost use mathlib.Core.Path.{_≡_};
+ghost use Prim.Native.Nat.{_+_, _*_, _≤_};
+ghost use lib.ListN.{length};
+ghost use Rattle.foil_spec.specs.Lent.{entryAt, listedStrip, cornerAt};
+
+// How many entries a table holds, and how many numbers they are in a flat list.
+pub const MAX_ENTRIES: usize = 128;
+
+pub const TABLE_SIZE: usize = 640;
+
+// How many strips a strip list holds, and how many numbers they are in a flat list.
+pub const MAX_STRIPS: usize = 4096;
+
+pub const STRIPS_SIZE: usize = 16384;
+
+// How many bytes a job file has at most.
+pub const MAX_BYTES: usize = 60000;
+
+// How many corner places the job program lends, and how many numbers they are.
+pub const CORNER_PLACES: usize = 8192;
+
+pub const CORNERS_SIZE: usize = 16384;
 
 // The board's record: its width and height, the clearance (document 01: reach), and how many entries
 // and strips the lent lists hold.
@@ -28,4 +51,56 @@ pub struct Ink {
     pub sheet: f64,
     pub width: f64,
     pub bend: f64,
+}
+
+// A strip of free points: those with x0 <= x < x1 and y0 <= y < y1.
+pub struct Strip {
+    pub x0: u16,
+    pub y0: u16,
+    pub x1: u16,
+    pub y1: u16,
+}
+
+// A point of the foil.
+pub struct Point {
+    pub x: u16,
+    pub y: u16,
+}
+
+// The entry at place k of a table.
+pub fn entry_at(table: &[u16], k: usize) -> Entry
+    requires { ⌜ k * 5 + 5 ≤ length (now table) ⌝ }
+    ensures { λ r. ⌜ r ≡ entryAt (now (table .entry)) k ⌝ }
+{
+    Entry {
+        net: table[k * 5],
+        x0: table[k * 5 + 1],
+        y0: table[k * 5 + 2],
+        x1: table[k * 5 + 3],
+        y1: table[k * 5 + 4],
+    }
+}
+
+// The strip at place k of a strip list.
+pub fn strip_at(list: &[u16], k: usize) -> Strip
+    requires { ⌜ k * 4 + 4 ≤ length (now list) ⌝ }
+    ensures { λ r. ⌜ r ≡ listedStrip (now (list .entry)) k ⌝ }
+{
+    Strip {
+        x0: list[k * 4],
+        y0: list[k * 4 + 1],
+        x1: list[k * 4 + 2],
+        y1: list[k * 4 + 3],
+    }
+}
+
+// The corner at place k of a corner list.
+pub fn corner_at(list: &[u16], k: usize) -> Point
+    requires { ⌜ k * 2 + 2 ≤ length (now list) ⌝ }
+    ensures { λ r. ⌜ r ≡ cornerAt (now (list .entry)) k ⌝ }
+{
+    Point {
+        x: list[k * 2],
+        y: list[k * 2 + 1],
+    }
 }

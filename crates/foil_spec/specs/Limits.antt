@@ -1,0 +1,24 @@
+-- Document 01's limits, and the numbers that so many places are in flat lists.
+use Prim.Native.Nat.{ℕ}
+
+-- a table holds so many entries, of five numbers each
+abbrev pub maxEntries : ℕ
+maxEntries = 128
+
+abbrev pub tableSize : ℕ
+tableSize = 640
+
+-- a strip list holds so many strips, of four numbers each
+abbrev pub maxStrips : ℕ
+maxStrips = 4096
+
+abbrev pub stripsSize : ℕ
+stripsSize = 16384
+
+-- a job file has at most so many bytes
+abbrev pub maxBytes : ℕ
+maxBytes = 60000
+
+-- the job program lends so many corner places, of two numbers each
+abbrev pub cornerPlaces : ℕ
+cornerPlaces = 8192

@@ -1,0 +1,2 @@
+-- What is blocked of a foil, as boxes.
+pub mod Boxes

@@ -1,0 +1,1 @@
+// What is blocked of a foil, as boxes clipped to it.
