@@ -1,11 +1,12 @@
 -- The starred test foils of document 01, and the ohms of its track: one list of cases, and one fact over it.
-use Prim.Native.Nat.{ℕ}
+use Prim.Native.Nat.{ℕ, _*_}
 use mathlib.Core.Path.{_≡_, refl}
 use mathlib.Core.Bool.{true, false, xor}
 use mathlib.Core.List.{List, [], _∷_, map, reverse}
 use mathlib.Core.Option.{some}
 use lib.IntN.{pos, negsuc}
 use lib.Ieee.{Float, nan, inf, fin, binary64, ofInt, ofBits, add, mul, div, lt, le, eq}
+use Rattle.foil_spec.specs.Limits.{maxEntries, maxStrips, cornerPlaces}
 use Rattle.foil_spec.specs.Foil.{Point, point, Entry, entry, Layout}
 use Rattle.foil_spec.specs.Foil.{sizeOk, clearanceOk, netOk, boxOk, within, blocks, free}
 use Rattle.foil_spec.specs.Strips.{Strip, stopIn, stop, scan, scanAt, starts, isRun, isTop, begun}
@@ -13,19 +14,20 @@ use Rattle.foil_spec.specs.Strips.{stripsFrom, holds, placeOf}
 use Rattle.foil_spec.specs.Paths.{after, between, levelFree, uprightFree, segment, bends, points, goings}
 use Rattle.foil_spec.specs.Paths.{stepsFrom, shortest, firstFrom, firstPathTo}
 use Rattle.foil_spec.specs.Ledger.{stripsOf, pathOf, noPath, cornersOf, leg, legsFrom, legs, ofNet, inUse}
-use Rattle.foil_spec.specs.Ledger.{offFoil, blocked}
-use Rattle.foil_spec.specs.Ledger.{tooLong, tooFine, next, says, first, short, refusals, settle, ledgerStep, Room}
+use Rattle.foil_spec.specs.Ledger.{offFoil, blocked, Room, short, cornerRoom, tooLong, tooFine, next, says}
+use Rattle.foil_spec.specs.Ledger.{first, reads, refusals, afterLent, settle, refusalOf, ledgerStep}
 use Rattle.foil_spec.specs.Ledger.{newFoil, draw, lay, lift, lookUp, refused, accepted, laid, found}
-use Rattle.foil_spec.specs.Job.{number, fieldCount, mapByte, has, fieldsAt, recordEnd, field, steps, isEnd}
-use Rattle.foil_spec.specs.Job.{recordChecks}
+use Rattle.foil_spec.specs.Job.{number, fieldCount, mapByte, has, fieldsAt, recordEnd, field, stepAt}
+use Rattle.foil_spec.specs.Job.{stepsAt, steps, isEnd, recordChecks}
 use Rattle.foil_spec.specs.Nets.{legsOf, legSteps, stepsOf, netLength, netBends}
 use Rattle.foil_spec.specs.Ohms.{whole, sheetOk, widthOk, bendOk, inkOk, formula, ohmsRefusals, ohmsOf}
 use Rattle.foil_spec.specs.Calls.{Call, step, runRecord, ohms, Reply, answered, ran, atEnd, measured}
-use Rattle.foil_spec.specs.Calls.{endsJob, andThen, actAll, actRecord, tooLarge, ohmsReply, ledgerCall}
+use Rattle.foil_spec.specs.Calls.{endsJob, andThen, actAll, actRecord, tooLarge, wholeRefusals, ohmsReply}
+use Rattle.foil_spec.specs.Calls.{reply, ledgerCall}
 
 -- lists as long as the job program lends them
 abbrev enough : Room
-enough = record { table = 128; strips = 4096; corners = 8192 }
+enough = record { table = maxEntries; strips = maxStrips; output = 2 * cornerPlaces; limit = maxEntries }
 
 -- before the first call
 abbrev blank : Layout
@@ -233,9 +235,9 @@ unfolding outcomeFrom cases jobBytes
     stopIn stop scan scanAt starts isRun isTop begun stripsFrom holds placeOf
     after between levelFree uprightFree segment bends points goings stepsFrom shortest firstFrom firstPathTo
     stripsOf pathOf noPath cornersOf leg legsFrom legs ofNet inUse offFoil blocked
-    tooLong tooFine next says first short refusals settle ledgerStep
-    number fieldCount mapByte has fieldsAt recordEnd field steps isEnd recordChecks
-    endsJob andThen actAll actRecord tooLarge ohmsReply ledgerCall xor
+    short cornerRoom tooLong tooFine next says first reads refusals afterLent settle refusalOf ledgerStep
+    number fieldCount mapByte has fieldsAt recordEnd field stepAt stepsAt steps isEnd recordChecks
+    endsJob andThen actAll actRecord tooLarge wholeRefusals ohmsReply reply ledgerCall xor
     legsOf legSteps stepsOf netLength netBends whole sheetOk widthOk bendOk inkOk formula ohmsRefusals ohmsOf half bits
     ofInt ofBits add mul div lt le eq
 starred = refl

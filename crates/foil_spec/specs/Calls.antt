@@ -7,10 +7,11 @@ use lib.Dec.{ltb, eqb}
 use lib.ListN.{length}
 use lib.Ieee.{Float}
 use Rattle.foil_spec.specs.Lists.{any}
+use Rattle.foil_spec.specs.Limits.{maxBytes}
 use Rattle.foil_spec.specs.Foil.{Layout}
-use Rattle.foil_spec.specs.Ledger.{Step, Answer, refused, accepted, laid, found, _⇒_, first}
-use Rattle.foil_spec.specs.Ledger.{Room, short, After, ledgerStep}
-use Rattle.foil_spec.specs.Lent.{Lent, held, sound, roomOf, stepOn}
+use Rattle.foil_spec.specs.Ledger.{Step, Answer, refused, accepted, laid, found, Refusal, _⇒_, first}
+use Rattle.foil_spec.specs.Ledger.{Room, afterLent, After, ledgerStep}
+use Rattle.foil_spec.specs.Lent.{Lent, held, sound, stepOn, outputAfter}
 use Rattle.foil_spec.specs.Ohms.{ohmsRefusals, ohmsOf}
 use Rattle.foil_spec.specs.declared.Ink.{Ink}
 use Rattle.foil_spec.specs.Job.{steps, isEnd, recordEnd, recordChecks}
@@ -60,38 +61,47 @@ module _ {S : Type 0} (act : Step → S → After Answer S) where
         state = actAll cs s .state;
       }
 
--- 18: a job file has at most 60,000 bytes
+-- 18: the job file has too many bytes
 unfoldable pub tooLarge : List ℕ → Bool
-tooLarge bs = ltb 60000 (length bs)
+tooLarge bs = ltb maxBytes (length bs)
+
+-- the refusals of a record as a whole; 13 is not tried at place 0, where a foil is begun
+unfoldable pub wholeRefusals : Room → Bool → List ℕ → ℕ → List Refusal
+wholeRefusals r broken bs at = (tooLarge bs ⇒ 18) ∷ afterLent r (broken && not (eqb at 0)) (recordChecks bs at)
 
 -- refused by a number, or the ohms
 unfoldable pub ohmsReply : Option ℕ → Float → Reply
 ohmsReply (some n) x = answered (refused n)
 ohmsReply none x = measured x
 
+-- a call on a state s that holds the layout l, where `act` does a step; `broken` says that the state breaks a rule
+unfoldable pub reply : {S : Type 0} → (Step → S → After Answer S) → Room → Bool → Call → Layout → S → After Reply S
+reply act r broken (step c) l s = record { answer = answered (act c s .answer); state = act c s .state }
+reply act r broken (runRecord bs at) l s =
+    actRecord act (first (wholeRefusals r broken bs at)) (isEnd bs at) (steps bs at) (recordEnd bs at) s
+reply act r broken (ohms net i) l s =
+    record { answer = ohmsReply (first (afterLent r broken (ohmsRefusals net i l))) (ohmsOf net i l); state = s }
+
 -- the ledger's reply to a call
 unfoldable pub ledgerCall : Room → Call → Layout → After Reply Layout
-ledgerCall r (step c) l = record { answer = answered (ledgerStep r c l .answer); state = ledgerStep r c l .state }
-ledgerCall r (runRecord bs at) l =
-    actRecord (ledgerStep r) (first ((tooLarge bs ⇒ 18) ∷ (short r ⇒ 12) ∷ recordChecks bs at))
-    (isEnd bs at) (steps bs at) (recordEnd bs at) l
-ledgerCall r (ohms net i) l =
-    record { answer = ohmsReply (first (ohmsRefusals net i r false l)) (ohmsOf net i l); state = l }
+ledgerCall r c l = reply (ledgerStep r) r false c l l
 
 -- what a call does to what is lent
-unfoldable pub callOn : Call → Lent → After Reply Lent
-callOn (step c) m = record { answer = answered (stepOn c m .answer); state = stepOn c m .state }
-callOn (runRecord bs at) m =
-    actRecord stepOn
-    (first
-    ((tooLarge bs ⇒ 18)
-    ∷ (short (roomOf m) ⇒ 12)
-    ∷ (not (eqb at 0) && not (sound m) ⇒ 13)
-    ∷ recordChecks bs at))
-    (isEnd bs at) (steps bs at) (recordEnd bs at) m
-callOn (ohms net i) m =
-    record {
-      answer =
-          ohmsReply (first (ohmsRefusals net i (roomOf m) (not (sound m)) (held m))) (ohmsOf net i (held m));
-      state = m;
-    }
+unfoldable pub callOn : Room → Call → Lent → After Reply Lent
+callOn r c m = reply (stepOn r) r (not (sound m)) c (held m) m
+
+-- the answers in a reply
+unfoldable pub answersIn : Reply → List Answer
+answersIn (answered a) = a ∷ []
+answersIn (ran given place) = given
+answersIn atEnd = []
+answersIn (measured x) = []
+
+-- an output list after some answers
+unfoldable pub outputAll : List Answer → List ℕ → List ℕ
+outputAll [] out = out
+outputAll (a ∷ given) out = outputAll given (outputAfter a out)
+
+-- an output list after a reply
+unfoldable pub outputBy : Reply → List ℕ → List ℕ
+outputBy r out = outputAll (answersIn r) out

@@ -4,7 +4,7 @@ use mathlib.Core.Bool.{Bool, cond, not, _&&_, xor}
 use mathlib.Core.List.{List, [], _∷_}
 use lib.Dec.{leb, ltb, eqb}
 use lib.ListN.{length, getD}
-use Rattle.foil_spec.specs.Lists.{consIf}
+use Rattle.foil_spec.specs.Lists.{range, consIf}
 use Rattle.foil_spec.specs.Foil.{point}
 use Rattle.foil_spec.specs.Ledger.{Step, newFoil, draw, lay, lift, Refusal, _⇒_}
 
@@ -12,9 +12,16 @@ use Rattle.foil_spec.specs.Ledger.{Step, newFoil, draw, lay, lift, Refus
 unfoldable pub number : List ℕ → ℕ → ℕ
 number bs at = getD bs at 0 + 256 * getD bs (at + 1) 0
 
--- how many numbers belong to a bit: W, H, reach; a patch; net, S and T to lay; net to lift
+-- how many numbers belong to each bit: W, H, reach; a patch; net, S and T to lay; net to lift
+abbrev pub fieldCounts : List ℕ
+fieldCounts = 3 ∷ 4 ∷ 5 ∷ 1 ∷ []
+
 unfoldable pub fieldCount : ℕ → ℕ
-fieldCount k = getD (3 ∷ 4 ∷ 5 ∷ 1 ∷ []) k 0
+fieldCount k = getD fieldCounts k 0
+
+-- how many bits a map byte may use
+abbrev pub mapBits : ℕ
+mapBits = 4
 
 -- the record that begins at a place of the bytes
 module _ (bs : List ℕ) (at : ℕ) where
@@ -33,19 +40,27 @@ module _ (bs : List ℕ) (at : ℕ) where
 
   -- the place after the record
   unfoldable pub recordEnd : ℕ
-  recordEnd = fieldsAt 4
+  recordEnd = fieldsAt mapBits
 
   -- number i of the fields of bit k
   unfoldable pub field : ℕ → ℕ → ℕ
   field k i = number bs (fieldsAt k + 2 * i)
 
+  -- the step of bit k, by its fields; every bit has one
+  unfoldable pub stepAt : ℕ → Step
+  stepAt zero = newFoil (field 0 0) (field 0 1) (field 0 2)
+  stepAt (suc zero) = draw (field 1 0) (field 1 1) (field 1 2) (field 1 3)
+  stepAt (suc (suc zero)) = lay (field 2 0) (point (field 2 1) (field 2 2)) (point (field 2 3) (field 2 4))
+  stepAt (suc (suc (suc k))) = lift (field 3 0)
+
+  -- the steps of the bits of a list that are set, in its order
+  unfoldable pub stepsAt : List ℕ → List Step
+  stepsAt [] = []
+  stepsAt (k ∷ ks) = consIf (has k) (stepAt k) (stepsAt ks)
+
   -- the steps of the record, in bit order
   unfoldable pub steps : List Step
-  steps =
-      consIf (has 0) (newFoil (field 0 0) (field 0 1) (field 0 2))
-      (consIf (has 1) (draw (field 1 0) (field 1 1) (field 1 2) (field 1 3))
-      (consIf (has 2) (lay (field 2 0) (point (field 2 1) (field 2 2)) (point (field 2 3) (field 2 4)))
-      (consIf (has 3) (lift (field 3 0)) [])))
+  steps = stepsAt (range 0 mapBits)
 
   -- the end mark
   unfoldable pub isEnd : Bool
@@ -55,7 +70,7 @@ module _ (bs : List ℕ) (at : ℕ) where
   unfoldable pub recordChecks : List Refusal
   recordChecks =
       (leb (length bs) at ⇒ 14)
-      ∷ (ltb 15 mapByte ⇒ 15)
+      ∷ (leb (2 ^ mapBits) mapByte ⇒ 15)
       ∷ (xor (eqb at 0) (has 0) ⇒ 16)
       ∷ (isEnd && ltb (at + 1) (length bs) ⇒ 17)
       ∷ (not isEnd && ltb (length bs) recordEnd ⇒ 14)

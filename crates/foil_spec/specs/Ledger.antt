@@ -1,11 +1,12 @@
 -- The plain ledger: the steps, their refusals in order, and what an accepted step leaves and answers.
-use Prim.Native.Nat.{ℕ, suc, min, max}
+use Prim.Native.Nat.{ℕ, suc, _/_, min, max}
 use mathlib.Core.Bool.{Bool, cond, true, false, not, _&&_, _||_}
 use mathlib.Core.List.{List, [], _∷_, _++_}
 use mathlib.Core.Option.{Option, none, some, Option·getD}
 use lib.Dec.{leb, ltb, eqb}
 use lib.ListN.{length}
 use Rattle.foil_spec.specs.Lists.{keep, any}
+use Rattle.foil_spec.specs.Limits.{maxEntries, maxStrips}
 use Rattle.foil_spec.specs.Foil.{Point, Entry, entry, Layout, sizeOk, clearanceOk, netOk, boxOk, free}
 use Rattle.foil_spec.specs.Strips.{Strip, strips, placeOf}
 use Rattle.foil_spec.specs.Paths.{firstPath, bends}
@@ -63,13 +64,29 @@ offFoil l p = leb (l .width) (p .x) || leb (l .height) (p .y)
 unfoldable pub blocked : Layout → Point → Bool
 blocked l p = not (free l (p .x) (p .y))
 
--- the table has 128 places
-unfoldable pub tooLong : Layout → Bool
-tooLong l = ltb 128 (length (l .entries))
+-- how many places of the table and of the strip list are lent, how many numbers of an output list, and how many entries
+-- the foil may have
+pub record Room : Type 0 where
+  pub table : ℕ
+  pub strips : ℕ
+  pub output : ℕ
+  pub limit : ℕ
 
--- the strip list has 4,096 places
+-- the lent table or strip list is too short
+unfoldable pub short : Room → Bool
+short r = ltb (r .table) maxEntries || ltb (r .strips) maxStrips
+
+-- an output list of corners has two numbers a place
+unfoldable pub cornerRoom : Room → ℕ
+cornerRoom r = r .output / 2
+
+-- there are more entries than the foil may have, and never more than a table has places
+unfoldable pub tooLong : Room → Layout → Bool
+tooLong r l = ltb (min maxEntries (r .limit)) (length (l .entries))
+
+-- there are more strips than a strip list has places
 unfoldable pub tooFine : Layout → Bool
-tooFine l = ltb 4096 (length (stripsOf l))
+tooFine l = ltb maxStrips (length (stripsOf l))
 
 -- the calls that are one step
 pub data Step : Type 0 where
@@ -124,58 +141,59 @@ unfoldable pub first : List Refusal → Option ℕ
 first [] = none
 first (r ∷ rs) = cond (r .applies) (some (r .number)) (first rs)
 
--- how many places of the table, the strip list and the corner list are lent
-pub record Room : Type 0 where
-  pub table : ℕ
-  pub strips : ℕ
-  pub corners : ℕ
+-- the step reads what the foil holds; a new foil does not
+unfoldable pub reads : Step → Bool
+reads (newFoil W H d) = false
+reads (draw x0 y0 x1 y1) = true
+reads (lay net S T) = true
+reads (lift net) = true
+reads (lookUp p) = true
 
--- the lent table or strip list is too short
-unfoldable pub short : Room → Bool
-short r = ltb (r .table) 128 || ltb (r .strips) 4096
-
--- the refusals of a step in their order; `broken` says that the state breaks a rule
-unfoldable pub refusals : Step → Room → Bool → Layout → List Refusal
-refusals (newFoil W H d) r broken l =
-    (short r ⇒ 12) ∷ (not (sizeOk W && sizeOk H) ⇒ 1) ∷ (not (clearanceOk d) ⇒ 2) ∷ []
-refusals (draw x0 y0 x1 y1) r broken l =
-    (short r ⇒ 12)
-    ∷ (broken ⇒ 13)
-    ∷ (not (boxOk (l .width) (l .height) (entry 0 x0 y0 x1 y1)) ⇒ 3)
-    ∷ (tooLong (next (draw x0 y0 x1 y1) l) ⇒ 10)
+-- a step's own refusals in their order
+unfoldable pub refusals : Step → Room → Layout → List Refusal
+refusals (newFoil W H d) r l = (not (sizeOk W && sizeOk H) ⇒ 1) ∷ (not (clearanceOk d) ⇒ 2) ∷ []
+refusals (draw x0 y0 x1 y1) r l =
+    (not (boxOk (l .width) (l .height) (entry 0 x0 y0 x1 y1)) ⇒ 3)
+    ∷ (tooLong r (next (draw x0 y0 x1 y1) l) ⇒ 10)
     ∷ (tooFine (next (draw x0 y0 x1 y1) l) ⇒ 11)
     ∷ []
-refusals (lay net S T) r broken l =
-    (short r ⇒ 12)
-    ∷ (broken ⇒ 13)
-    ∷ (not (netOk net) ⇒ 4)
+refusals (lay net S T) r l =
+    (not (netOk net) ⇒ 4)
     ∷ (inUse net (l .entries) ⇒ 5)
     ∷ (offFoil l S || offFoil l T ⇒ 7)
     ∷ (blocked l S || blocked l T ⇒ 8)
     ∷ (noPath (pathOf l S T) ⇒ 9)
-    ∷ (ltb (r .corners) (length (cornersOf l S T)) ⇒ 12)
-    ∷ (tooLong (next (lay net S T) l) ⇒ 10)
+    ∷ (ltb (cornerRoom r) (length (cornersOf l S T)) ⇒ 12)
+    ∷ (tooLong r (next (lay net S T) l) ⇒ 10)
     ∷ (tooFine (next (lay net S T) l) ⇒ 11)
     ∷ []
-refusals (lift net) r broken l =
-    (short r ⇒ 12)
-    ∷ (broken ⇒ 13)
-    ∷ (not (netOk net) ⇒ 4)
+refusals (lift net) r l =
+    (not (netOk net) ⇒ 4)
     ∷ (not (inUse net (l .entries)) ⇒ 6)
     ∷ (tooFine (next (lift net) l) ⇒ 11)
     ∷ []
-refusals (lookUp p) r broken l = (short r ⇒ 12) ∷ (broken ⇒ 13) ∷ (offFoil l p ⇒ 7) ∷ (blocked l p ⇒ 8) ∷ []
+refusals (lookUp p) r l = (offFoil l p ⇒ 7) ∷ (blocked l p ⇒ 8) ∷ []
+
+-- a call's own refusals after those for what is lent, which every call begins with; `broken` says that the call reads a
+-- state that breaks a rule
+unfoldable pub afterLent : Room → Bool → List Refusal → List Refusal
+afterLent r broken rs = (short r ⇒ 12) ∷ (broken ⇒ 13) ∷ rs
 
 -- an answer, and the state after it
 pub record After (A S : Type 0) : Type 0 where
   pub answer : A
   pub state : S
 
--- refused, and all stays as it is; or accepted
-unfoldable pub settle : Option ℕ → Step → Layout → After Answer Layout
-settle (some n) s l = record { answer = refused n; state = l }
-settle none s l = record { answer = says s l; state = next s l }
+-- a step on a state that holds the layout l: refused, and all stays as it is; or accepted, and the state is what `put`
+-- makes of the layout that it leaves
+unfoldable pub settle : {S : Type 0} → (Layout → S) → Option ℕ → Step → Layout → S → After Answer S
+settle put (some n) s l old = record { answer = refused n; state = old }
+settle put none s l old = record { answer = says s l; state = put (next s l) }
+
+-- the number that turns a step down, if one does; `broken` says that the state breaks a rule
+unfoldable pub refusalOf : Room → Bool → Step → Layout → Option ℕ
+refusalOf r broken s l = first (afterLent r (broken && reads s) (refusals s r l))
 
 -- the ledger's line for a step; its own state is never broken
 unfoldable pub ledgerStep : Room → Step → Layout → After Answer Layout
-ledgerStep r s l = settle (first (refusals s r false l)) s l
+ledgerStep r s l = settle (λ k. k) (refusalOf r false s l) s l l

@@ -1,31 +1,26 @@
--- The record and the lists as they are lent, flat lists of numbers, and what each step does to them.
+-- The foil as it is lent, a record and flat lists of numbers, and what each step does to it and to an output list.
 use Prim.Native.Nat.{ℕ, _+_, _*_, _-_, _/_}
 use mathlib.Core.Bool.{Bool, true, false, not, _&&_}
 use mathlib.Core.List.{List, [], _∷_, _++_, map}
-use mathlib.Core.Option.{Option, none, some}
-use lib.Dec.{eqb}
+use lib.Dec.{leb, eqb}
 use lib.ListN.{length, getD, drop, replicate}
 use Rattle.foil_spec.specs.Lists.{range, all, each}
+use Rattle.foil_spec.specs.Limits.{maxEntries, tableSize, stripsSize}
 use Rattle.foil_spec.specs.Foil.{Point, point, Entry, entry, Layout, sizeOk, clearanceOk, entryOk}
 use Rattle.foil_spec.specs.Strips.{Strip}
-use Rattle.foil_spec.specs.Ledger.{Step, Answer, refused, accepted, laid, found, After}
-use Rattle.foil_spec.specs.Ledger.{stripsOf, tooLong, tooFine, first, refusals, Room, says, next}
+use Rattle.foil_spec.specs.Ledger.{stripsOf, tooFine, Room, Step, Answer, refused, accepted, laid, found}
+use Rattle.foil_spec.specs.Ledger.{After, settle, refusalOf}
 use Rattle.foil_spec.specs.declared.Board.{Board}
 
--- what is lent: the board's record, the patch table, the strip list and a corner list
+-- what is lent of a foil: the board's record, the patch table and the strip list
 pub record Lent : Type 0 where
   pub board : Board
   pub table : List ℕ
   pub strips : List ℕ
-  pub corners : List ℕ
 
--- what is lent, from its four parts
-abbrev pub lent : Board → List ℕ → List ℕ → List ℕ → Lent
-lent b t s ks = record { board = b; table = t; strips = s; corners = ks }
-
--- the same with another corner list
-abbrev pub withCorners : Lent → List ℕ → Lent
-withCorners m ks = lent (m .board) (m .table) (m .strips) ks
+-- the same from its three parts
+abbrev pub lent : Board → List ℕ → List ℕ → Lent
+lent b t s = record { board = b; table = t; strips = s }
 
 -- a place of the table is five numbers
 unfoldable pub entryNumbers : Entry → List ℕ
@@ -43,6 +38,10 @@ pointNumbers p = p .x ∷ p .y ∷ []
 unfoldable pub written : ℕ → List ℕ → List ℕ → List ℕ
 written n ns old = ns ++ (replicate (n - length ns) 0 ++ drop n old)
 
+-- the numbers in front, and after them what stood there
+unfoldable pub overFront : List ℕ → List ℕ → List ℕ
+overFront ns old = ns ++ drop (length ns) old
+
 -- the record of a layout
 unfoldable pub boardOf : Layout → Board
 boardOf l =
@@ -59,9 +58,8 @@ unfoldable pub store : Layout → Lent → Lent
 store l m =
     record {
       board = boardOf l;
-      table = written 640 (each entryNumbers (l .entries)) (m .table);
-      strips = written 16384 (each stripNumbers (stripsOf l)) (m .strips);
-      corners = m .corners;
+      table = written tableSize (each entryNumbers (l .entries)) (m .table);
+      strips = written stripsSize (each stripNumbers (stripsOf l)) (m .strips);
     }
 
 -- the entry at place k of a table
@@ -103,7 +101,7 @@ held m = layoutOf (m .board .width) (m .board .height) (m .board .clearance) (m 
 unfoldable pub layoutOk : Layout → Bool
 layoutOk l =
     sizeOk (l .width) && sizeOk (l .height) && clearanceOk (l .clearance)
-    && all (entryOk (l .width) (l .height)) (l .entries) && not (tooLong l) && not (tooFine l)
+    && all (entryOk (l .width) (l .height)) (l .entries) && leb (length (l .entries)) maxEntries && not (tooFine l)
 
 -- the lists are equal
 unfoldable pub sameNumbers : List ℕ → List ℕ → Bool
@@ -118,26 +116,22 @@ sound m =
     layoutOk (held m) && eqb (m .board .strips) (store (held m) m .board .strips)
     && sameNumbers (m .table) (store (held m) m .table) && sameNumbers (m .strips) (store (held m) m .strips)
 
--- the whole places of the lists that are lent
-unfoldable pub roomOf : Lent → Room
-roomOf m = record { table = length (m .table) / 5; strips = length (m .strips) / 4; corners = length (m .corners) / 2 }
+-- the whole places of the lists that are lent, with so many numbers of output, for a foil of so many entries at most
+unfoldable pub roomIn : ℕ → Lent → ℕ → Room
+roomIn limit m output =
+    record { table = length (m .table) / 5; strips = length (m .strips) / 4; output = output; limit = limit }
 
--- a corner list after an answer: an accepted lay's corners stand at its front
-unfoldable pub cornersAfter : Answer → List ℕ → List ℕ
-cornersAfter (refused n) ks = ks
-cornersAfter accepted ks = ks
-cornersAfter (laid cs n) ks = each pointNumbers cs ++ drop (length (each pointNumbers cs)) ks
-cornersAfter (found n) ks = ks
-
--- refused, and all stays as it is; or accepted
-unfoldable pub finish : Option ℕ → Step → Lent → After Answer Lent
-finish (some n) s m = record { answer = refused n; state = m }
-finish none s m =
-    record {
-      answer = says s (held m);
-      state = withCorners (store (next s (held m)) m) (cornersAfter (says s (held m)) (m .corners));
-    }
+-- the same for a foil that may fill its table
+abbrev pub roomOf : Lent → ℕ → Room
+roomOf m output = roomIn maxEntries m output
 
 -- what a step does to what is lent
-unfoldable pub stepOn : Step → Lent → After Answer Lent
-stepOn s m = finish (first (refusals s (roomOf m) (not (sound m)) (held m))) s m
+unfoldable pub stepOn : Room → Step → Lent → After Answer Lent
+stepOn r s m = settle (λ l. store l m) (refusalOf r (not (sound m)) s (held m)) s (held m) m
+
+-- an output list after an answer: an accepted lay's corners stand at its front
+unfoldable pub outputAfter : Answer → List ℕ → List ℕ
+outputAfter (refused n) out = out
+outputAfter accepted out = out
+outputAfter (laid cs n) out = overFront (each pointNumbers cs) out
+outputAfter (found n) out = out

@@ -6,7 +6,7 @@ use lib.IntN.{pos}
 use lib.Ieee.{Float, binary64, ofInt, add, mul, div, lt, le}
 use lib.Ieee.Scale.{finite}
 use Rattle.foil_spec.specs.Foil.{Layout, netOk}
-use Rattle.foil_spec.specs.Ledger.{inUse, Room, short, Refusal, _⇒_}
+use Rattle.foil_spec.specs.Ledger.{inUse, Refusal, _⇒_}
 use Rattle.foil_spec.specs.Nets.{netLength, netBends}
 use Rattle.foil_spec.specs.declared.Ink.{Ink}
 
@@ -37,15 +37,9 @@ formula L B i =
     (add binary64 (div binary64 (whole L) (i .width)) (mul binary64 (i .bend) (whole B)))
     (i .sheet)
 
--- the refusals of the call in their order; `broken` says that the state breaks a rule
-unfoldable pub ohmsRefusals : ℕ → Ink → Room → Bool → Layout → List Refusal
-ohmsRefusals net i r broken l =
-    (short r ⇒ 12)
-    ∷ (broken ⇒ 13)
-    ∷ (not (netOk net) ⇒ 4)
-    ∷ (not (inUse net (l .entries)) ⇒ 6)
-    ∷ (not (inkOk i) ⇒ 22)
-    ∷ []
+-- the call's own refusals in their order
+unfoldable pub ohmsRefusals : ℕ → Ink → Layout → List Refusal
+ohmsRefusals net i l = (not (netOk net) ⇒ 4) ∷ (not (inUse net (l .entries)) ⇒ 6) ∷ (not (inkOk i) ⇒ 22) ∷ []
 
 -- what it answers where it is not refused
 unfoldable pub ohmsOf : ℕ → Ink → Layout → Float
