@@ -8,6 +8,7 @@ use lib.Dec.{ltb}
 use lib.ListN.{length, getD, length-append, length-replicate, length-drop}
 use borrow.Author.Tests.{lt-ltb}
 use Rattle.foil_spec.specs.Lists.{range, keep, each}
+use Rattle.foil_spec.specs.Limits.{stripsSize}
 use Rattle.foil_spec.specs.Foil.{Point, Layout, free}
 use Rattle.foil_spec.specs.Strips.{Strip, holds}
 use Rattle.foil_spec.specs.Ledger.{stripsOf}
@@ -41,20 +42,23 @@ module _ (m : Lent) (l : Layout) (n : Lent) (s : Shows m l n) where
 
   counted : count ≡ length (stripsOf l)
   unfolding store boardOf
-  counted = ap (λ (b : Board). b .strips) (s .board)
+  counted = ap (λ (x : Lent). x .board .strips) (s .is)
+
+  strips-are : n .strips ≡ store l m .strips
+  strips-are = ap (λ (x : Lent). x .strips) (s .is)
 
   listed : listedStrips (n .strips) count ≡ stripsOf l
   unfolding store
   listed =
-      ap₂ (λ (ns : List ℕ) (c : ℕ). listedStrips ns c) (s .strips) counted
-      ∙ listed-written 16384 (stripsOf l) (m .strips)
+      ap₂ (λ (ns : List ℕ) (c : ℕ). listedStrips ns c) strips-are counted
+      ∙ listed-written stripsSize (stripsOf l) (m .strips)
 
-  fits : length (each stripNumbers (stripsOf l)) ≤ 16384
+  fits : length (each stripNumbers (stripsOf l)) ≤ stripsSize
   fits = strips-fit l (s .kept)
 
-  long-list : 16384 ≤ length (n .strips)
+  long-list : stripsSize ≤ length (n .strips)
   unfolding store written
-  long-list = rw (s .strips) (simp (length-append, length-replicate, length-drop) (omega (arith, fits)))
+  long-list = rw strips-are (simp (length-append, length-replicate, length-drop) (omega (arith, fits)))
 
   in-list : (k : ℕ) → k < count → In (listedStrip (n .strips) k) (stripsOf l)
   unfolding listedStrips
@@ -66,14 +70,14 @@ module _ (m : Lent) (l : Layout) (n : Lent) (s : Shows m l n) where
   unfolding stripsOf listedStrips
   ordered = subst (Sorted stripBefore) (sym listed) (strips-in-order (free l) (l .width) (l .height))
 
-  zero-at : (i : ℕ) → count * 4 ≤ i → i < 16384 → getD (n .strips) i 0 ≡ 0
+  zero-at : (i : ℕ) → count * 4 ≤ i → i < stripsSize → getD (n .strips) i 0 ≡ 0
   unfolding store
   zero-at i a b =
       let ns : List ℕ = each stripNumbers (stripsOf l) in
       let k = length-strips (stripsOf l) in
       let q : length ns + (i - length ns) ≡ i = omega (arith, counted, k) in
-      ap₂ (λ (x : List ℕ) (j : ℕ). getD x j 0) (s .strips) (sym q)
-      ∙ written-zero 16384 ns (m .strips) fits (i - length ns) (omega (arith, q))
+      ap₂ (λ (x : List ℕ) (j : ℕ). getD x j 0) strips-are (sym q)
+      ∙ written-zero stripsSize ns (m .strips) fits (i - length ns) (omega (arith, q))
 
   strips-right : StripsRight l n
   unfolding stripsOf

@@ -11,26 +11,28 @@ use Rattle.foil_spec.specs.Lists.{each}
 use Rattle.foil_spec.specs.Foil.{Point, Layout, free}
 use Rattle.foil_spec.specs.Paths.{isPath}
 use Rattle.foil_spec.specs.Ledger.{Step, lay, lift, Answer, refused, accepted, laid, short, After, ledgerStep}
-use Rattle.foil_spec.specs.Lent.{Lent, store, layoutOk, pointNumbers, cornersIn, roomOf, cornersAfter}
-use Rattle.foil_spec.specs.Calls.{Reply}
-use Rattle.foil_spec.specs.Sequence.{Lending, front, back, lend, runLent, told, shown, runLedger}
+use Rattle.foil_spec.specs.Lent.{Lent, store, layoutOk, pointNumbers, overFront, cornersIn, outputAfter}
+use Rattle.foil_spec.specs.Sequence.{Lending, front, roomFor, lend, told, Left, leaves, runLent, runLedger}
 use Rattle.ledger_laws.specs.Moments.{Moment}
 use Rattle.ledger_laws.specs.Demand3.{BehavesAsLedger, NoWay, LaysFirst, LiftsBack}
 use Rattle.ledger_laws.proofs.CornerLists.{corners-read}
 use Rattle.ledger_laws.proofs.Stored.{Long}
-use Rattle.ledger_laws.proofs.Kept.{of-ok, call-kept}
+use Rattle.ledger_laws.proofs.Rules.{of-ok}
+use Rattle.ledger_laws.proofs.Kept.{call-kept}
+use Rattle.ledger_laws.proofs.Steps.{shown}
 use Rattle.ledger_laws.proofs.Lay.{ledger-9, ledger-first, ledger-lifts}
 use Rattle.ledger_laws.proofs.Lending.{long-front, long-whole, lend-is, begun, lend-begun}
-use Rattle.ledger_laws.proofs.Moments.{Shows, Goes, Chain, Onward, Standing, opens, runs-on, at-every}
+use Rattle.ledger_laws.proofs.Moments.{Goes, Chain, Onward, Standing, opens, runs-on, at-every}
 
 -- ---- the whole list
 
--- only the record and the lists go on to the next call, and no corner list
-run-again : (m : Lent) (c : Lending) (cs : List Lending) (l : Layout)
-    → runLent (shown m (c .corners) (told m c l) .state) cs ≡ runLent (store (told m c l .state) m) cs
-unfolding runLent shown
-run-again m c [] l = refl
-run-again m c (d ∷ cs) l = unfold lend front back in refl
+-- a call that goes as on the ledger, and those after it
+run-first : (m : Lent) (c : Lending) (cs : List Lending) (n : Lent) (l : Layout) → lend c n ≡ shown m (told m c l)
+    → runLent (store (told m c l .state) m) cs ≡ runLedger m (told m c l .state) cs
+    → runLent n (c ∷ cs) ≡ runLedger m l (c ∷ cs)
+unfolding runLent runLedger shown
+run-first m c cs n l e h =
+    rw e (ap (λ (os : List Left). leaves c (told m c l .answer) (store (told m c l .state) m) ∷ os) h)
 
 -- the calls after the first
 run-is : (m : Lent) → Long m → (cs : List Lending) (l : Layout) → layoutOk l ≡ true
@@ -38,19 +40,14 @@ run-is : (m : Lent) → Long m → (cs : List Lending) (l : Layout) → layoutOk
 unfolding runLent runLedger
 run-is m long [] l g = refl
 run-is m long (c ∷ cs) l g =
-    let kept : layoutOk (told m c l .state) ≡ true = unfold told in call-kept (roomOf (front c m)) (c .call) l g in
-    rw (lend-is m long c l g)
-    (ap (λ (os : List (After Reply Lent)). shown m (c .corners) (told m c l) ∷ os)
-    (run-again m c cs l ∙ run-is m long cs (told m c l .state) kept))
+    let kept : layoutOk (told m c l .state) ≡ true = unfold told in call-kept (roomFor c m) (c .call) l g in
+    run-first m c cs (store l m) l (lend-is m long c l g) (run-is m long cs (told m c l .state) kept)
 
 pub behaves-as-ledger : BehavesAsLedger
-unfolding runLent runLedger told
 behaves-as-ledger m l c cs h =
-    let b = begun (c .call) l (front c m) h in
+    let b = begun (roomFor c m) (c .call) l (front c m) (unfold told in h) in
     let k = long-whole c m (long-front c m (b .long)) in
-    rw (lend-begun c l m b)
-    (ap (λ (os : List (After Reply Lent)). shown m (c .corners) (told m c l) ∷ os)
-    (run-again m c cs l ∙ run-is m k cs (told m c l .state) (b .kept)))
+    run-first m c cs m l (lend-begun c l m b) (run-is m k cs (told m c l .state) (unfold told in b .kept))
 
 -- ---- each lay, and the lift after it
 
@@ -72,14 +69,14 @@ no-way m l c cs b earlier k later e net S T s long may =
     (λ (x : Answer). (x ≡ refused 9) ↔ ((ds : List Point) → isPath (free (k .ledgerBefore)) S T ds ≡ true → ⊥))
     (sym (lay-answer m k net S T g s)) (ledger-9 (k .room) (k .ledgerBefore) net S T long may)
 
--- the corners of an accepted lay are read from the front of the corner list
+-- the corners of an accepted lay are read from the front of the output list
 corners-front : (m : Lent) (k : Moment) (cs : List Point) (n : ℕ) → Goes m k → k .answer ≡ laid cs n
-    → cornersIn (k .after .corners) (length cs) ≡ cs
-unfolding cornersAfter
+    → cornersIn (k .output) (length cs) ≡ cs
+unfolding outputAfter overFront
 corners-front m k cs n g h =
     ap (λ (ks : List ℕ). cornersIn ks (length cs))
-    (g .corners ∙ ap (λ (x : Answer). cornersAfter x (g .lent)) h)
-    ∙ corners-read cs (drop (length (each pointNumbers cs)) (g .lent))
+    (g .output ∙ ap (λ (x : Answer). outputAfter x (g .given)) h)
+    ∙ corners-read cs (drop (length (each pointNumbers cs)) (g .given))
 
 pub lays-first : LaysFirst
 lays-first m l c cs b earlier k later e net S T ds n s h =
@@ -99,11 +96,6 @@ lift-line k next net S T cs n m g s h q u long =
     ∙ ledger-lifts (k .room) (next .room) (k .ledgerBefore) net S T cs n
     (of-ok (k .ledgerBefore) (g .before .kept) .fine) (sym (lay-answer m k net S T g s) ∙ h) long
 
--- two lists that hold one layout have the same record, table and strips
-same-lists : (m : Lent) (l : Layout) (x y : Lent) → Shows m l x → Shows m l y
-    → (x .board ≡ y .board) × (x .table ≡ y .table) × (x .strips ≡ y .strips)
-same-lists m l x y a b = (a .board ∙ sym (b .board), a .table ∙ sym (b .table), a .strips ∙ sym (b .strips))
-
 pub lifts-back : LiftsBack
 lifts-back m l c cs b earlier k later e net S T ds n s h next rest q u long =
     let p = lay-goes m k later net S T (at-every m l c cs b earlier k later e) s in
@@ -111,6 +103,7 @@ lifts-back m l c cs b earlier k later e net S T ds n s h next rest q u long =
     let line = lift-line k next net S T ds n m (p .0) s h (w .0) u long in
     let back-is : next .ledgerAfter ≡ k .ledgerBefore =
     w .1 .left ∙ ap (λ (a : After Answer Layout). a .state) line in
-    let same = same-lists m (k .ledgerBefore) (next .after) (k .before)
-    (subst (λ (x : Layout). Shows m x (next .after)) back-is (w .1 .after)) (p .0 .before) in
-    (w .1 .answer ∙ ap (λ (a : After Answer Layout). a .answer) line, same .0, same .1, same .2)
+    (
+      w .1 .answer ∙ ap (λ (a : After Answer Layout). a .answer) line,
+      w .1 .after .is ∙ ap (λ (x : Layout). store x m) back-is ∙ sym (p .0 .before .is),
+    )

@@ -13,15 +13,15 @@ use Rattle.foil_spec.specs.Lists.{keep, any}
 use Rattle.foil_spec.specs.Foil.{Point, Entry, Layout, netOk, free}
 use Rattle.foil_spec.specs.Paths.{at, isPath, isPathTo, bends}
 use Rattle.foil_spec.specs.Ledger.{pathOf, noPath, cornersOf, leg, legsFrom, legs, ofNet, inUse, withEntries}
-use Rattle.foil_spec.specs.Ledger.{offFoil, blocked}
-use Rattle.foil_spec.specs.Ledger.{tooLong, tooFine, next, says, _⇒_, first, Room, short, refusals, settle, ledgerStep}
-use Rattle.foil_spec.specs.Ledger.{Step, lay, lift, refused, accepted, laid}
-use Rattle.foil_spec.specs.Lent.{Lent, held, sound, roomOf, finish, stepOn}
+use Rattle.foil_spec.specs.Ledger.{offFoil, blocked, Room, short, cornerRoom, tooLong, tooFine, next, says, _⇒_, first}
+use Rattle.foil_spec.specs.Ledger.{reads, refusals, afterLent, settle, refusalOf, ledgerStep}
+use Rattle.foil_spec.specs.Ledger.{lay, lift, refused, accepted, laid}
+use Rattle.foil_spec.specs.Lent.{Lent, held, sound, store, stepOn}
 use Rattle.list_laws.proofs.Tests.{clash, or-l, or-r, or-ir, not-ff}
 use Rattle.path_laws.specs.First.{IsFirst}
 use Rattle.path_laws.proofs.Laws.{gives-first, gives-none, none-is}
 use Rattle.ledger_laws.specs.Demand3.{MayLay}
-use Rattle.ledger_laws.proofs.Refusals.{none-applies}
+use Rattle.ledger_laws.proofs.Refusals.{none-applies, unrefused-sound, unrefused-own}
 use Rattle.ledger_laws.proofs.Legs.{free-inside}
 
 -- ---- 9
@@ -36,14 +36,14 @@ free-on l p h =
 -- those from 9 on
 pub lay-from-9 : (r : Room) (broken : Bool) (l : Layout) (net : ℕ) (S T : Point) → short r ≡ false → broken ≡ false
     → MayLay l net S T
-    → first (refusals (lay net S T) r broken l)
+    → refusalOf r broken (lay net S T) l
     ≡ first (
     (noPath (pathOf l S T) ⇒ 9)
-    ∷ (ltb (r .corners) (length (cornersOf l S T)) ⇒ 12)
-    ∷ (tooLong (next (lay net S T) l) ⇒ 10)
+    ∷ (ltb (cornerRoom r) (length (cornersOf l S T)) ⇒ 12)
+    ∷ (tooLong r (next (lay net S T) l) ⇒ 10)
     ∷ (tooFine (next (lay net S T) l) ⇒ 11)
     ∷ [])
-unfolding refusals first blocked
+unfolding refusalOf afterLent refusals first blocked
 lay-from-9 r broken l net S T long fine k =
     rw (
       long,
@@ -56,8 +56,8 @@ lay-from-9 r broken l net S T long fine k =
       k .end-free,
     ) refl
 
-settled-9 : (o : Option ℕ) (net : ℕ) (S T : Point) (l : Layout) → settle o (lay net S T) l .answer ≡ refused 9
-    → o ≡ some 9
+settled-9 : (o : Option ℕ) (net : ℕ) (S T : Point) (l : Layout)
+    → settle (λ k. k) o (lay net S T) l l .answer ≡ refused 9 → o ≡ some 9
 unfolding settle says
 settled-9 none net S T l h = absurd (let z : _≡_ {A = ℕ} 0 1 = cc in omega arith)
 settled-9 (some n) net S T l h = let e : n ≡ 9 = cc in ap {A = ℕ} {B = Option ℕ} some e
@@ -88,7 +88,7 @@ pub ledger-9 : (r : Room) (l : Layout) (net : ℕ) (S T : Point) → short r ≡
 unfolding pathOf ledgerStep
 ledger-9 r l net S T long k = (
   λ h.
-      let e = settled-9 (first (refusals (lay net S T) r false l)) net S T l h in
+      let e = settled-9 (refusalOf r false (lay net S T) l) net S T l h in
       gives-none (free l) (l .width) (l .height) (free-inside l) S (at T)
       (only-9 (pathOf l S T) _ _ _ (sym (lay-from-9 r false l net S T long refl k) ∙ e)),
   λ h. answers-9 r l net S T long k (none-is (free l) (l .width) (l .height) (free-inside l) S (at T) h),
@@ -99,53 +99,39 @@ ledger-9 r l net S T long k = (
 -- a lay that is answered with corners was not refused, and they are those of the first path
 pub record Laid (r : Room) (broken : Bool) (l : Layout) (net : ℕ) (S T : Point) (cs : List Point) (n : ℕ)
     : Type 0 where
-  pub unrefused : first (refusals (lay net S T) r broken l) ≡ none
+  pub unrefused : refusalOf r broken (lay net S T) l ≡ none
   pub corners : cs ≡ cornersOf l S T
   pub bent : n ≡ bends (cornersOf l S T)
 
-settled-laid : (o : Option ℕ) (net : ℕ) (S T : Point) (l : Layout) (cs : List Point) (n : ℕ)
-    → settle o (lay net S T) l .answer ≡ laid cs n
+settled-laid : {A : Type 0} (put : Layout → A) (o : Option ℕ) (net : ℕ) (S T : Point) (l : Layout) (old : A)
+    (cs : List Point) (n : ℕ) → settle put o (lay net S T) l old .answer ≡ laid cs n
     → (o ≡ none) × (cs ≡ cornersOf l S T) × (n ≡ bends (cornersOf l S T))
 unfolding settle says
-settled-laid none net S T l cs n h = (refl, cc, cc)
-settled-laid (some k) net S T l cs n h = absurd (let z : _≡_ {A = ℕ} 0 1 = cc in omega arith)
+settled-laid put none net S T l old cs n h = (refl, cc, cc)
+settled-laid put (some k) net S T l old cs n h = absurd (let z : _≡_ {A = ℕ} 0 1 = cc in omega arith)
 
 of-laid : (r : Room) (l : Layout) (net : ℕ) (S T : Point) (cs : List Point) (n : ℕ)
     → ledgerStep r (lay net S T) l .answer ≡ laid cs n → Laid r false l net S T cs n
 unfolding ledgerStep
 of-laid r l net S T cs n h =
-    let a = settled-laid (first (refusals (lay net S T) r false l)) net S T l cs n h in
+    let a = settled-laid (λ k. k) (refusalOf r false (lay net S T) l) net S T l l cs n h in
     record { unrefused = a .0; corners = a .1; bent = a .2 }
-
--- a step on lists answers as its refusals settle it on the ledger
-finished-answer : (o : Option ℕ) (s : Step) (m : Lent) → finish o s m .answer ≡ settle o s (held m) .answer
-unfolding finish settle
-finished-answer (some n) s m = refl
-finished-answer none s m = refl
 
 -- the same of a lay on lists that hold anything
-pub laid-on : (m : Lent) (net : ℕ) (S T : Point) (cs : List Point) (n : ℕ) → stepOn (lay net S T) m .answer ≡ laid cs n
-    → Laid (roomOf m) (not (sound m)) (held m) net S T cs n
+pub laid-on : (r : Room) (m : Lent) (net : ℕ) (S T : Point) (cs : List Point) (n : ℕ)
+    → stepOn r (lay net S T) m .answer ≡ laid cs n → Laid r (not (sound m)) (held m) net S T cs n
 unfolding stepOn
-laid-on m net S T cs n h =
-    let o : Option ℕ = first (refusals (lay net S T) (roomOf m) (not (sound m)) (held m)) in
-    let a = settled-laid o net S T (held m) cs n (sym (finished-answer o (lay net S T) m) ∙ h) in
+laid-on r m net S T cs n h =
+    let o : Option ℕ = refusalOf r (not (sound m)) (lay net S T) (held m) in
+    let a = settled-laid (λ l. store l m) o net S T (held m) m cs n h in
     record { unrefused = a .0; corners = a .1; bent = a .2 }
 
--- its corners fit the corner list that is lent
-pub laid-fits : (m : Lent) (net : ℕ) (S T : Point) (cs : List Point) (n : ℕ)
-    → stepOn (lay net S T) m .answer ≡ laid cs n → length cs ≤ roomOf m .corners
-unfolding refusals
-laid-fits m net S T cs n h =
-    let a = laid-on m net S T cs n h in
-    let e = a .unrefused in
-    let f : ltb (roomOf m .corners) (length (cornersOf (held m) S T)) ≡ false = search none-applies depth 12 in
-    omega (arith, ltb-false (roomOf m .corners) (length (cornersOf (held m) S T)) f, ap length (a .corners))
-
 has-path : (r : Room) (b : Bool) (l : Layout) (net : ℕ) (S T : Point)
-    → first (refusals (lay net S T) r b l) ≡ none → noPath (pathOf l S T) ≡ false
+    → refusalOf r b (lay net S T) l ≡ none → noPath (pathOf l S T) ≡ false
 unfolding refusals
-has-path r b l net S T h = search none-applies depth 12
+has-path r b l net S T h =
+    let own = unrefused-own r (lay net S T) l b h in
+    search none-applies depth 12
 
 path-is : (l : Layout) (S T : Point) (o : Option (List Point)) → pathOf l S T ≡ o → noPath o ≡ false
     → pathOf l S T ≡ some (Option·getD (pathOf l S T) [])
@@ -153,7 +139,6 @@ unfolding noPath
 path-is l S T none e h = clash refl h
 path-is l S T (some cs) e h = rw e refl
 
--- the corners that the ledger answers are those of the first path of fewest bends, and so are the bends
 -- a track that was laid is the first path, with the bends that are answered
 pub first-laid : (r : Room) (b : Bool) (l : Layout) (net : ℕ) (S T : Point) (cs : List Point) (n : ℕ)
     → Laid r b l net S T cs n → IsFirst (free l) S (at T) cs × (n ≡ bends cs)
@@ -172,8 +157,8 @@ ledger-first r l net S T cs n h = first-laid r false l net S T cs n (of-laid r l
 -- and the state was not broken
 pub laid-unbroken : (r : Room) (b : Bool) (l : Layout) (net : ℕ) (S T : Point) (cs : List Point) (n : ℕ)
     → Laid r b l net S T cs n → b ≡ false
-unfolding refusals
-laid-unbroken r b l net S T cs n a = let e = a .unrefused in search none-applies
+unfolding reads
+laid-unbroken r b l net S T cs n a = unrefused-sound r (lay net S T) l b (a .unrefused) refl
 
 -- ---- lifting it
 
@@ -220,7 +205,7 @@ path-used f S T net (p ∷ cs) h = legs-used net p cs
 lifted : (r : Room) (l : Layout) (net : ℕ) (cs : List Point) → netOk net ≡ true → inUse net (l .entries) ≡ false
     → inUse net (legs net cs) ≡ true → tooFine l ≡ false → short r ≡ false
     → ledgerStep r (lift net) (withEntries l (l .entries ++ legs net cs)) ≡ record { answer = accepted; state = l }
-unfolding ledgerStep refusals first settle says next
+unfolding ledgerStep refusalOf afterLent refusals first settle says next
 lifted r l net cs ok unused used fine long =
     let e : keep (λ (x : Entry). not (ofNet net x)) (l .entries ++ legs net cs) ≡ l .entries =
     keep-others net (l .entries) (legs net cs) unused
@@ -233,13 +218,13 @@ record Passed (l : Layout) (net : ℕ) : Type 0 where
   allowed : netOk net ≡ true
   unused : inUse net (l .entries) ≡ false
 
-passed : (r : Room) (l : Layout) (net : ℕ) (S T : Point) → first (refusals (lay net S T) r false l) ≡ none
-    → Passed l net
+passed : (r : Room) (l : Layout) (net : ℕ) (S T : Point) → refusalOf r false (lay net S T) l ≡ none → Passed l net
 unfolding refusals
 passed r l net S T h =
+    let own = unrefused-own r (lay net S T) l false h in
     record { allowed = not-ff (netOk net) (search none-applies); unused = search none-applies }
 
-laid-state : (r : Room) (l : Layout) (net : ℕ) (S T : Point) → first (refusals (lay net S T) r false l) ≡ none
+laid-state : (r : Room) (l : Layout) (net : ℕ) (S T : Point) → refusalOf r false (lay net S T) l ≡ none
     → ledgerStep r (lay net S T) l .state ≡ withEntries l (l .entries ++ legs net (cornersOf l S T))
 unfolding ledgerStep settle next
 laid-state r l net S T h = rw h refl

@@ -3,6 +3,8 @@ pub mod Stored
 pub mod CornerLists
 pub mod Refusals
 pub mod Legs
+pub mod Rules
+pub mod Line
 pub mod Kept
 pub mod Steps
 pub mod Sound

@@ -10,16 +10,15 @@ use lib.ListN.{getD}
 use borrow.Author.Tests.{eqb-true}
 use Rattle.foil_spec.specs.Lists.{any}
 use Rattle.foil_spec.specs.Foil.{Layout, sizeOk, clearanceOk}
-use Rattle.foil_spec.specs.Ledger.{Step, newFoil, Answer, refused, accepted, _⇒_, first, Room, short, refusals}
-use Rattle.foil_spec.specs.Ledger.{After, settle, says, ledgerStep}
-use Rattle.foil_spec.specs.Lent.{Lent, held, sound, roomOf, finish, stepOn}
+use Rattle.foil_spec.specs.Ledger.{Step, newFoil, Answer, refused, first, Room, short, refusals}
+use Rattle.foil_spec.specs.Ledger.{After, settle, refusalOf, ledgerStep, accepted, says}
+use Rattle.foil_spec.specs.Lent.{Lent, held, sound, stepOn}
 use Rattle.foil_spec.specs.Job.{mapByte, has, isEnd, steps, recordEnd, recordChecks}
 use Rattle.foil_spec.specs.Calls.{runRecord, Reply, answered, ran, atEnd, measured, endsJob, andThen, actAll, actRecord}
-use Rattle.foil_spec.specs.Calls.{tooLarge, ledgerCall, callOn}
+use Rattle.foil_spec.specs.Calls.{wholeRefusals, reply, ledgerCall, callOn}
 use Rattle.list_laws.proofs.Tests.{both, clash}
-use Rattle.ledger_laws.proofs.Refusals.{no-more, none-applies}
-use Rattle.ledger_laws.proofs.Steps.{no-13}
-use Rattle.ledger_laws.proofs.Lending.{Begun, Opens, opens, begun-record}
+use Rattle.ledger_laws.proofs.Refusals.{none-applies, own-refused}
+use Rattle.ledger_laws.proofs.Lending.{new-refusal, Begun, Opens, opens, own-checks, whole-at-0, begun-record}
 
 -- a reply after which there is no next place, and no strip is told
 abbrev pub Over : Reply → Type 0
@@ -30,10 +29,10 @@ Over atEnd = ⊥
 Over (measured x) = ⊥
 
 -- how a record at place 0 goes on lists that hold anything
-pub data Opening (bs : List ℕ) (l : Layout) (m : Lent) : Type 0 where
-  over : (a : Reply) → callOn (runRecord bs 0) m .answer ≡ a
-      → ledgerCall (roomOf m) (runRecord bs 0) l .answer ≡ a → Over a → Opening bs l m
-  begins : Begun (runRecord bs 0) l m → Opening bs l m
+pub data Opening (r : Room) (bs : List ℕ) (l : Layout) (m : Lent) : Type 0 where
+  over : (a : Reply) → callOn r (runRecord bs 0) m .answer ≡ a
+      → ledgerCall r (runRecord bs 0) l .answer ≡ a → Over a → Opening r bs l m
+  begins : Begun r (runRecord bs 0) l m → Opening r bs l m
 
 -- the end mark has no board
 pub end-no-board : (bs : List ℕ) (at : ℕ) → isEnd bs at ≡ true → has bs at 0 ≡ false
@@ -62,59 +61,52 @@ module _ {S : Type 0} (act : Step → S → After Answer S) where
   unfolding actRecord
   ends-record ss p s k e f = rw (e, f) refl
 
-module _ (W H d : ℕ) where
+module _ (W H d : ℕ) (r : Room) (l : Layout) where
   -- a new foil that is refused on long lists ends the job
-  board-ends : (r : Room) (b : Bool) (l : Layout) (k : ℕ) → first (refusals (newFoil W H d) r b l) ≡ some k
-      → short r ≡ false → endsJob (refused k) ≡ true
+  board-ends : (k : ℕ) → refusalOf r false (newFoil W H d) l ≡ some k → short r ≡ false → endsJob (refused k) ≡ true
   unfolding refusals first endsJob
-  board-ends r b l k e long = go (not (sizeOk W && sizeOk H)) (not (clearanceOk d)) (rw long at e)
+  board-ends k e long =
+      go (not (sizeOk W && sizeOk H)) (not (clearanceOk d)) (sym (own-refused r (newFoil W H d) l false long refl) ∙ e)
     where
       go : (s t : Bool) → cond s (some 1) (cond t (some 2) none) ≡ some k → endsJob (refused k) ≡ true
       go true t h = let q : k ≡ 1 = cc in rw q refl
       go false true h = let q : k ≡ 2 = cc in rw q refl
       go false false h = absurd (let z : _≡_ {A = ℕ} 0 1 = cc in omega arith)
 
-  on-ledger : (r : Room) (l : Layout) (k : ℕ) → first (refusals (newFoil W H d) r false l) ≡ some k
-      → ledgerStep r (newFoil W H d) l .answer ≡ refused k
+  on-ledger : (k : ℕ) → refusalOf r false (newFoil W H d) l ≡ some k → ledgerStep r (newFoil W H d) l .answer ≡ refused k
   unfolding ledgerStep settle
-  on-ledger r l k e = rw e refl
+  on-ledger k e = rw e refl
 
-  on-lists : (l : Layout) (m : Lent) (k : ℕ) → first (refusals (newFoil W H d) (roomOf m) false l) ≡ some k
-      → stepOn (newFoil W H d) m .answer ≡ refused k
-  unfolding stepOn finish refusals
-  on-lists l m k e = rw e refl
+  on-lists : (m : Lent) (k : ℕ) → refusalOf r false (newFoil W H d) l ≡ some k
+      → stepOn r (newFoil W H d) m .answer ≡ refused k
+  unfolding stepOn settle
+  on-lists m k e = rw (new-refusal W H d r l (not (sound m)) (held m), e) refl
 
-  on-ledger-accepted : (r : Room) (l : Layout) → first (refusals (newFoil W H d) r false l) ≡ none
-      → ledgerStep r (newFoil W H d) l .answer ≡ accepted
+  on-ledger-accepted : refusalOf r false (newFoil W H d) l ≡ none → ledgerStep r (newFoil W H d) l .answer ≡ accepted
   unfolding ledgerStep settle says
-  on-ledger-accepted r l e = rw e refl
+  on-ledger-accepted e = rw e refl
 
   -- the steps after a board that is accepted, and the next place
-  abbrev later : Room → List Step → Layout → List Answer
-  later r ss l = actAll (ledgerStep r) ss (ledgerStep r (newFoil W H d) l .state) .answer
+  abbrev later : List Step → List Answer
+  later ss = actAll (ledgerStep r) ss (ledgerStep r (newFoil W H d) l .state) .answer
 
-  accepts : (r : Room) (ss : List Step) (p : ℕ) (l : Layout) → first (refusals (newFoil W H d) r false l) ≡ none
+  accepts : (ss : List Step) (p : ℕ) → refusalOf r false (newFoil W H d) l ≡ none
       → actRecord (ledgerStep r) none false (newFoil W H d ∷ ss) p l .answer
-      ≡ ran (accepted ∷ later r ss l) (cond (any endsJob (later r ss l)) none (some p))
+      ≡ ran (accepted ∷ later ss) (cond (any endsJob (later ss)) none (some p))
   unfolding actRecord actAll andThen endsJob
-  accepts r ss p l e = rw (on-ledger-accepted r l e) refl
+  accepts ss p e = rw (on-ledger-accepted e) refl
 
-module _ (bs : List ℕ) (l : Layout) (m : Lent) (long : short (roomOf m) ≡ false) where
+module _ (r : Room) (bs : List ℕ) (l : Layout) (m : Lent) (long : short r ≡ false) where
   abbrev refusal : Option ℕ
-  refusal = first ((tooLarge bs ⇒ 18) ∷ (short (roomOf m) ⇒ 12) ∷ recordChecks bs 0)
+  refusal = first (wholeRefusals r false bs 0)
 
-  -- 13 is not tried at place 0
   call-at-0 : (o : Option ℕ) (e : Bool) → refusal ≡ o → isEnd bs 0 ≡ e
-      → (callOn (runRecord bs 0) m ≡ actRecord stepOn o e (steps bs 0) (recordEnd bs 0) m)
-      × (ledgerCall (roomOf m) (runRecord bs 0) l
-      ≡ actRecord (ledgerStep (roomOf m)) o e (steps bs 0) (recordEnd bs 0) l)
-  unfolding callOn ledgerCall
-  call-at-0 o e f g = (
-    rw (no-13 (tooLarge bs) (short (roomOf m)) (not (eqb 0 0) && not (sound m)) (recordChecks bs 0) refl, f, g) refl,
-    rw (f, g) refl,
-  )
+      → (callOn r (runRecord bs 0) m ≡ actRecord (stepOn r) o e (steps bs 0) (recordEnd bs 0) m)
+      × (ledgerCall r (runRecord bs 0) l ≡ actRecord (ledgerStep r) o e (steps bs 0) (recordEnd bs 0) l)
+  unfolding callOn ledgerCall reply
+  call-at-0 o e f g = (rw (whole-at-0 r (not (sound m)) bs, f, g) refl, rw (f, g) refl)
 
-  refused-whole : (n : ℕ) → refusal ≡ some n → Opening bs l m
+  refused-whole : (n : ℕ) → refusal ≡ some n → Opening r bs l m
   unfolding actRecord
   refused-whole n e =
       let both-are = call-at-0 (some n) (isEnd bs 0) e refl in
@@ -125,40 +117,38 @@ module _ (bs : List ℕ) (l : Layout) (m : Lent) (long : short (roomOf m) ≡ fa
     abbrev new : Step
     new = newFoil (b .W) (b .H) (b .d)
 
-    board-refused : (k : ℕ) → first (refusals new (roomOf m) false l) ≡ some k → Opening bs l m
+    board-refused : (k : ℕ) → refusalOf r false new l ≡ some k → Opening r bs l m
     board-refused k e =
         let both-are = call-at-0 none false passed goes-on in
-        let f = board-ends (b .W) (b .H) (b .d) (roomOf m) false l k e long in
+        let f = board-ends (b .W) (b .H) (b .d) r l k e long in
         over (ran (refused k ∷ []) none)
         (ap (λ a. a .answer) (both-are .0)
-        ∙ ends-record stepOn (steps bs 0) (recordEnd bs 0) m k
-        (ap (λ (ss : List Step). actAll stepOn ss m .answer) (b .is)
-        ∙ ends-first stepOn new (b .later) m k (on-lists (b .W) (b .H) (b .d) l m k e) f) f)
+        ∙ ends-record (stepOn r) (steps bs 0) (recordEnd bs 0) m k
+        (ap (λ (ss : List Step). actAll (stepOn r) ss m .answer) (b .is)
+        ∙ ends-first (stepOn r) new (b .later) m k (on-lists (b .W) (b .H) (b .d) r l m k e) f) f)
         (ap (λ a. a .answer) (both-are .1)
-        ∙ ends-record (ledgerStep (roomOf m)) (steps bs 0) (recordEnd bs 0) l k
-        (ap (λ (ss : List Step). actAll (ledgerStep (roomOf m)) ss l .answer) (b .is)
-        ∙ ends-first (ledgerStep (roomOf m)) new (b .later) l k (on-ledger (b .W) (b .H) (b .d) (roomOf m) l k e) f) f)
+        ∙ ends-record (ledgerStep r) (steps bs 0) (recordEnd bs 0) l k
+        (ap (λ (ss : List Step). actAll (ledgerStep r) ss l .answer) (b .is)
+        ∙ ends-first (ledgerStep r) new (b .later) l k (on-ledger (b .W) (b .H) (b .d) r l k e) f) f)
         tt
 
-    board-accepted : first (refusals new (roomOf m) false l) ≡ none → Opening bs l m
+    board-accepted : refusalOf r false new l ≡ none → Opening r bs l m
     board-accepted e =
         let both-are = call-at-0 none false passed goes-on in
-        begins (begun-record bs _ _ l m
+        begins (begun-record r bs _ _ l m
         (ap (λ c. c .answer) (both-are .1)
-        ∙ ap (λ (ss : List Step). actRecord (ledgerStep (roomOf m)) none false ss (recordEnd bs 0) l .answer) (b .is)
-        ∙ accepts (b .W) (b .H) (b .d) (roomOf m) (b .later) (recordEnd bs 0) l e))
+        ∙ ap (λ (ss : List Step). actRecord (ledgerStep r) none false ss (recordEnd bs 0) l .answer) (b .is)
+        ∙ accepts (b .W) (b .H) (b .d) r l (b .later) (recordEnd bs 0) e))
 
-    by-board : (o : Option ℕ) → first (refusals new (roomOf m) false l) ≡ o → Opening bs l m
+    by-board : (o : Option ℕ) → refusalOf r false new l ≡ o → Opening r bs l m
     by-board (some k) e = board-refused k e
     by-board none e = board-accepted e
 
-  by-checks : (o : Option ℕ) → refusal ≡ o → Opening bs l m
+  by-checks : (o : Option ℕ) → refusal ≡ o → Opening r bs l m
   by-checks (some n) e = refused-whole n e
   by-checks none e =
-      let rest = no-more (tooLarge bs) 18 ((short (roomOf m) ⇒ 12) ∷ recordChecks bs 0) e in
-      let passed = no-more (short (roomOf m)) 12 (recordChecks bs 0) rest in
-      let b = opens bs passed in
-      by-board e b (not-at-end bs passed) _ refl
+      let passed = own-checks r false bs 0 e in
+      by-board e (opens bs passed) (not-at-end bs passed) _ refl
 
-  pub opening : Opening bs l m
+  pub opening : Opening r bs l m
   opening = by-checks refusal refl

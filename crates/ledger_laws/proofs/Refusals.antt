@@ -1,13 +1,15 @@
 -- The first refusal that applies, and what is known where none does.
 use Prim.Native.Nat.{ℕ}
-use mathlib.Core.Path.{_≡_, refl, subst}
-use mathlib.Core.Bool.{Bool, true, false, not, _||_}
-use mathlib.Core.List.{List, [], _∷_}
+use mathlib.Core.Path.{_≡_, refl, sym, subst}
+use mathlib.Core.Bool.{Bool, true, false, not, _&&_, _||_}
+use mathlib.Core.List.{List, [], _∷_, map}
+use mathlib.Core.Logic.{inl, inr}
 use mathlib.Core.Option.{none, some, Option·some-ne-none, Option·none-ne-some, Option·some-injective}
 use Rattle.foil_spec.specs.Lists.{all}
 use Rattle.foil_spec.specs.Foil.{Layout}
-use Rattle.foil_spec.specs.Ledger.{Step, newFoil, draw, lay, lift, lookUp, Refusal, _⇒_, first, Room, short, refusals}
-use Rattle.list_laws.proofs.Tests.{both, and-l, and-r}
+use Rattle.foil_spec.specs.Ledger.{Step, reads, Refusal, _⇒_, first, Room, short, refusals, afterLent, refusalOf}
+use Rattle.list_laws.proofs.Tests.{both, clash, and-l, and-r}
+use Rattle.list_laws.proofs.Members.{In}
 
 pub no-rule : (a : Bool) (n : ℕ) (rs : List Refusal) → first ((a ⇒ n) ∷ rs) ≡ none → a ≡ false
 unfolding first
@@ -36,29 +38,43 @@ first-passes p (c ∷ rs) h n e =
     subst (λ (k : ℕ). p k ≡ true) (Option·some-injective (c .number) n same) here)
     (λ t. first-passes p rs (and-r (not (c .applies) || p (c .number)) _ h) n (rw t at e))
 
--- every step is refused by 12 where the lists are too short
-pub short-refused : (s : Step) (r : Room) (b : Bool) (l : Layout) → short r ≡ true → first (refusals s r b l) ≡ some 12
-unfolding refusals first
-short-refused (newFoil W H d) r b l e = rw e refl
-short-refused (draw x0 y0 x1 y1) r b l e = rw e refl
-short-refused (lay net S T) r b l e = rw e refl
-short-refused (lift net) r b l e = rw e refl
-short-refused (lookUp p) r b l e = rw e refl
+-- it is the number of one of them
+pub first-in : (rs : List Refusal) (n : ℕ) → first rs ≡ some n → In n (map (λ (c : Refusal). c .number) rs)
+unfolding first
+first-in [] n e = absurd (Option·none-ne-some n e)
+first-in (c ∷ rs) n e =
+    both (c .applies)
+    (λ t.
+    let same : some (c .number) ≡ some n = rw t at e in
+    inl (sym (Option·some-injective (c .number) n same)))
+    (λ t. inr (first-in rs n (rw t at e)))
 
--- every step but a new foil reads what is lent
-abbrev pub Reads : Step → Type 0
-Reads (newFoil W H d) = ⊥
-Reads (draw x0 y0 x1 y1) = Unit {0}
-Reads (lay net S T) = Unit {0}
-Reads (lift net) = Unit {0}
-Reads (lookUp p) = Unit {0}
+module _ (r : Room) (s : Step) (l : Layout) where
+  -- a step is refused by 12 where the lists are too short
+  pub short-refused : (b : Bool) → short r ≡ true → refusalOf r b s l ≡ some 12
+  unfolding refusalOf afterLent first
+  short-refused b e = rw e refl
 
--- and is refused by 13 where that breaks a rule
-pub broken-refused : (s : Step) (r : Room) (l : Layout) → Reads s → short r ≡ false
-    → first (refusals s r true l) ≡ some 13
-unfolding refusals first
-broken-refused (newFoil W H d) r l n e = absurd n
-broken-refused (draw x0 y0 x1 y1) r l n e = rw e refl
-broken-refused (lay net S T) r l n e = rw e refl
-broken-refused (lift net) r l n e = rw e refl
-broken-refused (lookUp p) r l n e = rw e refl
+  -- else by 13 where it reads a state that breaks a rule
+  pub broken-refused : short r ≡ false → reads s ≡ true → refusalOf r true s l ≡ some 13
+  unfolding refusalOf afterLent first
+  broken-refused e f = rw (e, f) refl
+
+  -- else by its own refusals
+  pub own-refused : (b : Bool) → short r ≡ false → (b && reads s) ≡ false → refusalOf r b s l ≡ first (refusals s r l)
+  unfolding refusalOf afterLent first
+  own-refused b e f = rw (e, f) refl
+
+  -- where it is not refused, the lists are long enough, what it reads keeps the rules, and none of its own refusals applies
+  pub unrefused-long : (b : Bool) → refusalOf r b s l ≡ none → short r ≡ false
+  unfolding refusalOf afterLent
+  unrefused-long b e = no-rule (short r) 12 _ e
+
+  pub unrefused-sound : (b : Bool) → refusalOf r b s l ≡ none → reads s ≡ true → b ≡ false
+  unfolding refusalOf afterLent
+  unrefused-sound true e f = clash f (no-rule (reads s) 13 _ (no-more (short r) 12 _ e))
+  unrefused-sound false e f = refl
+
+  pub unrefused-own : (b : Bool) → refusalOf r b s l ≡ none → first (refusals s r l) ≡ none
+  unfolding refusalOf afterLent
+  unrefused-own b e = no-more (b && reads s) 13 _ (no-more (short r) 12 _ e)

@@ -4,20 +4,21 @@ use native.Mathlib.Omega.{arith}
 use mathlib.Core.Path.{_≡_, refl, sym, ap, ap₂, _∙_, subst}
 use mathlib.Core.Bool.{true, false}
 use mathlib.Core.List.{List, [], _∷_, _++_, map, append-assoc}
-use lib.Dec.{eqb}
-use borrow.Author.Tests.{eqb-true, eq-eqb, ltb-false}
+use lib.Dec.{leb, eqb}
+use borrow.Author.Tests.{eqb-true, eq-eqb, leb-true}
 use lib.ListN.{length, getD, take, drop, replicate, length-map, length-append, length-drop, length-replicate}
 use lib.ListN.{getD-replicate, take-append-drop}
 use lib.Seq.{ext-getD, take-add, drop-drop, getD-take, getD-drop, length-take-le, take-at}
 use Rattle.foil_spec.specs.Lists.{range, each}
-use Rattle.foil_spec.specs.Ledger.{stripsOf, tooLong}
+use Rattle.foil_spec.specs.Limits.{maxEntries, stripsSize}
+use Rattle.foil_spec.specs.Ledger.{stripsOf}
 use Rattle.foil_spec.specs.Lent.{Lent, lent, entryNumbers, written, boardOf, store, entryAt, layoutOf, held}
 use Rattle.foil_spec.specs.Lent.{layoutOk, sameNumbers, sound, listedStrips}
 use Rattle.list_laws.proofs.Tests.{clash, and-l, and-r, parts}
 use Rattle.list_laws.proofs.Members.{length-range}
 use Rattle.strip_laws.proofs.Listed.{listed-written}
 use Rattle.ledger_laws.proofs.Stored.{same-refl}
-use Rattle.ledger_laws.proofs.Kept.{of-ok}
+use Rattle.ledger_laws.proofs.Rules.{of-ok}
 
 same-is : (a b : List ℕ) → sameNumbers a b ≡ true → a ≡ b
 unfolding sameNumbers
@@ -118,16 +119,16 @@ module _ (a n : ℕ) (l : List ℕ) (le : a ≤ n) (long : n ≤ length l) where
 -- what is known of lists that 13 does not apply to
 pub record Sound (m : Lent) : Type 0 where
   pub kept : layoutOk (held m) ≡ true
-  pub few : m .board .entries ≤ 128
+  pub few : m .board .entries ≤ maxEntries
   pub counted : m .board .strips ≡ length (stripsOf (held m))
   pub table-is : m .table ≡ store (held m) m .table
   pub strips-are : m .strips ≡ store (held m) m .strips
 
-read-few : (m : Lent) → tooLong (held m) ≡ false → m .board .entries ≤ 128
-unfolding tooLong held layoutOf
+read-few : (m : Lent) → leb (length (held m .entries)) maxEntries ≡ true → m .board .entries ≤ maxEntries
+unfolding held layoutOf
 read-few m h =
     let n : ℕ = length (map (entryAt (m .table)) (range 0 (m .board .entries))) in
-    omega (arith, ltb-false 128 n h, length-read (m .table) (m .board .entries))
+    omega (arith, leb-true n maxEntries h, length-read (m .table) (m .board .entries))
 
 pub of-sound : (m : Lent) → sound m ≡ true → Sound m
 unfolding sound store boardOf
@@ -168,11 +169,10 @@ sound-store-is m s =
     })
     (sym (s .table-is) i)
     (sym (s .strips-are) i)
-    (m .corners)
 
 -- the strips that the record counts are those of the layout
 pub strips-listed : (m : Lent) → Sound m → listedStrips (m .strips) (m .board .strips) ≡ stripsOf (held m)
 unfolding store
 strips-listed m s =
     ap₂ (λ (x : List ℕ) (n : ℕ). listedStrips x n) (s .strips-are) (s .counted)
-    ∙ listed-written 16384 (stripsOf (held m)) (m .strips)
+    ∙ listed-written stripsSize (stripsOf (held m)) (m .strips)

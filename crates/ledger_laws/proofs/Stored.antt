@@ -4,14 +4,15 @@ use native.Mathlib.Omega.{arith}
 use mathlib.Core.Path.{_≡_, refl, ap, ap₂, _∙_, fun-ext}
 use mathlib.Core.Bool.{true, false}
 use mathlib.Core.List.{List, [], _∷_, _++_, map, append-assoc}
-use lib.Dec.{ltb}
-use borrow.Author.Tests.{eq-eqb, ltb-false}
+use lib.Dec.{leb, ltb}
+use borrow.Author.Tests.{eq-eqb, leb-true, ltb-false}
 use lib.ListN.{length, drop, replicate}
 use Rattle.foil_spec.specs.Lists.{range, each}
+use Rattle.foil_spec.specs.Limits.{maxEntries, tableSize, maxStrips, stripsSize}
 use Rattle.foil_spec.specs.Foil.{Point, Entry, Layout}
 use Rattle.foil_spec.specs.Strips.{Strip}
-use Rattle.foil_spec.specs.Ledger.{stripsOf, withEntries, tooLong, tooFine}
-use Rattle.foil_spec.specs.Lent.{Lent, withCorners, entryNumbers, stripNumbers, pointNumbers, written, boardOf, store}
+use Rattle.foil_spec.specs.Ledger.{stripsOf, withEntries, tooFine}
+use Rattle.foil_spec.specs.Lent.{Lent, lent, entryNumbers, stripNumbers, pointNumbers, written, boardOf, store}
 use Rattle.foil_spec.specs.Lent.{entryAt, layoutOf, held, layoutOk, sameNumbers, sound}
 use Rattle.foil_spec.specs.Sequence.{Lending, front, back}
 use Rattle.foil_spec.proofs.Written.{written-again, take-written, written-back, drop-past}
@@ -22,8 +23,8 @@ use Rattle.list_laws.proofs.Members.{map-later}
 
 -- lists that are long enough
 pub record Long (m : Lent) : Type 0 where
-  pub table : 640 ≤ length (m .table)
-  pub strips : 16384 ≤ length (m .strips)
+  pub table : tableSize ≤ length (m .table)
+  pub strips : stripsSize ≤ length (m .strips)
 
 pub length-entries : (es : List Entry) → length (each entryNumbers es) ≡ 5 * length es
 unfolding entryNumbers
@@ -41,17 +42,17 @@ length-points [] = refl
 length-points (p ∷ ps) = omega (arith, length-points ps)
 
 -- the entries and the strips of a layout that keeps the rules fit their lists
-pub entries-fit : (l : Layout) → layoutOk l ≡ true → length (each entryNumbers (l .entries)) ≤ 640
-unfolding layoutOk tooLong
+pub entries-fit : (l : Layout) → layoutOk l ≡ true → length (each entryNumbers (l .entries)) ≤ tableSize
+unfolding layoutOk
 entries-fit l g =
-    let h : ltb 128 (length (l .entries)) ≡ false = search parts in
-    omega (arith, length-entries (l .entries), ltb-false 128 (length (l .entries)) h)
+    let h : leb (length (l .entries)) maxEntries ≡ true = search parts in
+    omega (arith, length-entries (l .entries), leb-true (length (l .entries)) maxEntries h)
 
-pub strips-fit : (l : Layout) → layoutOk l ≡ true → length (each stripNumbers (stripsOf l)) ≤ 16384
+pub strips-fit : (l : Layout) → layoutOk l ≡ true → length (each stripNumbers (stripsOf l)) ≤ stripsSize
 unfolding layoutOk tooFine
 strips-fit l g =
-    let h : ltb 4096 (length (stripsOf l)) ≡ false = search parts in
-    omega (arith, length-strips (stripsOf l), ltb-false 4096 (length (stripsOf l)) h)
+    let h : ltb maxStrips (length (stripsOf l)) ≡ false = search parts in
+    omega (arith, length-strips (stripsOf l), ltb-false maxStrips (length (stripsOf l)) h)
 
 -- ---- reading back
 
@@ -82,7 +83,8 @@ pub held-store : (l : Layout) (m : Lent) → held (store l m) ≡ l
 unfolding held store boardOf layoutOf written
 held-store l m =
     ap (withEntries l)
-    (read-back (l .entries) (replicate (640 - length (each entryNumbers (l .entries))) 0 ++ drop 640 (m .table)))
+    (read-back (l .entries)
+    (replicate (tableSize - length (each entryNumbers (l .entries))) 0 ++ drop tableSize (m .table)))
 
 pub same-refl : (l : List ℕ) → sameNumbers l l ≡ true
 unfolding sameNumbers
@@ -91,15 +93,13 @@ same-refl (x ∷ l) = rw (eq-eqb x x refl) (same-refl l)
 
 -- ---- storing again, and in front parts
 
-abbrev withLists : Lent → List ℕ → List ℕ → Lent
-withLists m t s = record { board = m .board; table = t; strips = s; corners = m .corners }
-
 pub store-again : (l l′ : Layout) (m : Lent) → layoutOk l ≡ true → store l′ (store l m) ≡ store l′ m
 unfolding store
 store-again l l′ m g =
-    ap₂ (withLists (store l′ m))
-    (written-again 640 (each entryNumbers (l .entries)) (m .table) (entries-fit l g) (each entryNumbers (l′ .entries)))
-    (written-again 16384 (each stripNumbers (stripsOf l)) (m .strips) (strips-fit l g)
+    ap₂ (lent (boardOf l′))
+    (written-again tableSize (each entryNumbers (l .entries)) (m .table) (entries-fit l g)
+    (each entryNumbers (l′ .entries)))
+    (written-again stripsSize (each stripNumbers (stripsOf l)) (m .strips) (strips-fit l g)
     (each stripNumbers (stripsOf l′)))
 
 -- 13 does not apply to what a layout that keeps the rules is stored in
@@ -115,31 +115,31 @@ sound-store l m g =
       same-refl (store l m .strips),
     ) refl
 
-module _ (c : Lending) (m : Lent) (long-table : 640 ≤ c .tableFront) (long-strips : 16384 ≤ c .stripFront) where
+module _ (c : Lending) (m : Lent) (long-table : tableSize ≤ c .tableFront) (long-strips : stripsSize ≤ c .stripFront)
+    where
   pub front-store : (l : Layout) → layoutOk l ≡ true → front c (store l m) ≡ store l (front c m)
   unfolding front store
   front-store l g =
-      ap₂ (withLists (withCorners (store l m) (c .corners)))
-      (take-written 640 (each entryNumbers (l .entries)) (m .table) (entries-fit l g) (c .tableFront) long-table)
-      (take-written 16384 (each stripNumbers (stripsOf l)) (m .strips) (strips-fit l g) (c .stripFront) long-strips)
+      ap₂ (lent (boardOf l))
+      (take-written tableSize (each entryNumbers (l .entries)) (m .table) (entries-fit l g) (c .tableFront) long-table)
+      (take-written stripsSize (each stripNumbers (stripsOf l)) (m .strips) (strips-fit l g) (c .stripFront) long-strips)
 
   -- what was lent comes back, written, to lists that hold anything
-  pub back-new : (l : Layout) (ks : List ℕ) → layoutOk l ≡ true
-      → back c m (withCorners (store l (front c m)) ks) ≡ withCorners (store l m) ks
+  pub back-new : (l : Layout) → layoutOk l ≡ true → back c m (store l (front c m)) ≡ store l m
   unfolding front store back
-  back-new l ks g =
-      ap₂ (withLists (withCorners (store l m) ks))
-      (written-back 640 (each entryNumbers (l .entries)) (m .table) (entries-fit l g) (c .tableFront) long-table)
-      (written-back 16384 (each stripNumbers (stripsOf l)) (m .strips) (strips-fit l g) (c .stripFront) long-strips)
+  back-new l g =
+      ap₂ (lent (boardOf l))
+      (written-back tableSize (each entryNumbers (l .entries)) (m .table) (entries-fit l g) (c .tableFront) long-table)
+      (written-back stripsSize (each stripNumbers (stripsOf l)) (m .strips) (strips-fit l g) (c .stripFront) long-strips)
 
   -- and to lists that hold a layout
-  pub back-store : (l l′ : Layout) (ks : List ℕ) → layoutOk l ≡ true → layoutOk l′ ≡ true
-      → back c (store l m) (withCorners (store l′ (front c m)) ks) ≡ withCorners (store l′ m) ks
+  pub back-store : (l l′ : Layout) → layoutOk l ≡ true → layoutOk l′ ≡ true
+      → back c (store l m) (store l′ (front c m)) ≡ store l′ m
   unfolding store back
-  back-store l l′ ks g g′ =
-      ap₂ (withLists (withCorners (store l′ m) ks))
+  back-store l l′ g g′ =
+      ap₂ (lent (boardOf l′))
       (ap (λ (t : List ℕ). store l′ (front c m) .table ++ t)
-      (drop-past 640 (each entryNumbers (l .entries)) (m .table) (entries-fit l g) (c .tableFront) long-table))
+      (drop-past tableSize (each entryNumbers (l .entries)) (m .table) (entries-fit l g) (c .tableFront) long-table))
       (ap (λ (t : List ℕ). store l′ (front c m) .strips ++ t)
-      (drop-past 16384 (each stripNumbers (stripsOf l)) (m .strips) (strips-fit l g) (c .stripFront) long-strips))
-      ∙ back-new l′ ks g′
+      (drop-past stripsSize (each stripNumbers (stripsOf l)) (m .strips) (strips-fit l g) (c .stripFront) long-strips))
+      ∙ back-new l′ g′

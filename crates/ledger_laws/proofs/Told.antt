@@ -7,12 +7,12 @@ use mathlib.Core.List.{List, [], _∷_, map, append-nil}
 use mathlib.Core.Option.{Option, none, some}
 use lib.Ieee.{Float}
 use Rattle.foil_spec.specs.Foil.{Layout}
-use Rattle.foil_spec.specs.Ledger.{Step, Answer, After}
+use Rattle.foil_spec.specs.Ledger.{Room, Step, Answer, After}
 use Rattle.foil_spec.specs.Lent.{Lent, stepOn}
 use Rattle.foil_spec.specs.Job.{steps}
 use Rattle.foil_spec.specs.Calls.{Call, step, runRecord, ohms, Reply, ran, ohmsReply, endsJob, andThen, actAll}
-use Rattle.foil_spec.specs.Calls.{actRecord, callOn}
-use Rattle.foil_spec.specs.Sequence.{Lending, front, lend, answersIn}
+use Rattle.foil_spec.specs.Calls.{actRecord, reply, callOn, answersIn}
+use Rattle.foil_spec.specs.Sequence.{Lending, front, roomFor, lend}
 use Rattle.ledger_laws.specs.Moments.{Moment, momentOf, momentsOf, stepsRun, moments}
 
 -- the answers at some steps
@@ -29,36 +29,41 @@ module _ (c : Lending) (m : Lent) where
   then-answers true a x ks b e = refl
   then-answers false a x ks b e = ap (λ (given : List Answer). a ∷ given) e
 
-  steps-answers : (ss : List Step) (n : Lent) (l : Layout) → answers (momentsOf c m ss n l) ≡ actAll stepOn ss n .answer
-  unfolding momentsOf momentOf actAll andThen
-  steps-answers [] n l = refl
-  steps-answers (s ∷ ss) n l =
-      then-answers (endsJob (stepOn s n .answer)) (stepOn s n .answer) (stepOn s n .state) _
-      (actAll stepOn ss (stepOn s n .state)) (steps-answers ss (stepOn s n .state) _)
+  abbrev r : Room
+  r = roomFor c m
 
-  module _ (n : Lent) (l : Layout) where
+  steps-answers : (ss : List Step) (n : Lent) (out : List ℕ) (l : Layout)
+      → answers (momentsOf c m ss n out l) ≡ actAll (stepOn r) ss n .answer
+  unfolding momentsOf momentOf actAll andThen
+  steps-answers [] n out l = refl
+  steps-answers (s ∷ ss) n out l =
+      then-answers (endsJob (stepOn r s n .answer)) (stepOn r s n .answer) (stepOn r s n .state) _
+      (actAll (stepOn r) ss (stepOn r s n .state)) (steps-answers ss (stepOn r s n .state) _ _)
+
+  module _ (n : Lent) (out : List ℕ) (l : Layout) where
     -- the answers at the steps of a call, where k is what it calls and n what it is lent
     abbrev stepAnswers : Call → List Answer
-    stepAnswers k = answers (momentsOf c m (stepsRun k (callOn k n .answer)) n l)
+    stepAnswers k = answers (momentsOf c m (stepsRun k (callOn r k n .answer)) n out l)
 
-    of-step : (s : Step) → stepAnswers (step s) ≡ answersIn (callOn (step s) n .answer)
-    unfolding callOn stepsRun answersIn momentsOf momentOf
-    of-step s = go (endsJob (stepOn s n .answer))
+    of-step : (s : Step) → stepAnswers (step s) ≡ answersIn (callOn r (step s) n .answer)
+    unfolding callOn reply stepsRun answersIn momentsOf momentOf
+    of-step s = go (endsJob (stepOn r s n .answer))
       where
-        go : (t : Bool) → stepOn s n .answer ∷ answers (cond t [] []) ≡ stepOn s n .answer ∷ []
+        go : (t : Bool) → stepOn r s n .answer ∷ answers (cond t [] []) ≡ stepOn r s n .answer ∷ []
         go true = refl
         go false = refl
 
     of-record : (o : Option ℕ) (e : Bool) (bs : List ℕ) (at p : ℕ) (given : List Answer) (place : Option ℕ)
-        → actRecord stepOn o e (steps bs at) p n .answer ≡ ran given place
-        → answers (momentsOf c m (stepsRun (runRecord bs at) (actRecord stepOn o e (steps bs at) p n .answer)) n l)
+        → actRecord (stepOn r) o e (steps bs at) p n .answer ≡ ran given place
+        → answers
+        (momentsOf c m (stepsRun (runRecord bs at) (actRecord (stepOn r) o e (steps bs at) p n .answer)) n out l)
         ≡ given
     unfolding actRecord stepsRun
     of-record (some j) e bs at p given place h = absurd (let z : _≡_ {A = ℕ} 0 1 = cc in omega arith)
     of-record none true bs at p given place h = absurd (let z : _≡_ {A = ℕ} 0 1 = cc in omega arith)
     of-record none false bs at p given place h =
-        let q : actAll stepOn (steps bs at) n .answer ≡ given = cc in
-        steps-answers (steps bs at) n l ∙ q
+        let q : actAll (stepOn r) (steps bs at) n .answer ≡ given = cc in
+        steps-answers (steps bs at) n out l ∙ q
 
     no-record : (o : Option ℕ) (x : Float) (given : List Answer) (place : Option ℕ)
         → ohmsReply o x ≡ ran given place → ⊥
@@ -66,17 +71,19 @@ module _ (c : Lending) (m : Lent) where
     no-record (some j) x given place h = let z : _≡_ {A = ℕ} 0 1 = cc in omega arith
     no-record none x given place h = let z : _≡_ {A = ℕ} 0 1 = cc in omega arith
 
-    of-call : (k : Call) (given : List Answer) (place : Option ℕ) → callOn k n .answer ≡ ran given place
+    of-call : (k : Call) (given : List Answer) (place : Option ℕ) → callOn r k n .answer ≡ ran given place
         → stepAnswers k ≡ given
-    unfolding callOn
+    unfolding callOn reply
     of-call (step s) given place h = absurd (let z : _≡_ {A = ℕ} 0 1 = cc in omega arith)
     of-call (runRecord bs at) given place h = of-record _ _ bs at _ given place h
     of-call (ohms net i) given place h = absurd (no-record _ _ given place h)
 
-  one-call : (l : Layout) → answers (moments m l (c ∷ [])) ≡ stepAnswers (front c m) l (c .call)
+  one-call : (l : Layout) → answers (moments m l (c ∷ [])) ≡ stepAnswers (front c m) (c .output) l (c .call)
   unfolding moments lend
   one-call l =
-      ap answers (append-nil (momentsOf c m (stepsRun (c .call) (callOn (c .call) (front c m) .answer)) (front c m) l))
+      ap answers
+      (append-nil
+      (momentsOf c m (stepsRun (c .call) (callOn r (c .call) (front c m) .answer)) (front c m) (c .output) l))
 
   -- a call that is one step runs that step
   pub step-told : (l : Layout) (s : Step) → c .call ≡ step s
@@ -84,11 +91,11 @@ module _ (c : Lending) (m : Lent) where
   unfolding lend
   step-told l s e =
       one-call l
-      ∙ subst (λ (k : Call). stepAnswers (front c m) l k ≡ answersIn (callOn k (front c m) .answer)) (sym e)
-      (of-step (front c m) l s)
+      ∙ subst (λ (k : Call). stepAnswers (front c m) (c .output) l k ≡ answersIn (callOn r k (front c m) .answer)) (sym e)
+      (of-step (front c m) (c .output) l s)
 
   -- a record that is not refused as a whole runs the steps that it answers
   pub record-told : (l : Layout) (given : List Answer) (place : Option ℕ) → lend c m .answer ≡ ran given place
       → answers (moments m l (c ∷ [])) ≡ given
   unfolding lend
-  record-told l given place h = one-call l ∙ of-call (front c m) l (c .call) given place h
+  record-told l given place h = one-call l ∙ of-call (front c m) (c .output) l (c .call) given place h

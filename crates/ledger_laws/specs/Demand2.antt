@@ -4,6 +4,7 @@ use mathlib.Core.Path.{_≡_}
 use mathlib.Core.Bool.{true, cond}
 use lib.ListN.{length, getD}
 use Rattle.foil_spec.specs.Lists.{keep}
+use Rattle.foil_spec.specs.Limits.{maxStrips, stripsSize}
 use Rattle.foil_spec.specs.Foil.{Point, Layout, free}
 use Rattle.foil_spec.specs.Strips.{holds}
 use Rattle.foil_spec.specs.Lent.{Lent, listedStrip, listedStrips}
@@ -12,9 +13,9 @@ use Rattle.ledger_laws.specs.Moments.{AtEvery}
 
 -- the strip list of n, and its count in the record, are right for the layout l
 pub record StripsRight (l : Layout) (n : Lent) : Type 0 where
-  -- the list has 4,096 places, and the record counts no more strips
-  pub long : 16384 ≤ length (n .strips)
-  pub few : n .board .strips ≤ 4096
+  -- the list has its places, and the record counts no more strips than these
+  pub long : stripsSize ≤ length (n .strips)
+  pub few : n .board .strips ≤ maxStrips
   -- at each place that is counted stands a strip, as wide and then as tall as the rule makes it
   pub are-strips : (k : ℕ) → k < n .board .strips
       → IsStrip (free l) (l .width) (l .height) (listedStrip (n .strips) k)
@@ -25,7 +26,7 @@ pub record StripsRight (l : Layout) (n : Lent) : Type 0 where
   pub each-in-one : (p : Point)
       → length (keep (holds p) (listedStrips (n .strips) (n .board .strips))) ≡ cond (free l (p .x) (p .y)) 1 0
   -- zeros after them
-  pub zeros : (i : ℕ) → n .board .strips * 4 ≤ i → i < 16384 → getD (n .strips) i 0 ≡ 0
+  pub zeros : (i : ℕ) → n .board .strips * 4 ≤ i → i < stripsSize → getD (n .strips) i 0 ≡ 0
 
 -- after every step that a list of calls runs, accepted or not, they are right for the ledger's layout
 abbrev pub StripsStayRight : Type 0

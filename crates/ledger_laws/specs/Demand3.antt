@@ -14,7 +14,7 @@ use Rattle.path_laws.specs.First.{IsFirst}
 use Rattle.ledger_laws.specs.Moments.{Moment, AtEvery}
 
 -- m is what the lists hold at first and l what the ledger held before, both anything. From a call that begins a foil
--- on, all replies, the record, the table, the strips and the corner lists are the ledger's.
+-- on, all replies, the record, the table, the strips and the output lists are the ledger's.
 abbrev pub BehavesAsLedger : Type 0
 BehavesAsLedger =
     (m : Lent) (l : Layout) (c : Lending) (cs : List Lending) → Begins (c .call) (told m c l .answer)
@@ -36,19 +36,18 @@ NoWay =
     → (k .answer ≡ refused 9) ↔ ((cs : List Point) → isPath (free (k .ledgerBefore)) S T cs ≡ true → ⊥))
 
 -- a track that is laid is the first path of fewest bends over the points that are free before the lay, with the bends
--- that are answered, and its corners stand at the front of the corner list
+-- that are answered, and its corners stand at the front of the output list
 abbrev pub LaysFirst : Type 0
 LaysFirst =
     AtEvery (λ k later.
     (net : ℕ) (S T : Point) (cs : List Point) (n : ℕ) → k .step ≡ lay net S T → k .answer ≡ laid cs n
-    → IsFirst (free (k .ledgerBefore)) S (at T) cs × (n ≡ bends cs) × (cornersIn (k .after .corners) (length cs) ≡ cs))
+    → IsFirst (free (k .ledgerBefore)) S (at T) cs × (n ≡ bends cs) × (cornersIn (k .output) (length cs) ≡ cs))
 
 -- lifting it as the next step, in the same record or by another call, lent any front parts that are long enough and any
--- corner list, is accepted and gives back the record, the table and the strips
+-- output list, is accepted and gives back the record, the table and the strips
 abbrev pub LiftsBack : Type 0
 LiftsBack =
     AtEvery (λ k later.
     (net : ℕ) (S T : Point) (cs : List Point) (n : ℕ) → k .step ≡ lay net S T → k .answer ≡ laid cs n
     → (next : Moment) (rest : List Moment) → later ≡ next ∷ rest → next .step ≡ lift net → short (next .room) ≡ false
-    → (next .answer ≡ accepted) × (next .after .board ≡ k .before .board) × (next .after .table ≡ k .before .table)
-    × (next .after .strips ≡ k .before .strips))
+    → (next .answer ≡ accepted) × (next .after ≡ k .before))

@@ -1,4 +1,5 @@
 -- The statements that are proved of the ledger.
+pub mod Line
 pub mod Moments
 pub mod Demand2
 pub mod Demand3

@@ -1,47 +1,51 @@
 -- The steps that a list of calls runs, by calls of their own or inside records, each with the ledger's layout.
+use Prim.Native.Nat.{ℕ}
 use mathlib.Core.Path.{_≡_}
 use mathlib.Core.Bool.{cond}
 use mathlib.Core.List.{List, [], _∷_, _++_}
 use Rattle.foil_spec.specs.Foil.{Layout}
 use Rattle.foil_spec.specs.Ledger.{Step, Answer, Room, ledgerStep}
-use Rattle.foil_spec.specs.Lent.{Lent, roomOf, stepOn}
+use Rattle.foil_spec.specs.Lent.{Lent, stepOn, outputAfter}
 use Rattle.foil_spec.specs.Job.{steps}
 use Rattle.foil_spec.specs.Calls.{Call, step, runRecord, ohms, Reply, answered, ran, atEnd, measured, endsJob}
-use Rattle.foil_spec.specs.Sequence.{Lending, Begins, front, back, lend, told}
+use Rattle.foil_spec.specs.Sequence.{Lending, Begins, front, roomFor, back, lend, told}
 
--- a step that is run: how many places it is lent, what it answers, the record and the whole lists before it and after
--- it, and the ledger's layout before it and after it
+-- a step that is run: the room that it has, what it answers, the record and the whole lists before it and after it, its
+-- output list after it, and the ledger's layout before it and after it
 pub record Moment : Type 0 where
   pub step : Step
   pub room : Room
   pub answer : Answer
   pub before : Lent
   pub after : Lent
+  pub output : List ℕ
   pub ledgerBefore : Layout
   pub ledgerAfter : Layout
 
 -- the call c, on the whole lists m
 module _ (c : Lending) (m : Lent) where
-  -- one of its steps, lent n, where the ledger holds l
-  unfoldable pub momentOf : Step → Lent → Layout → Moment
-  momentOf s n l =
+  -- one of its steps, lent n and the output list out, where the ledger holds l
+  unfoldable pub momentOf : Step → Lent → List ℕ → Layout → Moment
+  momentOf s n out l =
       record {
         step = s;
-        room = roomOf (front c m);
-        answer = stepOn s n .answer;
+        room = roomFor c m;
+        answer = stepOn (roomFor c m) s n .answer;
         before = back c m n;
-        after = back c m (stepOn s n .state);
+        after = back c m (stepOn (roomFor c m) s n .state);
+        output = outputAfter (stepOn (roomFor c m) s n .answer) out;
         ledgerBefore = l;
-        ledgerAfter = ledgerStep (roomOf (front c m)) s l .state;
+        ledgerAfter = ledgerStep (roomFor c m) s l .state;
       }
 
   -- its steps one after the other, the first lent n; one that ends the job is the last
-  unfoldable pub momentsOf : List Step → Lent → Layout → List Moment
-  momentsOf [] n l = []
-  momentsOf (s ∷ ss) n l =
-      momentOf s n l
-      ∷ cond (endsJob (stepOn s n .answer)) []
-      (momentsOf ss (stepOn s n .state) (ledgerStep (roomOf (front c m)) s l .state))
+  unfoldable pub momentsOf : List Step → Lent → List ℕ → Layout → List Moment
+  momentsOf [] n out l = []
+  momentsOf (s ∷ ss) n out l =
+      momentOf s n out l
+      ∷ cond (endsJob (stepOn (roomFor c m) s n .answer)) []
+      (momentsOf ss (stepOn (roomFor c m) s n .state) (outputAfter (stepOn (roomFor c m) s n .answer) out)
+      (ledgerStep (roomFor c m) s l .state))
 
 -- the steps that a call runs, by its reply: none where a record is refused as a whole or is the end mark, and none
 -- where the ohms are asked for
@@ -57,7 +61,7 @@ stepsRun (ohms net i) r = []
 unfoldable pub moments : Lent → Layout → List Lending → List Moment
 moments m l [] = []
 moments m l (c ∷ cs) =
-    momentsOf c m (stepsRun (c .call) (lend c m .answer)) (front c m) l
+    momentsOf c m (stepsRun (c .call) (lend c m .answer)) (front c m) (c .output) l
     ++ moments (lend c m .state) (told m c l .state) cs
 
 -- P holds of each step k that a list of calls runs from a call that begins a foil on, and of the steps run after it;

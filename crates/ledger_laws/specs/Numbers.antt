@@ -6,18 +6,18 @@ use mathlib.Core.List.{List, _∷_, map}
 use lib.Dec.{eqb}
 use Rattle.foil_spec.specs.Lists.{any, each}
 use Rattle.foil_spec.specs.Foil.{Layout}
-use Rattle.foil_spec.specs.Ledger.{numberOf, After}
+use Rattle.foil_spec.specs.Ledger.{numberOf}
 use Rattle.foil_spec.specs.Lent.{Lent}
-use Rattle.foil_spec.specs.Calls.{Reply}
-use Rattle.foil_spec.specs.Sequence.{Lending, Begins, runLent, told, answersIn}
+use Rattle.foil_spec.specs.Calls.{Reply, answersIn}
+use Rattle.foil_spec.specs.Sequence.{Lending, Begins, Left, runLent, told}
 
 -- the numbers in a reply: that of each answer, 0 if accepted; ohms have none
 unfoldable pub numbersIn : Reply → List ℕ
 numbersIn r = map numberOf (answersIn r)
 
 -- the numbers in the replies to a list of calls
-unfoldable pub numbersOf : List (After Reply Lent) → List ℕ
-numbersOf os = each (λ (o : After Reply Lent). numbersIn (o .answer)) os
+unfoldable pub numbersOf : List Left → List ℕ
+numbersOf os = each (λ (o : Left). numbersIn (o .reply)) os
 
 -- the number stands in the list
 unfoldable pub among : ℕ → List ℕ → Bool

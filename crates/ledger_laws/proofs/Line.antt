@@ -1,0 +1,212 @@
+-- Each step of the ledger keeps what lists of calls ask of it.
+use Prim.Native.Nat.{ℕ, suc, min, _≤_, _<_}
+use native.Mathlib.Omega.{arith}
+use mathlib.Core.Path.{_≡_, refl, sym}
+use mathlib.Core.Bool.{Bool, true, false, not, _&&_, _||_, or-true, true≢false}
+use mathlib.Core.List.{List, [], _∷_, _++_}
+use mathlib.Core.Option.{Option, none, some, Option·getD}
+use lib.Dec.{leb, ltb}
+use borrow.Author.Tests.{ltb-true, ltb-false, leb-true, lt-ltb, le-leb}
+use lib.ListN.{length}
+use Rattle.foil_spec.specs.Lists.{all, keep, consIf}
+use Rattle.foil_spec.specs.Limits.{maxEntries}
+use Rattle.foil_spec.specs.Foil.{Point, Entry, entry, Layout, sizeOk, clearanceOk, netOk, boxOk, shapeOk, entryOk, free}
+use Rattle.foil_spec.specs.Paths.{at}
+use Rattle.foil_spec.specs.Ledger.{stripsOf, pathOf, cornersOf, legs, ofNet, withEntries, Room, cornerRoom, tooLong}
+use Rattle.foil_spec.specs.Ledger.{tooFine, Step, newFoil, draw, lay, lift, lookUp, numberOf, next, says}
+use Rattle.foil_spec.specs.Ledger.{Refusal, _⇒_, first, reads, refusals}
+use Rattle.foil_spec.specs.Lent.{layoutOk}
+use Rattle.list_laws.proofs.Tests.{and-l, and-r, and-i, not-ff, both, all-append, all-keep}
+use Rattle.path_laws.proofs.Laws.{gives-first}
+use Rattle.strip_laws.proofs.Laws.{one-strip}
+use Rattle.ledger_laws.specs.Line.{Line, but, numbersFrom, ownNumbers}
+use Rattle.ledger_laws.proofs.Refusals.{none-applies, first-passes}
+use Rattle.ledger_laws.proofs.Legs.{free-inside, legs-ok}
+use Rattle.ledger_laws.proofs.Rules.{Keeps, of-ok, to-ok}
+
+-- ---- what the steps leave
+
+positive : (n : ℕ) → sizeOk n ≡ true → 0 < n
+unfolding sizeOk
+positive n h = leb-true 1 n (and-l (leb 1 n) (leb n 4096) h)
+
+-- a foil without entries
+abbrev pub bare : ℕ → ℕ → ℕ → Layout
+bare W H d = record { width = W; height = H; clearance = d; entries = [] }
+
+pub bare-free : (d W H x y : ℕ) → x < W → y < H → free (bare W H d) x y ≡ true
+unfolding free
+bare-free d W H x y hx hy = simp (lt-ltb x W hx, lt-ltb y H hy)
+
+pub new-fine : (W H d : ℕ) → sizeOk W ≡ true → sizeOk H ≡ true → tooFine (bare W H d) ≡ false
+unfolding tooFine stripsOf
+new-fine W H d hW hH = rw (one-strip (free (bare W H d)) W H (positive W hW) (positive H hH) (bare-free d W H)) refl
+
+pub patch-ok : (W H : ℕ) (x0 y0 x1 y1 : ℕ) → boxOk W H (entry 0 x0 y0 x1 y1) ≡ true
+    → entryOk W H (entry 0 x0 y0 x1 y1) ≡ true
+unfolding entryOk shapeOk
+patch-ok W H x0 y0 x1 y1 h = rw h refl
+
+pub laid-ok : (l : Layout) (net : ℕ) (S T : Point) (o : Option (List Point)) → pathOf l S T ≡ o → netOk net ≡ true
+    → all (entryOk (l .width) (l .height)) (legs net (Option·getD o [])) ≡ true
+unfolding pathOf legs
+laid-ok l net S T none e h = refl
+laid-ok l net S T (some cs) e h =
+    let i = free-inside l in
+    legs-ok (l .width) (l .height) net h (free l) i T S cs
+    (gives-first (free l) (l .width) (l .height) i S (at T) cs e .path)
+
+-- no more entries than a foil may have are no more than a table has places
+within-limit : (r : Room) (l : Layout) → tooLong r l ≡ false → leb (length (l .entries)) maxEntries ≡ true
+unfolding tooLong
+within-limit r l h =
+    le-leb (length (l .entries)) maxEntries
+    (omega (arith, ltb-false (min maxEntries (r .limit)) (length (l .entries)) h))
+
+length-consIf : {A : Type 0} (t : Bool) (x : A) (xs : List A) → length (consIf t x xs) ≤ suc (length xs)
+length-consIf true x xs = omega arith
+length-consIf false x xs = omega arith
+
+length-keep : {A : Type 0} (p : A → Bool) (xs : List A) → length (keep p xs) ≤ length xs
+length-keep p [] = omega arith
+length-keep p (x ∷ xs) = omega (arith, length-consIf (p x) x (keep p xs), length-keep p xs)
+
+-- ---- the rules are kept by entries that are appended, or taken out
+
+appended : (r : Room) (l : Layout) (es : List Entry) → layoutOk l ≡ true
+    → all (entryOk (l .width) (l .height)) es ≡ true → tooLong r (withEntries l (l .entries ++ es)) ≡ false
+    → tooFine (withEntries l (l .entries ++ es)) ≡ false → layoutOk (withEntries l (l .entries ++ es)) ≡ true
+appended r l es g ok long fine =
+    let k = of-ok l g in
+    to-ok _
+    (record {
+      width = k .width;
+      height = k .height;
+      clearance = k .clearance;
+      entries = all-append (entryOk (l .width) (l .height)) (l .entries) es (k .entries) ok;
+      long = within-limit r _ long;
+      fine = fine;
+    })
+
+taken-out : (l : Layout) (p : Entry → Bool) → layoutOk l ≡ true
+    → tooFine (withEntries l (keep p (l .entries))) ≡ false → layoutOk (withEntries l (keep p (l .entries))) ≡ true
+taken-out l p g fine =
+    let k = of-ok l g in
+    let few = leb-true (length (l .entries)) maxEntries (k .long) in
+    to-ok _
+    (record {
+      width = k .width;
+      height = k .height;
+      clearance = k .clearance;
+      entries = all-keep (entryOk (l .width) (l .height)) p (l .entries) (k .entries);
+      long = le-leb (length (keep p (l .entries))) maxEntries (omega (arith, few, length-keep p (l .entries)));
+      fine = fine;
+    })
+
+-- ---- 12
+
+-- a step that has no 12 of its own is not refused by it
+no-12 : (rs : List Refusal) → all (λ (c : Refusal). not (c .applies) || but 12 (c .number)) rs ≡ true
+    → first rs ≡ some 12 → ⊥
+unfolding but
+no-12 rs h e = true≢false (sym (first-passes (but 12) rs h 12 e))
+
+-- a lay that is refused by 12 has more corners than places
+lay-12 : (net : ℕ) (S T : Point) (r : Room) (l : Layout) → first (refusals (lay net S T) r l) ≡ some 12
+    → cornerRoom r < length (cornersOf l S T)
+unfolding refusals but
+lay-12 net S T r l e =
+    both (ltb (cornerRoom r) (length (cornersOf l S T)))
+    (λ t. ltb-true (cornerRoom r) (length (cornersOf l S T)) t)
+    (λ t. absurd (no-12 _ (simp (t, or-true)) e))
+
+-- ---- the lines
+
+module _ (W H d : ℕ) where
+  sizes : (r : Room) (l : Layout) → first (refusals (newFoil W H d) r l) ≡ none
+      → (sizeOk W ≡ true) × (sizeOk H ≡ true) × (clearanceOk d ≡ true)
+  unfolding refusals
+  sizes r l h =
+      let s : (sizeOk W && sizeOk H) ≡ true = not-ff _ (search none-applies) in
+      (and-l (sizeOk W) (sizeOk H) s, and-r (sizeOk W) (sizeOk H) s, not-ff (clearanceOk d) (search none-applies))
+
+  new-line : Line (newFoil W H d)
+  unfolding next says numberOf numbersFrom ownNumbers but refusals
+  new-line = record {
+    kept = λ r l g h.
+        let s = sizes r l h in
+        to-ok _
+        (record {
+          width = s .0;
+          height = s .1;
+          clearance = s .2;
+          entries = refl;
+          long = refl;
+          fine = new-fine W H d (s .0) (s .1);
+        });
+    fine = λ r l g h. let s = sizes r l h in new-fine W H d (s .0) (s .1);
+    accepts = λ l. refl;
+    numbers = λ r l. refl;
+    unbroken = refl;
+    output = λ r l h. absurd (no-12 _ (simp or-true) h);
+  }
+
+draw-line : (x0 y0 x1 y1 : ℕ) → Line (draw x0 y0 x1 y1)
+unfolding next says numberOf numbersFrom ownNumbers but refusals reads
+draw-line x0 y0 x1 y1 = record {
+  kept = λ r l g h.
+      let e : entryOk (l .width) (l .height) (entry 0 x0 y0 x1 y1) ≡ true =
+      patch-ok (l .width) (l .height) x0 y0 x1 y1 (not-ff _ (search none-applies)) in
+      appended r l (entry 0 x0 y0 x1 y1 ∷ []) (g refl)
+      (and-i {a = entryOk (l .width) (l .height) (entry 0 x0 y0 x1 y1)} e refl)
+      (search none-applies) (search none-applies depth 9);
+  fine = λ r l g h. search none-applies depth 9;
+  accepts = λ l. refl;
+  numbers = λ r l. refl;
+  unbroken = refl;
+  output = λ r l h. absurd (no-12 _ (simp or-true) h);
+}
+
+lay-line : (net : ℕ) (S T : Point) → Line (lay net S T)
+unfolding next says numberOf numbersFrom ownNumbers but refusals reads cornersOf
+lay-line net S T = record {
+  kept = λ r l g h.
+      appended r l (legs net (cornersOf l S T)) (g refl)
+      (laid-ok l net S T (pathOf l S T) refl (not-ff (netOk net) (search none-applies)))
+      (search none-applies depth 12) (search none-applies depth 12);
+  fine = λ r l g h. search none-applies depth 12;
+  accepts = λ l. refl;
+  numbers = λ r l. refl;
+  unbroken = refl;
+  output = λ r l h. (S, T, lay-12 net S T r l h);
+}
+
+lift-line : (net : ℕ) → Line (lift net)
+unfolding next says numberOf numbersFrom ownNumbers but refusals reads
+lift-line net = record {
+  kept = λ r l g h. taken-out l (λ e. not (ofNet net e)) (g refl) (search none-applies depth 9);
+  fine = λ r l g h. search none-applies depth 9;
+  accepts = λ l. refl;
+  numbers = λ r l. refl;
+  unbroken = refl;
+  output = λ r l h. absurd (no-12 _ (simp or-true) h);
+}
+
+look-line : (p : Point) → Line (lookUp p)
+unfolding next says numberOf numbersFrom ownNumbers but refusals reads
+look-line p = record {
+  kept = λ r l g h. g refl;
+  fine = λ r l g h. g;
+  accepts = λ l. refl;
+  numbers = λ r l. refl;
+  unbroken = refl;
+  output = λ r l h. absurd (no-12 _ (simp or-true) h);
+}
+
+-- what every step keeps
+pub line : (s : Step) → Line s
+line (newFoil W H d) = new-line W H d
+line (draw x0 y0 x1 y1) = draw-line x0 y0 x1 y1
+line (lay net S T) = lay-line net S T
+line (lift net) = lift-line net
+line (lookUp p) = look-line p

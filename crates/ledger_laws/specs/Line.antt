@@ -1,0 +1,44 @@
+-- What every step has to keep, so that lists of calls behave as the ledger: one clause a step, in proofs/Line.
+use Prim.Native.Nat.{ℕ, _<_}
+use mathlib.Core.Path.{_≡_}
+use mathlib.Core.Bool.{Bool, true, false, not}
+use mathlib.Core.List.{List, [], map}
+use mathlib.Core.Option.{none, some}
+use lib.Dec.{eqb}
+use lib.ListN.{length}
+use Rattle.foil_spec.specs.Lists.{all, any, keep}
+use Rattle.foil_spec.specs.Foil.{Point, Layout}
+use Rattle.foil_spec.specs.Ledger.{cornersOf, Room, cornerRoom, tooFine, Step, numberOf, next, says, Refusal, first}
+use Rattle.foil_spec.specs.Ledger.{reads, refusals}
+use Rattle.foil_spec.specs.Lent.{layoutOk}
+
+-- every number but n
+unfoldable pub but : ℕ → ℕ → Bool
+but n k = not (eqb n k)
+
+-- the numbers of some refusals
+unfoldable pub numbersFrom : List Refusal → List ℕ
+numbersFrom rs = map (λ (c : Refusal). c .number) rs
+
+-- the numbers of a step's own refusals, whatever foil it is lent; 12 is for its output list and not counted
+unfoldable pub ownNumbers : Step → List ℕ
+ownNumbers s =
+    keep (but 12)
+    (numbersFrom (refusals s (record { table = 0; strips = 0; output = 0; limit = 0 })
+    (record { width = 0; height = 0; clearance = 0; entries = [] })))
+
+-- the step s on the ledger
+pub record Line (s : Step) : Type 0 where
+  -- accepted, it leaves a layout that keeps the rules, if the one that it reads does
+  pub kept : (r : Room) (l : Layout) → (reads s ≡ true → layoutOk l ≡ true) → first (refusals s r l) ≡ none
+      → layoutOk (next s l) ≡ true
+  -- it leaves no more strips than a list has places, if the layout has no more, whatever rule that breaks
+  pub fine : (r : Room) (l : Layout) → tooFine l ≡ false → first (refusals s r l) ≡ none → tooFine (next s l) ≡ false
+  -- its answer is no refusal then
+  pub accepts : (l : Layout) → numberOf (says s l) ≡ 0
+  -- it has the same numbers on every foil, and 13 is none of its own
+  pub numbers : (r : Room) (l : Layout) → keep (but 12) (numbersFrom (refusals s r l)) ≡ ownNumbers s
+  pub unbroken : all (but 13) (ownNumbers s) ≡ true
+  -- its own 12 is for want of corner places
+  pub output : (r : Room) (l : Layout) → first (refusals s r l) ≡ some 12
+      → (S : Point) × (T : Point) × (cornerRoom r < length (cornersOf l S T))
