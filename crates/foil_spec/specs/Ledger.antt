@@ -184,11 +184,10 @@ pub record After (A S : Type 0) : Type 0 where
   pub answer : A
   pub state : S
 
--- a step on a state that holds the layout l: refused, and all stays as it is; or accepted, and the state is what `put`
--- makes of the layout that it leaves
-unfoldable pub settle : {S : Type 0} → (Layout → S) → Option ℕ → Step → Layout → S → After Answer S
-settle put (some n) s l old = record { answer = refused n; state = old }
-settle put none s l old = record { answer = says s l; state = put (next s l) }
+-- refused by a number, and the state stays as it is; or what an accepted step gives
+unfoldable pub settle : {S : Type 0} → Option ℕ → After Answer S → S → After Answer S
+settle (some n) done old = record { answer = refused n; state = old }
+settle none done old = done
 
 -- the number that turns a step down, if one does; `broken` says that the state breaks a rule
 unfoldable pub refusalOf : Room → Bool → Step → Layout → Option ℕ
@@ -196,4 +195,4 @@ refusalOf r broken s l = first (afterLent r (broken && reads s) (refusals s r l)
 
 -- the ledger's line for a step; its own state is never broken
 unfoldable pub ledgerStep : Room → Step → Layout → After Answer Layout
-ledgerStep r s l = settle (λ k. k) (refusalOf r false s l) s l l
+ledgerStep r s l = settle (refusalOf r false s l) (record { answer = says s l; state = next s l }) l

@@ -9,7 +9,7 @@ use Rattle.foil_spec.specs.Limits.{maxEntries, tableSize, stripsSize}
 use Rattle.foil_spec.specs.Foil.{Point, point, Entry, entry, Layout, sizeOk, clearanceOk, entryOk}
 use Rattle.foil_spec.specs.Strips.{Strip}
 use Rattle.foil_spec.specs.Ledger.{stripsOf, tooFine, Room, Step, Answer, refused, accepted, laid, found}
-use Rattle.foil_spec.specs.Ledger.{After, settle, refusalOf}
+use Rattle.foil_spec.specs.Ledger.{says, next, After, settle, refusalOf}
 use Rattle.foil_spec.specs.declared.Board.{Board}
 
 -- what is lent of a foil: the board's record, the patch table and the strip list
@@ -127,7 +127,9 @@ roomOf m output = roomIn maxEntries m output
 
 -- what a step does to what is lent
 unfoldable pub stepOn : Room → Step → Lent → After Answer Lent
-stepOn r s m = settle (λ l. store l m) (refusalOf r (not (sound m)) s (held m)) s (held m) m
+stepOn r s m =
+    settle (refusalOf r (not (sound m)) s (held m))
+    (record { answer = says s (held m); state = store (next s (held m)) m }) m
 
 -- an output list after an answer: an accepted lay's corners stand at its front
 unfoldable pub outputAfter : Answer → List ℕ → List ℕ

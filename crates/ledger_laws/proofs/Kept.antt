@@ -5,7 +5,7 @@ use mathlib.Core.Bool.{Bool, true, false, cond}
 use mathlib.Core.List.{List, [], _∷_}
 use mathlib.Core.Option.{Option, none, some}
 use Rattle.foil_spec.specs.Foil.{Layout}
-use Rattle.foil_spec.specs.Ledger.{Room, Step, Answer, next, After, settle, refusalOf, ledgerStep}
+use Rattle.foil_spec.specs.Ledger.{Room, Step, Answer, says, next, After, settle, refusalOf, ledgerStep}
 use Rattle.foil_spec.specs.Lent.{layoutOk}
 use Rattle.foil_spec.specs.Calls.{Call, step, runRecord, ohms, endsJob, andThen, actAll, actRecord, reply, ledgerCall}
 use Rattle.ledger_laws.proofs.Refusals.{unrefused-own}
@@ -26,7 +26,7 @@ module _ (Q : Layout → Type 0) where
   module _ (r : Room)
       (keeps : (s : Step) (l : Layout) → Q l → refusalOf r false s l ≡ none → Q (next s l)) where
     settle-keeps : (o : Option ℕ) (s : Step) (l : Layout) → refusalOf r false s l ≡ o → Q l
-        → Q (settle (λ k. k) o s l l .state)
+        → Q (settle o (record { answer = says s l; state = next s l }) l .state)
     unfolding settle
     settle-keeps (some n) s l e g = g
     settle-keeps none s l e g = keeps s l g e

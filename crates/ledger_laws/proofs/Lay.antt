@@ -16,7 +16,7 @@ use Rattle.foil_spec.specs.Ledger.{pathOf, noPath, cornersOf, leg, legsFrom, le
 use Rattle.foil_spec.specs.Ledger.{offFoil, blocked, Room, short, cornerRoom, tooLong, tooFine, next, says, _⇒_, first}
 use Rattle.foil_spec.specs.Ledger.{reads, refusals, afterLent, settle, refusalOf, ledgerStep}
 use Rattle.foil_spec.specs.Ledger.{lay, lift, refused, accepted, laid}
-use Rattle.foil_spec.specs.Lent.{Lent, held, sound, store, stepOn}
+use Rattle.foil_spec.specs.Lent.{Lent, held, sound, stepOn}
 use Rattle.list_laws.proofs.Tests.{clash, or-l, or-r, or-ir, not-ff}
 use Rattle.path_laws.specs.First.{IsFirst}
 use Rattle.path_laws.proofs.Laws.{gives-first, gives-none, none-is}
@@ -57,7 +57,8 @@ lay-from-9 r broken l net S T long fine k =
     ) refl
 
 settled-9 : (o : Option ℕ) (net : ℕ) (S T : Point) (l : Layout)
-    → settle (λ k. k) o (lay net S T) l l .answer ≡ refused 9 → o ≡ some 9
+    → settle o (record { answer = says (lay net S T) l; state = next (lay net S T) l }) l .answer ≡ refused 9
+    → o ≡ some 9
 unfolding settle says
 settled-9 none net S T l h = absurd (let z : _≡_ {A = ℕ} 0 1 = cc in omega arith)
 settled-9 (some n) net S T l h = let e : n ≡ 9 = cc in ap {A = ℕ} {B = Option ℕ} some e
@@ -103,18 +104,18 @@ pub record Laid (r : Room) (broken : Bool) (l : Layout) (net : ℕ) (S T : Point
   pub corners : cs ≡ cornersOf l S T
   pub bent : n ≡ bends (cornersOf l S T)
 
-settled-laid : {A : Type 0} (put : Layout → A) (o : Option ℕ) (net : ℕ) (S T : Point) (l : Layout) (old : A)
-    (cs : List Point) (n : ℕ) → settle put o (lay net S T) l old .answer ≡ laid cs n
+settled-laid : {A : Type 0} (o : Option ℕ) (net : ℕ) (S T : Point) (l : Layout) (new old : A) (cs : List Point) (n : ℕ)
+    → settle o (record { answer = says (lay net S T) l; state = new }) old .answer ≡ laid cs n
     → (o ≡ none) × (cs ≡ cornersOf l S T) × (n ≡ bends (cornersOf l S T))
 unfolding settle says
-settled-laid put none net S T l old cs n h = (refl, cc, cc)
-settled-laid put (some k) net S T l old cs n h = absurd (let z : _≡_ {A = ℕ} 0 1 = cc in omega arith)
+settled-laid none net S T l new old cs n h = (refl, cc, cc)
+settled-laid (some k) net S T l new old cs n h = absurd (let z : _≡_ {A = ℕ} 0 1 = cc in omega arith)
 
 of-laid : (r : Room) (l : Layout) (net : ℕ) (S T : Point) (cs : List Point) (n : ℕ)
     → ledgerStep r (lay net S T) l .answer ≡ laid cs n → Laid r false l net S T cs n
 unfolding ledgerStep
 of-laid r l net S T cs n h =
-    let a = settled-laid (λ k. k) (refusalOf r false (lay net S T) l) net S T l l cs n h in
+    let a = settled-laid (refusalOf r false (lay net S T) l) net S T l _ l cs n h in
     record { unrefused = a .0; corners = a .1; bent = a .2 }
 
 -- the same of a lay on lists that hold anything
@@ -123,7 +124,7 @@ pub laid-on : (r : Room) (m : Lent) (net : ℕ) (S T : Point) (cs : List Point) 
 unfolding stepOn
 laid-on r m net S T cs n h =
     let o : Option ℕ = refusalOf r (not (sound m)) (lay net S T) (held m) in
-    let a = settled-laid (λ l. store l m) o net S T (held m) m cs n h in
+    let a = settled-laid o net S T (held m) _ m cs n h in
     record { unrefused = a .0; corners = a .1; bent = a .2 }
 
 has-path : (r : Room) (b : Bool) (l : Layout) (net : ℕ) (S T : Point)
@@ -210,8 +211,7 @@ lifted r l net cs ok unused used fine long =
     let e : keep (λ (x : Entry). not (ofNet net x)) (l .entries ++ legs net cs) ≡ l .entries =
     keep-others net (l .entries) (legs net cs) unused
     ∙ ap (λ (xs : List Entry). l .entries ++ xs) (keep-none net cs) ∙ append-nil (l .entries) in
-    rw (e, long, ok, used-right net (l .entries) (legs net cs) used, fine)
-    (ap (λ (es : List Entry). record { answer = accepted; state = withEntries l es }) e)
+    rw (e, long, ok, used-right net (l .entries) (legs net cs) used, fine) refl
 
 -- what a lay that is not refused has passed
 record Passed (l : Layout) (net : ℕ) : Type 0 where

@@ -179,14 +179,14 @@ step-alone r s l = go (endsJob (ledgerStep r s l .answer)) (ledgerStep r s l)
     go false a = refl
 
 module _ (W H d : ℕ) (r : Room) (l : Layout) where
-  settled-new : (o : Option ℕ) → settle (λ k. k) o (newFoil W H d) l l .answer ≡ accepted → o ≡ none
+  settled-new : (o : Option ℕ) (done : After Answer Layout) → settle o done l .answer ≡ accepted → o ≡ none
   unfolding settle
-  settled-new none e = refl
-  settled-new (some n) e = absurd (let z : _≡_ {A = ℕ} 0 1 = cc in omega arith)
+  settled-new none done e = refl
+  settled-new (some n) done e = absurd (let z : _≡_ {A = ℕ} 0 1 = cc in omega arith)
 
   new-unrefused : ledgerStep r (newFoil W H d) l .answer ≡ accepted → refusalOf r false (newFoil W H d) l ≡ none
   unfolding ledgerStep
-  new-unrefused e = settled-new (refusalOf r false (newFoil W H d) l) e
+  new-unrefused e = settled-new (refusalOf r false (newFoil W H d) l) _ e
 
   -- a new foil reads nothing of what is lent
   pub new-refusal : (b : Bool) (l′ : Layout) → refusalOf r b (newFoil W H d) l′ ≡ refusalOf r false (newFoil W H d) l

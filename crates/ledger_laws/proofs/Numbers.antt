@@ -10,7 +10,7 @@ use lib.Ieee.{Float}
 use borrow.Author.Tests.{eqb-true, eq-eqb}
 use Rattle.foil_spec.specs.Lists.{all}
 use Rattle.foil_spec.specs.Foil.{Layout}
-use Rattle.foil_spec.specs.Ledger.{Room, short, Step, Answer, numberOf, next, Refusal, first, refusals, afterLent, After}
+use Rattle.foil_spec.specs.Ledger.{Room, short, Step, Answer, numberOf, says, next, Refusal, first, refusals, afterLent, After}
 use Rattle.foil_spec.specs.Ledger.{settle, refusalOf, ledgerStep}
 use Rattle.foil_spec.specs.Lent.{Lent}
 use Rattle.foil_spec.specs.Job.{isEnd, steps, recordEnd, recordChecks}
@@ -33,7 +33,7 @@ module _ (p : ℕ → Bool) (zero-passes : p 0 ≡ true) (Q : Layout → Type 0)
     (step-passes : (s : Step) (l : Layout) → Q l → (n : ℕ) → refusalOf r false s l ≡ some n → p n ≡ true)
     (next-keeps : (s : Step) (l : Layout) → Q l → refusalOf r false s l ≡ none → Q (next s l)) where
   settled : (o : Option ℕ) (s : Step) (l : Layout) → ((n : ℕ) → o ≡ some n → p n ≡ true)
-      → p (numberOf (settle (λ k. k) o s l l .answer)) ≡ true
+      → p (numberOf (settle o (record { answer = says s l; state = next s l }) l .answer)) ≡ true
   unfolding settle numberOf
   settled (some n) s l h = h n refl
   settled none s l h = ap p (line s .accepts l) ∙ zero-passes

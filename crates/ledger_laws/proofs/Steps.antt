@@ -19,17 +19,21 @@ shown m a = record { answer = a .answer; state = store (a .state) m }
 
 -- ---- one step
 
-settle-is : (o : Option ℕ) (s : Step) (l : Layout) (m : Lent) → layoutOk l ≡ true
-    → settle (λ k. store k (store l m)) o s l (store l m) ≡ shown m (settle (λ k. k) o s l l)
-unfolding settle shown
-settle-is (some n) s l m g = refl
-settle-is none s l m g = ap (λ (x : Lent). record { answer = says s l; state = x }) (store-again l (next s l) m g)
+settle-is : {A : Type 0} (put : A → Lent) (o : Option ℕ) (a : After Answer Lent) (b : After Answer A) (x : A)
+    → a ≡ record { answer = b .answer; state = put (b .state) }
+    → settle o a (put x) ≡ record { answer = settle o b x .answer; state = put (settle o b x .state) }
+unfolding settle
+settle-is put (some n) a b x e = refl
+settle-is put none a b x e = e
 
 module _ (r : Room) where
   pub step-is : (s : Step) (l : Layout) (m : Lent) → layoutOk l ≡ true
       → stepOn r s (store l m) ≡ shown m (ledgerStep r s l)
-  unfolding stepOn ledgerStep
-  step-is s l m g = rw (held-store l m, sound-store l m g) (settle-is (refusalOf r false s l) s l m g)
+  unfolding stepOn ledgerStep shown
+  step-is s l m g =
+      rw (held-store l m, sound-store l m g)
+      (settle-is (λ k. store k m) (refusalOf r false s l) _ (record { answer = says s l; state = next s l }) l
+      (ap (λ (x : Lent). record { answer = says s l; state = x }) (store-again l (next s l) m g)))
 
   -- ---- the steps of a record
 
