@@ -1,18 +1,21 @@
 -- What the contracts of the calls say: answer, record and lists are what the definitions give.
 use Prim.Native.Nat.{ℕ}
 use mathlib.Core.Path.{_≡_}
-use mathlib.Core.Bool.{Bool, true, false}
-use mathlib.Core.List.{List}
+use mathlib.Core.Bool.{Bool, true, false, not}
+use mathlib.Core.List.{List, [], _∷_, _++_}
+use mathlib.Core.Option.{some}
 use lib.ListN.{length}
-use Rattle.foil_spec.specs.Foil.{Point, Layout}
-use Rattle.foil_spec.specs.Ledger.{Step, lookUp, short}
+use Rattle.foil_spec.specs.Foil.{Point, Entry, Layout}
+use Rattle.foil_spec.specs.Ledger.{withEntries, Room, short, tooLong, tooFine, Step, lookUp, Refusal, _⇒_, first, afterLent}
+use Rattle.foil_spec.specs.Ledger.{After, settle}
 use Rattle.foil_spec.specs.Ledger.{Answer as Outcome, refused, accepted, laid, found}
-use Rattle.foil_spec.specs.Lent.{Lent, lent, sound, roomOf, stepOn}
+use Rattle.foil_spec.specs.Lent.{Lent, lent, held, store, sound, roomIn, roomOf, stepOn, outputAfter}
 use Rattle.foil_spec.specs.declared.Board.{Board}
-use Rattle.booking.specs.Booked.{Stored, Unchanged}
 use Rattle.foil.specs.declared.Answer.{Answer}
 use Rattle.foil.specs.declared.Answer.the-variants.{Refused, Accepted, Laid, Found}
 use Rattle.foil.specs.declared.Done.{Done}
+use Rattle.foil.specs.declared.lent.Checked.{Checked}
+use Rattle.foil.specs.declared.lent.Checked.the-variants as checked
 
 -- document 01's number and values for each case of an answer
 unfoldable pub answerOf : Outcome → Answer
@@ -21,18 +24,39 @@ answerOf accepted = Accepted
 answerOf (laid cs n) = Laid (length cs) n
 answerOf (found k) = Found k
 
--- a step was lent m, answered r, and left the table t, the strips s and the corner list ks
-pub record StepDone (c : Step) (m : Lent) (r : Done) (t s ks : List ℕ) : Type 0 where
-  pub answer : r .answer ≡ answerOf (stepOn c m .answer)
-  pub board : r .board ≡ stepOn c m .state .board
-  pub table : t ≡ stepOn c m .state .table
-  pub strips : s ≡ stepOn c m .state .strips
-  pub corners : ks ≡ stepOn c m .state .corners
+-- the answer, the record, the table t and the strips s are those of a
+pub record Gave (a : After Outcome Lent) (d : Done) (t s : List ℕ) : Type 0 where
+  pub answer : d .answer ≡ answerOf (a .answer)
+  pub board : d .board ≡ a .state .board
+  pub table : t ≡ a .state .table
+  pub strips : s ≡ a .state .strips
+
+-- a call that is one step, lent m and no output list, on a foil that may fill its table
+abbrev pub StepDone : Step → Lent → Done → List ℕ → List ℕ → Type 0
+StepDone c m d t s = Gave (stepOn (roomOf m 0) c m) d t s
+
+-- a step that is lent m, in any room that is long enough, on a foil of so many entries at most
+abbrev pub StepIn : Step → ℕ → Lent → Done → List ℕ → List ℕ → Type 0
+StepIn c limit m d t s = (r : Room) → short r ≡ false → r .limit ≡ limit → Gave (stepOn r c m) d t s
+
+-- a step in the room r that is lent the output list out as well, and leaves it as out′
+pub record Wrote (c : Step) (r : Room) (m : Lent) (out : List ℕ) (d : Done) (t s out′ : List ℕ) : Type 0 where
+  pub gave : Gave (stepOn r c m) d t s
+  pub output : out′ ≡ outputAfter (stepOn r c m .answer) out
+
+-- a call that is one step, lent m and an output list
+abbrev pub OutputDone : Step → Lent → List ℕ → Done → List ℕ → List ℕ → List ℕ → Type 0
+OutputDone c m out d t s out′ = Wrote c (roomOf m (length out)) m out d t s out′
+
+-- the same in any room that is long enough, with so many places of output, on a foil of so many entries at most
+abbrev pub OutputIn : Step → ℕ → Lent → List ℕ → Done → List ℕ → List ℕ → List ℕ → Type 0
+OutputIn c limit m out d t s out′ =
+    (r : Room) → short r ≡ false → r .limit ≡ limit → r .output ≡ length out → Wrote c r m out d t s out′
 
 -- a look up of p was lent m, which it only reads, and answered r
 pub record Looked (p : Point) (m : Lent) (r : Answer) : Type 0 where
-  pub answer : r ≡ answerOf (stepOn (lookUp p) m .answer)
-  pub state : m ≡ stepOn (lookUp p) m .state
+  pub answer : r ≡ answerOf (stepOn (roomOf m 0) (lookUp p) m .answer)
+  pub state : m ≡ stepOn (roomOf m 0) (lookUp p) m .state
 
 -- a refusal by its number
 abbrev pub refusedBy : ℕ → Board → Done
@@ -40,14 +64,24 @@ refusedBy n b = record { answer = Refused n; board = b }
 
 -- the answer says whether lists of this length are too short, whatever else is lent
 pub record TooShort (t s : List ℕ) (r : Bool) : Type 0 where
-  pub is : (b : Board) (ks : List ℕ) → r ≡ short (roomOf (lent b t s ks))
+  pub is : (b : Board) (limit output : ℕ) → r ≡ short (roomIn limit (lent b t s) output)
 
--- lists that are long enough, and that keep the rules
-pub record Ready (m : Lent) : Type 0 where
-  pub long : short (roomOf m) ≡ false
-  pub fine : sound m ≡ true
+-- what is lent keeps the rules; or a call that reads it is refused by this number, whatever its own refusals are
+abbrev pub LentChecked : Lent → Checked → Type 0
+LentChecked m checked.Passed = sound m ≡ true
+LentChecked m (checked.Refused n) =
+    (limit output : ℕ) (rs : List Refusal) → first (afterLent (roomIn limit m output) (not (sound m)) rs) ≡ some n
 
--- a layout was taken over, or has too many strips
-pub data Settled (l : Layout) (b : Board) (t s t′ s′ : List ℕ) (r : Done) : Type 0 where
-  fits : Stored l t s t′ s′ (r .board) → r .answer ≡ Accepted → Settled l b t s t′ s′ r
-  over : Unchanged l t s t′ s′ → r .answer ≡ Refused 11 → r .board ≡ b → Settled l b t s t′ s′ r
+-- what comes of a layout l in place of what m holds, if only 11 can still refuse it
+abbrev pub takenOver : Layout → Lent → After Outcome Lent
+takenOver l m = settle (first ((tooFine l ⇒ 11) ∷ [])) (record { answer = accepted; state = store l m }) m
+
+-- the layout that m holds, with an entry more
+abbrev pub withEntry : Lent → Entry → Layout
+withEntry m e = withEntries (held m) (held m .entries ++ e ∷ [])
+
+-- what comes of an entry more, if only 10 and 11 can still refuse it
+abbrev pub entryAdded : Room → Entry → Lent → After Outcome Lent
+entryAdded r e m =
+    settle (first ((tooLong r (withEntry m e) ⇒ 10) ∷ (tooFine (withEntry m e) ⇒ 11) ∷ []))
+    (record { answer = accepted; state = store (withEntry m e) m }) m

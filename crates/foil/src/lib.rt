@@ -1,31 +1,42 @@
 // The calls on a foil that need no search, over slices of numbers: the table has five numbers a place,
 // the strip list four. None has a `requires`: whatever is lent, each answers, and changes only what
-// document 01 says. Lay is in the crate `laying`.
+// document 01 says. Each is its refusals by 12 and 13, and then a body (`.._in`) for a state that is
+// known to keep the rules, which takes the number of entries that the foil may have. Lay is in the
+// crate `laying`.
+mod lent;
+
 use booking::Booked;
 use booking::append;
-use booking::book;
 use booking::copy_front;
 use booking::in_use;
+use booking::take_over;
 use booking::without;
 use foil_spec::Board;
+use foil_spec::Entry;
+use foil_spec::MAX_ENTRIES;
+use foil_spec::TABLE_SIZE;
+pub use lent::Checked;
+pub use lent::lent_refusal;
+pub use lent::lists_short;
 use state::box_ok;
 use state::clearance_ok;
-use state::is_sound;
 use state::net_ok;
 use state::size_ok;
 use strips::Place;
 use strips::locate;
 ghost use mathlib.Core.Path.{_≡_};
-ghost use Prim.Native.Nat.{_≤_};
-ghost use mathlib.Core.List.{List, [], map};
+ghost use Prim.Native.Nat.{ℕ, _≤_};
+ghost use mathlib.Core.Bool.{true, false};
+ghost use mathlib.Core.List.{map};
 ghost use lib.ListN.{length};
 ghost use Rattle.foil_spec.specs.Lists.{range};
-ghost use Rattle.foil_spec.specs.Foil.{point};
-ghost use Rattle.foil_spec.specs.Ledger.{newFoil, draw as draws, lift as lifts, lookUp};
-ghost use Rattle.foil_spec.specs.Lent.{lent, entryAt, layoutOf};
-ghost use Rattle.strips.specs.Table.{Table};
+ghost use Rattle.foil_spec.specs.Limits.{maxEntries, tableSize, stripsSize};
+ghost use Rattle.foil_spec.specs.Foil.{point, entryOk};
+ghost use Rattle.foil_spec.specs.Ledger.{newFoil, draw as draws, lift as lifts, lookUp, Room, short};
+ghost use Rattle.foil_spec.specs.Lent.{lent, entryAt, layoutOf, sound, stepOn};
+ghost use Rattle.zones.specs.Table.{Table};
 ghost use Rattle.booking.specs.Rows.{rowsOf};
-ghost use Rattle.foil.specs.Contract.{StepDone, Looked, TooShort, Settled, refusedBy};
+ghost use Rattle.foil.specs.Contract.{Gave, StepDone, StepIn, Looked, takenOver, entryAdded, refusedBy};
 
 // What a call answers: the number of a refusal, or that it is accepted, with the numbers of corners
 // and bends after a lay, and with the strip's place after a look up.
@@ -44,12 +55,29 @@ pub struct Done {
 
 // Begins a foil of w by h with clearance d: an empty table, and one strip, the whole foil.
 pub fn new_foil(table: &mut [u16], strips: &mut [u16], board: Board, w: u16, h: u16, d: u16) -> Done
-    ensures { λ r. ⌜ StepDone (newFoil w h d) (lent board (now (table .entry)) (now (strips .entry)) [])
-        r (now (table .exit)) (now (strips .exit)) [] ⌝ }
+    ensures { λ r. ⌜ StepDone (newFoil w h d) (lent board (now (table .entry)) (now (strips .entry)))
+        r (now (table .exit)) (now (strips .exit)) ⌝ }
 {
     if lists_short(table, strips) {
         return refuse(12, board);
     }
+    new_foil_in(table, strips, board, w, h, d)
+}
+
+// Begins a foil on lists that are long enough, whatever they hold.
+pub fn new_foil_in(
+    table: &mut [u16],
+    strips: &mut [u16],
+    board: Board,
+    w: u16,
+    h: u16,
+    d: u16,
+) -> Done
+    requires { ⌜ (tableSize ≤ length (now table)) × (stripsSize ≤ length (now strips)) ⌝ }
+    ensures { λ r. ⌜ ((room : Room) → short room ≡ false
+        → Gave (stepOn room (newFoil w h d) (lent board (now (table .entry)) (now (strips .entry))))
+        r (now (table .exit)) (now (strips .exit))) ⌝ }
+{
     if !size_ok(w) {
         return refuse(1, board);
     }
@@ -59,7 +87,7 @@ pub fn new_foil(table: &mut [u16], strips: &mut [u16], board: Board, w: u16, h: 
     if !clearance_ok(d) {
         return refuse(2, board);
     }
-    let rows = [0u16; 640];
+    let rows = [0u16; TABLE_SIZE];
     let bare = Board {
         width: w,
         height: h,
@@ -80,39 +108,91 @@ pub fn draw(
     x1: u16,
     y1: u16,
 ) -> Done
-    ensures { λ r. ⌜ StepDone (draws x0 y0 x1 y1) (lent board (now (table .entry)) (now (strips .entry)) [])
-        r (now (table .exit)) (now (strips .exit)) [] ⌝ }
+    ensures { λ r. ⌜ StepDone (draws x0 y0 x1 y1) (lent board (now (table .entry)) (now (strips .entry)))
+        r (now (table .exit)) (now (strips .exit)) ⌝ }
 {
-    if lists_short(table, strips) {
-        return refuse(12, board);
+    let checked = lent_refusal(table, strips, board);
+    if let Checked::Refused(number) = checked {
+        return refuse(number, board);
     }
-    if !is_sound(table, strips, board) {
-        return refuse(13, board);
-    }
+    draw_in(table, strips, board, MAX_ENTRIES, x0, y0, x1, y1)
+}
+
+// Draws a patch on a foil that keeps the rules and may have so many entries.
+pub fn draw_in(
+    table: &mut [u16],
+    strips: &mut [u16],
+    board: Board,
+    limit: usize,
+    x0: u16,
+    y0: u16,
+    x1: u16,
+    y1: u16,
+) -> Done
+    requires { ⌜ sound (lent board (now table) (now strips)) ≡ true ⌝ }
+    requires { ⌜ limit ≤ maxEntries ⌝ }
+    ensures { λ r. ⌜ StepIn (draws x0 y0 x1 y1) limit (lent board (now (table .entry)) (now (strips .entry)))
+        r (now (table .exit)) (now (strips .exit)) ⌝ }
+{
     if !box_ok(board.width, board.height, x0, y0, x1, y1) {
         return refuse(3, board);
     }
+    let patch = Entry {
+        net: 0,
+        x0,
+        y0,
+        x1,
+        y1,
+    };
+    add_entry(table, strips, board, limit, patch)
+}
+
+// Appends an entry that a table may hold, to a foil that keeps the rules and may have so many entries;
+// or refuses it by 10 or 11.
+fn add_entry(
+    table: &mut [u16],
+    strips: &mut [u16],
+    board: Board,
+    limit: usize,
+    entry: Entry,
+) -> Done
+    requires { ⌜ sound (lent board (now table) (now strips)) ≡ true ⌝ }
+    requires { ⌜ (limit ≤ maxEntries) × (entryOk (board .width) (board .height) entry ≡ true) ⌝ }
+    ensures { λ r. ⌜ ((room : Room) → room .limit ≡ limit
+        → Gave (entryAdded room entry (lent board (now (table .entry)) (now (strips .entry))))
+        r (now (table .exit)) (now (strips .exit))) ⌝ }
+{
     let n = board.entries;
-    if 128 <= n {
+    if limit <= n {
         return refuse(10, board);
     }
-    let mut rows = [0u16; 640];
-    copy_front(&mut rows, table, 640);
-    append(&mut rows, n, 0, x0, y0, x1, y1);
+    let mut rows = [0u16; TABLE_SIZE];
+    copy_front(&mut rows, table, TABLE_SIZE);
+    append(
+        &mut rows, n, entry.net, entry.x0, entry.y0, entry.x1, entry.y1,
+    );
     settle(table, strips, &rows, n + 1, board)
 }
 
 // Lifts a net: takes out all its entries, the rest keeping their order.
 pub fn lift(table: &mut [u16], strips: &mut [u16], board: Board, net: u16) -> Done
-    ensures { λ r. ⌜ StepDone (lifts net) (lent board (now (table .entry)) (now (strips .entry)) [])
-        r (now (table .exit)) (now (strips .exit)) [] ⌝ }
+    ensures { λ r. ⌜ StepDone (lifts net) (lent board (now (table .entry)) (now (strips .entry)))
+        r (now (table .exit)) (now (strips .exit)) ⌝ }
 {
-    if lists_short(table, strips) {
-        return refuse(12, board);
+    let checked = lent_refusal(table, strips, board);
+    if let Checked::Refused(number) = checked {
+        return refuse(number, board);
     }
-    if !is_sound(table, strips, board) {
-        return refuse(13, board);
-    }
+    lift_in(table, strips, board, net)
+}
+
+// Lifts a net from a foil that keeps the rules, however many entries it may have.
+pub fn lift_in(table: &mut [u16], strips: &mut [u16], board: Board, net: u16) -> Done
+    requires { ⌜ sound (lent board (now table) (now strips)) ≡ true ⌝ }
+    ensures { λ r. ⌜ ((room : Room) → short room ≡ false
+        → Gave (stepOn room (lifts net) (lent board (now (table .entry)) (now (strips .entry))))
+        r (now (table .exit)) (now (strips .exit))) ⌝ }
+{
     if !net_ok(net) {
         return refuse(4, board);
     }
@@ -120,21 +200,27 @@ pub fn lift(table: &mut [u16], strips: &mut [u16], board: Board, net: u16) -> Do
     if !in_use(table, n, net) {
         return refuse(6, board);
     }
-    let mut rows = [0u16; 640];
+    let mut rows = [0u16; TABLE_SIZE];
     let left = without(&mut rows, table, n, net);
     settle(table, strips, &rows, left, board)
 }
 
 // Looks a point up: the place of the one strip that holds it. Nothing is changed.
 pub fn look_up(table: &[u16], strips: &[u16], board: Board, x: u16, y: u16) -> Answer
-    ensures { λ r. ⌜ Looked (point x y) (lent board (now (table .entry)) (now (strips .entry)) []) r ⌝ }
+    ensures { λ r. ⌜ Looked (point x y) (lent board (now (table .entry)) (now (strips .entry))) r ⌝ }
 {
-    if lists_short(table, strips) {
-        return Answer::Refused(12);
+    let checked = lent_refusal(table, strips, board);
+    if let Checked::Refused(number) = checked {
+        return Answer::Refused(number);
     }
-    if !is_sound(table, strips, board) {
-        return Answer::Refused(13);
-    }
+    look_up_in(table, strips, board, x, y)
+}
+
+// Looks a point up on a foil that keeps the rules.
+pub fn look_up_in(table: &[u16], strips: &[u16], board: Board, x: u16, y: u16) -> Answer
+    requires { ⌜ sound (lent board (now table) (now strips)) ≡ true ⌝ }
+    ensures { λ r. ⌜ Looked (point x y) (lent board (now (table .entry)) (now (strips .entry))) r ⌝ }
+{
     if board.width <= x {
         return Answer::Refused(7);
     }
@@ -146,16 +232,6 @@ pub fn look_up(table: &[u16], strips: &[u16], board: Board, x: u16, y: u16) -> A
         return Answer::Refused(8);
     };
     Answer::Found(k)
-}
-
-// Whether the lent table or strip list is too short (12).
-pub fn lists_short(table: &[u16], strips: &[u16]) -> bool
-    ensures { λ r. ⌜ TooShort (now (table .entry)) (now (strips .entry)) r ⌝ }
-{
-    if table.len() < 640 {
-        return true;
-    }
-    strips.len() < 16384
 }
 
 // A refusal by its number; the record stays as it is.
@@ -172,11 +248,12 @@ pub fn refuse(number: u8, board: Board) -> Done
 fn settle(table: &mut [u16], strips: &mut [u16], rows: &[u16], n: usize, board: Board) -> Done
     requires { ⌜ Table (now rows) n (board .clearance) (board .width) (board .height) ⌝ }
     requires { ⌜ now rows ≡ rowsOf (map (entryAt (now rows)) (range 0 n)) ⌝ }
-    requires { ⌜ (640 ≤ length (now table)) × (16384 ≤ length (now strips)) ⌝ }
-    ensures { λ r. ⌜ Settled (layoutOf (board .width) (board .height) (board .clearance) n (now (rows .entry)))
-        board (now (table .entry)) (now (strips .entry)) (now (table .exit)) (now (strips .exit)) r ⌝ }
+    requires { ⌜ (tableSize ≤ length (now table)) × (stripsSize ≤ length (now strips)) ⌝ }
+    ensures { λ r. ⌜ Gave (takenOver
+        (layoutOf (board .width) (board .height) (board .clearance) n (now (rows .entry)))
+        (lent board (now (table .entry)) (now (strips .entry)))) r (now (table .exit)) (now (strips .exit)) ⌝ }
 {
-    let booked = book(table, strips, rows, n, board);
+    let booked = take_over(table, strips, rows, n, board);
     let Booked::Taken(after) = booked else {
         return refuse(11, board);
     };

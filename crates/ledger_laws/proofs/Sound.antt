@@ -10,14 +10,15 @@ use lib.ListN.{length, getD, take, drop, replicate, length-map, length-append, l
 use lib.ListN.{getD-replicate, take-append-drop}
 use lib.Seq.{ext-getD, take-add, drop-drop, getD-take, getD-drop, length-take-le, take-at}
 use Rattle.foil_spec.specs.Lists.{range, each}
-use Rattle.foil_spec.specs.Limits.{maxEntries, stripsSize}
+use Rattle.foil_spec.specs.Limits.{maxEntries, tableSize, stripsSize}
+use Rattle.foil_spec.specs.Foil.{Layout}
 use Rattle.foil_spec.specs.Ledger.{stripsOf}
-use Rattle.foil_spec.specs.Lent.{Lent, lent, entryNumbers, written, boardOf, store, entryAt, layoutOf, held}
+use Rattle.foil_spec.specs.Lent.{Lent, lent, entryNumbers, stripNumbers, written, boardOf, store, entryAt, layoutOf, held}
 use Rattle.foil_spec.specs.Lent.{layoutOk, sameNumbers, sound, listedStrips}
 use Rattle.list_laws.proofs.Tests.{clash, and-l, and-r, parts}
 use Rattle.list_laws.proofs.Members.{length-range}
 use Rattle.strip_laws.proofs.Listed.{listed-written}
-use Rattle.ledger_laws.proofs.Stored.{same-refl}
+use Rattle.ledger_laws.proofs.Stored.{Long, same-refl, entries-fit, strips-fit}
 use Rattle.ledger_laws.proofs.Rules.{of-ok}
 
 same-is : (a b : List ℕ) → sameNumbers a b ≡ true → a ≡ b
@@ -176,3 +177,28 @@ unfolding store
 strips-listed m s =
     ap₂ (λ (x : List ℕ) (n : ℕ). listedStrips x n) (s .strips-are) (s .counted)
     ∙ listed-written stripsSize (stripsOf (held m)) (m .strips)
+
+written-long : (n : ℕ) (ns old : List ℕ) → length ns ≤ n → n ≤ length (written n ns old)
+unfolding written
+written-long n ns old h = simp (length-append, length-replicate, length-drop) (omega arith)
+
+-- lists that 13 does not apply to are long enough
+pub sound-long : (m : Lent) → sound m ≡ true → Long m
+unfolding store
+sound-long m h =
+    let s = of-sound m h in
+    let l : Layout = held m in
+    record {
+      table =
+          omega (
+            arith,
+            ap length (s .table-is),
+            written-long tableSize (each entryNumbers (l .entries)) (m .table) (entries-fit l (s .kept)),
+          );
+      strips =
+          omega (
+            arith,
+            ap length (s .strips-are),
+            written-long stripsSize (each stripNumbers (stripsOf l)) (m .strips) (strips-fit l (s .kept)),
+          );
+    }
