@@ -2,7 +2,7 @@
 use foil_spec::Entry;
 use foil_spec::entry_at;
 ghost use mathlib.Core.Path.{_≡_};
-ghost use Prim.Native.Nat.{_+_, _*_, _-_, _≤_, min};
+ghost use Prim.Native.Nat.{_+_, _*_, _-_, _≤_, min, max};
 ghost use lib.ListN.{length};
 ghost use Rattle.foil_spec.specs.Foil.{free};
 ghost use Rattle.foil_spec.specs.Lent.{layoutOf};
@@ -55,13 +55,23 @@ fn back(v: u16, d: u16) -> u16
 }
 
 // The smaller of the two.
-fn smaller(a: u16, b: u16) -> u16
+pub fn smaller(a: u16, b: u16) -> u16
     ensures { λ r. ⌜ r ≡ min a b ⌝ }
 {
     if a < b {
         return a;
     }
     b
+}
+
+// The larger of the two.
+pub fn larger(a: u16, b: u16) -> u16
+    ensures { λ r. ⌜ r ≡ max a b ⌝ }
+{
+    if a < b {
+        return b;
+    }
+    a
 }
 
 // Writes a box at place k.

@@ -1,25 +1,24 @@
--- `strips::join::join_row` meets its contract: the row is joined up to column x.
+-- `strips::joining::join_row` meets its contract: the row is joined up to column x.
 use Prim.Native.Nat.{ℕ, _-_}
 use mathlib.Core.Path.{refl, ap, subst}
 use native.Mathlib.Omega.{arith}
 use lib.ListN.{getD, set}
-use Rattle.foil_spec.specs.Foil.{free}
 use Rattle.foil_spec.specs.Strips.{rowOf}
-use Rattle.foil_spec.specs.Lent.{layoutOf}
+use Rattle.zones.specs.Boxes.{boxFree}
 use Rattle.strips.specs.Sweep.{Sweep}
 use Rattle.strips.specs.declared.sweep.Swept.{Swept}
 use Rattle.strips.specs.declared.sweep.Swept.the-variants.{Run as found}
-use Rattle.strips.specs.Join.{Opened}
+use Rattle.strips.specs.Joining.{Opened}
 use Rattle.strips.proofs.JoiningRow.{JoiningRow, row-start, row-old, row-new, row-full, row-none, row-end}
-use Rattle.strips.proofs.join.join_row.Statement.{statement}
-use Rattle.strips.proofs.join.join_row.Tie as tie
+use Rattle.strips.proofs.joining.join_row.Statement.{statement}
+use Rattle.strips.proofs.joining.join_row.Tie as tie
 
 abbrev Inv-loop : tie.InvT-loop
-Inv-loop out₀ last₀ table ord n d w h y z c x₀ j₀ count₀ out last x j count =
-    JoiningRow table ord n d w h y z c out₀ last₀ out last x j count
+Inv-loop out₀ last₀ boxes ord n w h y z c x₀ j₀ count₀ out last x j count =
+    JoiningRow boxes ord n w h y z c out₀ last₀ out last x j count
 
 abbrev μ-loop : tie.MeasureT-loop
-μ-loop out₀ last₀ table ord n d w h y z c x₀ j₀ count₀ out last x j count = w - x
+μ-loop out₀ last₀ boxes ord n w h y z c x₀ j₀ count₀ out last x j count = w - x
 
 -- back to the function's start, to the loop's turn, to the run that the sweep found, and to the new strip's run
 abbrev atStart : tie.In-loop Inv-loop μ-loop → tie.Start Inv-loop μ-loop
@@ -47,14 +46,12 @@ i c = c .before .a .given .0 .1 .1 .0
 -- what the sweep from column x of the row answers
 abbrev Found : tie.Start Inv-loop μ-loop → ℕ → Swept → Type 0
 Found c x r =
-    Sweep
-    (rowOf (free (layoutOf (c .args .w) (c .args .h) (c .args .d) (c .args .n) (c .args .table .now))) (c .args .y))
-    (c .args .table .now) (c .args .ord .now) (c .args .n) (c .args .d) (c .args .w) (c .args .y) x r
+    Sweep (rowOf (boxFree (c .args .w) (c .args .h) (c .args .n) (c .args .boxes .now)) (c .args .y))
+    (c .args .boxes .now) (c .args .ord .now) (c .args .n) (c .args .w) (c .args .y) x r
 
 answered : (c : tie.After-sweep Inv-loop μ-loop)
     → Found (atStart (c .before)) (c .before .before .loop .x) (c .sweep .result)
-answered c =
-    c .sweep .ensures (atStart (c .before) .args .h) (omega (arith, atStart (c .before) .pre .1 .1 .0))
+answered c = c .sweep .ensures
 
 swept : (c : tie.After-known-told Inv-loop μ-loop)
     → Found (atStart (inLoop c)) (inLoop c .before .loop .x) (found (a c) (b c) (i c))
@@ -81,7 +78,7 @@ closed c =
 loop-holds : tie.Need-loop-holds Inv-loop μ-loop
 loop-holds c =
     let s = c .before .before .before .before in
-    row-start _ _ _ _ _ _ _ _ _ _ _ (omega (arith, s .pre .1 .1 .0)) (s .pre .1 .1 .1)
+    row-start _ _ _ _ _ _ _ _ _ _ (omega (arith, s .pre .1 .1 .0)) (s .pre .1 .1 .1)
     (omega (arith, s .pre .1 .1 .0))
 
 sweep-requires : tie.Need-sweep-requires Inv-loop μ-loop
@@ -111,7 +108,7 @@ same-length-2 c = c .before .before .before .before .loop .inv .same-last
 returns : tie.Need-returns Inv-loop μ-loop
 returns c =
     let l = c .before .before .before in
-    row-none _ _ _ _ _ _ _ _ _ _ _ (omega (arith, atStart l .pre .1 .1 .0)) (atStart l .pre .1 .1 .1) _ _ _ _ _
+    row-none _ _ _ _ _ _ _ _ _ _ (omega (arith, atStart l .pre .1 .1 .0)) (atStart l .pre .1 .1 .1) _ _ _ _ _
     (l .before .loop .inv)
     (subst (λ (r : Swept). Found (atStart l) (l .before .loop .x) r) (c .enum-told .given .1)
     (answered (c .before .before)))
@@ -178,7 +175,7 @@ returns-2 : tie.Need-returns-2 Inv-loop μ-loop
 returns-2 c =
     let r = atRun (c .before .before) in
     let l = inLoop r in
-    row-full _ _ _ _ _ _ _ _ _ _ _ (omega (arith, atStart l .pre .1 .1 .0)) (atStart l .pre .1 .1 .1) _ _ _ _ _
+    row-full _ _ _ _ _ _ _ _ _ _ (omega (arith, atStart l .pre .1 .1 .0)) (atStart l .pre .1 .1 .1) _ _ _ _ _
     (l .before .loop .inv) _ _ _ (swept r) (closed (c .before)) (c .if2 .taken)
 
 put-requires : tie.Need-put-requires Inv-loop μ-loop
@@ -230,7 +227,7 @@ loop-again : tie.Need-loop-again Inv-loop μ-loop
 loop-again c =
     let r = atRun (c .before) in
     let l = inLoop r in
-    row-old _ _ _ _ _ _ _ _ _ _ _ (omega (arith, atStart l .pre .1 .1 .0)) (atStart l .pre .1 .1 .1) _ _ _ _ _
+    row-old _ _ _ _ _ _ _ _ _ _ (omega (arith, atStart l .pre .1 .1 .0)) (atStart l .pre .1 .1 .1) _ _ _ _ _
     (l .before .loop .inv) _ _ _ (swept r) _
     (ap (λ (u : ℕ). getD (l .before .loop .last) u 0) (c .before .before .before .before .wide .ensures))
     (opened c) _ refl
@@ -245,7 +242,7 @@ loop-again-2 c =
     let o = notOpen c .before in
     let r = atRun o in
     let l = inLoop r in
-    row-new _ _ _ _ _ _ _ _ _ _ _ (omega (arith, atStart l .pre .1 .1 .0)) (atStart l .pre .1 .1 .1) _ _ _ _ _
+    row-new _ _ _ _ _ _ _ _ _ _ (omega (arith, atStart l .pre .1 .1 .0)) (atStart l .pre .1 .1 .1) _ _ _ _ _
     (l .before .loop .inv) _ _ _ (swept r) (closed (notOpen c))
     (omega (arith, c .before .before .before .before .if2 .left, l .before .loop .inv .small)) _ _
     (c .before .before .put .kept .0) (c .before .before .put .ensures)
@@ -261,7 +258,7 @@ same-length-6 c = c .before .loop .inv .same-last
 returns-3 : tie.Need-returns-3 Inv-loop μ-loop
 returns-3 c =
     let s = c .before .before .before .before .before .before in
-    row-end _ _ _ _ _ _ _ _ _ _ _ (omega (arith, s .pre .1 .1 .0)) (s .pre .1 .1 .1) _ _ _ _ _
+    row-end _ _ _ _ _ _ _ _ _ _ (omega (arith, s .pre .1 .1 .0)) (s .pre .1 .1 .1) _ _ _ _ _
     (c .before .loop .inv) (c .loop-test .left)
 
 pub join-row-spec : {M : Type 1} → statement M
