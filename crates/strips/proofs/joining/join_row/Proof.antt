@@ -1,8 +1,8 @@
 -- `strips::joining::join_row` meets its contract: the row is joined up to column x.
-use Prim.Native.Nat.{ℕ, _-_}
+use Prim.Native.Nat.{ℕ, _-_, _<_}
 use mathlib.Core.Path.{refl, ap, subst}
 use native.Mathlib.Omega.{arith}
-use lib.ListN.{getD, set}
+use lib.ListN.{length, getD, set}
 use Rattle.foil_spec.specs.Strips.{rowOf}
 use Rattle.zones.specs.Boxes.{boxFree}
 use Rattle.strips.specs.Sweep.{Sweep}
@@ -58,6 +58,18 @@ swept : (c : tie.After-known-told Inv-loop μ-loop)
 swept c =
     subst (λ (r : Swept). Found (atStart (inLoop c)) (inLoop c .before .loop .x) r) (c .before .a .given .1)
     (answered (c .before .before .before))
+
+-- the run's first column is one of the list of last strips
+in-last : (c : tie.After-known-told Inv-loop μ-loop) → a c < length (inLoop c .before .loop .last)
+in-last c =
+    omega (
+      arith,
+      swept c .gt,
+      swept c .stop .le,
+      inLoop c .before .loop .inv .same-last,
+      atStart (inLoop c) .pre .0 .width,
+      atStart (inLoop c) .pre .1 .1 .0,
+    )
 
 -- the strip at place k goes on with the run, or does not
 abbrev GoesOn : tie.After-is-open Inv-loop μ-loop → ℕ → Type 0
@@ -117,28 +129,10 @@ wide-requires : tie.Need-wide-requires Inv-loop μ-loop
 wide-requires c κs = omega arith
 
 mul-k : tie.Need-mul-k Inv-loop μ-loop
-mul-k c =
-    let r = c .before in
-    omega (
-      arith,
-      c .wide .ensures,
-      swept r .gt,
-      swept r .stop .le,
-      inLoop r .before .loop .inv .same-last,
-      atStart (inLoop r) .pre .1 .1 .0,
-    )
+mul-k c = omega (arith, c .wide .ensures, in-last (c .before))
 
 slice-read-k : tie.Need-slice-read-k Inv-loop μ-loop
-slice-read-k c =
-    let r = c .before .before in
-    omega (
-      arith,
-      c .before .wide .ensures,
-      swept r .gt,
-      swept r .stop .le,
-      inLoop r .before .loop .inv .same-last,
-      atStart (inLoop r) .pre .1 .1 .0,
-    )
+slice-read-k c = omega (arith, c .before .wide .ensures, in-last (c .before .before))
 
 is-open-requires : tie.Need-is-open-requires Inv-loop μ-loop
 is-open-requires c κs =
@@ -164,6 +158,9 @@ slice-write-out : tie.Need-slice-write-out Inv-loop μ-loop
 slice-write-out c =
     let l = inLoop (atRun (c .before)) in
     omega (arith, opened c .lt, l .before .loop .inv .small, l .before .loop .inv .same-out, atStart l .pre .1 .1 .0)
+
+add-result : tie.Need-add-result Inv-loop μ-loop
+add-result c = omega arith
 
 same-length-3 : tie.Need-same-length-3 Inv-loop μ-loop
 same-length-3 c = inLoop (atRun (c .before .before)) .before .loop .inv .same-out
@@ -192,28 +189,12 @@ put-requires c κs =
 mul-last : tie.Need-mul-last Inv-loop μ-loop
 mul-last c =
     let o = notOpen c .before in
-    let r = atRun o in
-    omega (
-      arith,
-      o .before .before .before .wide .ensures,
-      swept r .gt,
-      swept r .stop .le,
-      inLoop r .before .loop .inv .same-last,
-      atStart (inLoop r) .pre .1 .1 .0,
-    )
+    omega (arith, o .before .before .before .wide .ensures, in-last (atRun o))
 
 slice-write-last : tie.Need-slice-write-last Inv-loop μ-loop
 slice-write-last c =
     let o = notOpen c .before in
-    let r = atRun o in
-    omega (
-      arith,
-      o .before .before .before .wide .ensures,
-      swept r .gt,
-      swept r .stop .le,
-      inLoop r .before .loop .inv .same-last,
-      atStart (inLoop r) .pre .1 .1 .0,
-    )
+    omega (arith, o .before .before .before .wide .ensures, in-last (atRun o))
 
 add-count : tie.Need-add-count Inv-loop μ-loop
 add-count c = omega (arith, inLoop (atRun (notOpen c .before)) .before .loop .inv .small)
@@ -282,6 +263,7 @@ join-row-spec =
     add-out
     mul-out-2
     slice-write-out
+    add-result
     same-length-3
     same-length-4
     returns-2

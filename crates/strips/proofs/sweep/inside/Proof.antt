@@ -1,19 +1,17 @@
+-- `strips::sweep::inside` meets its contract.
+use mathlib.Core.Path.{sym}
+use Rattle.zones.proofs.Free.{inside-yes, inside-below, inside-above}
 use Rattle.strips.proofs.sweep.inside.Statement.{statement}
 use Rattle.strips.proofs.sweep.inside.Tie as tie
-use Rattle.strips.proofs.sweep.inside.Reads as reads
-use Rattle.strips.proofs.sweep.inside.Lts as lts
 
--- src/sweep.rt:15:9
 returns : tie.Need-returns
-returns c = ?
+returns c = sym (inside-below _ _ _ (c .if1 .taken))
 
--- src/sweep.rt:18:9
 returns-2 : tie.Need-returns-2
-returns-2 c = ?
+returns-2 c = sym (inside-above _ _ _ (c .if2 .taken))
 
--- src/sweep.rt:11:1
 returns-3 : tie.Need-returns-3
-returns-3 c = ?
+returns-3 c = sym (inside-yes _ _ _ (c .before .if1 .left) (c .if2 .left))
 
 pub inside-spec : {M : Type 1} → statement M
 inside-spec = tie.close (tie.spec returns returns-2 returns-3)
