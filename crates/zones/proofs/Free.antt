@@ -114,6 +114,14 @@ row-same w h n z x u y lu ly same =
 
 -- ---- the entries of a layout
 
+-- free are the points of the foil that no entry blocks
+pub free-at : (w h d n : ℕ) (t : List ℕ) (x y : ℕ) → x < w → y < h
+    → ((k : ℕ) → k < n → blocks d (entryAt t k) x y ≡ false) → free (layoutOf w h d n t) x y ≡ true
+unfolding free layoutOf
+free-at w h d n t x y lx ly none =
+    and-i (and-i (lt-ltb x w lx) (lt-ltb y h ly))
+    (all-places (λ (e : Entry). not (blocks d e x y)) (entryAt t) n (λ k l. not-f (none k l)))
+
 -- what is free is on the foil
 pub free-inside : (l : Layout) (x y : ℕ) → free l x y ≡ true → (x < l .width) × (y < l .height)
 unfolding free

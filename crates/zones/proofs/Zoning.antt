@@ -1,7 +1,7 @@
 -- The zones of a table, written one after the other: on the foil a zone has just the points that its entry blocks.
 use Prim.Native.Nat.{ℕ, _+_, _*_, _-_, _≤_, _<_, min}
 use native.Mathlib.Omega.{arith}
-use mathlib.Core.Path.{_≡_, refl, sym, ap₂, _∙_, fun-ext}
+use mathlib.Core.Path.{_≡_, refl, sym, ap, ap₂, _∙_, fun-ext}
 use mathlib.Core.Bool.{Bool, _&&_}
 use mathlib.Core.Logic.{⊎-elim}
 use mathlib.Core.List.{List}
@@ -9,9 +9,11 @@ use borrow.Author.Count.{below-more}
 use lib.ListN.{length, getD, set, length-set}
 use lib.Seq.{getD-set-same, getD-set-other}
 use Rattle.foil_spec.specs.Foil.{Entry, entry, within, blocks, free}
+use Rattle.foil_spec.specs.Strips.{strips}
+use Rattle.foil_spec.specs.Ledger.{stripsOf}
 use Rattle.foil_spec.specs.Lent.{entryAt, layoutOf}
 use Rattle.list_laws.proofs.Tests.{lt-or-le}
-use Rattle.zones.specs.Boxes.{maxBoxes, inside, covers, Zoned, zoneOf, Put}
+use Rattle.zones.specs.Boxes.{maxBoxes, inside, covers, boxFree, Zoned, zoneOf, Put}
 use Rattle.zones.specs.Table.{Table}
 use Rattle.zones.proofs.Free.{within-yes, within-below, within-above, inside-yes, inside-below, inside-above}
 use Rattle.zones.proofs.Free.{zones-same}
@@ -145,3 +147,9 @@ module _ (t : List ℕ) (n d w h : ℕ) (o : List ℕ) where
     where
       zone : (i : ℕ) → i < n → entryAt out i ≡ zoneOf d w h (entryAt t i)
       zone i m = z .zone i (omega arith)
+
+-- the strips that the zones leave are those of the layout
+pub zoned-strips : (w h d n : ℕ) (t z : List ℕ) (r : ℕ) → Zoned (free (layoutOf w h d n t)) w h z r
+    → strips (boxFree w h r z) w h ≡ stripsOf (layoutOf w h d n t)
+unfolding stripsOf layoutOf
+zoned-strips w h d n t z r zoned = ap (λ (f : ℕ → ℕ → Bool). strips f w h) (zoned .same)
