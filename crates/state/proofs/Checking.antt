@@ -1,4 +1,4 @@
--- The state check, test by test.
+-- The state check, test by test: each test that fails shows that the state is not sound, and all together that it is.
 use Prim.Native.Nat.{ℕ, _+_, _-_, _*_, _≤_, _<_}
 use native.Mathlib.Omega.{arith}
 use mathlib.Core.Path.{_≡_, refl, sym, ap, _∙_}
@@ -8,7 +8,9 @@ use lib.Dec.{leb}
 use lib.ListN.{length, getD, take, length-append, length-drop, length-replicate}
 use borrow.Author.Tests.{le-leb, leb-true, ltb-false, le-ltb, not-true, not-false}
 use Rattle.foil_spec.specs.Lists.{range, all, each}
+use Rattle.foil_spec.specs.Limits.{maxEntries, tableSize, maxStrips, stripsSize}
 use Rattle.foil_spec.specs.Foil.{Layout, sizeOk, clearanceOk, entryOk}
+use Rattle.foil_spec.specs.Strips.{Strip}
 use Rattle.foil_spec.specs.Ledger.{stripsOf, tooLong, tooFine}
 use Rattle.foil_spec.specs.Lent.{Lent, lent, entryNumbers, stripNumbers, written, store, entryAt, layoutOf, held}
 use Rattle.foil_spec.specs.Lent.{layoutOk, sound}
@@ -28,36 +30,44 @@ length-at-least n ns old = simp (length-append, length-replicate, length-drop) (
 
 -- ---- the strips
 
-fine-few : (l : Layout) → tooFine l ≡ false → length (stripsOf l) ≤ 4096
+fine-few : (l : Layout) → tooFine l ≡ false → length (stripsOf l) ≤ maxStrips
 unfolding tooFine
-fine-few l e = ltb-false 4096 (length (stripsOf l)) e
+fine-few l e = ltb-false maxStrips (length (stripsOf l)) e
 
-module _ (l : Layout) (count : ℕ) (s : List ℕ) where
-  pub too-many : 4096 < length (stripsOf l) → StripsRight l count s → ⊥
-  too-many h r = omega (arith, r .few)
+-- ss are the layout's strips, built anew
+module _ (l : Layout) (count : ℕ) (s : List ℕ) (ss : List Strip) (are : ss ≡ stripsOf l) where
+  pub too-many : maxStrips < length ss → StripsRight l count s → ⊥
+  too-many h r = omega (arith, r .few, ap length are)
 
-  pub miscounted : (c : ℕ) → c ≡ length (stripsOf l) → (c ≡ count → ⊥) → StripsRight l count s → ⊥
-  miscounted c e d r = d (e ∙ sym (r .counted))
+  pub miscounted : (c : ℕ) → c ≡ length ss → (c ≡ count → ⊥) → StripsRight l count s → ⊥
+  miscounted c e d r = d (e ∙ ap length are ∙ sym (r .counted))
 
-  -- the list built anew has the same front, or not
-  pub compared : (out o : List ℕ) (c : ℕ) (r : Bool) → c ≡ length (stripsOf l) → c ≤ 4096
-      → out ≡ written 16384 (each stripNumbers (stripsOf l)) o → c ≡ count
-      → Told (take 16384 out ≡ take 16384 s) r → Told (StripsRight l count s) r
-  compared out o c true n few e k h =
-      let ns : List ℕ = each stripNumbers (stripsOf l) in
-      let fits : length ns ≤ 16384 = omega (arith, length-strips (stripsOf l)) in
-      record {
-        few = omega arith;
-        counted = sym k ∙ n;
-        listed =
-            is-written 16384 ns s fits (sym h ∙ ap (take 16384) e ∙ front-written 16384 ns o fits);
-      }
-  compared out o c false n few e k h =
-      λ r.
-      let ns : List ℕ = each stripNumbers (stripsOf l) in
-      let fits : length ns ≤ 16384 = omega (arith, length-strips (stripsOf l)) in
-      h (ap (take 16384) e ∙ front-written 16384 ns o fits
-      ∙ sym (front-written 16384 ns s fits) ∙ ap (take 16384) (sym (r .listed)))
+  ns : List ℕ
+  ns = each stripNumbers (stripsOf l)
+
+  -- the list has the same front, or not
+  pub compared : (out o : List ℕ) (c : ℕ) (r : Bool) → c ≡ length ss → c ≤ maxStrips
+      → out ≡ written stripsSize (each stripNumbers ss) o → c ≡ count
+      → Told (take stripsSize out ≡ take stripsSize s) r → Told (StripsRight l count s) r
+  unfolding ns
+  compared out o c r n few e k h = go r h
+    where
+      fits : length ns ≤ stripsSize
+      fits = omega (arith, length-strips (stripsOf l), ap length are)
+
+      front : take stripsSize out ≡ take stripsSize (written stripsSize ns s)
+      front =
+          ap (take stripsSize) (e ∙ ap (λ (ts : List Strip). written stripsSize (each stripNumbers ts) o) are)
+          ∙ front-written stripsSize ns o fits ∙ sym (front-written stripsSize ns s fits)
+
+      go : (r : Bool) → Told (take stripsSize out ≡ take stripsSize s) r → Told (StripsRight l count s) r
+      go true h =
+          record {
+            few = omega (arith, ap length are);
+            counted = sym k ∙ n ∙ ap length are;
+            listed = is-written stripsSize ns s fits (sym h ∙ front ∙ front-written stripsSize ns s fits);
+          }
+      go false h = λ q. h (front ∙ ap (take stripsSize) (sym (q .listed)))
 
 -- ---- the whole check
 
@@ -68,18 +78,18 @@ module _ (b : Board) (t s : List ℕ) where
   not-sound : (Sound m → ⊥) → false ≡ sound m
   not-sound h = both (sound m) (λ e. absurd (h (of-sound m e))) (λ e. sym e)
 
-  pub short-table : length t < 640 → false ≡ sound m
+  pub short-table : length t < tableSize → false ≡ sound m
   unfolding store
   short-table h =
       not-sound (λ k.
-      let a = length-at-least 640 (each entryNumbers (held m .entries)) t in
+      let a = length-at-least tableSize (each entryNumbers (held m .entries)) t in
       omega (arith, ap length (k .table-is)))
 
-  pub short-strips : length s < 16384 → false ≡ sound m
+  pub short-strips : length s < stripsSize → false ≡ sound m
   unfolding store
   short-strips h =
       not-sound (λ k.
-      let a = length-at-least 16384 (each stripNumbers (stripsOf (held m))) s in
+      let a = length-at-least stripsSize (each stripNumbers (stripsOf (held m))) s in
       omega (arith, ap length (k .strips-are)))
 
   pub bad-board : (r : Bool) → r ≡ boardOk b → not r ≡ true → false ≡ sound m
@@ -88,7 +98,7 @@ module _ (b : Board) (t s : List ℕ) where
       not-sound (λ k.
       let g = of-ok (held m) (k .kept) in
       clash
-      (let y : boardOk b ≡ true = simp (g .width, g .height, g .clearance, le-leb (b .entries) 128 (k .few)) in y)
+      (let y : boardOk b ≡ true = simp (g .width, g .height, g .clearance, le-leb (b .entries) maxEntries (k .few)) in y)
       (sym e ∙ not-true r n))
 
   pub bad-entries : (r : Bool) → r ≡ all (entryOk (b .width) (b .height)) (map (entryAt t) (range 0 (b .entries)))
@@ -96,7 +106,7 @@ module _ (b : Board) (t s : List ℕ) where
   unfolding held layoutOf
   bad-entries r e n = not-sound (λ k. clash (of-ok (held m) (k .kept) .entries) (sym e ∙ not-true r n))
 
-  zeros-after : Sound m → Zeros t (b .entries * 5) 640
+  zeros-after : Sound m → Zeros t (b .entries * 5) tableSize
   unfolding store held layoutOf
   zeros-after k =
       record {
@@ -106,18 +116,18 @@ module _ (b : Board) (t s : List ℕ) where
             omega (arith, length-entries (map (entryAt t) (range 0 (b .entries))), length-read t (b .entries)) in
             let j : length ns + (i - length ns) ≡ i = omega arith in
             ap (λ (l : List ℕ). getD l i 0) (k .table-is)
-            ∙ ap (λ (x : ℕ). getD (written 640 ns t) x 0) (sym j)
-            ∙ written-zero 640 ns t (omega (arith, k .few)) (i - length ns) (omega arith);
+            ∙ ap (λ (x : ℕ). getD (written tableSize ns t) x 0) (sym j)
+            ∙ written-zero tableSize ns t (omega (arith, k .few)) (i - length ns) (omega arith);
       }
 
-  pub bad-rest : (r : Bool) → Told (Zeros t (b .entries * 5) 640) r → not r ≡ true → false ≡ sound m
+  pub bad-rest : (r : Bool) → Told (Zeros t (b .entries * 5) tableSize) r → not r ≡ true → false ≡ sound m
   bad-rest true h n = clash n refl
   bad-rest false h n = not-sound (λ k. h (zeros-after k))
 
   -- what the test of the record says
   pub record BoardFits : Type 0 where
     pub yes : boardOk b ≡ true
-    pub few : b .entries ≤ 128
+    pub few : b .entries ≤ maxEntries
     pub small : b .clearance ≤ 15
     pub wide : b .width ≤ 4096
     pub high : b .height ≤ 4096
@@ -126,13 +136,13 @@ module _ (b : Board) (t s : List ℕ) where
   unfolding boardOk sizeOk clearanceOk
   board-fits r e n =
       let h : boardOk b ≡ true = sym e ∙ not-false r n in
-      let x : leb (b .entries) 128 ≡ true = search parts in
+      let x : leb (b .entries) maxEntries ≡ true = search parts in
       let y : leb (b .clearance) 15 ≡ true = search parts in
       let u : leb (b .width) 4096 ≡ true = search parts in
       let v : leb (b .height) 4096 ≡ true = search parts in
       record {
         yes = h;
-        few = leb-true (b .entries) 128 x;
+        few = leb-true (b .entries) maxEntries x;
         small = leb-true (b .clearance) 15 y;
         wide = leb-true (b .width) 4096 u;
         high = leb-true (b .height) 4096 v;
@@ -140,15 +150,15 @@ module _ (b : Board) (t s : List ℕ) where
 
   -- what the tests before that of the strips have shown
   pub record Shown : Type 0 where
-    pub long : 640 ≤ length t
+    pub long : tableSize ≤ length t
     pub board : BoardFits
     pub entries : all (entryOk (b .width) (b .height)) (map (entryAt t) (range 0 (b .entries))) ≡ true
-    pub rest : Zeros t (b .entries * 5) 640
+    pub rest : Zeros t (b .entries * 5) tableSize
 
   abbrev l : Layout
   l = layoutOf (b .width) (b .height) (b .clearance) (b .entries) t
 
-  all-kept : Shown → length (stripsOf l) ≤ 4096 → layoutOk l ≡ true
+  all-kept : Shown → length (stripsOf l) ≤ maxStrips → layoutOk l ≡ true
   unfolding layoutOf tooLong tooFine boardOk
   all-kept h f =
       let k = h .board .yes in
@@ -159,20 +169,20 @@ module _ (b : Board) (t s : List ℕ) where
         clearance = search parts;
         entries = h .entries;
         long =
-            le-ltb 128 (length (map (entryAt t) (range 0 (b .entries))))
+            le-ltb maxEntries (length (map (entryAt t) (range 0 (b .entries))))
             (omega (arith, length-read t (b .entries), h .board .few));
-        fine = le-ltb 4096 (length (stripsOf l)) f;
+        fine = le-ltb maxStrips (length (stripsOf l)) f;
       })
 
-  table-right : Shown → t ≡ written 640 (each entryNumbers (map (entryAt t) (range 0 (b .entries)))) t
+  table-right : Shown → t ≡ written tableSize (each entryNumbers (map (entryAt t) (range 0 (b .entries)))) t
   table-right h =
       let f = h .board .few in
-      zeros-written (b .entries * 5) 640 t (omega arith) (h .long) (h .rest .zero-at)
-      ∙ ap (λ (ns : List ℕ). written 640 ns t) (sym (read-numbers t (b .entries) (omega (arith, h .long))))
+      zeros-written (b .entries * 5) tableSize t (omega arith) (h .long) (h .rest .zero-at)
+      ∙ ap (λ (ns : List ℕ). written tableSize ns t) (sym (read-numbers t (b .entries) (omega (arith, h .long))))
 
-  pub shown : 640 ≤ length t → BoardFits
+  pub shown : tableSize ≤ length t → BoardFits
       → (r : Bool) → r ≡ all (entryOk (b .width) (b .height)) (map (entryAt t) (range 0 (b .entries))) → not r ≡ false
-      → (q : Bool) → Told (Zeros t (b .entries * 5) 640) q → not q ≡ false → Shown
+      → (q : Bool) → Told (Zeros t (b .entries * 5) tableSize) q → not q ≡ false → Shown
   shown len fits r e n true z k = record { long = len; board = fits; entries = sym e ∙ not-false r n; rest = z }
   shown len fits r e n false z k = clash refl k
 

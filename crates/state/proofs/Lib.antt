@@ -3,3 +3,4 @@ pub mod Shapes
 pub mod Entries
 pub mod Fronts
 pub mod Checking
+pub mod Rising

@@ -6,6 +6,7 @@ use mathlib.Core.List.{List}
 use lib.Dec.{leb}
 use lib.ListN.{length, getD}
 use Rattle.foil_spec.specs.Lists.{each}
+use Rattle.foil_spec.specs.Limits.{maxEntries, maxStrips, stripsSize}
 use Rattle.foil_spec.specs.Foil.{Layout, sizeOk, clearanceOk}
 use Rattle.foil_spec.specs.Ledger.{stripsOf}
 use Rattle.foil_spec.specs.Lent.{stripNumbers, written}
@@ -17,10 +18,10 @@ pub record Zeros (l : List ℕ) (a b : ℕ) : Type 0 where
 
 -- the record's width, height, clearance and number of entries are in their limits
 unfoldable pub boardOk : Board → Bool
-boardOk b = sizeOk (b .width) && sizeOk (b .height) && clearanceOk (b .clearance) && leb (b .entries) 128
+boardOk b = sizeOk (b .width) && sizeOk (b .height) && clearanceOk (b .clearance) && leb (b .entries) maxEntries
 
 -- a layout has no more strips than a list has places, so many as counted, and they stand in the list s
 pub record StripsRight (l : Layout) (count : ℕ) (s : List ℕ) : Type 0 where
-  pub few : length (stripsOf l) ≤ 4096
+  pub few : length (stripsOf l) ≤ maxStrips
   pub counted : count ≡ length (stripsOf l)
-  pub listed : s ≡ written 16384 (each stripNumbers (stripsOf l)) s
+  pub listed : s ≡ written stripsSize (each stripNumbers (stripsOf l)) s

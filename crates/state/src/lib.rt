@@ -2,20 +2,28 @@
 mod limits;
 
 use foil_spec::Board;
+use foil_spec::Entry;
+use foil_spec::MAX_ENTRIES;
+use foil_spec::STRIPS_SIZE;
+use foil_spec::TABLE_SIZE;
+use foil_spec::entry_at;
 pub use limits::box_ok;
 pub use limits::clearance_ok;
 pub use limits::net_ok;
 pub use limits::size_ok;
 use strips::Built;
 use strips::rebuild;
+use zones::BOXES_SIZE;
+use zones::zones;
 ghost use mathlib.Core.Path.{_≡_};
-ghost use Prim.Native.Nat.{_*_, _+_, _≤_, _-_};
+ghost use Prim.Native.Nat.{_*_, _≤_};
 ghost use mathlib.Core.List.{[], map};
 ghost use lib.ListN.{length, take};
 ghost use Rattle.foil_spec.specs.Lists.{range, all};
+ghost use Rattle.foil_spec.specs.Limits.{stripsSize};
 ghost use Rattle.foil_spec.specs.Foil.{entryOk};
 ghost use Rattle.foil_spec.specs.Lent.{lent, entryAt, layoutOf, sound};
-ghost use Rattle.strips.specs.Table.{Table};
+ghost use Rattle.zones.specs.Table.{Table};
 ghost use Rattle.strips.specs.Told.{Told};
 ghost use Rattle.state.specs.Tests.{Zeros, boardOk, StripsRight};
 
@@ -23,10 +31,10 @@ ghost use Rattle.state.specs.Tests.{Zeros, boardOk, StripsRight};
 pub fn is_sound(table: &[u16], strips: &[u16], board: Board) -> bool
     ensures { λ r. ⌜ r ≡ sound (lent board (now (table .entry)) (now (strips .entry)) []) ⌝ }
 {
-    if table.len() < 640 {
+    if table.len() < TABLE_SIZE {
         return false;
     }
-    if strips.len() < 16384 {
+    if strips.len() < STRIPS_SIZE {
         return false;
     }
     if !board_ok(board) {
@@ -36,7 +44,7 @@ pub fn is_sound(table: &[u16], strips: &[u16], board: Board) -> bool
     if !entries_ok(table, n, board.width, board.height) {
         return false;
     }
-    if !zeros(table, n * 5, 640) {
+    if !zeros(table, n * 5, TABLE_SIZE) {
         return false;
     }
     strips_ok(table, strips, board)
@@ -55,47 +63,44 @@ fn board_ok(board: Board) -> bool
     if !limits::clearance_ok(board.clearance) {
         return false;
     }
-    board.entries <= 128
+    board.entries <= MAX_ENTRIES
 }
 
 // Whether the strips are those of the table, as many as the record says.
 fn strips_ok(table: &[u16], strips: &[u16], board: Board) -> bool
     requires { ⌜ Table (now table) (board .entries) (board .clearance) (board .width) (board .height) ⌝ }
-    requires { ⌜ 16384 ≤ length (now strips) ⌝ }
+    requires { ⌜ stripsSize ≤ length (now strips) ⌝ }
     ensures { λ r. ⌜ Told (StripsRight (layoutOf (board .width) (board .height) (board .clearance)
         (board .entries) (now (table .entry))) (board .strips) (now (strips .entry))) r ⌝ }
 {
-    let mut out = [0u16; 16384];
-    let built = rebuild(
-        &mut out,
+    let mut boxes = [0u16; BOXES_SIZE];
+    let mut out = [0u16; STRIPS_SIZE];
+    let n = zones(
+        &mut boxes,
         table,
         board.entries,
         board.clearance,
         board.width,
         board.height,
     );
+    let built = rebuild(&mut out, &boxes, n, board.width, board.height);
     let Built::Strips(count) = built else {
         return false;
     };
     if count != board.strips {
         return false;
     }
-    same_front(&out, strips, 16384)
+    same_front(&out, strips, STRIPS_SIZE)
 }
 
-// Whether entry k of the table is one that a table may hold.
-fn entry_ok(table: &[u16], k: usize, w: u16, h: u16) -> bool
-    requires { ⌜ k * 5 + 5 ≤ length (now table) ⌝ }
-    ensures { λ r. ⌜ r ≡ entryOk w h (entryAt (now (table .entry)) k) ⌝ }
+// Whether the entry is one that a table of a foil of w by h may hold.
+fn entry_ok(e: Entry, w: u16, h: u16) -> bool
+    ensures { λ r. ⌜ r ≡ entryOk w h e ⌝ }
 {
-    let x0 = table[k * 5 + 1];
-    let y0 = table[k * 5 + 2];
-    let x1 = table[k * 5 + 3];
-    let y1 = table[k * 5 + 4];
-    if !limits::box_ok(w, h, x0, y0, x1, y1) {
+    if !limits::box_ok(w, h, e.x0, e.y0, e.x1, e.y1) {
         return false;
     }
-    limits::shape_ok(table[k * 5], x0, y0, x1, y1)
+    limits::shape_ok(e.net, e.x0, e.y0, e.x1, e.y1)
 }
 
 // Whether the first n entries of the table are such.
@@ -105,7 +110,7 @@ fn entries_ok(table: &[u16], n: usize, w: u16, h: u16) -> bool
 {
     let mut k = 0;
     while k < n {
-        if !entry_ok(table, k, w, h) {
+        if !entry_ok(entry_at(table, k), w, h) {
             return false;
         }
         k += 1;

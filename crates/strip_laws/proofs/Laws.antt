@@ -13,8 +13,8 @@ use Rattle.foil_spec.specs.Foil.{Point, point}
 use Rattle.foil_spec.specs.Strips.{Run, runs, starts, isRun, rowOf, Strip, strips, holds, placeOf}
 use Rattle.list_laws.proofs.Tests.{both, clash, and-i, parts}
 use Rattle.list_laws.proofs.Members.{In, in-keep, of-keep, Sorted, sorted-keep}
-use Rattle.strip_laws.specs.Rules.{IsRun, columns, IsStrip, stripBefore}
-use Rattle.strip_laws.proofs.Stop.{Stop, stop-of, starts-zero, starts-after, starts-not}
+use Rattle.strip_laws.specs.Rules.{IsRun, columns, IsStrip, stripBefore, Stop}
+use Rattle.strip_laws.proofs.Stop.{stop-of, starts-zero, starts-after, starts-not}
 use Rattle.strip_laws.proofs.Runs.{isRun-yes, run-starts, run-lt, run-Stop}
 use Rattle.strip_laws.proofs.Runs.{of-runs, in-runs, fromBefore, sorted-runs}
 use Rattle.strip_laws.proofs.Strips.{Begun, of-strips, in-strips, rows-of, ends-later, top-starts}

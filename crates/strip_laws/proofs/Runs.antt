@@ -12,7 +12,8 @@ use borrow.Author.Tests.{lt-ltb, eq-eqb, ltb-true, eqb-true}
 use Rattle.foil_spec.specs.Strips.{stop, Run, run, outside, since, scan, scanAt, runsFrom, runs, starts, isRun}
 use Rattle.list_laws.proofs.Tests.{both, clash, parts, lt-or-le}
 use Rattle.list_laws.proofs.Members.{In, Sorted}
-use Rattle.strip_laws.proofs.Stop.{Stop, stop-of, stop-end, stop-gt, stop-is-stop}
+use Rattle.strip_laws.specs.Rules.{Stop}
+use Rattle.strip_laws.proofs.Stop.{stop-of, stop-end, stop-gt, stop-is-stop}
 use Rattle.strip_laws.proofs.Stop.{Start, startOf, start-is, start-of, starts-zero, starts-after, starts-not}
 
 module _ (g : ℕ → Bool) (W x : ℕ) (l : x < W) where

@@ -6,6 +6,7 @@ use mathlib.Core.Path.{_≡_, refl, sym, _∙_}
 use mathlib.Core.Bool.{Bool, true, false}
 use mathlib.Core.Logic.{_⊎_, ⊎-elim, inl, inr}
 use Rattle.foil_spec.specs.Strips.{stopIn, stop, starts}
+use Rattle.strip_laws.specs.Rules.{Stop}
 use Rattle.list_laws.proofs.Tests.{both, not-t, not-f}
 
 module _ (g : ℕ → Bool) (N x : ℕ) where
@@ -25,13 +26,6 @@ module _ (g : ℕ → Bool) (N x : ℕ) where
   stop-end l =
       let z : N - x ≡ 0 = omega arith in
       rw z
-
--- e is the first place from x on, below N, where g fails, or N
-pub record Stop (g : ℕ → Bool) (N x e : ℕ) : Type 0 where
-  pub ge : x ≤ e
-  pub le : e ≤ N
-  pub passes : (u : ℕ) → x ≤ u → u < e → g u ≡ true
-  pub ends : (e ≡ N) ⊎ (g e ≡ false)
 
 module _ (g : ℕ → Bool) (N : ℕ) where
   -- the stop is m places on, if g passes up to there, and there it fails or the end is met

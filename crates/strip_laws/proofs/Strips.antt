@@ -16,8 +16,8 @@ use Rattle.foil_spec.specs.Strips.{begun, rowStrips, stripsFrom, strips, holds,
 use Rattle.list_laws.proofs.Tests.{clash, parts, lt-or-le, and-i, and-r, or-cases, or-il, or-ir, true-or-false}
 use Rattle.list_laws.proofs.Members.{In, in-range, of-range, in-map, of-map, in-keep, of-keep, in-each, of-each}
 use Rattle.list_laws.proofs.Members.{Sorted, sorted-range, sorted-keep, sorted-map, sorted-each}
-use Rattle.strip_laws.specs.Rules.{columns, stripBefore}
-use Rattle.strip_laws.proofs.Stop.{Stop, stop-is-stop, stop-gt, Start, startOf, start-is, start-of}
+use Rattle.strip_laws.specs.Rules.{columns, stripBefore, Stop}
+use Rattle.strip_laws.proofs.Stop.{stop-is-stop, stop-gt, Start, startOf, start-is, start-of}
 use Rattle.strip_laws.proofs.Runs.{runOf, runOf-is, runOf-from, runOf-to, runOf-isRun}
 use Rattle.strip_laws.proofs.Runs.{of-runs, in-runs, fromBefore, sorted-runs}
 

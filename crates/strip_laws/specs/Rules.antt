@@ -14,6 +14,13 @@ pub record IsRun (g : ℕ → Bool) (W : ℕ) (r : Run) : Type 0 where
   pub left : (r .from ≡ 0) ⊎ (g (pred (r .from)) ≡ false)
   pub right : (r .to ≡ W) ⊎ (g (r .to) ≡ false)
 
+-- e is the first place from x on, below N, where g fails, or N
+pub record Stop (g : ℕ → Bool) (N x e : ℕ) : Type 0 where
+  pub ge : x ≤ e
+  pub le : e ≤ N
+  pub passes : (u : ℕ) → x ≤ u → u < e → g u ≡ true
+  pub ends : (e ≡ N) ⊎ (g e ≡ false)
+
 -- the columns of a strip
 abbrev pub columns : Strip → Run
 columns s = run (s .x0) (s .x1)

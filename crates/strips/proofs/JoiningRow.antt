@@ -1,22 +1,24 @@
 -- The loop that joins one row, run by run.
-use Prim.Native.Nat.{ℕ, _+_, _*_, _-_, _≤_, _<_}
+use Prim.Native.Nat.{ℕ, suc, _+_, _*_, _-_, _≤_, _<_}
 use native.Mathlib.Omega.{arith}
 use mathlib.Core.Path.{_≡_, refl, sym, ap, _∙_, subst}
 use mathlib.Core.Bool.{Bool, true, false}
 use mathlib.Core.List.{List, _∷_, _++_}
 use mathlib.Core.Logic.{_⊎_, inl, inr}
 use lib.ListN.{length, getD, set, take, drop, length-set}
-use Rattle.foil_spec.specs.Foil.{free}
 use Rattle.foil_spec.specs.Strips.{run, runsFrom, isRun, rowOf, isTop, Strip, stripAt, begun, stripsFrom}
-use Rattle.foil_spec.specs.Lent.{layoutOf}
+use Rattle.foil_spec.specs.Limits.{maxStrips}
+use Rattle.zones.specs.Boxes.{boxFree}
 use Rattle.strip_laws.proofs.Runs.{outside-past}
 use Rattle.strip_laws.proofs.Strips.{begun-top, begun-old}
 use Rattle.strips.specs.Rows.{Change}
 use Rattle.strips.specs.Sweep.{Behind, SweptRun, SweptOut}
-use Rattle.strips.specs.Join.{Joined, JoinsRow, Opened}
+use Rattle.strips.specs.Joining.{Joined, JoinsRow, Opened}
 use Rattle.strips.proofs.Changing.{rows-next}
-use Rattle.strips.proofs.Joining.{joined-turn, joined-none, joined-old, joined-new, joined-full}
-use Rattle.strips.proofs.Joining.{alone, swept-run, new-top, open-x0, open-x1, open-y1, open-old, not-open}
+use Rattle.strips.proofs.RowToRow.{joined-turn, joined-full}
+use Rattle.strips.proofs.RowRuns.{alone, swept-run, joined-none}
+use Rattle.strips.proofs.NextRun.{joined-old, joined-new}
+use Rattle.strips.proofs.OpenStrips.{new-top, open-x0, open-x1, open-y1, open-old, not-open}
 
 -- the strips that are still to come at column x of row y
 abbrev pub ahead : (ℕ → ℕ → Bool) → ℕ → ℕ → ℕ → ℕ → ℕ → List Strip
@@ -24,25 +26,25 @@ ahead f w h y z x = begun f w h y (runsFrom (rowOf f y) w x) ++ stripsFrom f w h
 
 -- the row is joined up to column x; out₀, last₀ and c are what it began with
 pub record JoiningRow
-    (t ord : List ℕ) (n d w h y z c : ℕ) (out₀ last₀ out last : List ℕ) (x j count : ℕ) : Type 0 where
+    (t ord : List ℕ) (n w h y z c : ℕ) (out₀ last₀ out last : List ℕ) (x j count : ℕ) : Type 0 where
   pub xw : x ≤ w
   pub jn : j ≤ n
-  pub behind : Behind t ord d w y x j
-  pub edge : (x ≡ 0) ⊎ ((x ≡ w) ⊎ (free (layoutOf w h d n t) x y ≡ false))
-  pub small : count ≤ 4096
+  pub behind : Behind t ord y x j
+  pub edge : (x ≡ 0) ⊎ ((x ≡ w) ⊎ (boxFree w h n t x y ≡ false))
+  pub small : count ≤ maxStrips
   pub same-out : length out ≡ length out₀
   pub same-last : length last ≡ length last₀
   pub joined : (o : List ℕ)
-      → Joined (free (layoutOf w h d n t)) w h o out₀ last₀ c y z 0 (stripsFrom (free (layoutOf w h d n t)) w h y)
-      → Joined (free (layoutOf w h d n t)) w h o out last count y z x (ahead (free (layoutOf w h d n t)) w h y z x)
+      → Joined (boxFree w h n t) w h o out₀ last₀ c y z 0 (stripsFrom (boxFree w h n t) w h y)
+      → Joined (boxFree w h n t) w h o out last count y z x (ahead (boxFree w h n t) w h y z x)
 
 module _
-    (t ord : List ℕ) (n d w h y z c : ℕ) (out₀ last₀ : List ℕ) (yh : y < h)
-    (ch : Change (free (layoutOf w h d n t)) h y z) where
+    (t ord : List ℕ) (n w h y z c : ℕ) (out₀ last₀ : List ℕ) (yh : y < h)
+    (ch : Change (boxFree w h n t) h y z) where
   abbrev f : ℕ → ℕ → Bool
-  f = free (layoutOf w h d n t)
+  f = boxFree w h n t
 
-  pub row-start : c ≤ 4096 → JoiningRow t ord n d w h y z c out₀ last₀ out₀ last₀ 0 0 c
+  pub row-start : c ≤ maxStrips → JoiningRow t ord n w h y z c out₀ last₀ out₀ last₀ 0 0 c
   row-start l =
       record {
         xw = omega arith;
@@ -58,13 +60,13 @@ module _
       }
 
   module _
-      (out last : List ℕ) (x j count : ℕ) (s : JoiningRow t ord n d w h y z c out₀ last₀ out last x j count) where
+      (out last : List ℕ) (x j count : ℕ) (s : JoiningRow t ord n w h y z c out₀ last₀ out last x j count) where
     -- the strips so far, where the row is joined up to column x
     abbrev SoFar : List ℕ → Type 0
     SoFar o = Joined f w h o out last count y z x (ahead f w h y z x)
 
     -- the next run, from a up to b
-    module _ (a b i : ℕ) (r : SweptRun (rowOf f y) t ord n d w y x a b i) where
+    module _ (a b i : ℕ) (r : SweptRun (rowOf f y) t ord n w y x a b i) where
       ab : a < b
       ab = r .gt
 
@@ -87,7 +89,7 @@ module _
       -- it goes on with the strip at place k
       pub row-old : (k : ℕ) → k ≡ getD last a 0 → Opened out k count a b y
           → (out′ : List ℕ) → out′ ≡ set out (k * 4 + 3) z
-          → JoiningRow t ord n d w h y z c out₀ last₀ out′ last b i count
+          → JoiningRow t ord n w h y z c out₀ last₀ out′ last b i count
       row-old k ek p out′ e =
           record {
             xw = bw;
@@ -119,9 +121,9 @@ module _
         rest-is : (o : List ℕ) → SoFar o → ahead f w h y z x ≡ stripAt f w h y (run a b) ∷ ahead f w h y z b
         rest-is o J = new-rest (new-top f w (run a b) y (fresh o J))
 
-        pub row-new : count < 4096 → (out′ last′ : List ℕ) → length out′ ≡ length out
+        pub row-new : count < maxStrips → (out′ last′ : List ℕ) → length out′ ≡ length out
             → out′ ≡ take (count * 4) out ++ (a ∷ y ∷ b ∷ z ∷ drop (count * 4 + 4) out) → last′ ≡ set last a count
-            → JoiningRow t ord n d w h y z c out₀ last₀ out′ last′ b i (count + 1)
+            → JoiningRow t ord n w h y z c out₀ last₀ out′ last′ b i (count + 1)
         row-new lt out′ last′ len e e′ =
             record {
               xw = bw;
@@ -142,7 +144,7 @@ module _
                 (rest-is o J) len e)
 
         -- there is no room for it
-        pub row-full : count ≡ 4096 → JoinsRow f w h out₀ last₀ c y z out last 4097
+        pub row-full : count ≡ maxStrips → JoinsRow f w h out₀ last₀ c y z out last (suc maxStrips)
         row-full q o J₀ =
             record {
               held = λ l. absurd (omega arith);

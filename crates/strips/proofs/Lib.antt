@@ -1,10 +1,11 @@
--- Laws that the functions are proved with, and those that callers need: Tables, Placing.
-pub mod Tables
-pub mod Free
+-- Laws that the functions are proved with, and those that callers need: Placing.
 pub mod Ordering
 pub mod Changing
 pub mod Sweeping
 pub mod Listing
-pub mod Joining
+pub mod RowToRow
+pub mod RowRuns
+pub mod NextRun
+pub mod OpenStrips
 pub mod JoiningRow
 pub mod Placing

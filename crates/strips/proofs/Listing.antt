@@ -12,7 +12,7 @@ use Rattle.foil_spec.specs.Lists.{each}
 use Rattle.foil_spec.specs.Strips.{Strip}
 use Rattle.foil_spec.specs.Lent.{stripNumbers, written, listedStrip}
 use Rattle.strips.specs.Built.{Listed, Rebuilt}
-use Rattle.strips.specs.Join.{at}
+use Rattle.strips.specs.Joining.{at}
 use Rattle.strips.specs.declared.Built.the-variants.{Strips}
 
 pub length-strips : (ss : List Strip) → length (each stripNumbers ss) ≡ length ss * 4

@@ -1,19 +1,22 @@
--- The place of a point's strip: along the list, and for the strips of a board.
+-- The place of a point's strip: along the list, and for the strips of a foil, which stand by y0.
 use Prim.Native.Nat.{ℕ, zero, suc, _+_, _≤_, _<_}
 use native.Mathlib.Omega.{arith}
-use mathlib.Core.Path.{_≡_, refl, ap, _∙_}
-use mathlib.Core.Bool.{Bool, true, false}
+use native.Mathlib.Decide.{ℕ-discrete}
+use mathlib.Core.Path.{_≡_, refl, sym, ap, _∙_, subst}
+use mathlib.Core.Bool.{Bool, true, false, _&&_}
 use mathlib.Core.List.{List, map}
-use lib.Dec.{leb, ltb}
-use borrow.Author.Tests.{lt-leb, le-ltb}
+use mathlib.Core.Logic.{⊎-elim, by-cases}
+use lib.Dec.{leb, ltb, eqb}
+use borrow.Author.Tests.{lt-leb, le-ltb, ltb-true, eqb-true}
 use Rattle.foil_spec.specs.Lists.{range, any}
 use Rattle.foil_spec.specs.Foil.{Point}
 use Rattle.foil_spec.specs.Strips.{Strip, strips, holds, placeOf}
 use Rattle.foil_spec.specs.Lent.{listedStrip, listedStrips}
-use Rattle.list_laws.proofs.Tests.{both, clash, and-no-r}
-use Rattle.list_laws.proofs.Members.{in-any, none-of}
-use Rattle.strip_laws.proofs.Laws.{in-a-strip, only-free}
-use Rattle.strips.specs.Places.{placeIn}
+use Rattle.list_laws.proofs.Tests.{both, clash, and-l, and-no-r, or-cases}
+use Rattle.list_laws.proofs.Members.{in-any, none-of, Sorted, sorted-places}
+use Rattle.strip_laws.specs.Rules.{stripBefore}
+use Rattle.strip_laws.proofs.Laws.{in-a-strip, only-free, strips-in-order}
+use Rattle.strips.specs.Places.{placeIn, ByRow}
 use Rattle.strips.specs.declared.Place.the-variants.{At, Nowhere}
 
 -- a point beside a strip
@@ -84,7 +87,7 @@ module _ (p : Point) where
         let r = first-holds (listedStrip l) count k 0 lt (λ i a b. h i (omega arith)) (rw q e) in
         place-yes (map (listedStrip l) (range 0 count)) (r .0) ∙ ap At (r .1)
 
--- on a board a free point has a place, and no other point has
+-- on a foil a free point has a place, and no other point has
 module _ (f : ℕ → ℕ → Bool) (W H : ℕ) (p : Point) where
   pub place-free : p .x < W → p .y < H → f (p .x) (p .y) ≡ true
       → placeIn p (strips f W H) ≡ At (placeOf p (strips f W H))
@@ -97,3 +100,25 @@ module _ (f : ℕ → ℕ → Bool) (W H : ℕ) (p : Point) where
       place-no p (strips f W H)
       (none-of (holds p) (strips f W H)
       (λ s i. both (holds p s) (λ k. clash (only-free f W H p s i k .2) e) (λ k. k)))
+
+before-row : (s t : Strip) → stripBefore s t ≡ true → s .y0 ≤ t .y0
+unfolding stripBefore
+before-row s t e =
+    ⊎-elim
+    (λ (l : ltb (s .y0) (t .y0) ≡ true). omega (arith, ltb-true (s .y0) (t .y0) l))
+    (λ l. omega (arith, eqb-true (s .y0) (t .y0) (and-l (eqb (s .y0) (t .y0)) (ltb (s .x0) (t .x0)) l)))
+    (or-cases (ltb (s .y0) (t .y0)) (eqb (s .y0) (t .y0) && ltb (s .x0) (t .x0)) e)
+
+-- the strips of a foil stand by y0 in a list that has them all
+pub by-row : (f : ℕ → ℕ → Bool) (W H : ℕ) (l : List ℕ) (n : ℕ) → listedStrips l n ≡ strips f W H → ByRow l n
+unfolding listedStrips
+by-row f W H l n e a b le lt =
+    by-cases (ℕ-discrete a b)
+    (λ q. ap-le q)
+    (λ q.
+    before-row (listedStrip l a) (listedStrip l b)
+    (sorted-places stripBefore (listedStrip l) 0 n (subst (Sorted stripBefore) (sym e) (strips-in-order f W H)) a b
+    (omega arith) (omega arith) (omega arith)))
+  where
+    ap-le : a ≡ b → listedStrip l a .y0 ≤ listedStrip l b .y0
+    ap-le q = omega (arith, ap (λ (k : ℕ). listedStrip l k .y0) q)

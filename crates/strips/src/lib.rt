@@ -1,20 +1,24 @@
-// The strips of a board: built from its table, and looked up.
-mod join;
+// The strips of a foil: built from the boxes that are blocked, and looked up.
+mod joining;
 mod order;
 mod rows;
 mod sweep;
 
+use foil_spec::MAX_STRIPS;
+use foil_spec::STRIPS_SIZE;
+use foil_spec::strip_at;
+use zones::MAX_BOXES;
 ghost use mathlib.Core.Path.{_≡_};
 ghost use Prim.Native.Nat.{_*_, _-_, _+_, _≤_};
 ghost use mathlib.Core.List.{_++_};
 ghost use lib.ListN.{length, take, drop, replicate};
 ghost use Rattle.foil_spec.specs.Foil.{point};
-ghost use Rattle.foil_spec.specs.Strips.{holds};
-ghost use Rattle.foil_spec.specs.Ledger.{stripsOf};
-ghost use Rattle.foil_spec.specs.Lent.{layoutOf, listedStrip, listedStrips};
-ghost use Rattle.strips.specs.Table.{Table};
+ghost use Rattle.foil_spec.specs.Limits.{stripsSize};
+ghost use Rattle.foil_spec.specs.Strips.{strips, holds};
+ghost use Rattle.foil_spec.specs.Lent.{listedStrip, listedStrips};
+ghost use Rattle.zones.specs.Boxes.{boxFree, Boxes};
 ghost use Rattle.strips.specs.Built.{Rebuilt};
-ghost use Rattle.strips.specs.Places.{placeIn};
+ghost use Rattle.strips.specs.Places.{placeIn, ByRow};
 
 // How many strips there are, or that there are more than the list has places.
 pub enum Built {
@@ -22,22 +26,22 @@ pub enum Built {
     TooMany,
 }
 
-// Writes the strips of the board of w by h with the first n entries of the table and clearance d to
-// out, and zeros after them up to 4,096 places. Where there are too many, what out holds is undecided.
-pub fn rebuild(out: &mut [u16], table: &[u16], n: usize, d: u16, w: u16, h: u16) -> Built
-    requires { ⌜ Table (now table) n d w h ⌝ }
-    requires { ⌜ 16384 ≤ length (now out) ⌝ }
+// Writes the strips that the first n boxes leave of a foil of w by h to out, and zeros after them up to
+// 4,096 places. Where there are too many, what out holds is undecided.
+pub fn rebuild(out: &mut [u16], boxes: &[u16], n: usize, w: u16, h: u16) -> Built
+    requires { ⌜ Boxes (now boxes) n w h ⌝ }
+    requires { ⌜ stripsSize ≤ length (now out) ⌝ }
     ensures { λ r. ⌜ Rebuilt (now (out .entry)) (now (out .exit))
-        (stripsOf (layoutOf w h d n (now (table .entry)))) r ⌝ }
+        (strips (boxFree w h n (now (boxes .entry))) w h) r ⌝ }
 {
-    let mut ord = [0usize; 128];
+    let mut ord = [0usize; MAX_BOXES];
     let mut last = [0usize; 4096];
-    order::order(&mut ord, table, n);
-    let count = join::join(out, &mut last, table, &ord, n, d, w, h);
-    if 4096 < count {
+    order::order(&mut ord, boxes, n);
+    let count = joining::join_rows(out, &mut last, boxes, &ord, n, w, h);
+    if MAX_STRIPS < count {
         return Built::TooMany;
     }
-    clear(out, count * 4, 16384);
+    clear(out, count * 4, STRIPS_SIZE);
     Built::Strips(count)
 }
 
@@ -65,24 +69,27 @@ fn holds_at(list: &[u16], k: usize, x: u16, y: u16) -> bool
     requires { ⌜ k * 4 + 4 ≤ length (now list) ⌝ }
     ensures { λ r. ⌜ r ≡ holds (point x y) (listedStrip (now (list .entry)) k) ⌝ }
 {
-    if x < list[k * 4] {
+    let strip = strip_at(list, k);
+    if x < strip.x0 {
         return false;
     }
-    if list[k * 4 + 2] <= x {
+    if strip.x1 <= x {
         return false;
     }
-    if y < list[k * 4 + 1] {
+    if y < strip.y0 {
         return false;
     }
-    if list[k * 4 + 3] <= y {
+    if strip.y1 <= y {
         return false;
     }
     true
 }
 
-// The place of the first of the `count` strips of the list that holds the point (x, y).
+// The place of the first of the `count` strips of the list, which stand by y0, that holds the point
+// (x, y).
 pub fn locate(list: &[u16], count: usize, x: u16, y: u16) -> Place
     requires { ⌜ count * 4 ≤ length (now list) ⌝ }
+    requires { ⌜ ByRow (now list) count ⌝ }
     ensures { λ r. ⌜ r ≡ placeIn (point x y) (listedStrips (now (list .entry)) count) ⌝ }
 {
     let mut k: usize = 0;

@@ -1,5 +1,6 @@
-use native.Mathlib.Omega.{arith}
+-- `state::entries_ok` meets its contract: the entries before place k are ones that a table may hold.
 use Prim.Native.Nat.{_-_}
+use native.Mathlib.Omega.{arith}
 use Rattle.state.proofs.Entries.{Passed, passed-none, passed-more, passed-all, passed-not}
 use Rattle.state.proofs.entries_ok.Statement.{statement}
 use Rattle.state.proofs.entries_ok.Tie as tie
@@ -10,18 +11,27 @@ Inv-loop table n w h k₀ k = Passed table n w h k
 abbrev μ-loop : tie.MeasureT-loop
 μ-loop table n w h k₀ k = n - k
 
+-- back to the function's start, and to the loop's turn
+abbrev atStart : tie.In-loop Inv-loop μ-loop → tie.Start Inv-loop μ-loop
+atStart c = c .before .before .before
+
+abbrev inLoop : tie.After-entry-ok Inv-loop μ-loop → tie.In-loop Inv-loop μ-loop
+inLoop c = c .before .before
+
 loop-holds : tie.Need-loop-holds Inv-loop μ-loop
 loop-holds c = passed-none _ _ _ _
+
+entry-at-requires : tie.Need-entry-at-requires Inv-loop μ-loop
+entry-at-requires c κs = omega arith
 
 entry-ok-requires : tie.Need-entry-ok-requires Inv-loop μ-loop
 entry-ok-requires c κs = omega arith
 
 returns : tie.Need-returns Inv-loop μ-loop
 returns c =
-    passed-not (c .before .before .before .before .before .args .table .now)
-    (c .before .before .before .before .before .args .n) (c .before .before .before .before .before .args .w)
-    (c .before .before .before .before .before .args .h) _ (omega arith) _
-    (c .before .entry-ok .ensures) (c .if1 .taken)
+    let a = atStart (inLoop (c .before)) .args in
+    passed-not (a .table .now) (a .n) (a .w) (a .h) _ (inLoop (c .before) .loop-test .taken) _
+    (c .before .before .entry-at .ensures) _ (c .before .entry-ok .ensures) (c .if1 .taken)
 
 add-k : tie.Need-add-k Inv-loop μ-loop
 add-k c = omega arith
@@ -30,8 +40,10 @@ loop-less : tie.Need-loop-less Inv-loop μ-loop
 loop-less c = omega arith
 
 loop-again : tie.Need-loop-again Inv-loop μ-loop
-loop-again c = passed-more _ _ _ _ _ (omega arith) _ (c .before .entry-ok .ensures) (c .if1 .left)
-    (c .before .before .before .loop .inv)
+loop-again c =
+    let l = inLoop (c .before) in
+    passed-more _ _ _ _ _ (l .loop-test .taken) _ (c .before .before .entry-at .ensures) _
+    (c .before .entry-ok .ensures) (c .if1 .left) (l .before .loop .inv)
 
 returns-2 : tie.Need-returns-2 Inv-loop μ-loop
 returns-2 c = passed-all _ _ _ _ _ (omega arith) (c .before .loop .inv)
@@ -43,6 +55,7 @@ entries-ok-spec =
     Inv-loop
     μ-loop
     loop-holds
+    entry-at-requires
     entry-ok-requires
     returns
     add-k

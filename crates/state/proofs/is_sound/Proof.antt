@@ -1,7 +1,7 @@
 use native.Mathlib.Omega.{arith}
 use mathlib.Core.Path.{sym, _∙_}
 use borrow.Author.Tests.{not-false}
-use Rattle.strips.proofs.Tables.{table-of}
+use Rattle.zones.proofs.Tables.{table-of}
 use Rattle.state.proofs.Checking.{short-table, short-strips, bad-board, bad-entries, bad-rest}
 use Rattle.state.proofs.Checking.{board-fits, shown, all-right}
 use borrow.Author.Needs.{needs}

@@ -14,19 +14,19 @@ slice-aggregate-order c = omega arith
 order-requires : tie.Need-order-requires
 order-requires c κs =
     let p = c .before .before .before .pre .0 in
-    omega (arith, p .few, p .entries .len)
+    omega (arith, p .few, p .len)
 
-slice-aggregate-join : tie.Need-slice-aggregate-join
-slice-aggregate-join c = omega arith
+slice-aggregate-join-rows : tie.Need-slice-aggregate-join-rows
+slice-aggregate-join-rows c = omega arith
 
-slice-aggregate-join-2 : tie.Need-slice-aggregate-join-2
-slice-aggregate-join-2 c = omega arith
+slice-aggregate-join-rows-2 : tie.Need-slice-aggregate-join-rows-2
+slice-aggregate-join-rows-2 c = omega arith
 
-join-requires : tie.Need-join-requires
-join-requires c κs =
+join-rows-requires : tie.Need-join-rows-requires
+join-rows-requires c κs =
     let p = atStart c .pre in (
-      p .0 .entries,
-      (c .before .before .before .before .order .ensures, omega (arith, p .0 .width, p .0 .height, p .1)),
+      p .0,
+      (c .before .before .before .before .order .ensures, omega (arith, p .1)),
     )
 
 same-length : tie.Need-same-length
@@ -35,7 +35,7 @@ same-length c = omega arith
 returns : tie.Need-returns
 returns c =
     let j = c .before .before .before .before in
-    (omega (arith, j .join .ensures .count, c .if1 .taken), j .join .kept .0)
+    (omega (arith, j .join-rows .ensures .count, c .if1 .taken), j .join-rows .kept .0)
 
 mul-clear : tie.Need-mul-clear
 mul-clear c = omega arith
@@ -50,8 +50,8 @@ returns-2 : tie.Need-returns-2
 returns-2 c =
     let e = c .before .before .before .before in
     let j = e .before .before .before .before in
-    rebuilt _ _ _ _ _ (j .join .kept .0) (omega (arith, atStart (j .before) .pre .1)) (e .if1 .left)
-    (j .join .ensures) (c .before .before .clear .ensures)
+    rebuilt _ _ _ _ _ (j .join-rows .kept .0) (omega (arith, atStart (j .before) .pre .1)) (e .if1 .left)
+    (j .join-rows .ensures) (c .before .before .clear .ensures)
 
 pub rebuild-spec : {M : Type 1} → statement M
 rebuild-spec =
@@ -59,9 +59,9 @@ rebuild-spec =
     (tie.spec
     slice-aggregate-order
     order-requires
-    slice-aggregate-join
-    slice-aggregate-join-2
-    join-requires
+    slice-aggregate-join-rows
+    slice-aggregate-join-rows-2
+    join-rows-requires
     same-length
     returns
     mul-clear

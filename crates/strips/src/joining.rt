@@ -1,18 +1,19 @@
-// The strips of a board, row by row: the runs of a row go on with the strips of the row before, or
+// The strips of a foil, row by row: the runs of a row go on with the strips of the row before, or
 // begin new ones.
 ghost use mathlib.Core.Path.{_≡_};
 ghost use Prim.Native.Nat.{_+_, _*_, _≤_, _<_};
 ghost use mathlib.Core.List.{_∷_, _++_};
 ghost use lib.ListN.{length, take, drop};
-ghost use Rattle.foil_spec.specs.Foil.{free};
-ghost use Rattle.foil_spec.specs.Ledger.{stripsOf};
-ghost use Rattle.foil_spec.specs.Lent.{layoutOf};
-ghost use Rattle.strips.specs.Table.{Entries};
+ghost use Rattle.foil_spec.specs.Limits.{maxStrips, stripsSize};
+ghost use Rattle.foil_spec.specs.Strips.{strips};
+ghost use Rattle.zones.specs.Boxes.{boxFree, Boxes};
 ghost use Rattle.strips.specs.Order.{Ordered};
 ghost use Rattle.strips.specs.Rows.{Change};
-ghost use Rattle.strips.specs.Join.{JoinsRow, Opened};
+ghost use Rattle.strips.specs.Joining.{JoinsRow, Opened};
 ghost use Rattle.strips.specs.Told.{Told};
 ghost use Rattle.strips.specs.Built.{Listed};
+use foil_spec::MAX_STRIPS;
+use foil_spec::strip_at;
 use crate::rows::next_change;
 use crate::sweep::Swept;
 use crate::sweep::sweep;
@@ -32,13 +33,14 @@ fn is_open(out: &[u16], k: usize, count: usize, a: u16, b: u16, y: u16) -> bool
     if count <= k {
         return false;
     }
-    if out[k * 4] != a {
+    let strip = strip_at(out, k);
+    if strip.x0 != a {
         return false;
     }
-    if out[k * 4 + 2] != b {
+    if strip.x1 != b {
         return false;
     }
-    if out[k * 4 + 3] != y {
+    if strip.y1 != y {
         return false;
     }
     true
@@ -62,29 +64,27 @@ fn put(out: &mut [u16], k: usize, a: u16, y: u16, b: u16, t: u16)
 fn join_row(
     out: &mut [u16],
     last: &mut [usize],
-    table: &[u16],
+    boxes: &[u16],
     ord: &[usize],
     n: usize,
-    d: u16,
     w: u16,
     h: u16,
     y: u16,
     z: u16,
     c: usize,
 ) -> usize
-    requires { ⌜ Entries (now table) n d ⌝ }
-    requires { ⌜ Ordered (now table) (now ord) n ⌝ }
-    requires { ⌜ (w ≤ 4096) × (y < h) × (h ≤ 4096) × (c ≤ 4096)
-        × (16384 ≤ length (now out)) × (4096 ≤ length (now last)) ⌝ }
-    requires { ⌜ Change (free (layoutOf w h d n (now table))) h y z ⌝ }
-    ensures { λ r. ⌜ JoinsRow (free (layoutOf w h d n (now (table .entry)))) w h
+    requires { ⌜ Boxes (now boxes) n w h ⌝ }
+    requires { ⌜ Ordered (now boxes) (now ord) n ⌝ }
+    requires { ⌜ (y < h) × (c ≤ maxStrips) × (stripsSize ≤ length (now out)) × (4096 ≤ length (now last)) ⌝ }
+    requires { ⌜ Change (boxFree w h n (now boxes)) h y z ⌝ }
+    ensures { λ r. ⌜ JoinsRow (boxFree w h n (now (boxes .entry))) w h
         (now (out .entry)) (now (last .entry)) c y z (now (out .exit)) (now (last .exit)) r ⌝ }
 {
     let mut x: u16 = 0;
     let mut j: usize = 0;
     let mut count = c;
     while x < w {
-        let Swept::Run(a, b, i) = sweep(table, ord, n, d, w, y, x, j) else {
+        let Swept::Run(a, b, i) = sweep(boxes, ord, n, w, h, y, x, j) else {
             return count;
         };
         let s = wide(a);
@@ -92,8 +92,8 @@ fn join_row(
         if is_open(out, k, count, a, b, y) {
             out[k * 4 + 3] = z;
         } else {
-            if count == 4096 {
-                return 4097;
+            if count == MAX_STRIPS {
+                return MAX_STRIPS + 1;
             }
             put(out, count, a, y, b, z);
             last[s] = count;
@@ -105,29 +105,27 @@ fn join_row(
     count
 }
 
-// Writes the strips of a board to out. Answers how many there are, 4,097 for more than 4,096.
-pub(crate) fn join(
+// Writes the strips of a foil to out. Answers how many there are, 4,097 for more than 4,096.
+pub(crate) fn join_rows(
     out: &mut [u16],
     last: &mut [usize],
-    table: &[u16],
+    boxes: &[u16],
     ord: &[usize],
     n: usize,
-    d: u16,
     w: u16,
     h: u16,
 ) -> usize
-    requires { ⌜ Entries (now table) n d ⌝ }
-    requires { ⌜ Ordered (now table) (now ord) n ⌝ }
-    requires { ⌜ (w ≤ 4096) × (h ≤ 4096) × (16384 ≤ length (now out)) × (4096 ≤ length (now last)) ⌝ }
-    ensures { λ r. ⌜ Listed (now (out .entry)) (now (out .exit)) r
-        (stripsOf (layoutOf w h d n (now (table .entry)))) ⌝ }
+    requires { ⌜ Boxes (now boxes) n w h ⌝ }
+    requires { ⌜ Ordered (now boxes) (now ord) n ⌝ }
+    requires { ⌜ (stripsSize ≤ length (now out)) × (4096 ≤ length (now last)) ⌝ }
+    ensures { λ r. ⌜ Listed (now (out .entry)) (now (out .exit)) r (strips (boxFree w h n (now (boxes .entry))) w h) ⌝ }
 {
     let mut y: u16 = 0;
     let mut count: usize = 0;
     while y < h {
-        let z = next_change(table, n, d, h, y);
-        let k = join_row(out, last, table, ord, n, d, w, h, y, z, count);
-        if 4096 < k {
+        let z = next_change(boxes, n, w, h, y);
+        let k = join_row(out, last, boxes, ord, n, w, h, y, z, count);
+        if MAX_STRIPS < k {
             return k;
         }
         count = k;

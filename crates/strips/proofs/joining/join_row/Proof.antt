@@ -1,25 +1,24 @@
--- `strips::join::join_row` meets its contract: the row is joined up to column x.
-use Prim.Native.Nat.{ℕ, _-_}
+-- `strips::joining::join_row` meets its contract: the row is joined up to column x.
+use Prim.Native.Nat.{ℕ, _-_, _<_}
 use mathlib.Core.Path.{refl, ap, subst}
 use native.Mathlib.Omega.{arith}
-use lib.ListN.{getD, set}
-use Rattle.foil_spec.specs.Foil.{free}
+use lib.ListN.{length, getD, set}
 use Rattle.foil_spec.specs.Strips.{rowOf}
-use Rattle.foil_spec.specs.Lent.{layoutOf}
+use Rattle.zones.specs.Boxes.{boxFree}
 use Rattle.strips.specs.Sweep.{Sweep}
 use Rattle.strips.specs.declared.sweep.Swept.{Swept}
 use Rattle.strips.specs.declared.sweep.Swept.the-variants.{Run as found}
-use Rattle.strips.specs.Join.{Opened}
+use Rattle.strips.specs.Joining.{Opened}
 use Rattle.strips.proofs.JoiningRow.{JoiningRow, row-start, row-old, row-new, row-full, row-none, row-end}
-use Rattle.strips.proofs.join.join_row.Statement.{statement}
-use Rattle.strips.proofs.join.join_row.Tie as tie
+use Rattle.strips.proofs.joining.join_row.Statement.{statement}
+use Rattle.strips.proofs.joining.join_row.Tie as tie
 
 abbrev Inv-loop : tie.InvT-loop
-Inv-loop out₀ last₀ table ord n d w h y z c x₀ j₀ count₀ out last x j count =
-    JoiningRow table ord n d w h y z c out₀ last₀ out last x j count
+Inv-loop out₀ last₀ boxes ord n w h y z c x₀ j₀ count₀ out last x j count =
+    JoiningRow boxes ord n w h y z c out₀ last₀ out last x j count
 
 abbrev μ-loop : tie.MeasureT-loop
-μ-loop out₀ last₀ table ord n d w h y z c x₀ j₀ count₀ out last x j count = w - x
+μ-loop out₀ last₀ boxes ord n w h y z c x₀ j₀ count₀ out last x j count = w - x
 
 -- back to the function's start, to the loop's turn, to the run that the sweep found, and to the new strip's run
 abbrev atStart : tie.In-loop Inv-loop μ-loop → tie.Start Inv-loop μ-loop
@@ -47,20 +46,30 @@ i c = c .before .a .given .0 .1 .1 .0
 -- what the sweep from column x of the row answers
 abbrev Found : tie.Start Inv-loop μ-loop → ℕ → Swept → Type 0
 Found c x r =
-    Sweep
-    (rowOf (free (layoutOf (c .args .w) (c .args .h) (c .args .d) (c .args .n) (c .args .table .now))) (c .args .y))
-    (c .args .table .now) (c .args .ord .now) (c .args .n) (c .args .d) (c .args .w) (c .args .y) x r
+    Sweep (rowOf (boxFree (c .args .w) (c .args .h) (c .args .n) (c .args .boxes .now)) (c .args .y))
+    (c .args .boxes .now) (c .args .ord .now) (c .args .n) (c .args .w) (c .args .y) x r
 
 answered : (c : tie.After-sweep Inv-loop μ-loop)
     → Found (atStart (c .before)) (c .before .before .loop .x) (c .sweep .result)
-answered c =
-    c .sweep .ensures (atStart (c .before) .args .h) (omega (arith, atStart (c .before) .pre .1 .1 .0))
+answered c = c .sweep .ensures
 
 swept : (c : tie.After-known-told Inv-loop μ-loop)
     → Found (atStart (inLoop c)) (inLoop c .before .loop .x) (found (a c) (b c) (i c))
 swept c =
     subst (λ (r : Swept). Found (atStart (inLoop c)) (inLoop c .before .loop .x) r) (c .before .a .given .1)
     (answered (c .before .before .before))
+
+-- the run's first column is one of the list of last strips
+in-last : (c : tie.After-known-told Inv-loop μ-loop) → a c < length (inLoop c .before .loop .last)
+in-last c =
+    omega (
+      arith,
+      swept c .gt,
+      swept c .stop .le,
+      inLoop c .before .loop .inv .same-last,
+      atStart (inLoop c) .pre .0 .width,
+      atStart (inLoop c) .pre .1 .1 .0,
+    )
 
 -- the strip at place k goes on with the run, or does not
 abbrev GoesOn : tie.After-is-open Inv-loop μ-loop → ℕ → Type 0
@@ -81,7 +90,7 @@ closed c =
 loop-holds : tie.Need-loop-holds Inv-loop μ-loop
 loop-holds c =
     let s = c .before .before .before .before in
-    row-start _ _ _ _ _ _ _ _ _ _ _ (omega (arith, s .pre .1 .1 .0)) (s .pre .1 .1 .1)
+    row-start _ _ _ _ _ _ _ _ _ _ (omega (arith, s .pre .1 .1 .0)) (s .pre .1 .1 .1)
     (omega (arith, s .pre .1 .1 .0))
 
 sweep-requires : tie.Need-sweep-requires Inv-loop μ-loop
@@ -111,7 +120,7 @@ same-length-2 c = c .before .before .before .before .loop .inv .same-last
 returns : tie.Need-returns Inv-loop μ-loop
 returns c =
     let l = c .before .before .before in
-    row-none _ _ _ _ _ _ _ _ _ _ _ (omega (arith, atStart l .pre .1 .1 .0)) (atStart l .pre .1 .1 .1) _ _ _ _ _
+    row-none _ _ _ _ _ _ _ _ _ _ (omega (arith, atStart l .pre .1 .1 .0)) (atStart l .pre .1 .1 .1) _ _ _ _ _
     (l .before .loop .inv)
     (subst (λ (r : Swept). Found (atStart l) (l .before .loop .x) r) (c .enum-told .given .1)
     (answered (c .before .before)))
@@ -120,28 +129,10 @@ wide-requires : tie.Need-wide-requires Inv-loop μ-loop
 wide-requires c κs = omega arith
 
 mul-k : tie.Need-mul-k Inv-loop μ-loop
-mul-k c =
-    let r = c .before in
-    omega (
-      arith,
-      c .wide .ensures,
-      swept r .gt,
-      swept r .stop .le,
-      inLoop r .before .loop .inv .same-last,
-      atStart (inLoop r) .pre .1 .1 .0,
-    )
+mul-k c = omega (arith, c .wide .ensures, in-last (c .before))
 
 slice-read-k : tie.Need-slice-read-k Inv-loop μ-loop
-slice-read-k c =
-    let r = c .before .before in
-    omega (
-      arith,
-      c .before .wide .ensures,
-      swept r .gt,
-      swept r .stop .le,
-      inLoop r .before .loop .inv .same-last,
-      atStart (inLoop r) .pre .1 .1 .0,
-    )
+slice-read-k c = omega (arith, c .before .wide .ensures, in-last (c .before .before))
 
 is-open-requires : tie.Need-is-open-requires Inv-loop μ-loop
 is-open-requires c κs =
@@ -168,6 +159,9 @@ slice-write-out c =
     let l = inLoop (atRun (c .before)) in
     omega (arith, opened c .lt, l .before .loop .inv .small, l .before .loop .inv .same-out, atStart l .pre .1 .1 .0)
 
+add-result : tie.Need-add-result Inv-loop μ-loop
+add-result c = omega arith
+
 same-length-3 : tie.Need-same-length-3 Inv-loop μ-loop
 same-length-3 c = inLoop (atRun (c .before .before)) .before .loop .inv .same-out
 
@@ -178,7 +172,7 @@ returns-2 : tie.Need-returns-2 Inv-loop μ-loop
 returns-2 c =
     let r = atRun (c .before .before) in
     let l = inLoop r in
-    row-full _ _ _ _ _ _ _ _ _ _ _ (omega (arith, atStart l .pre .1 .1 .0)) (atStart l .pre .1 .1 .1) _ _ _ _ _
+    row-full _ _ _ _ _ _ _ _ _ _ (omega (arith, atStart l .pre .1 .1 .0)) (atStart l .pre .1 .1 .1) _ _ _ _ _
     (l .before .loop .inv) _ _ _ (swept r) (closed (c .before)) (c .if2 .taken)
 
 put-requires : tie.Need-put-requires Inv-loop μ-loop
@@ -195,28 +189,12 @@ put-requires c κs =
 mul-last : tie.Need-mul-last Inv-loop μ-loop
 mul-last c =
     let o = notOpen c .before in
-    let r = atRun o in
-    omega (
-      arith,
-      o .before .before .before .wide .ensures,
-      swept r .gt,
-      swept r .stop .le,
-      inLoop r .before .loop .inv .same-last,
-      atStart (inLoop r) .pre .1 .1 .0,
-    )
+    omega (arith, o .before .before .before .wide .ensures, in-last (atRun o))
 
 slice-write-last : tie.Need-slice-write-last Inv-loop μ-loop
 slice-write-last c =
     let o = notOpen c .before in
-    let r = atRun o in
-    omega (
-      arith,
-      o .before .before .before .wide .ensures,
-      swept r .gt,
-      swept r .stop .le,
-      inLoop r .before .loop .inv .same-last,
-      atStart (inLoop r) .pre .1 .1 .0,
-    )
+    omega (arith, o .before .before .before .wide .ensures, in-last (atRun o))
 
 add-count : tie.Need-add-count Inv-loop μ-loop
 add-count c = omega (arith, inLoop (atRun (notOpen c .before)) .before .loop .inv .small)
@@ -230,7 +208,7 @@ loop-again : tie.Need-loop-again Inv-loop μ-loop
 loop-again c =
     let r = atRun (c .before) in
     let l = inLoop r in
-    row-old _ _ _ _ _ _ _ _ _ _ _ (omega (arith, atStart l .pre .1 .1 .0)) (atStart l .pre .1 .1 .1) _ _ _ _ _
+    row-old _ _ _ _ _ _ _ _ _ _ (omega (arith, atStart l .pre .1 .1 .0)) (atStart l .pre .1 .1 .1) _ _ _ _ _
     (l .before .loop .inv) _ _ _ (swept r) _
     (ap (λ (u : ℕ). getD (l .before .loop .last) u 0) (c .before .before .before .before .wide .ensures))
     (opened c) _ refl
@@ -245,7 +223,7 @@ loop-again-2 c =
     let o = notOpen c .before in
     let r = atRun o in
     let l = inLoop r in
-    row-new _ _ _ _ _ _ _ _ _ _ _ (omega (arith, atStart l .pre .1 .1 .0)) (atStart l .pre .1 .1 .1) _ _ _ _ _
+    row-new _ _ _ _ _ _ _ _ _ _ (omega (arith, atStart l .pre .1 .1 .0)) (atStart l .pre .1 .1 .1) _ _ _ _ _
     (l .before .loop .inv) _ _ _ (swept r) (closed (notOpen c))
     (omega (arith, c .before .before .before .before .if2 .left, l .before .loop .inv .small)) _ _
     (c .before .before .put .kept .0) (c .before .before .put .ensures)
@@ -261,7 +239,7 @@ same-length-6 c = c .before .loop .inv .same-last
 returns-3 : tie.Need-returns-3 Inv-loop μ-loop
 returns-3 c =
     let s = c .before .before .before .before .before .before in
-    row-end _ _ _ _ _ _ _ _ _ _ _ (omega (arith, s .pre .1 .1 .0)) (s .pre .1 .1 .1) _ _ _ _ _
+    row-end _ _ _ _ _ _ _ _ _ _ (omega (arith, s .pre .1 .1 .0)) (s .pre .1 .1 .1) _ _ _ _ _
     (c .before .loop .inv) (c .loop-test .left)
 
 pub join-row-spec : {M : Type 1} → statement M
@@ -285,6 +263,7 @@ join-row-spec =
     add-out
     mul-out-2
     slice-write-out
+    add-result
     same-length-3
     same-length-4
     returns-2

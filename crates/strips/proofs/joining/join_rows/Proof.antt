@@ -1,27 +1,25 @@
--- `strips::join::join` meets its contract: the strips that begin before row y are joined up to that row.
+-- `strips::joining::join_rows` meets its contract: the strips that begin before row y are joined up to that row.
 use Prim.Native.Nat.{ℕ, _-_, _≤_}
 use native.Mathlib.Omega.{arith}
 use mathlib.Core.Path.{_≡_, refl, _∙_}
 use mathlib.Core.Bool.{Bool}
 use lib.ListN.{length}
-use Rattle.foil_spec.specs.Foil.{free}
 use Rattle.foil_spec.specs.Strips.{stripsFrom}
-use Rattle.foil_spec.specs.Ledger.{stripsOf}
-use Rattle.foil_spec.specs.Lent.{layoutOf}
+use Rattle.zones.specs.Boxes.{boxFree}
 use Rattle.strips.specs.Rows.{Change}
-use Rattle.strips.specs.Join.{Joined}
-use Rattle.strips.proofs.Joining.{joined-start, joined-toward, joined-next, joined-over, joined-end}
-use Rattle.strips.proofs.join.join.Statement.{statement}
-use Rattle.strips.proofs.join.join.Tie as tie
+use Rattle.strips.specs.Joining.{Joined}
+use Rattle.strips.proofs.RowToRow.{joined-start, joined-toward, joined-next, joined-over, joined-end}
+use Rattle.strips.proofs.joining.join_rows.Statement.{statement}
+use Rattle.strips.proofs.joining.join_rows.Tie as tie
 
 abbrev Inv-loop : tie.InvT-loop
-Inv-loop out₀ last₀ table ord n d w h y₀ count₀ out last y count =
+Inv-loop out₀ last₀ boxes ord n w h y₀ count₀ out last y count =
     (y ≤ h) × (length last ≡ length last₀)
-    × Joined (free (layoutOf w h d n table)) w h out₀ out last count y y 0
-    (stripsFrom (free (layoutOf w h d n table)) w h y)
+    × Joined (boxFree w h n boxes) w h out₀ out last count y y 0
+    (stripsFrom (boxFree w h n boxes) w h y)
 
 abbrev μ-loop : tie.MeasureT-loop
-μ-loop out₀ last₀ table ord n d w h y₀ count₀ out last y count = h - y
+μ-loop out₀ last₀ boxes ord n w h y₀ count₀ out last y count = h - y
 
 -- back to the function's start, and to the loop's turn
 abbrev atStart : tie.In-loop Inv-loop μ-loop → tie.Start Inv-loop μ-loop
@@ -33,20 +31,24 @@ inLoop c = c .before .before .before .before
 abbrev joinedRow : tie.After-slice-known4 Inv-loop μ-loop → tie.After-join-row Inv-loop μ-loop
 joinedRow c = c .before .before .before .before
 
--- the board's free points
+-- the foil's free points
 abbrev f : tie.Start Inv-loop μ-loop → ℕ → ℕ → Bool
-f c = free (layoutOf (c .args .w) (c .args .h) (c .args .d) (c .args .n) (c .args .table .now))
+f c = boxFree (c .args .w) (c .args .h) (c .args .n) (c .args .boxes .now)
 
 change : (c : tie.After-next-change Inv-loop μ-loop)
     → Change (f (atStart (c .before))) (atStart (c .before) .args .h) (c .before .before .loop .y)
     (c .next-change .result)
-change c = c .next-change .ensures (atStart (c .before) .args .w)
+change c = c .next-change .ensures
 
 loop-holds : tie.Need-loop-holds Inv-loop μ-loop
-loop-holds c = (omega arith, refl, joined-start _ _ _ _ _ (omega (arith, c .before .before .before .before .pre .1 .1)))
+loop-holds c = (
+  omega arith,
+  refl,
+  joined-start _ _ _ _ _ (omega (arith, c .before .before .before .before .pre .0 .width, c .before .before .before .before .pre .1 .1)),
+)
 
 next-change-requires : tie.Need-next-change-requires Inv-loop μ-loop
-next-change-requires c κs = (atStart c .pre .0, omega (arith, atStart c .pre .1 .1, c .loop-test .taken))
+next-change-requires c κs = (atStart c .pre .0, omega (arith, c .loop-test .taken))
 
 join-row-requires : tie.Need-join-row-requires Inv-loop μ-loop
 join-row-requires c κs =
@@ -67,7 +69,6 @@ same-length-2 c =
     r .join-row .kept .1 .0 ∙ inLoop r .before .loop .inv .1
 
 returns : tie.Need-returns Inv-loop μ-loop
-unfolding stripsOf layoutOf
 returns c =
     let r = joinedRow (c .before) in
     joined-over _ _ _ _ _ _ _ _ _
@@ -94,11 +95,10 @@ same-length-4 : tie.Need-same-length-4 Inv-loop μ-loop
 same-length-4 c = c .before .loop .inv .1
 
 returns-2 : tie.Need-returns-2 Inv-loop μ-loop
-unfolding stripsOf layoutOf
 returns-2 c = joined-end _ _ _ _ _ _ _ _ (c .loop-test .left) (c .before .loop .inv .0) (c .before .loop .inv .2)
 
-pub join-spec : {M : Type 1} → statement M
-join-spec =
+pub join-rows-spec : {M : Type 1} → statement M
+join-rows-spec =
     tie.close
     (tie.spec
     Inv-loop

@@ -1,15 +1,15 @@
 -- Strips that are joined row by row: each strip's y1 moves on as its run goes on.
-use Prim.Native.Nat.{ℕ, _+_, _*_, _-_, _≤_, _<_, min}
+use Prim.Native.Nat.{ℕ, suc, _+_, _*_, _-_, _≤_, _<_, min}
 use mathlib.Core.Path.{_≡_}
 use mathlib.Core.Bool.{Bool, true, false}
 use mathlib.Core.List.{List, _++_}
 use lib.Dec.{ltb}
 use lib.ListN.{length, getD, drop}
 use Rattle.foil_spec.specs.Lists.{each}
+use Rattle.foil_spec.specs.Limits.{maxStrips}
 use Rattle.foil_spec.specs.Strips.{run, isRun, rowOf, Strip, stripsFrom, strips}
 use Rattle.foil_spec.specs.Lent.{stripNumbers}
-use Rattle.strip_laws.proofs.Stop.{Stop}
-use Rattle.strip_laws.specs.Rules.{columns}
+use Rattle.strip_laws.specs.Rules.{Stop, columns}
 
 -- the row up to which a strip that begins at column a is known: z for the columns before x, v for the others
 unfoldable pub bound : ℕ → ℕ → ℕ → ℕ → ℕ
@@ -22,7 +22,7 @@ noStrip = record { x0 = 0; y0 = 0; x1 = 0; y1 = 0 }
 abbrev pub at : List Strip → ℕ → Strip
 at l k = getD l k noStrip
 
--- the strip s of the board stands at place k as t: as far as it is known
+-- the strip s of the foil stands at place k as t: as far as it is known
 pub record Placed (f : ℕ → ℕ → Bool) (w h v z x : ℕ) (last : List ℕ) (s t : Strip) (k : ℕ) : Type 0 where
   pub lt : s .x0 < s .x1
   pub le : s .x1 ≤ w
@@ -41,11 +41,11 @@ pub record Open (last : List ℕ) (cur : List Strip) (count a b t : ℕ) : Type 
   pub is-x1 : at cur (getD last a 0) .x1 ≡ b
   pub is-y1 : at cur (getD last a 0) .y1 ≡ t
 
--- The first `count` strips of the board, `done`, stand in out as `cur`: those that begin before column x are known up
+-- The first `count` strips of the foil, `done`, stand in out as `cur`: those that begin before column x are known up
 -- to row z, the others up to row v. The strips `rest` are still to come; o is the list as it came.
 pub record Joined
     (f : ℕ → ℕ → Bool) (w h : ℕ) (o out last : List ℕ) (count v z x : ℕ) (rest : List Strip) : Type 0 where
-  pub small : count ≤ 4096
+  pub small : count ≤ maxStrips
   pub same : length out ≡ length o
   pub wide : w ≤ length last
   pub done : List Strip
@@ -60,8 +60,8 @@ pub record Joined
 
 -- row y, and with it all rows up to z, is joined: there are r strips so far, or there are too many
 pub record RowJoined (f : ℕ → ℕ → Bool) (w h : ℕ) (o out last : List ℕ) (r y z : ℕ) : Type 0 where
-  pub held : r ≤ 4096 → Joined f w h o out last r y z w (stripsFrom f w h z)
-  pub over : 4096 < r → (r ≡ 4097) × (4096 < length (strips f w h))
+  pub held : r ≤ maxStrips → Joined f w h o out last r y z w (stripsFrom f w h z)
+  pub over : maxStrips < r → (r ≡ suc maxStrips) × (maxStrips < length (strips f w h))
 
 -- row y is joined to the c strips before, whatever list o they were begun on
 abbrev pub JoinsRow : (ℕ → ℕ → Bool) → ℕ → ℕ → List ℕ → List ℕ → ℕ → ℕ → ℕ → List ℕ → List ℕ → ℕ → Type 0
