@@ -1,8 +1,8 @@
--- Laws that the proofs of the calls use.
-pub mod Refusing
-pub mod Making
+-- Laws of the calls.
 pub mod Limits
+pub mod Making
+pub mod Giving
 pub mod Beginning
-pub mod Drawing
+pub mod Adding
 pub mod Lifting
 pub mod Looking

@@ -1,69 +1,65 @@
--- Look up, return by return.
+-- Look up, return by return: a point is free just if a strip holds it.
 use Prim.Native.Nat.{ℕ, _*_, _≤_, _<_}
 use native.Mathlib.Omega.{arith}
 use mathlib.Core.Path.{_≡_, refl, sym, ap, _∙_, subst}
-use mathlib.Core.Bool.{Bool, true, false, not, or-true}
+use mathlib.Core.Bool.{Bool, true, false, not, and-true, or-true}
 use mathlib.Core.List.{List, [], _∷_}
-use mathlib.Core.Option.{none, some}
+use mathlib.Core.Option.{Option, none, some}
 use lib.ListN.{length}
-use borrow.Author.Tests.{lt-leb, le-leb, not-true}
+use borrow.Author.Tests.{lt-leb, le-leb}
+use Rattle.foil_spec.specs.Limits.{maxEntries}
 use Rattle.foil_spec.specs.Foil.{Point, free}
 use Rattle.foil_spec.specs.Strips.{placeOf}
-use Rattle.foil_spec.specs.Ledger.{lookUp, stripsOf, offFoil, blocked, next, says, _⇒_, first, refusals}
-use Rattle.foil_spec.specs.Lent.{Lent, lent, withCorners, layoutOf, held, sound, roomOf, cornersAfter}
-use Rattle.foil_spec.specs.Lent.{listedStrips, finish, stepOn}
+use Rattle.foil_spec.specs.Ledger.{lookUp, stripsOf, offFoil, blocked, next, says, first, reads, refusals, settle}
+use Rattle.foil_spec.specs.Ledger.{afterLent, refusalOf}
+use Rattle.foil_spec.specs.Lent.{Lent, lent, layoutOf, held, sound, roomOf, listedStrips, stepOn}
 use Rattle.foil_spec.specs.declared.Board.{Board}
 use Rattle.list_laws.proofs.Tests.{both}
-use Rattle.ledger_laws.proofs.Refusals.{short-refused, broken-refused}
+use Rattle.ledger_laws.proofs.Refusals.{own-refused}
 use Rattle.ledger_laws.proofs.Stored.{strips-fit, length-strips}
-use Rattle.ledger_laws.proofs.Steps.{long-lists}
-use Rattle.ledger_laws.proofs.Sound.{Sound, of-sound, sound-store-is, strips-listed}
+use Rattle.ledger_laws.proofs.Sound.{Sound, of-sound, sound-long, sound-store-is, strips-listed}
 use Rattle.strips.specs.Places.{placeIn}
 use Rattle.strips.specs.declared.Place.the-variants.{At, Nowhere}
 use Rattle.strips.proofs.Placing.{place-free, place-blocked}
-use Rattle.foil.specs.Contract.{answerOf, Looked, TooShort, Ready}
+use Rattle.foil.specs.Contract.{answerOf, Looked, LentChecked}
 use Rattle.foil.specs.declared.Answer.the-variants.{Refused, Found}
-use Rattle.foil.proofs.Refusing.{refusal}
-
--- a look up leaves all as it is
-looked-refused : (p : Point) (m : Lent) (n : ℕ) → refusal (lookUp p) m ≡ some n → Looked p m (Refused n)
-unfolding stepOn finish answerOf
-looked-refused p m n e = record { answer = rw e refl; state = rw e refl }
-
-looked-found : (p : Point) (m : Lent) → Sound m → refusal (lookUp p) m ≡ none
-    → Looked p m (Found (placeOf p (stripsOf (held m))))
-unfolding stepOn finish answerOf says next cornersAfter
-looked-found p m k e =
-    record {
-      answer = rw e refl;
-      state = rw e (ap (λ (n : Lent). withCorners n (m .corners)) (sym (sound-store-is m k)));
-    }
+use Rattle.foil.specs.declared.lent.Checked.the-variants as checked
+use Rattle.foil.proofs.Giving.{sound-room}
 
 module _ (b : Board) (t s : List ℕ) (p : Point) where
   abbrev m : Lent
-  m = lent b t s []
+  m = lent b t s
 
-  pub look-short : (k : Bool) → TooShort t s k → k ≡ true → Looked p m (Refused 12)
-  look-short k h e =
-      looked-refused p m 12 (short-refused (lookUp p) (roomOf m) (not (sound m)) (held m) (sym (h .is b []) ∙ e))
+  -- the number that the call is refused by
+  abbrev refusal : Option ℕ
+  refusal = refusalOf (roomOf m 0) (not (sound m)) (lookUp p) (held m)
 
-  pub look-broken : (k : Bool) → TooShort t s k → k ≡ false → (g : Bool) → g ≡ sound m → not g ≡ true
-      → Looked p m (Refused 13)
-  look-broken k h e g g-is y =
-      looked-refused p m 13
-      (rw (sym g-is ∙ not-true g y) (broken-refused (lookUp p) (roomOf m) (held m) tt (sym (h .is b []) ∙ e)))
+  -- a look up leaves all as it is
+  looked-refused : (n : ℕ) → refusal ≡ some n → Looked p m (Refused n)
+  unfolding stepOn settle answerOf
+  looked-refused n e = record { answer = rw e refl; state = rw e refl }
 
-  module _ (y : Ready m) where
+  looked-found : Sound m → refusal ≡ none → Looked p m (Found (placeOf p (stripsOf (held m))))
+  unfolding stepOn settle answerOf says next
+  looked-found k e = record { answer = rw e refl; state = rw e (sym (sound-store-is m k)) }
+
+  pub look-refused : (n : ℕ) → LentChecked m (checked.Refused n) → Looked p m (Refused n)
+  unfolding refusalOf reads
+  look-refused n k =
+      looked-refused n (rw (and-true (not (sound m))) (k maxEntries 0 (refusals (lookUp p) (roomOf m 0) (held m))))
+
+  module _ (g : sound m ≡ true) where
     facts : Sound m
-    facts = of-sound m (y .fine)
+    facts = of-sound m g
 
-    from-7 : refusal (lookUp p) m ≡ first ((offFoil (held m) p ⇒ 7) ∷ (blocked (held m) p ⇒ 8) ∷ [])
-    unfolding refusals first
-    from-7 = rw (y .long, y .fine) refl
+    from-7 : refusal ≡ first (refusals (lookUp p) (roomOf m 0) (held m))
+    from-7 =
+        ap (λ (x : Bool). refusalOf (roomOf m 0) (not x) (lookUp p) (held m)) g
+        ∙ own-refused (roomOf m 0) (lookUp p) (held m) false (sound-room m g maxEntries 0) refl
 
     off : offFoil (held m) p ≡ true → Looked p m (Refused 7)
-    unfolding first
-    off e = looked-refused p m 7 (from-7 ∙ rw e refl)
+    unfolding first refusals
+    off e = looked-refused 7 (from-7 ∙ rw e refl)
 
     pub off-right : b .width ≤ p .x → Looked p m (Refused 7)
     unfolding offFoil held layoutOf
@@ -77,7 +73,7 @@ module _ (b : Board) (t s : List ℕ) (p : Point) where
     strips-long =
         omega (
           arith,
-          long-lists m (y .long) .strips,
+          sound-long m g .strips,
           facts .counted,
           strips-fit (held m) (facts .kept),
           length-strips (stripsOf (held m)),
@@ -117,15 +113,15 @@ module _ (b : Board) (t s : List ℕ) (p : Point) where
           (λ f. let h = at-blocked f in absurd (let z : _≡_ {A = ℕ} 0 1 = cc in omega arith))
 
       pub nowhere : placeIn p (listedStrips s (b .strips)) ≡ Nowhere → Looked p m (Refused 8)
-      unfolding first
-      nowhere e = looked-refused p m 8 (from-7 ∙ rw (on-foil, sym (nowhere-blocked e)) refl)
+      unfolding first refusals
+      nowhere e = looked-refused 8 (from-7 ∙ rw (on-foil, sym (nowhere-blocked e)) refl)
 
       pub somewhere : (k : ℕ) → placeIn p (listedStrips s (b .strips)) ≡ At k → Looked p m (Found k)
-      unfolding first blocked
+      unfolding first refusals blocked
       somewhere k e =
           both (free (held m) (p .x) (p .y))
           (λ f.
           let h = at-free f in
           let q : placeOf p (stripsOf (held m)) ≡ k = cc in
-          subst (λ (i : ℕ). Looked p m (Found i)) q (looked-found p m facts (from-7 ∙ rw (on-foil, f) refl)))
+          subst (λ (i : ℕ). Looked p m (Found i)) q (looked-found facts (from-7 ∙ rw (on-foil, f) refl)))
           (λ f. let h = at-blocked f in absurd (let z : _≡_ {A = ℕ} 0 1 = cc in omega arith))

@@ -7,12 +7,13 @@ use mathlib.Core.List.{List, [], _++_, map}
 use lib.ListN.{length, drop, replicate}
 use lib.Seq.{paste}
 use Rattle.foil_spec.specs.Lists.{range, all, each}
+use Rattle.foil_spec.specs.Limits.{maxEntries, tableSize}
 use Rattle.foil_spec.specs.Foil.{Entry, entryOk}
 use Rattle.foil_spec.specs.Lent.{Lent, entryNumbers, written, store, entryAt, layoutOf, held}
 use Rattle.ledger_laws.proofs.Stored.{read-back, entries-fit}
 use Rattle.ledger_laws.proofs.Sound.{Sound}
-use Rattle.strips.specs.Table.{Table}
-use Rattle.strips.proofs.Tables.{table-of}
+use Rattle.zones.specs.Table.{Table}
+use Rattle.zones.proofs.Tables.{table-of}
 use Rattle.booking.specs.Rows.{rowsOf}
 use Rattle.booking.proofs.Filling.{length-rows}
 use Rattle.booking.proofs.Taking.{copied}
@@ -24,7 +25,7 @@ module _ (rows : List ℕ) (es : List Entry) (n : ℕ) (count : length es ≡ n)
   read-rows =
       ap (λ (x : List ℕ). map (entryAt x) (range 0 n)) is
       ∙ ap (λ (k : ℕ). map (entryAt (rowsOf es)) (range 0 k)) (sym count)
-      ∙ read-back es (replicate (640 - length (each entryNumbers es)) 0 ++ drop 640 [])
+      ∙ read-back es (replicate (tableSize - length (each entryNumbers es)) 0 ++ drop tableSize [])
 
   pub rows-again : rows ≡ rowsOf (map (entryAt rows) (range 0 n))
   rows-again = is ∙ ap rowsOf (sym read-rows)
@@ -34,19 +35,19 @@ module _ (rows : List ℕ) (es : List Entry) (n : ℕ) (count : length es ≡ n)
   rows-layout w h d =
       ap (λ (x : List Entry). record { width = w; height = h; clearance = d; entries = x }) read-rows
 
-  pub rows-table : (w h d : ℕ) → n ≤ 128 → d ≤ 15 → w ≤ 4096 → h ≤ 4096 → all (entryOk w h) es ≡ true
+  pub rows-table : (w h d : ℕ) → n ≤ maxEntries → d ≤ 15 → w ≤ 4096 → h ≤ 4096 → all (entryOk w h) es ≡ true
       → Table rows n d w h
   rows-table w h d few small wide high ok =
       table-of rows n d w h few (omega (arith, length-rows es (omega arith), ap length is)) small wide high
       (ap (all (entryOk w h)) read-rows ∙ ok)
 
 -- the front of a sound table, copied to zeros, is rows of its entries
-pub copied-rows : (m : Lent) (rows : List ℕ) → Sound m → rows ≡ paste (replicate 640 0) 0 (m .table) 640
+pub copied-rows : (m : Lent) (rows : List ℕ) → Sound m → rows ≡ paste (replicate tableSize 0) 0 (m .table) tableSize
     → rows ≡ rowsOf (held m .entries)
 unfolding store rowsOf written
 copied-rows m rows k e =
     let ns : List ℕ = each entryNumbers (held m .entries) in
-    let z : drop {A = ℕ} 640 (replicate 640 0) ≡ [] = refl in
-    e ∙ ap (λ (x : List ℕ). paste (replicate 640 0) 0 x 640) (k .table-is)
-    ∙ copied 640 ns (m .table) (replicate 640 0) (entries-fit (held m) (k .kept))
-    ∙ ap (λ (x : List ℕ). ns ++ (replicate (640 - length ns) 0 ++ x)) z
+    let z : drop {A = ℕ} tableSize (replicate tableSize 0) ≡ [] = refl in
+    e ∙ ap (λ (x : List ℕ). paste (replicate tableSize 0) 0 x tableSize) (k .table-is)
+    ∙ copied tableSize ns (m .table) (replicate tableSize 0) (entries-fit (held m) (k .kept))
+    ∙ ap (λ (x : List ℕ). ns ++ (replicate (tableSize - length ns) 0 ++ x)) z

@@ -11,14 +11,14 @@ use Rattle.foil_spec.specs.Lists.{range, all, each}
 use Rattle.foil_spec.specs.Limits.{maxEntries, tableSize, maxStrips, stripsSize}
 use Rattle.foil_spec.specs.Foil.{Layout, sizeOk, clearanceOk, entryOk}
 use Rattle.foil_spec.specs.Strips.{Strip}
-use Rattle.foil_spec.specs.Ledger.{stripsOf, tooLong, tooFine}
+use Rattle.foil_spec.specs.Ledger.{stripsOf, tooFine}
 use Rattle.foil_spec.specs.Lent.{Lent, lent, entryNumbers, stripNumbers, written, store, entryAt, layoutOf, held}
 use Rattle.foil_spec.specs.Lent.{layoutOk, sound}
 use Rattle.foil_spec.specs.declared.Board.{Board}
 use Rattle.foil_spec.proofs.Written.{written-zero}
 use Rattle.list_laws.proofs.Tests.{both, clash, parts}
 use Rattle.ledger_laws.proofs.Stored.{length-entries, length-strips}
-use Rattle.ledger_laws.proofs.Kept.{of-ok, to-ok}
+use Rattle.ledger_laws.proofs.Rules.{of-ok, to-ok}
 use Rattle.ledger_laws.proofs.Sound.{Sound, of-sound, to-sound, length-read, read-numbers, front-written}
 use Rattle.ledger_laws.proofs.Sound.{is-written, zeros-written}
 use Rattle.strips.specs.Told.{Told}
@@ -73,7 +73,7 @@ module _ (l : Layout) (count : ℕ) (s : List ℕ) (ss : List Strip) (are : ss �
 
 module _ (b : Board) (t s : List ℕ) where
   abbrev m : Lent
-  m = lent b t s []
+  m = lent b t s
 
   not-sound : (Sound m → ⊥) → false ≡ sound m
   not-sound h = both (sound m) (λ e. absurd (h (of-sound m e))) (λ e. sym e)
@@ -159,7 +159,7 @@ module _ (b : Board) (t s : List ℕ) where
   l = layoutOf (b .width) (b .height) (b .clearance) (b .entries) t
 
   all-kept : Shown → length (stripsOf l) ≤ maxStrips → layoutOk l ≡ true
-  unfolding layoutOf tooLong tooFine boardOk
+  unfolding layoutOf tooFine boardOk
   all-kept h f =
       let k = h .board .yes in
       to-ok l
@@ -169,7 +169,7 @@ module _ (b : Board) (t s : List ℕ) where
         clearance = search parts;
         entries = h .entries;
         long =
-            le-ltb maxEntries (length (map (entryAt t) (range 0 (b .entries))))
+            le-leb (length (map (entryAt t) (range 0 (b .entries)))) maxEntries
             (omega (arith, length-read t (b .entries), h .board .few));
         fine = le-ltb maxStrips (length (stripsOf l)) f;
       })

@@ -17,7 +17,7 @@ use zones::BOXES_SIZE;
 use zones::zones;
 ghost use mathlib.Core.Path.{_≡_};
 ghost use Prim.Native.Nat.{_*_, _≤_};
-ghost use mathlib.Core.List.{[], map};
+ghost use mathlib.Core.List.{map};
 ghost use lib.ListN.{length, take};
 ghost use Rattle.foil_spec.specs.Lists.{range, all};
 ghost use Rattle.foil_spec.specs.Limits.{stripsSize};
@@ -29,7 +29,7 @@ ghost use Rattle.state.specs.Tests.{Zeros, boardOk, StripsRight};
 
 // Whether the record, the table and the strips keep document 01's rules, whatever they hold.
 pub fn is_sound(table: &[u16], strips: &[u16], board: Board) -> bool
-    ensures { λ r. ⌜ r ≡ sound (lent board (now (table .entry)) (now (strips .entry)) []) ⌝ }
+    ensures { λ r. ⌜ r ≡ sound (lent board (now (table .entry)) (now (strips .entry))) ⌝ }
 {
     if table.len() < TABLE_SIZE {
         return false;

@@ -1,0 +1,112 @@
+-- An entry more, and a patch that is drawn, return by return.
+use Prim.Native.Nat.{ℕ, _+_, min, _≤_, _<_}
+use native.Mathlib.Omega.{arith}
+use mathlib.Core.Path.{_≡_, refl, sym, ap, _∙_, subst}
+use mathlib.Core.Bool.{Bool, true, false, not}
+use mathlib.Core.List.{List, [], _∷_, _++_, map}
+use lib.ListN.{length, replicate, length-append}
+use lib.Seq.{paste}
+use borrow.Author.Tests.{lt-ltb, le-ltb, not-true, not-false}
+use Rattle.foil_spec.specs.Lists.{range, all}
+use Rattle.foil_spec.specs.Limits.{maxEntries, tableSize}
+use Rattle.foil_spec.specs.Foil.{Entry, entry, Layout, boxOk, entryOk}
+use Rattle.foil_spec.specs.Ledger.{Room, short, tooLong, draw, next, says, first, refusals, After, settle}
+use Rattle.foil_spec.specs.Ledger.{Answer as Outcome}
+use Rattle.foil_spec.specs.Lent.{Lent, lent, store, entryAt, layoutOf, held, sound}
+use Rattle.foil_spec.specs.declared.Board.{Board}
+use Rattle.list_laws.proofs.Tests.{and-i, all-append}
+use Rattle.ledger_laws.proofs.Rules.{of-ok}
+use Rattle.ledger_laws.proofs.Line.{patch-ok}
+use Rattle.ledger_laws.proofs.Sound.{Sound, of-sound, length-read}
+use Rattle.zones.specs.Table.{Table}
+use Rattle.booking.specs.Rows.{rowsOf, Appended}
+use Rattle.foil.specs.Contract.{Gave, StepIn, refusedBy, takenOver, withEntry, entryAdded}
+use Rattle.foil.specs.declared.Done.{Done}
+use Rattle.foil.proofs.Giving.{gave-refused, own-done, own-step}
+use Rattle.foil.proofs.Making.{rows-again, rows-layout, rows-table, copied-rows}
+use Rattle.foil.proofs.Limits.{Held, held-limits}
+
+module _ (b : Board) (t s : List ℕ) (g : sound (lent b t s) ≡ true) (limit : ℕ) (limited : limit ≤ maxEntries) where
+  abbrev m : Lent
+  m = lent b t s
+
+  facts : Sound m
+  facts = of-sound m g
+
+  -- ---- an entry more
+
+  module _ (e : Entry) where
+    -- what the call is to give, in each room of the limit
+    abbrev Added : Done → List ℕ → List ℕ → Type 0
+    Added r t′ s′ = (room : Room) → room .limit ≡ limit → Gave (entryAdded room e m) r t′ s′
+
+    one-longer : length (held m .entries ++ e ∷ []) ≡ b .entries + 1
+    unfolding held layoutOf
+    one-longer = length-append (held m .entries) (e ∷ []) ∙ omega (arith, length-read t (b .entries))
+
+    pub table-full : limit ≤ b .entries → (r : Done) → r ≡ refusedBy 10 b → Added r t s
+    unfolding first tooLong
+    table-full l r q room is =
+        gave-refused _ _ m 10 r
+        (rw (lt-ltb (min maxEntries (room .limit)) (length (held m .entries ++ e ∷ [])) (omega (arith, one-longer))) refl) q
+
+    module _ (few : b .entries < limit) (ok : entryOk (b .width) (b .height) e ≡ true) (rows : List ℕ) (old : List ℕ)
+        (copied : old ≡ paste (replicate tableSize 0) 0 t tableSize) (added : Appended old rows (b .entries) e) where
+      added-rows : rows ≡ rowsOf (held m .entries ++ e ∷ [])
+      unfolding held layoutOf
+      added-rows = added .rows (held m .entries) (length-read t (b .entries)) (copied-rows m old facts copied)
+
+      all-ok : all (entryOk (b .width) (b .height)) (held m .entries ++ e ∷ []) ≡ true
+      unfolding held layoutOf
+      all-ok =
+          all-append (entryOk (b .width) (b .height)) (held m .entries) (e ∷ [])
+          (of-ok (held m) (facts .kept) .entries)
+          (and-i {a = entryOk (b .width) (b .height) e} ok refl)
+
+      pub added-again : rows ≡ rowsOf (map (entryAt rows) (range 0 (b .entries + 1)))
+      added-again = rows-again rows (held m .entries ++ e ∷ []) (b .entries + 1) one-longer added-rows
+
+      pub added-table : Table rows (b .entries + 1) (b .clearance) (b .width) (b .height)
+      added-table =
+          let h : Held b = held-limits b t s facts in
+          rows-table rows (held m .entries ++ e ∷ []) (b .entries + 1) one-longer added-rows
+          (b .width) (b .height) (b .clearance) (omega arith) (h .small) (h .wide) (h .high) all-ok
+
+      layout-is : layoutOf (b .width) (b .height) (b .clearance) (b .entries + 1) rows ≡ withEntry m e
+      unfolding held layoutOf
+      layout-is =
+          rows-layout rows (held m .entries ++ e ∷ []) (b .entries + 1) one-longer added-rows
+          (b .width) (b .height) (b .clearance)
+
+      pub entry-added : (r : Done) (t′ s′ : List ℕ)
+          → Gave (takenOver (layoutOf (b .width) (b .height) (b .clearance) (b .entries + 1) rows) m) r t′ s′
+          → Added r t′ s′
+      unfolding first tooLong
+      entry-added r t′ s′ k room is =
+          rw (le-ltb (min maxEntries (room .limit)) (length (held m .entries ++ e ∷ [])) (omega (arith, one-longer)))
+          (subst (λ (l : Layout). Gave (takenOver l m) r t′ s′) layout-is k)
+
+  -- ---- a patch
+
+  module _ (x0 y0 x1 y1 : ℕ) (o : Bool) (o-is : o ≡ boxOk (b .width) (b .height) (entry 0 x0 y0 x1 y1)) where
+    pub no-patch : not o ≡ true → (r : Done) → r ≡ refusedBy 3 b → StepIn (draw x0 y0 x1 y1) limit m r t s
+    unfolding first refusals held layoutOf
+    no-patch n r q room long is =
+        own-done (draw x0 y0 x1 y1) m 3 r q g room long (rw (sym o-is ∙ not-true o n) refl)
+
+    module _ (box : not o ≡ false) where
+      pub is-entry : entryOk (b .width) (b .height) (entry 0 x0 y0 x1 y1) ≡ true
+      is-entry = patch-ok (b .width) (b .height) x0 y0 x1 y1 (sym o-is ∙ not-false o box)
+
+      past-3 : (room : Room)
+          → settle (first (refusals (draw x0 y0 x1 y1) room (held m)))
+          (record { answer = says (draw x0 y0 x1 y1) (held m); state = store (next (draw x0 y0 x1 y1) (held m)) m }) m
+          ≡ entryAdded room (entry 0 x0 y0 x1 y1) m
+      unfolding refusals first says next held layoutOf
+      past-3 room = rw (sym o-is ∙ not-false o box) refl
+
+      pub drawn : (r : Done) (t′ s′ : List ℕ) → Added (entry 0 x0 y0 x1 y1) r t′ s′
+          → StepIn (draw x0 y0 x1 y1) limit m r t′ s′
+      drawn r t′ s′ k room long is =
+          subst (λ (a : After Outcome Lent). Gave a r t′ s′)
+          (sym (own-step room (draw x0 y0 x1 y1) m g long ∙ past-3 room)) (k room is)
