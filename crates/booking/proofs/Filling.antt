@@ -9,6 +9,7 @@ use mathlib.Core.List.{List, [], _∷_, _++_, map, append-assoc, append-nil}
 use lib.ListN.{length, getD, set, replicate, length-set, length-append, length-replicate}
 use borrow.Author.Tests.{eq-eqb, ne-eqb}
 use Rattle.foil_spec.specs.Lists.{range, keep, each}
+use Rattle.foil_spec.specs.Limits.{maxEntries, tableSize}
 use Rattle.foil_spec.specs.Foil.{Entry, entry}
 use Rattle.foil_spec.specs.Ledger.{ofNet}
 use Rattle.foil_spec.specs.Lent.{entryNumbers, written, entryAt}
@@ -22,7 +23,7 @@ set-later (x ∷ xs) ys i v =
     ap (λ (k : ℕ). set (x ∷ (xs ++ ys)) k v) (suc-add (length xs) i)
     ∙ ap (λ (l : List ℕ). x ∷ l) (set-later xs ys i v)
 
-pub length-rows : (es : List Entry) → length es ≤ 128 → 640 ≡ length (rowsOf es)
+pub length-rows : (es : List Entry) → length es ≤ maxEntries → tableSize ≡ length (rowsOf es)
 unfolding rowsOf written
 length-rows es l = simp (length-append, length-replicate) (omega (arith, length-entries es))
 
@@ -44,7 +45,7 @@ module _ (net x0 y0 x1 y1 : ℕ) where
         set-later xs _ 4 y1,
       ) refl)
 
-  grown : (es : List Entry) (k : ℕ) → length es < 128 → length es * 5 ≡ k
+  grown : (es : List Entry) (k : ℕ) → length es < maxEntries → length es * 5 ≡ k
       → stored (rowsOf es) k ≡ rowsOf (es ++ entry net x0 y0 x1 y1 ∷ [])
   unfolding rowsOf written entryNumbers
   grown es k l q =
@@ -53,14 +54,14 @@ module _ (net x0 y0 x1 y1 : ℕ) where
       let e : ms ≡ ns ++ (net ∷ x0 ∷ y0 ∷ x1 ∷ y1 ∷ []) = each-append entryNumbers es (entry net x0 y0 x1 y1 ∷ []) in
       let a : length ns ≡ k = omega (arith, length-entries es) in
       let b : length ms ≡ length ns + 5 = ap length e ∙ length-append ns (net ∷ x0 ∷ y0 ∷ x1 ∷ y1 ∷ []) in
-      let r : ℕ = 640 - length ms in
-      let c : 640 - length ns ≡ suc (suc (suc (suc (suc r)))) = omega (arith, a, b) in
+      let r : ℕ = tableSize - length ms in
+      let c : tableSize - length ns ≡ suc (suc (suc (suc (suc r)))) = omega (arith, a, b) in
       ap (λ (j : ℕ). stored (ns ++ (replicate j 0 ++ [])) k) c
       ∙ stored-later ns (0 ∷ 0 ∷ 0 ∷ 0 ∷ 0 ∷ (replicate r 0 ++ [])) k a
       ∙ sym (append-assoc ns (net ∷ x0 ∷ y0 ∷ x1 ∷ y1 ∷ []) (replicate r 0 ++ []))
       ∙ ap (λ (x : List ℕ). x ++ (replicate r 0 ++ [])) (sym e)
 
-  pub appended : (n : ℕ) (rows : List ℕ) → n < 128 → 640 ≡ length rows
+  pub appended : (n : ℕ) (rows : List ℕ) → n < maxEntries → tableSize ≡ length rows
       → Appended rows (stored rows (n * 5)) n (entry net x0 y0 x1 y1)
   appended n rows l long =
       record {
@@ -82,31 +83,38 @@ module _ (net : ℕ) (t : List ℕ) (k : ℕ) where
       ∙ keep-append (λ (e : Entry). not (ofNet net e)) (map (entryAt t) (range 0 k)) (entryAt t (0 + k) ∷ [])
       ∙ ap (λ (n : ℕ). others (map (entryAt t) (range 0 k)) ++ others (entryAt t n ∷ [])) (zero-add k)
 
-  struck : getD t (k * 5) 0 ≡ net → otherNets net t (k + 1) ≡ otherNets net t k
-  unfolding ofNet entryAt
-  struck e = one-more ∙ rw (eq-eqb (getD t (k * 5) 0) net e) (append-nil (otherNets net t k))
+  struck : entryAt t k .net ≡ net → otherNets net t (k + 1) ≡ otherNets net t k
+  unfolding ofNet
+  struck e = one-more ∙ rw (eq-eqb (entryAt t k .net) net e) (append-nil (otherNets net t k))
 
-  left : (getD t (k * 5) 0 ≡ net → ⊥) → otherNets net t (k + 1) ≡ otherNets net t k ++ entryAt t k ∷ []
-  unfolding ofNet entryAt
-  left n = one-more ∙ rw (ne-eqb (getD t (k * 5) 0) net n) refl
+  left : (entryAt t k .net ≡ net → ⊥) → otherNets net t (k + 1) ≡ otherNets net t k ++ entryAt t k ∷ []
+  unfolding ofNet
+  left n = one-more ∙ rw (ne-eqb (entryAt t k .net) net n) refl
 
-  module _ (rows : List ℕ) (j : ℕ) (o : Kept rows t net k j) where
-    pub kept-skip : getD t (k * 5) 0 ≡ net → Kept rows t net (k + 1) j
-    kept-skip e =
+  -- e is the entry at place k
+  module _ (e : Entry) (at : e ≡ entryAt t k) (rows : List ℕ) (j : ℕ) (o : Kept rows t net k j) where
+    net-is : e .net ≡ entryAt t k .net
+    net-is = ap (λ (x : Entry). x .net) at
+
+    pub kept-skip : e .net ≡ net → Kept rows t net (k + 1) j
+    kept-skip q =
+        let s = struck (sym net-is ∙ q) in
         record {
-          is = o .is ∙ ap rowsOf (sym (struck e));
-          counted = o .counted ∙ ap (λ (es : List Entry). length es) (sym (struck e));
+          is = o .is ∙ ap rowsOf (sym s);
+          counted = o .counted ∙ ap (λ (es : List Entry). length es) (sym s);
           few = omega (arith, o .few);
         }
 
-    pub kept-more : (rows′ : List ℕ) → (getD t (k * 5) 0 ≡ net → ⊥) → Appended rows rows′ j (entryAt t k)
-        → Kept rows′ t net (k + 1) (j + 1)
+    pub kept-more : (rows′ : List ℕ) → (e .net ≡ net → ⊥) → Appended rows rows′ j e → Kept rows′ t net (k + 1) (j + 1)
     kept-more rows′ n a =
+        let s = left (λ q. n (net-is ∙ q)) in
         record {
-          is = a .rows (otherNets net t k) (sym (o .counted)) (o .is) ∙ ap rowsOf (sym (left n));
+          is =
+              a .rows (otherNets net t k) (sym (o .counted)) (o .is)
+              ∙ ap rowsOf (ap (λ (x : Entry). otherNets net t k ++ x ∷ []) at ∙ sym s);
           counted =
               let q = length-append (otherNets net t k) (entryAt t k ∷ []) in
-              omega (arith, o .counted, ap (λ (es : List Entry). length es) (left n), q);
+              omega (arith, o .counted, ap (λ (es : List Entry). length es) s, q);
           few = omega (arith, o .few);
         }
 
@@ -114,7 +122,7 @@ pub kept-none : (rows t : List ℕ) (net : ℕ) → rows ≡ rowsOf [] → Kept 
 unfolding otherNets
 kept-none rows t net e = record { is = e; counted = refl; few = omega arith }
 
-pub kept-long : (rows t : List ℕ) (net k j : ℕ) → k ≤ 128 → Kept rows t net k j → 640 ≡ length rows
+pub kept-long : (rows t : List ℕ) (net k j : ℕ) → k ≤ maxEntries → Kept rows t net k j → tableSize ≡ length rows
 kept-long rows t net k j l o =
     let c = o .counted in
     let f = o .few in

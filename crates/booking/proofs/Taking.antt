@@ -8,7 +8,9 @@ use lib.ListN.{length, drop, replicate}
 use lib.Seq.{paste}
 use borrow.Author.Tests.{lt-ltb, le-ltb}
 use Rattle.foil_spec.specs.Lists.{range, each}
+use Rattle.foil_spec.specs.Limits.{maxEntries, tableSize, maxStrips, stripsSize}
 use Rattle.foil_spec.specs.Foil.{Layout}
+use Rattle.foil_spec.specs.Strips.{Strip}
 use Rattle.foil_spec.specs.Ledger.{stripsOf, tooFine}
 use Rattle.foil_spec.specs.Lent.{entryNumbers, stripNumbers, written, boardOf, entryAt, layoutOf}
 use Rattle.ledger_laws.proofs.Stored.{length-entries, length-strips}
@@ -17,7 +19,7 @@ use Rattle.booking.specs.Rows.{rowsOf}
 use Rattle.booking.specs.Booked.{Stored, Unchanged}
 use Rattle.booking.proofs.Filling.{length-rows}
 
-pub rows-long : (n : ℕ) (rows : List ℕ) → n ≤ 128 → rows ≡ rowsOf (map (entryAt rows) (range 0 n)) → 640 ≤ length rows
+pub rows-long : (n : ℕ) (rows : List ℕ) → n ≤ maxEntries → rows ≡ rowsOf (map (entryAt rows) (range 0 n)) → tableSize ≤ length rows
 rows-long n rows few e =
     let k = length-read rows n in
     omega (arith, length-rows (map (entryAt rows) (range 0 n)) (omega arith), ap length e)
@@ -31,30 +33,39 @@ copied n ns l d fits =
     ∙ ap (λ (k : ℕ). (ns ++ replicate (n - length ns) 0) ++ drop k d) e
     ∙ append-assoc ns (replicate (n - length ns) 0) (drop n d)
 
-module _ (w h d n : ℕ) (rows : List ℕ) (t s : List ℕ) where
+-- the layout of the rows, and its strips ss, built anew
+module _ (w h d n : ℕ) (rows t s : List ℕ) (ss : List Strip) (are : ss ≡ stripsOf (layoutOf w h d n rows)) where
   abbrev l : Layout
   l = layoutOf w h d n rows
 
-  pub refused : (t′ s′ : List ℕ) → 4096 < length (stripsOf l) → t′ ≡ t → s′ ≡ s → Unchanged l t s t′ s′
+  pub refused : (t′ s′ : List ℕ) → maxStrips < length ss → t′ ≡ t → s′ ≡ s → Unchanged l t s t′ s′
   unfolding tooFine
-  refused t′ s′ m a b = record { many = lt-ltb 4096 (length (stripsOf l)) m; table = a; strips = b }
+  refused t′ s′ m a b =
+      record {
+        many = lt-ltb maxStrips (length (stripsOf l)) (omega (arith, ap length are));
+        table = a;
+        strips = b;
+      }
 
-  pub taken : (out o t′ s′ : List ℕ) (c : ℕ) → n ≤ 128 → rows ≡ rowsOf (map (entryAt rows) (range 0 n))
-      → c ≡ length (stripsOf l) → c ≤ 4096 → out ≡ written 16384 (each stripNumbers (stripsOf l)) o
-      → t′ ≡ paste t 0 rows 640 → s′ ≡ paste s 0 out 16384
+  pub taken : (out o t′ s′ : List ℕ) (c : ℕ) → n ≤ maxEntries → rows ≡ rowsOf (map (entryAt rows) (range 0 n))
+      → c ≡ length ss → c ≤ maxStrips → out ≡ written stripsSize (each stripNumbers ss) o
+      → t′ ≡ paste t 0 rows tableSize → s′ ≡ paste s 0 out stripsSize
       → Stored l t s t′ s′ (record { width = w; height = h; clearance = d; entries = n; strips = c })
   unfolding tooFine boardOf layoutOf rowsOf
   taken out o t′ s′ c few r e m q a b =
       let es = length-entries (map (entryAt rows) (range 0 n)) in
       let k = length-read rows n in
-      let ss = length-strips (stripsOf l) in
+      let z : c ≡ length (stripsOf l) = e ∙ ap length are in
+      let ls = length-strips (stripsOf l) in
       record {
-        fine = le-ltb 4096 (length (stripsOf l)) (omega arith);
-        board = λ i. record { width = w; height = h; clearance = d; entries = sym k i; strips = e i };
+        fine = le-ltb maxStrips (length (stripsOf l)) (omega arith);
+        board = λ i. record { width = w; height = h; clearance = d; entries = sym k i; strips = z i };
         table =
-            a ∙ ap (λ (x : List ℕ). paste t 0 x 640) r
-            ∙ copied 640 (each entryNumbers (map (entryAt rows) (range 0 n))) [] t (omega arith);
+            a ∙ ap (λ (x : List ℕ). paste t 0 x tableSize) r
+            ∙ copied tableSize (each entryNumbers (map (entryAt rows) (range 0 n))) [] t (omega arith);
         strips =
-            b ∙ ap (λ (x : List ℕ). paste s 0 x 16384) q
-            ∙ copied 16384 (each stripNumbers (stripsOf l)) o s (omega arith);
+            b
+            ∙ ap (λ (x : List ℕ). paste s 0 x stripsSize)
+            (q ∙ ap (λ (ts : List Strip). written stripsSize (each stripNumbers ts) o) are)
+            ∙ copied stripsSize (each stripNumbers (stripsOf l)) o s (omega arith);
       }

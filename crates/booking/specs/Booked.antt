@@ -4,6 +4,7 @@ use mathlib.Core.Bool.{true, false}
 use mathlib.Core.List.{List}
 use Prim.Native.Nat.{ℕ}
 use Rattle.foil_spec.specs.Lists.{each}
+use Rattle.foil_spec.specs.Limits.{tableSize, stripsSize}
 use Rattle.foil_spec.specs.Foil.{Layout}
 use Rattle.foil_spec.specs.Ledger.{stripsOf, tooFine}
 use Rattle.foil_spec.specs.Lent.{entryNumbers, stripNumbers, written, boardOf}
@@ -15,8 +16,8 @@ use Rattle.booking.specs.declared.Booked.the-variants.{Taken, TooFine}
 pub record Stored (l : Layout) (t s t′ s′ : List ℕ) (b : Board) : Type 0 where
   pub fine : tooFine l ≡ false
   pub board : b ≡ boardOf l
-  pub table : t′ ≡ written 640 (each entryNumbers (l .entries)) t
-  pub strips : s′ ≡ written 16384 (each stripNumbers (stripsOf l)) s
+  pub table : t′ ≡ written tableSize (each entryNumbers (l .entries)) t
+  pub strips : s′ ≡ written stripsSize (each stripNumbers (stripsOf l)) s
 
 -- it has too many strips, and the lists are as they were
 pub record Unchanged (l : Layout) (t s t′ s′ : List ℕ) : Type 0 where

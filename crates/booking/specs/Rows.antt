@@ -5,18 +5,19 @@ use mathlib.Core.Bool.{not}
 use mathlib.Core.List.{List, [], _∷_, _++_, map}
 use lib.ListN.{length}
 use Rattle.foil_spec.specs.Lists.{range, keep, each}
+use Rattle.foil_spec.specs.Limits.{tableSize}
 use Rattle.foil_spec.specs.Foil.{Entry}
 use Rattle.foil_spec.specs.Ledger.{ofNet}
 use Rattle.foil_spec.specs.Lent.{entryNumbers, written, entryAt}
 
 -- the entries, and zeros in the unused places
 unfoldable pub rowsOf : List Entry → List ℕ
-rowsOf es = written 640 (each entryNumbers es) []
+rowsOf es = written tableSize (each entryNumbers es) []
 
 -- rows of n entries have the entry e as well
 pub record Appended (old new : List ℕ) (n : ℕ) (e : Entry) : Type 0 where
   pub rows : (es : List Entry) → length es ≡ n → old ≡ rowsOf es → new ≡ rowsOf (es ++ e ∷ [])
-  pub long : 640 ≡ length new
+  pub long : tableSize ≡ length new
 
 -- the entries of other nets, of the first n of a table
 unfoldable pub otherNets : ℕ → List ℕ → ℕ → List Entry

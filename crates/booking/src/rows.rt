@@ -1,10 +1,12 @@
 // The rows of a table in the making: 128 places of five numbers, unused ones zero.
+use foil_spec::entry_at;
 ghost use mathlib.Core.Path.{_≡_};
 ghost use Prim.Native.Nat.{_+_, _*_, _<_, _≤_};
 ghost use mathlib.Core.List.{[], map};
 ghost use lib.ListN.{length};
 ghost use lib.Seq.{paste};
 ghost use Rattle.foil_spec.specs.Lists.{range};
+ghost use Rattle.foil_spec.specs.Limits.{maxEntries, tableSize};
 ghost use Rattle.foil_spec.specs.Foil.{entry};
 ghost use Rattle.foil_spec.specs.Ledger.{inUse};
 ghost use Rattle.foil_spec.specs.Lent.{entryAt};
@@ -24,7 +26,7 @@ pub fn copy_front(to: &mut [u16], from: &[u16], n: usize)
 
 // Puts an entry at place n, the first unused one.
 pub fn append(rows: &mut [u16], n: usize, net: u16, x0: u16, y0: u16, x1: u16, y1: u16)
-    requires { ⌜ (n < 128) × (640 ≡ length (now rows)) ⌝ }
+    requires { ⌜ (n < maxEntries) × (tableSize ≡ length (now rows)) ⌝ }
     ensures { λ _. ⌜ Appended (now (rows .entry)) (now (rows .exit)) n (entry net x0 y0 x1 y1) ⌝ }
 {
     rows[n * 5] = net;
@@ -41,7 +43,7 @@ pub fn in_use(table: &[u16], n: usize, net: u16) -> bool
 {
     let mut k = 0;
     while k < n {
-        if table[k * 5] == net {
+        if entry_at(table, k).net == net {
             return true;
         }
         k += 1;
@@ -52,7 +54,7 @@ pub fn in_use(table: &[u16], n: usize, net: u16) -> bool
 // Puts the entries of all other nets, of the first n of the table, into rows that are empty, in their
 // order, and answers how many they are.
 pub fn without(rows: &mut [u16], table: &[u16], n: usize, net: u16) -> usize
-    requires { ⌜ (n ≤ 128) × (n * 5 ≤ length (now table)) × (now rows ≡ rowsOf []) ⌝ }
+    requires { ⌜ (n ≤ maxEntries) × (n * 5 ≤ length (now table)) × (now rows ≡ rowsOf []) ⌝ }
     ensures { λ r. ⌜ Kept (now (rows .exit)) (now (table .entry)) net n r ⌝ }
 {
     let mut j = 0;
@@ -66,20 +68,13 @@ pub fn without(rows: &mut [u16], table: &[u16], n: usize, net: u16) -> usize
 
 // Puts entry k of the table at place j, unless it is of the net, and answers the next unused place.
 fn keep_other(rows: &mut [u16], j: usize, table: &[u16], k: usize, net: u16) -> usize
-    requires { ⌜ (k < 128) × (k * 5 + 5 ≤ length (now table)) × Kept (now rows) (now table) net k j ⌝ }
+    requires { ⌜ (k < maxEntries) × (k * 5 + 5 ≤ length (now table)) × Kept (now rows) (now table) net k j ⌝ }
     ensures { λ r. ⌜ Kept (now (rows .exit)) (now (table .entry)) net (k + 1) r ⌝ }
 {
-    if table[k * 5] == net {
+    let e = entry_at(table, k);
+    if e.net == net {
         return j;
     }
-    append(
-        rows,
-        j,
-        table[k * 5],
-        table[k * 5 + 1],
-        table[k * 5 + 2],
-        table[k * 5 + 3],
-        table[k * 5 + 4],
-    );
+    append(rows, j, e.net, e.x0, e.y0, e.x1, e.y1);
     j + 1
 }

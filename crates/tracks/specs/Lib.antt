@@ -1,3 +1,2 @@
 -- What the contracts of the tracks cite.
-pub mod Legs
 pub mod Found

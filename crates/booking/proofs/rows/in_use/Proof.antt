@@ -1,5 +1,6 @@
-use native.Mathlib.Omega.{arith}
+-- `booking::rows::in_use` meets its contract: the entries before place k are of other nets.
 use Prim.Native.Nat.{_-_}
+use native.Mathlib.Omega.{arith}
 use Rattle.booking.proofs.Nets.{Others, others-none, others-more, others-all, used-here}
 use Rattle.booking.proofs.rows.in_use.Statement.{statement}
 use Rattle.booking.proofs.rows.in_use.Tie as tie
@@ -10,22 +11,24 @@ Inv-loop table n net k₀ k = Others table n net k
 abbrev μ-loop : tie.MeasureT-loop
 μ-loop table n net k₀ k = n - k
 
+-- back to the function's start, and to the loop's turn
+abbrev atStart : tie.In-loop Inv-loop μ-loop → tie.Start Inv-loop μ-loop
+atStart c = c .before .before .before
+
+abbrev inLoop : tie.After-struct-known Inv-loop μ-loop → tie.In-loop Inv-loop μ-loop
+inLoop c = c .before .before
+
 loop-holds : tie.Need-loop-holds Inv-loop μ-loop
 loop-holds c = others-none _ _ _
 
-mul-if1 : tie.Need-mul-if1 Inv-loop μ-loop
-mul-if1 c = omega arith
-
-mul-if1-2 : tie.Need-mul-if1-2 Inv-loop μ-loop
-mul-if1-2 c = omega arith
-
-shared-slice-read-if1 : tie.Need-shared-slice-read-if1 Inv-loop μ-loop
-shared-slice-read-if1 c = omega arith
+entry-at-requires : tie.Need-entry-at-requires Inv-loop μ-loop
+entry-at-requires c κs = omega arith
 
 returns : tie.Need-returns Inv-loop μ-loop
-returns c = used-here (c .before .before .before .before .args .table .now)
-    (c .before .before .before .before .args .n) (c .before .before .before .before .args .net) _ (omega arith)
-    (c .if1 .taken)
+returns c =
+    let a = atStart (inLoop (c .before)) .args in
+    used-here (a .table .now) (a .n) (a .net) _ (inLoop (c .before) .loop-test .taken) _
+    (c .before .before .entry-at .ensures) (c .if1 .taken)
 
 add-k : tie.Need-add-k Inv-loop μ-loop
 add-k c = omega arith
@@ -34,7 +37,10 @@ loop-less : tie.Need-loop-less Inv-loop μ-loop
 loop-less c = omega arith
 
 loop-again : tie.Need-loop-again Inv-loop μ-loop
-loop-again c = others-more _ _ _ _ (omega arith) (c .if1 .left) (c .before .before .before .loop .inv)
+loop-again c =
+    let l = inLoop (c .before) in
+    others-more _ _ _ _ (l .loop-test .taken) _ (c .before .before .entry-at .ensures) (c .if1 .left)
+    (l .before .loop .inv)
 
 returns-2 : tie.Need-returns-2 Inv-loop μ-loop
 returns-2 c = others-all _ _ _ _ (omega arith) (c .before .loop .inv)
@@ -46,9 +52,7 @@ in-use-spec =
     Inv-loop
     μ-loop
     loop-holds
-    mul-if1
-    mul-if1-2
-    shared-slice-read-if1
+    entry-at-requires
     returns
     add-k
     loop-less

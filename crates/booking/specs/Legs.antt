@@ -3,10 +3,11 @@ use Prim.Native.Nat.{ℕ, _+_, _*_, _≤_, _<_}
 use mathlib.Core.Path.{_≡_}
 use mathlib.Core.List.{List, _++_}
 use lib.ListN.{length}
+use Rattle.foil_spec.specs.Limits.{maxEntries}
 use Rattle.foil_spec.specs.Foil.{Entry}
 use Rattle.foil_spec.specs.Ledger.{legs}
 use Rattle.foil_spec.specs.Lent.{cornerAt, cornersIn}
 use Rattle.booking.specs.Rows.{rowsOf}
 
 -- k corners stand in the list, each small enough for the sums
 pub record Corners (p : List ℕ) (k : ℕ) : Type 0 where
@@ -19,4 +20,4 @@ pub record Legs (old new : List ℕ) (n net : ℕ) (p : List ℕ) (k r : ℕ) : 
   pub rows : (es : List Entry) → length es ≡ n → old ≡ rowsOf es
       → new ≡ rowsOf (es ++ legs net (cornersIn p k))
   pub counted : r ≡ n + length (legs net (cornersIn p k))
-  pub few : r ≤ 128
+  pub few : r ≤ maxEntries

@@ -2,12 +2,9 @@ use native.Mathlib.Omega.{arith}
 use Prim.Native.Nat.{_+_, _-_}
 use mathlib.Core.Path.{_≡_, refl}
 use lib.ListN.{length}
-use Rattle.tracks.proofs.Appending.{Going, going-none, going-more, going-all, single}
-use Rattle.tracks.proofs.append_legs.Statement.{statement}
-use Rattle.tracks.proofs.append_legs.Tie as tie
-use Rattle.tracks.proofs.append_legs.Reads as reads
-use Rattle.tracks.proofs.append_legs.Lts as lts
-use Rattle.tracks.proofs.append_leg.Reads as append-leg-reads
+use Rattle.booking.proofs.Appending.{Going, going-none, going-more, going-all, single}
+use Rattle.booking.proofs.legs.append_legs.Statement.{statement}
+use Rattle.booking.proofs.legs.append_legs.Tie as tie
 
 abbrev Inv-loop : tie.InvT-loop
 Inv-loop rows₀ n net path k j₀ rows j = (length rows ≡ length rows₀) × Going rows₀ rows n net path k j

@@ -1,4 +1,4 @@
--- Legs that are appended one by one.
+-- The legs of a path, appended one by one: after j of them the rows have those between the first j + 1 corners.
 use Prim.Native.Nat.{ℕ, zero, suc, _+_, _≤_, _<_, min, max}
 use native.Mathlib.Omega.{arith}
 use native.Mathlib.Nat.{zero-add}
@@ -7,12 +7,13 @@ use mathlib.Core.Path.{_≡_, refl, sym, ap, _∙_, subst}
 use mathlib.Core.List.{List, [], _∷_, _++_, map, append-assoc, append-nil}
 use lib.ListN.{length, length-append, length-map}
 use Rattle.foil_spec.specs.Lists.{range}
+use Rattle.foil_spec.specs.Limits.{maxEntries, tableSize}
 use Rattle.foil_spec.specs.Foil.{Point, Entry, entry}
 use Rattle.foil_spec.specs.Ledger.{leg, legsFrom, legs}
 use Rattle.foil_spec.specs.Lent.{cornerAt, cornersIn}
 use Rattle.list_laws.proofs.Members.{map-last, length-range}
 use Rattle.booking.specs.Rows.{rowsOf, Appended}
-use Rattle.tracks.specs.Legs.{Legs}
+use Rattle.booking.specs.Legs.{Legs}
 
 -- the legs between neighbouring corners, g being the corner at a place
 module _ (net : ℕ) (g : ℕ → Point) where
@@ -31,7 +32,7 @@ module _ (net : ℕ) (g : ℕ → Point) where
 -- the rows after j legs of a path of k corners
 pub record Going (old new : List ℕ) (n net : ℕ) (p : List ℕ) (k j : ℕ) : Type 0 where
   pub le : j + 1 ≤ k
-  pub long : 640 ≡ length new
+  pub long : tableSize ≡ length new
   pub rows : (es : List Entry) → length es ≡ n → old ≡ rowsOf es
       → new ≡ rowsOf (es ++ map (λ (i : ℕ). leg net (cornerAt p i) (cornerAt p (suc i))) (range 0 j))
 
@@ -39,7 +40,7 @@ module _ (old : List ℕ) (n net : ℕ) (p : List ℕ) (k : ℕ) where
   abbrev step : ℕ → Entry
   step i = leg net (cornerAt p i) (cornerAt p (suc i))
 
-  pub going-none : 1 ≤ k → 640 ≡ length old → Going old old n net p k 0
+  pub going-none : 1 ≤ k → tableSize ≡ length old → Going old old n net p k 0
   going-none l len =
       record {
         le = omega arith;
@@ -67,7 +68,7 @@ module _ (old : List ℕ) (n net : ℕ) (p : List ℕ) (k : ℕ) where
             ∙ ap (λ (i : ℕ). map step (range 0 i)) (sym (add-one j))));
       }
 
-  pub going-all : (new : List ℕ) (j : ℕ) → 2 ≤ k → k ≤ j + 1 → n + k ≤ 129 → Going old new n net p k j
+  pub going-all : (new : List ℕ) (j : ℕ) → 2 ≤ k → k ≤ j + 1 → n + k ≤ suc maxEntries → Going old new n net p k j
       → Legs old new n net p k (n + j)
   unfolding cornersIn
   going-all new j two l fits g = done j (g .le) l g
@@ -87,20 +88,20 @@ module _ (old : List ℕ) (n net : ℕ) (p : List ℕ) (k : ℕ) where
           }
 
 -- one corner: one entry of a single point
-pub single : (old new : List ℕ) (n net : ℕ) (p : List ℕ) (k : ℕ) → k ≡ 1 → n < 128
+pub single : (old new : List ℕ) (n net : ℕ) (p : List ℕ) (k : ℕ) → k ≡ 1 → n < maxEntries
     → Appended old new n (leg net (cornerAt p 0) (cornerAt p 0)) → Legs old new n net p k (n + 1)
 unfolding legs cornersIn
 single old new n net p k e l a =
     rw e (record { rows = λ es c q. a .rows es c q; counted = refl; few = omega arith })
 
--- a leg from the smaller and the larger ends of two corners
-pub leg-appended : (old new : List ℕ) (n net : ℕ) (p : List ℕ) (i j x0 y0 x1 y1 : ℕ)
-    → x0 ≡ min (cornerAt p i .x) (cornerAt p j .x) → y0 ≡ min (cornerAt p i .y) (cornerAt p j .y)
-    → x1 ≡ max (cornerAt p i .x) (cornerAt p j .x) → y1 ≡ max (cornerAt p i .y) (cornerAt p j .y)
-    → Appended old new n (entry net x0 y0 (x1 + 1) (y1 + 1))
-    → Appended old new n (leg net (cornerAt p i) (cornerAt p j))
+-- a leg from the smaller and the larger ends of two corners a and b
+pub leg-appended : (old new : List ℕ) (n net : ℕ) (p q a b : Point) (x0 y0 x1 y1 : ℕ) → a ≡ p → b ≡ q
+    → x0 ≡ min (a .x) (b .x) → y0 ≡ min (a .y) (b .y) → x1 ≡ max (a .x) (b .x) → y1 ≡ max (a .y) (b .y)
+    → Appended old new n (entry net x0 y0 (x1 + 1) (y1 + 1)) → Appended old new n (leg net p q)
 unfolding leg
-leg-appended old new n net p i j x0 y0 x1 y1 a b c d h =
-    let e : x1 + 1 ≡ suc (max (cornerAt p i .x) (cornerAt p j .x)) = omega arith in
-    let f : y1 + 1 ≡ suc (max (cornerAt p i .y) (cornerAt p j .y)) = omega arith in
-    subst (λ (x : Entry). Appended old new n x) (λ k. entry net (a k) (b k) (e k) (f k)) h
+leg-appended old new n net p q a b x0 y0 x1 y1 ap bq left top right bottom h =
+    let e : x1 + 1 ≡ suc (max (a .x) (b .x)) = omega arith in
+    let f : y1 + 1 ≡ suc (max (a .y) (b .y)) = omega arith in
+    subst (λ (r : Point). Appended old new n (leg net p r)) bq
+    (subst (λ (r : Point). Appended old new n (leg net r b)) ap
+    (subst (λ (x : Entry). Appended old new n x) (λ k. entry net (left k) (top k) (e k) (f k)) h))
