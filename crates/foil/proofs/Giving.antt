@@ -20,6 +20,7 @@ use Rattle.list_laws.proofs.Tests.{lt-or-le}
 use Rattle.ledger_laws.proofs.Refusals.{own-refused}
 use Rattle.ledger_laws.proofs.Stored.{Long}
 use Rattle.ledger_laws.proofs.Sound.{sound-long}
+use Rattle.ledger_laws.proofs.Lending.{long-lists}
 use Rattle.booking.specs.Booked.{Stored, Unchanged}
 use Rattle.foil.specs.declared.Answer.{Answer}
 use Rattle.foil.specs.declared.Answer.the-variants.{Accepted}
@@ -61,6 +62,16 @@ long-room m n limit output =
 pub sound-room : (m : Lent) → sound m ≡ true → (limit output : ℕ) → short (roomIn limit m output) ≡ false
 sound-room m g = long-room m (sound-long m g)
 
+-- the room of a call has the limit and the output that it was given
+module _ (limit : ℕ) (m : Lent) (output : ℕ) where
+  pub limit-is : roomIn limit m output .limit ≡ limit
+  unfolding roomIn
+  limit-is = refl
+
+  pub output-is : roomIn limit m output .output ≡ output
+  unfolding roomIn
+  output-is = refl
+
 -- ---- a step that is refused
 
 pub gave-refused : (o : Option ℕ) (done : After Outcome Lent) (m : Lent) (n : ℕ) (d : Done) → o ≡ some n
@@ -101,6 +112,9 @@ module _ (c : Step) (m : Lent) (n : ℕ) (d : Done) (q : d ≡ refusedBy n (m .b
 -- ---- 12 and 13
 
 module _ (b : Board) (t s : List ℕ) (k : Bool) (k-is : TooShort t s k) where
+  pub long-enough : k ≡ false → Long (lent b t s)
+  long-enough e = long-lists maxEntries (lent b t s) 0 (sym (k-is .is b maxEntries 0) ∙ e)
+
   pub too-short : k ≡ true → LentChecked (lent b t s) (checked.Refused 12)
   unfolding afterLent first
   too-short e limit output rs = rw (sym (k-is .is b limit output) ∙ e) refl

@@ -1,16 +1,16 @@
-use native.Mathlib.Omega.{arith}
-use mathlib.Core.List.{[]}
-use Rattle.ledger_laws.proofs.Sound.{of-sound}
-use Rattle.foil.proofs.Refusing.{long-enough, short-done, broken-done, ready}
-use Rattle.foil.proofs.Limits.{held-limits}
-use Rattle.foil.proofs.Beginning.{no-rows}
-use Rattle.foil.proofs.Lifting.{no-net, not-there, lifted-again, lifted-table, lifted}
+-- `foil::lift` refuses by 12 and 13, and else is `lift_in`.
+use mathlib.Core.Path.{refl}
+use Rattle.foil_spec.specs.Ledger.{reads}
+use Rattle.foil.proofs.Giving.{sound-room, lent-refused}
 use borrow.Author.Needs.{needs}
 use Rattle.foil.proofs.lift.Statement.{statement}
 use Rattle.foil.proofs.lift.Tie as tie
 
-lists-short-requires : tie.Need-lists-short-requires
-lists-short-requires c κs = search needs
+lent-refusal-requires : tie.Need-lent-refusal-requires
+lent-refusal-requires c κs = search needs
+
+enum-known-checked : tie.Need-enum-known-checked
+enum-known-checked c = search needs
 
 refuse-requires : tie.Need-refuse-requires
 refuse-requires c κs = search needs
@@ -22,14 +22,15 @@ same-length-2 : tie.Need-same-length-2
 same-length-2 c = search needs
 
 returns : tie.Need-returns
-returns c =
-    short-done _ _ _ _ _ _ _ (c .before .before .lists-short .ensures) (c .before .if1 .taken) (c .refuse .ensures)
+unfolding reads
+returns c = lent-refused _ _ _ _ (c .refuse .ensures) refl _ _
+    (rw (c .before .before .checked .given .1) at (c .before .before .before .before .lent-refusal .ensures))
 
-is-sound-requires : tie.Need-is-sound-requires
-is-sound-requires c κs = search needs
+enum-told : tie.Need-enum-told
+enum-told c = search needs
 
-refuse-requires-2 : tie.Need-refuse-requires-2
-refuse-requires-2 c κs = search needs
+lift-in-requires : tie.Need-lift-in-requires
+lift-in-requires c κs = (rw (c .before .before .enum-told .given .1) at (c .before .before .before .before .lent-refusal .ensures))
 
 same-length-3 : tie.Need-same-length-3
 same-length-3 c = search needs
@@ -38,205 +39,20 @@ same-length-4 : tie.Need-same-length-4
 same-length-4 c = search needs
 
 returns-2 : tie.Need-returns-2
-returns-2 c =
-    broken-done _ _ _ _ _ (c .before .before .before .before .before .before .lists-short .ensures)
-    (c .before .before .before .before .before .if1 .left) _
-    (c .before .before .is-sound .ensures) _ tt (c .before .if2 .taken) _ (c .refuse2 .ensures)
-
-net-ok-requires : tie.Need-net-ok-requires
-net-ok-requires c κs = search needs
-
-refuse-requires-3 : tie.Need-refuse-requires-3
-refuse-requires-3 c κs = search needs
-
-same-length-5 : tie.Need-same-length-5
-same-length-5 c = search needs
-
-same-length-6 : tie.Need-same-length-6
-same-length-6 c = search needs
-
-returns-3 : tie.Need-returns-3
-returns-3 c =
-    no-net _ _ _ _
-    (ready _ _ _ _ _ (c .before .before .before .before .before .before .before .before .lists-short .ensures)
-    (c .before .before .before .before .before .before .before .if1 .left) _
-    (c .before .before .before .before .is-sound .ensures) (c .before .before .before .if2 .left)) _
-    (c .before .before .net-ok .ensures) (c .before .if3 .taken) _ (c .refuse3 .ensures)
-
-in-use-requires : tie.Need-in-use-requires
-in-use-requires c κs =
-    omega (
-      arith,
-      (long-enough _ _
-          (c .before .before .before .before .before .before .before .before .before .before .before .before
-          .before .args .board) _
-          (c .before .before .before .before .before .before .before .before .lists-short .ensures)
-          (c .before .before .before .before .before .before .before .if1 .left)) .table,
-      (held-limits _ _ _ [] (of-sound _ ((ready _ _ _ _ _
-          (c .before .before .before .before .before .before .before .before .lists-short .ensures)
-          (c .before .before .before .before .before .before .before .if1 .left) _
-          (c .before .before .before .before .is-sound .ensures) (c .before .before .before .if2 .left)) .fine))) .few,
-    )
-
-refuse-requires-4 : tie.Need-refuse-requires-4
-refuse-requires-4 c κs = search needs
-
-same-length-7 : tie.Need-same-length-7
-same-length-7 c = search needs
-
-same-length-8 : tie.Need-same-length-8
-same-length-8 c = search needs
-
-returns-4 : tie.Need-returns-4
-returns-4 c =
-    not-there _ _ _ _
-    (ready _ _ _ _ _
-    (c .before .before .before .before .before .before .before .before .before .before .before .lists-short .ensures)
-    (c .before .before .before .before .before .before .before .before .before .before .if1 .left) _
-    (c .before .before .before .before .before .before .before .is-sound .ensures)
-    (c .before .before .before .before .before .before .if2 .left)) _
-    (c .before .before .before .before .before .net-ok .ensures) (c .before .before .before .before .if3 .left) _
-    (c .before .before .in-use .ensures) (c .before .if4 .taken) _ (c .refuse4 .ensures)
-
-slice-aggregate-without : tie.Need-slice-aggregate-without
-slice-aggregate-without c = search needs
-
-without-requires : tie.Need-without-requires
-without-requires c κs = (
-  (held-limits _ _ _ [] (of-sound _ ((ready _ _ _ _ _
-      (c .before .before .before .before .before .before .before .before .before .before .before
-      .before .lists-short .ensures)
-      (c .before .before .before .before .before .before .before .before .before .before .before .if1 .left) _
-      (c .before .before .before .before .before .before .before .before .is-sound .ensures)
-      (c .before .before .before .before .before .before .before .if2 .left)) .fine))) .few,
-  omega (
-    arith,
-    (long-enough _ _
-        (c .before .before .before .before .before .before .before .before .before .before .before .before
-        .before .before .before .before .before .args .board) _
-        (c .before .before .before .before .before .before .before .before .before .before .before
-        .before .lists-short .ensures)
-        (c .before .before .before .before .before .before .before .before .before .before .before .if1 .left)) .table,
-    (held-limits _ _ _ [] (of-sound _ ((ready _ _ _ _ _
-        (c .before .before .before .before .before .before .before .before .before .before .before
-        .before .lists-short .ensures)
-        (c .before .before .before .before .before .before .before .before .before .before .before .if1 .left) _
-        (c .before .before .before .before .before .before .before .before .is-sound .ensures)
-        (c .before .before .before .before .before .before .before .if2 .left)) .fine))) .few,
-  ),
-  no-rows,
-)
-
-slice-aggregate-settle : tie.Need-slice-aggregate-settle
-slice-aggregate-settle c = search needs
-
-settle-requires : tie.Need-settle-requires
-settle-requires c κs = (
-  lifted-table _ _ _ _
-      (ready _ _ _ _ _
-      (c .before .before .before .before .before .before .before .before .before .before .before .before .before
-      .before .before .before .before .lists-short .ensures)
-      (c .before .before .before .before .before .before .before .before .before .before .before .before .before
-      .before .before .before .if1 .left) _
-      (c .before .before .before .before .before .before .before .before .before .before .before .before
-      .before .is-sound .ensures)
-      (c .before .before .before .before .before .before .before .before .before .before .before .before .if2 .left)) _
-      (c .before .before .before .before .before .before .before .before .before .before .before .net-ok .ensures)
-      (c .before .before .before .before .before .before .before .before .before .before .if3 .left) _
-      (c .before .before .before .before .before .before .before .before .in-use .ensures)
-      (c .before .before .before .before .before .before .before .if4 .left) _ _
-      (c .before .before .before .before .without .ensures),
-  (
-    lifted-again _ _ _ _
-        (ready _ _ _ _ _
-        (c .before .before .before .before .before .before .before .before .before .before .before .before
-        .before .before .before .before .before .lists-short .ensures)
-        (c .before .before .before .before .before .before .before .before .before .before .before .before
-        .before .before .before .before .if1 .left) _
-        (c .before .before .before .before .before .before .before .before .before .before .before .before
-        .before .is-sound .ensures)
-        (c .before .before .before .before .before .before .before .before .before .before .before
-        .before .if2 .left)) _
-        (c .before .before .before .before .before .before .before .before .before .before .before .net-ok .ensures)
-        (c .before .before .before .before .before .before .before .before .before .before .if3 .left) _
-        (c .before .before .before .before .before .before .before .before .in-use .ensures)
-        (c .before .before .before .before .before .before .before .if4 .left) _ _
-        (c .before .before .before .before .without .ensures),
-    (
-      (long-enough _ _
-          (c .before .before .before .before .before .before .before .before .before .before .before .before
-          .before .before .before .before .before .before .before .before .before .before .args .board) _
-          (c .before .before .before .before .before .before .before .before .before .before .before .before
-          .before .before .before .before .before .lists-short .ensures)
-          (c .before .before .before .before .before .before .before .before .before .before .before .before
-          .before .before .before .before .if1 .left)) .table,
-      (long-enough _ _
-          (c .before .before .before .before .before .before .before .before .before .before .before .before .before
-          .before .before .before .before .before .before .before .before .before .args .board) _
-          (c .before .before .before .before .before .before .before .before .before .before .before .before .before
-          .before .before .before .before .lists-short .ensures)
-          (c .before .before .before .before .before .before .before .before .before .before .before .before .before
-          .before .before .before .if1 .left)) .strips,
-    ),
-  ),
-)
-
-same-length-9 : tie.Need-same-length-9
-same-length-9 c = search needs
-
-same-length-10 : tie.Need-same-length-10
-same-length-10 c = search needs
-
-returns-5 : tie.Need-returns-5
-returns-5 c =
-    lifted _ _ _ _
-    (ready _ _ _ _ _
-    (c .before .before .before .before .before .before .before .before .before .before .before .before .before
-    .before .before .before .before .before .before .before .before .before .lists-short .ensures)
-    (c .before .before .before .before .before .before .before .before .before .before .before .before .before
-    .before .before .before .before .before .before .before .before .if1 .left) _
-    (c .before .before .before .before .before .before .before .before .before .before .before .before .before
-    .before .before .before .before .before .is-sound .ensures)
-    (c .before .before .before .before .before .before .before .before .before .before .before .before .before
-    .before .before .before .before .if2 .left)) _
-    (c .before .before .before .before .before .before .before .before .before .before .before .before .before
-    .before .before .before .net-ok .ensures)
-    (c .before .before .before .before .before .before .before .before .before .before .before .before .before
-    .before .before .if3 .left) _
-    (c .before .before .before .before .before .before .before .before .before .before .before .before
-    .before .in-use .ensures)
-    (c .before .before .before .before .before .before .before .before .before .before .before .before .if4 .left) _ _
-    (c .before .before .before .before .before .before .before .before .before .without .ensures)
-    _ _ _ (c .before .before .before .before .settle .ensures)
+returns-2 c = c .before .before .before .before .lift-in .ensures _ (sound-room _ (rw (c .before .before .before .before .before .before .before .enum-told .given .1) at (c .before .before .before .before .before .before .before .before .before .lent-refusal .ensures)) _ _)
 
 pub lift-spec : {M : Type 1} → statement M
 lift-spec =
     tie.close
     (tie.spec
-    lists-short-requires
+    lent-refusal-requires
+    enum-known-checked
     refuse-requires
     same-length
     same-length-2
     returns
-    is-sound-requires
-    refuse-requires-2
+    enum-told
+    lift-in-requires
     same-length-3
     same-length-4
-    returns-2
-    net-ok-requires
-    refuse-requires-3
-    same-length-5
-    same-length-6
-    returns-3
-    in-use-requires
-    refuse-requires-4
-    same-length-7
-    same-length-8
-    returns-4
-    slice-aggregate-without
-    without-requires
-    slice-aggregate-settle
-    settle-requires
-    same-length-9
-    same-length-10
-    returns-5)
+    returns-2)

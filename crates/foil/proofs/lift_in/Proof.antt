@@ -1,0 +1,84 @@
+-- `foil::lift_in` takes the rows of the other nets over.
+use native.Mathlib.Omega.{arith}
+use Rattle.ledger_laws.proofs.Sound.{of-sound, sound-long}
+use Rattle.foil.proofs.Limits.{held-limits}
+use Rattle.foil.proofs.Beginning.{no-rows}
+use Rattle.foil.proofs.Lifting.{no-net, not-there, lifted-again, lifted-table, lifted}
+use borrow.Author.Needs.{needs}
+use Rattle.foil.proofs.lift_in.Statement.{statement}
+use Rattle.foil.proofs.lift_in.Tie as tie
+
+net-ok-requires : tie.Need-net-ok-requires
+net-ok-requires c κs = search needs
+
+refuse-requires : tie.Need-refuse-requires
+refuse-requires c κs = search needs
+
+returns : tie.Need-returns
+returns c = no-net _ _ _ _ (c .before .before .before .before .before .pre) _ (c .before .before .net-ok .ensures) (c .before .if1 .taken) _ (c .refuse .ensures)
+
+in-use-requires : tie.Need-in-use-requires
+in-use-requires c κs = omega (arith, sound-long _ (c .before .before .before .before .before .pre) .table, held-limits _ _ _ (of-sound _ (c .before .before .before .before .before .pre)) .few)
+
+refuse-requires-2 : tie.Need-refuse-requires-2
+refuse-requires-2 c κs = search needs
+
+same-length : tie.Need-same-length
+same-length c = search needs
+
+returns-2 : tie.Need-returns-2
+returns-2 c = not-there _ _ _ _ (c .before .before .before .before .before .before .before .before .pre) _ (c .before .before .before .before .before .net-ok .ensures) (c .before .before .before .before .if1 .left) _ (c .before .before .in-use .ensures) (c .before .if2 .taken) _
+    (c .refuse2 .ensures)
+
+slice-aggregate-without : tie.Need-slice-aggregate-without
+slice-aggregate-without c = search needs
+
+without-requires : tie.Need-without-requires
+without-requires c κs = (
+  held-limits _ _ _ (of-sound _ (c .before .before .before .before .before .before .before .before .before .pre)) .few,
+  omega (arith, sound-long _ (c .before .before .before .before .before .before .before .before .before .pre) .table, held-limits _ _ _ (of-sound _ (c .before .before .before .before .before .before .before .before .before .pre)) .few),
+  no-rows,
+)
+
+slice-aggregate-settle : tie.Need-slice-aggregate-settle
+slice-aggregate-settle c = search needs
+
+settle-requires : tie.Need-settle-requires
+settle-requires c κs = (
+  lifted-table _ _ _ _ (c .before .before .before .before .before .before .before .before .before .before .before .before .before .before .pre) _ (c .before .before .before .before .before .before .before .before .before .before .before .net-ok .ensures) (c .before .before .before .before .before .before .before .before .before .before .if1 .left) _ (c .before .before .before .before .before .before .before .before .in-use .ensures)
+      (c .before .before .before .before .before .before .before .if2 .left) _ _ (c .before .before .before .before .without .ensures),
+  (
+    lifted-again _ _ _ _ (c .before .before .before .before .before .before .before .before .before .before .before .before .before .before .pre) _ (c .before .before .before .before .before .before .before .before .before .before .before .net-ok .ensures) (c .before .before .before .before .before .before .before .before .before .before .if1 .left) _ (c .before .before .before .before .before .before .before .before .in-use .ensures)
+        (c .before .before .before .before .before .before .before .if2 .left) _ _ (c .before .before .before .before .without .ensures),
+    (sound-long _ (c .before .before .before .before .before .before .before .before .before .before .before .before .before .before .pre) .table, sound-long _ (c .before .before .before .before .before .before .before .before .before .before .before .before .before .before .pre) .strips),
+  ),
+)
+
+same-length-2 : tie.Need-same-length-2
+same-length-2 c = search needs
+
+same-length-3 : tie.Need-same-length-3
+same-length-3 c = search needs
+
+returns-3 : tie.Need-returns-3
+returns-3 c = lifted _ _ _ _ (c .before .before .before .before .before .before .before .before .before .before .before .before .before .before .before .before .before .before .before .pre) _ (c .before .before .before .before .before .before .before .before .before .before .before .before .before .before .before .before .net-ok .ensures) (c .before .before .before .before .before .before .before .before .before .before .before .before .before .before .before .if1 .left) _ (c .before .before .before .before .before .before .before .before .before .before .before .before .before .in-use .ensures)
+    (c .before .before .before .before .before .before .before .before .before .before .before .before .if2 .left) _ _ (c .before .before .before .before .before .before .before .before .before .without .ensures) _ _ _ (c .before .before .before .before .settle .ensures)
+
+pub lift-in-spec : {M : Type 1} → statement M
+lift-in-spec =
+    tie.close
+    (tie.spec
+    net-ok-requires
+    refuse-requires
+    returns
+    in-use-requires
+    refuse-requires-2
+    same-length
+    returns-2
+    slice-aggregate-without
+    without-requires
+    slice-aggregate-settle
+    settle-requires
+    same-length-2
+    same-length-3
+    returns-3)

@@ -1,0 +1,39 @@
+-- `foil::look_up_in` answers by the strip that holds the point, if one does.
+use mathlib.Core.Path.{sym, _∙_}
+use Rattle.ledger_laws.proofs.Sound.{of-sound}
+use Rattle.state.proofs.Rising.{by-row-of}
+use Rattle.foil_spec.specs.Foil.{point}
+use Rattle.foil.proofs.Looking.{off-right, off-below, strips-long, nowhere, somewhere}
+use borrow.Author.Needs.{needs}
+use Rattle.foil.proofs.look_up_in.Statement.{statement}
+use Rattle.foil.proofs.look_up_in.Tie as tie
+
+returns : tie.Need-returns
+returns c = off-right _ _ _ _ (c .before .before .before .before .pre) (c .if1 .taken)
+
+returns-2 : tie.Need-returns-2
+returns-2 c = off-below _ _ _ _ (c .before .before .before .before .before .before .pre) (c .if2 .taken)
+
+locate-requires : tie.Need-locate-requires
+locate-requires c κs = (
+  strips-long _ _ _ (point (c .before .before .before .before .before .before .args .x) (c .before .before .before .before .before .before .args .y)) (c .before .before .before .before .before .before .pre),
+  by-row-of _ (of-sound _ (c .before .before .before .before .before .before .pre)),
+)
+
+enum-known-place : tie.Need-enum-known-place
+enum-known-place c = search needs
+
+enum-told : tie.Need-enum-told
+enum-told c = search needs
+
+returns-3 : tie.Need-returns-3
+returns-3 c = nowhere _ _ _ _ (c .before .before .before .before .before .before .before .before .before .pre) (c .before .before .before .before .before .if1 .left) (c .before .before .before .if2 .left) (sym (c .before .before .locate .ensures) ∙ c .enum-told .given .1)
+
+returns-4 : tie.Need-returns-4
+returns-4 c = somewhere _ _ _ _ (c .before .before .before .before .before .before .before .before .before .before .pre) (c .before .before .before .before .before .before .if1 .left) (c .before .before .before .before .if2 .left) _
+    (sym (c .before .before .before .locate .ensures) ∙ c .before .place .given .1)
+
+pub look-up-in-spec : {M : Type 1} → statement M
+look-up-in-spec =
+    tie.close
+    (tie.spec returns returns-2 locate-requires enum-known-place enum-told returns-3 returns-4)
