@@ -24,7 +24,7 @@ use Rattle.foil_spec.specs.declared.Ink.{Ink}
 use Rattle.foil_spec.specs.Calls.{Reply, wholeRefusals}
 use Rattle.foil_spec.specs.Sequence.{Lending, roomFor, told, Left, leaves, runLent, runLedger}
 use Rattle.list_laws.proofs.Tests.{clash, both, not-ff, parts}
-use Rattle.list_laws.proofs.Members.{of-keep, of-all, to-all}
+use Rattle.list_laws.proofs.Members.{of-all}
 use Rattle.ledger_laws.specs.Line.{but, ownNumbers}
 use Rattle.ledger_laws.specs.Numbers.{numbersOf}
 use Rattle.ledger_laws.proofs.Refusals.{first-passes, broken-refused, own-refused, unrefused-own}
@@ -86,8 +86,11 @@ module _ (r : Room) (room : cornerPlaces ≤ cornerRoom r) where
 
     step-but-12 : (s : Step) (l : Layout) → tooFine l ≡ false → (n : ℕ) → refusalOf r false s l ≡ some n
         → but 12 n ≡ true
-    unfolding ownNumbers
-    step-but-12 s = step-passes (but 12) s (to-all (but 12) (ownNumbers s) (λ n i. of-keep (but 12) n _ i .1))
+    unfolding but
+    step-but-12 s l fine n e =
+        by-cases (ℕ-discrete 12 n)
+        (λ q. absurd (not-12 s false l (λ _. fine) (e ∙ ap {A = ℕ} {B = Option ℕ} some (sym q))))
+        (λ q. ap not (ne-eqb 12 n q))
 
 pub enough-corners : EnoughCorners
 unfolding stepOn

@@ -20,8 +20,8 @@ abbrev pub TrackCorners : Type 0
 TrackCorners =
     (l : Layout) (S T : Point) (cs : List Point) → pathOf l S T ≡ some cs → length cs ≤ max 3 (2 * length (stripsOf l))
 
--- a step that has two places for each of 4,096 strips, on lists that hold anything, answers 12 exactly when the table or
--- the strip list is too short
+-- a step that has two corner places for each of 4,096 strips, on lists that hold anything, answers 12 exactly when the
+-- table or the strip list is too short
 abbrev pub EnoughCorners : Type 0
 EnoughCorners =
     (r : Room) (s : Step) (m : Lent) → cornerPlaces ≤ cornerRoom r

@@ -96,7 +96,7 @@ module _ (l : Layout) (fine : tooFine l ≡ false) where
       → InLines (trackLine net
       (settle o (record { answer = says (lay net S T) l; state = next (lay net S T) l }) l .answer))
   unfolding settle says trackLine bytesOf possible among ownNumbers numbersFrom but refusals
-  lay-line net S T none e = one-line (laidTrack net _ _) (unfold possible in laid-possible l net S T fine e)
+  lay-line net S T none e = one-line (laidTrack net _ _) (laid-possible l net S T fine e)
   lay-line net S T (some n) e =
       one-line (refusedTrack net n)
       (step-passes jobRoom job-room job-long (λ k. possible (refusedTrack net k)) (lay net S T) refl l fine n e)

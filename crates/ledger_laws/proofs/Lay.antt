@@ -1,5 +1,5 @@
 -- On the ledger lay answers 9 exactly where there is no path, lays the first one, and lift takes it back.
-use Prim.Native.Nat.{ℕ, _≤_}
+use Prim.Native.Nat.{ℕ}
 use native.Mathlib.Omega.{arith}
 use mathlib.Core.Path.{_≡_, refl, sym, ap, _∙_, subst}
 use mathlib.Core.Bool.{Bool, true, false, not}
@@ -7,7 +7,7 @@ use mathlib.Core.List.{List, [], _∷_, _++_, append-nil}
 use mathlib.Core.Option.{Option, none, some, Option·getD}
 use mathlib.Core.Logic.{_↔_}
 use lib.Dec.{ltb}
-use borrow.Author.Tests.{eq-eqb, lt-leb, ltb-false}
+use borrow.Author.Tests.{eq-eqb, lt-leb}
 use lib.ListN.{length}
 use Rattle.foil_spec.specs.Lists.{keep, any}
 use Rattle.foil_spec.specs.Foil.{Point, Entry, Layout, netOk, free}

@@ -11,11 +11,11 @@ use lib.Ieee.{Float}
 use borrow.Author.Tests.{ne-eqb}
 use Rattle.foil_spec.specs.Lists.{all}
 use Rattle.foil_spec.specs.Foil.{Layout}
-use Rattle.foil_spec.specs.Ledger.{Room, short, Step, Answer, numberOf, says, next, Refusal, first, refusals, afterLent, After}
-use Rattle.foil_spec.specs.Ledger.{settle, refusalOf, ledgerStep}
+use Rattle.foil_spec.specs.Ledger.{Room, short, Step, Answer, numberOf, says, next, Refusal, first, refusals, afterLent}
+use Rattle.foil_spec.specs.Ledger.{After, settle, refusalOf, ledgerStep}
 use Rattle.foil_spec.specs.Lent.{Lent}
 use Rattle.foil_spec.specs.Job.{isEnd, steps, recordEnd, recordChecks}
-use Rattle.foil_spec.specs.Calls.{Call, step, runRecord, ohms, Reply, endsJob, andThen, actAll, actRecord}
+use Rattle.foil_spec.specs.Calls.{Call, step, runRecord, ohms, endsJob, andThen, actAll, actRecord}
 use Rattle.foil_spec.specs.Calls.{wholeRefusals, ohmsReply, reply, ledgerCall, answersIn}
 use Rattle.foil_spec.specs.Ohms.{ohmsRefusals}
 use Rattle.foil_spec.specs.declared.Ink.{Ink}
