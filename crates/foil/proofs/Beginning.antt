@@ -13,7 +13,7 @@ use Rattle.foil_spec.specs.Lent.{Lent, lent, written, layoutOf}
 use Rattle.foil_spec.specs.declared.Board.{Board}
 use Rattle.list_laws.proofs.Tests.{clash, parts}
 use Rattle.ledger_laws.proofs.Kept.{new-fine}
-use Rattle.strips.specs.Table.{Table}
+use Rattle.zones.specs.Table.{Table}
 use Rattle.booking.specs.Rows.{rowsOf}
 use Rattle.foil.specs.Contract.{StepDone, refusedBy, TooShort, Settled, fits, over}
 use Rattle.foil.specs.declared.Done.{Done}

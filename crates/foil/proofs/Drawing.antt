@@ -15,7 +15,7 @@ use Rattle.foil_spec.specs.declared.Board.{Board}
 use Rattle.list_laws.proofs.Tests.{and-i, all-append}
 use Rattle.ledger_laws.proofs.Kept.{of-ok, patch-ok}
 use Rattle.ledger_laws.proofs.Sound.{Sound, of-sound, length-read}
-use Rattle.strips.specs.Table.{Table}
+use Rattle.zones.specs.Table.{Table}
 use Rattle.booking.specs.Rows.{rowsOf, Appended}
 use Rattle.foil.specs.Contract.{StepDone, refusedBy, Ready, Settled}
 use Rattle.foil.specs.declared.Done.{Done}

@@ -13,7 +13,7 @@ use Rattle.foil_spec.specs.declared.Board.{Board}
 use Rattle.list_laws.proofs.Tests.{all-keep}
 use Rattle.ledger_laws.proofs.Kept.{of-ok}
 use Rattle.ledger_laws.proofs.Sound.{Sound, of-sound}
-use Rattle.strips.specs.Table.{Table}
+use Rattle.zones.specs.Table.{Table}
 use Rattle.booking.specs.Rows.{rowsOf, otherNets, Kept}
 use Rattle.foil.specs.Contract.{StepDone, refusedBy, Ready, Settled}
 use Rattle.foil.specs.declared.Done.{Done}

@@ -18,9 +18,10 @@ use Rattle.ledger_laws.proofs.Refusals.{short-refused, broken-refused}
 use Rattle.ledger_laws.proofs.Stored.{strips-fit, length-strips}
 use Rattle.ledger_laws.proofs.Steps.{long-lists}
 use Rattle.ledger_laws.proofs.Sound.{Sound, of-sound, sound-store-is, strips-listed}
-use Rattle.strips.specs.Places.{placeIn}
+use Rattle.strips.specs.Places.{placeIn, ByRow}
 use Rattle.strips.specs.declared.Place.the-variants.{At, Nowhere}
 use Rattle.strips.proofs.Placing.{place-free, place-blocked}
+use Rattle.state.proofs.Rising.{by-row-of}
 use Rattle.foil.specs.Contract.{answerOf, Looked, TooShort, Ready}
 use Rattle.foil.specs.declared.Answer.the-variants.{Refused, Found}
 use Rattle.foil.proofs.Refusing.{refusal}
@@ -82,6 +83,9 @@ module _ (b : Board) (t s : List ℕ) (p : Point) where
           strips-fit (held m) (facts .kept),
           length-strips (stripsOf (held m)),
         )
+
+    pub rising : ByRow s (b .strips)
+    rising = by-row-of m facts
 
     listed : listedStrips s (b .strips) ≡ stripsOf (held m)
     listed = strips-listed m facts

@@ -11,8 +11,8 @@ use Rattle.foil_spec.specs.Foil.{Entry, entryOk}
 use Rattle.foil_spec.specs.Lent.{Lent, entryNumbers, written, store, entryAt, layoutOf, held}
 use Rattle.ledger_laws.proofs.Stored.{read-back, entries-fit}
 use Rattle.ledger_laws.proofs.Sound.{Sound}
-use Rattle.strips.specs.Table.{Table}
-use Rattle.strips.proofs.Tables.{table-of}
+use Rattle.zones.specs.Table.{Table}
+use Rattle.zones.proofs.Tables.{table-of}
 use Rattle.booking.specs.Rows.{rowsOf}
 use Rattle.booking.proofs.Filling.{length-rows}
 use Rattle.booking.proofs.Taking.{copied}

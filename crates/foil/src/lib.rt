@@ -3,9 +3,9 @@
 // document 01 says. Lay is in the crate `laying`.
 use booking::Booked;
 use booking::append;
-use booking::book;
 use booking::copy_front;
 use booking::in_use;
+use booking::take_over;
 use booking::without;
 use foil_spec::Board;
 use state::box_ok;
@@ -23,7 +23,7 @@ ghost use Rattle.foil_spec.specs.Lists.{range};
 ghost use Rattle.foil_spec.specs.Foil.{point};
 ghost use Rattle.foil_spec.specs.Ledger.{newFoil, draw as draws, lift as lifts, lookUp};
 ghost use Rattle.foil_spec.specs.Lent.{lent, entryAt, layoutOf};
-ghost use Rattle.strips.specs.Table.{Table};
+ghost use Rattle.zones.specs.Table.{Table};
 ghost use Rattle.booking.specs.Rows.{rowsOf};
 ghost use Rattle.foil.specs.Contract.{StepDone, Looked, TooShort, Settled, refusedBy};
 
@@ -176,7 +176,7 @@ fn settle(table: &mut [u16], strips: &mut [u16], rows: &[u16], n: usize, board: 
     ensures { λ r. ⌜ Settled (layoutOf (board .width) (board .height) (board .clearance) n (now (rows .entry)))
         board (now (table .entry)) (now (strips .entry)) (now (table .exit)) (now (strips .exit)) r ⌝ }
 {
-    let booked = book(table, strips, rows, n, board);
+    let booked = take_over(table, strips, rows, n, board);
     let Booked::Taken(after) = booked else {
         return refuse(11, board);
     };

@@ -1,7 +1,8 @@
 use mathlib.Core.Path.{sym, _∙_}
 use Rattle.foil_spec.specs.Foil.{point}
 use Rattle.foil.proofs.Refusing.{ready}
-use Rattle.foil.proofs.Looking.{look-short, look-broken, off-right, off-below, strips-long, nowhere, somewhere}
+use Rattle.foil.proofs.Looking.{look-short, look-broken, off-right, off-below, strips-long, rising, nowhere}
+use Rattle.foil.proofs.Looking.{somewhere}
 use borrow.Author.Needs.{needs}
 use Rattle.foil.proofs.look_up.Statement.{statement}
 use Rattle.foil.proofs.look_up.Tie as tie
@@ -38,12 +39,11 @@ returns-4 c =
 
 locate-requires : tie.Need-locate-requires
 locate-requires c κs =
-    strips-long _ _ _ (point
-    (c .before .before .before .before .before .before .before .before .before .before .args .x)
-    (c .before .before .before .before .before .before .before .before .before .before .args .y))
-    (ready _ _ _ _ _ (c .before .before .before .before .before .before .before .lists-short .ensures)
+    let a = c .before .before .before .before .before .before .before .before .before .before .args in
+    let y = ready _ _ _ _ _ (c .before .before .before .before .before .before .before .lists-short .ensures)
     (c .before .before .before .before .before .before .if1 .left) _
-    (c .before .before .before .before .before .is-sound .ensures) (c .before .before .before .before .if2 .left))
+    (c .before .before .before .before .before .is-sound .ensures) (c .before .before .before .before .if2 .left) in
+    (strips-long _ _ _ (point (a .x) (a .y)) y, rising _ _ _ (point (a .x) (a .y)) y)
 
 enum-known-place : tie.Need-enum-known-place
 enum-known-place c = search needs

@@ -5,8 +5,8 @@ use borrow.Author.Needs.{needs}
 use Rattle.foil.proofs.settle.Statement.{statement}
 use Rattle.foil.proofs.settle.Tie as tie
 
-book-requires : tie.Need-book-requires
-book-requires c κs = search needs
+take-over-requires : tie.Need-take-over-requires
+take-over-requires c κs = search needs
 
 enum-known-booked : tie.Need-enum-known-booked
 enum-known-booked c = search needs
@@ -26,7 +26,7 @@ same-length-2 c = search needs
 returns : tie.Need-returns
 returns c =
     over (rw (c .before .enum-told .given .1) at
-    (c .before .before .before .before .before .before .before .book .ensures))
+    (c .before .before .before .before .before .before .before .take-over .ensures))
     (ap (λ (x : Done). x .answer) (c .refuse .ensures)) (ap (λ (x : Done). x .board) (c .refuse .ensures))
 
 same-length-3 : tie.Need-same-length-3
@@ -38,13 +38,13 @@ same-length-4 c = search needs
 returns-2 : tie.Need-returns-2
 returns-2 c =
     fits (rw (c .before .booked .given .1) at
-    (c .before .before .before .before .before .before .before .book .ensures)) refl
+    (c .before .before .before .before .before .before .before .take-over .ensures)) refl
 
 pub settle-spec : {M : Type 1} → statement M
 settle-spec =
     tie.close
     (tie.spec
-    book-requires
+    take-over-requires
     enum-known-booked
     enum-told
     refuse-requires
