@@ -24,12 +24,12 @@ use Rattle.ledger_laws.proofs.Kept.{of-ok, laid-ok}
 use Rattle.ledger_laws.proofs.Lay.{lay-from-9}
 use Rattle.ledger_laws.proofs.Steps.{long-lists}
 use Rattle.ledger_laws.proofs.Sound.{Sound, of-sound, length-read}
-use Rattle.strips.specs.Table.{Table}
+use Rattle.zones.specs.Table.{Table}
 use Rattle.booking.specs.Rows.{rowsOf}
 use Rattle.booking.specs.Booked.{Stored, Unchanged}
 use Rattle.grid.proofs.Board.{boxes-of}
 use Rattle.search.specs.Grid.{Posed}
-use Rattle.tracks.specs.Legs.{Corners, Legs}
+use Rattle.booking.specs.Legs.{Corners, Legs}
 use Rattle.tracks.specs.Found.{Found}
 use Rattle.foil.specs.Contract.{answerOf, StepDone, refusedBy}
 use Rattle.foil.specs.declared.Answer.the-variants.{Laid}

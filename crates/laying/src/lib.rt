@@ -1,9 +1,10 @@
 // The call lay: finds the first path of fewest bends, and books its legs. Like the other calls it has no
 // `requires`: whatever is lent, it answers.
 use booking::Booked;
-use booking::book;
+use booking::append_legs;
 use booking::copy_front;
 use booking::in_use;
+use booking::take_over;
 use foil::Answer;
 use foil::Done;
 use foil::lists_short;
@@ -13,7 +14,6 @@ use state::is_sound;
 use state::net_ok;
 use strips::Place;
 use strips::locate;
-use tracks::append_legs;
 use tracks::find;
 ghost use mathlib.Core.Path.{_≡_};
 ghost use Prim.Native.Nat.{_<_, _-_, max};
@@ -144,7 +144,7 @@ fn lay_between(
     let mut rows = [0u16; 640];
     copy_front(&mut rows, table, 640);
     let all = append_legs(&mut rows, n, net, &path, k);
-    let booked = book(table, strips, &rows, all, board);
+    let booked = take_over(table, strips, &rows, all, board);
     let Booked::Taken(after) = booked else {
         return refuse(11, board);
     };

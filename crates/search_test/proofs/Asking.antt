@@ -8,7 +8,7 @@ use lib.ListN.{length}
 use borrow.Author.Count.{below-more}
 use Rattle.foil_spec.specs.Foil.{Entry, point}
 use Rattle.foil_spec.specs.Lent.{entryAt}
-use Rattle.strips.proofs.Free.{free-at}
+use Rattle.zones.proofs.Free.{free-at}
 use Rattle.grid.specs.Zones.{Boxes, extent}
 use Rattle.search.specs.Grid.{Posed}
 use Rattle.plain.specs.Free.{Unblocked}

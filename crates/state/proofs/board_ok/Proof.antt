@@ -1,3 +1,4 @@
+-- `state::board_ok` meets its contract, test by test.
 use mathlib.Core.Path.{sym, _∙_}
 use borrow.Author.Tests.{not-true, not-false}
 use Rattle.state.specs.Tests.{boardOk}

@@ -1,3 +1,4 @@
+-- `state::is_sound` meets its contract: a test that fails shows that the state is not sound, all together that it is.
 use native.Mathlib.Omega.{arith}
 use mathlib.Core.Path.{sym, _∙_}
 use borrow.Author.Tests.{not-false}

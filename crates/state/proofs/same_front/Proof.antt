@@ -1,3 +1,4 @@
+-- `state::same_front` meets its contract: the first i numbers are the same.
 use native.Mathlib.Omega.{arith}
 use Prim.Native.Nat.{_≤_, _-_}
 use Rattle.state.proofs.Fronts.{Agree, agree-none, agree-more, agree-all, agree-not}

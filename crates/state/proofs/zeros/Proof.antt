@@ -1,3 +1,4 @@
+-- `state::zeros` meets its contract: the numbers before place i are zero.
 use native.Mathlib.Omega.{arith}
 use Prim.Native.Nat.{_≤_, _-_}
 use Rattle.state.specs.Tests.{Zeros}

@@ -33,8 +33,14 @@ add-append : tie.Need-add-append
 add-append c =
     let k = atCorners c in
     let p = atStart k .pre .1 .1 in
-    omega (arith, c .larger .ensures, ap (λ (q : Point). q .x) (k .before .corner-at .ensures),
-      ap (λ (q : Point). q .x) (k .corner-at2 .ensures), p .0 .0, p .1 .0)
+    omega (
+      arith,
+      c .larger .ensures,
+      ap (λ (q : Point). q .x) (k .before .corner-at .ensures),
+      ap (λ (q : Point). q .x) (k .corner-at2 .ensures),
+      p .0 .0,
+      p .1 .0,
+    )
 
 larger-requires-2 : tie.Need-larger-requires-2
 larger-requires-2 c κs = search needs
@@ -43,8 +49,14 @@ add-append-2 : tie.Need-add-append-2
 add-append-2 c =
     let k = atCorners (c .before) in
     let p = atStart k .pre .1 .1 in
-    omega (arith, c .larger2 .ensures, ap (λ (q : Point). q .y) (k .before .corner-at .ensures),
-      ap (λ (q : Point). q .y) (k .corner-at2 .ensures), p .0 .1, p .1 .1)
+    omega (
+      arith,
+      c .larger2 .ensures,
+      ap (λ (q : Point). q .y) (k .before .corner-at .ensures),
+      ap (λ (q : Point). q .y) (k .corner-at2 .ensures),
+      p .0 .1,
+      p .1 .1,
+    )
 
 append-requires : tie.Need-append-requires
 append-requires c κs = search needs

@@ -1,3 +1,4 @@
+-- `booking::legs::append_legs` meets its contract: after j turns the rows have the first j legs.
 use native.Mathlib.Omega.{arith}
 use Prim.Native.Nat.{_+_, _-_}
 use mathlib.Core.Path.{_≡_, refl}

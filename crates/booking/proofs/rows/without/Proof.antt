@@ -1,3 +1,4 @@
+-- `booking::rows::without` meets its contract: the rows have the entries of other nets, of those before place k.
 use mathlib.Core.Path.{_≡_, refl}
 use lib.ListN.{length}
 use native.Mathlib.Omega.{arith}

@@ -1,3 +1,4 @@
+-- `state::limits::shape_ok` meets its contract: a patch has any shape, a leg is one point wide in one direction.
 use native.Mathlib.Omega.{arith}
 use Rattle.state.proofs.Shapes.{patch-shape, no-track, narrow-leg, flat-leg}
 use borrow.Author.Needs.{needs}
