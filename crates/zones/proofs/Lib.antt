@@ -1,0 +1,2 @@
+-- What is proved of boxes.
+pub mod Free
