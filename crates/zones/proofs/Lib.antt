@@ -1,2 +1,0 @@
--- What is proved of boxes.
-pub mod Free
