@@ -1,12 +1,12 @@
 -- What is blocked of a foil as boxes: a table of them, five numbers a place, in which no net and no clearance counts.
-use Prim.Native.Nat.{ℕ, _*_, _≤_, _<_}
+use Prim.Native.Nat.{ℕ, _+_, _*_, _-_, _≤_, _<_, min}
 use mathlib.Core.Path.{_≡_}
-use mathlib.Core.Bool.{Bool, not, _&&_}
+use mathlib.Core.Bool.{Bool, true, not, _&&_}
 use mathlib.Core.List.{List, map}
 use lib.Dec.{leb, ltb}
 use lib.ListN.{length}
 use Rattle.foil_spec.specs.Lists.{range, all}
-use Rattle.foil_spec.specs.Foil.{Entry}
+use Rattle.foil_spec.specs.Foil.{Entry, entry}
 use Rattle.foil_spec.specs.Lent.{entryAt}
 
 -- a table of boxes has room for those of 128 entries and four more
@@ -25,6 +25,12 @@ covers e x y = inside (e .x0) (e .x1) x && inside (e .y0) (e .y1) y
 unfoldable pub boxFree : ℕ → ℕ → ℕ → List ℕ → ℕ → ℕ → Bool
 boxFree w h n z x y = ltb x w && ltb y h && all (λ (e : Entry). not (covers e x y)) (map (entryAt z) (range 0 n))
 
+-- one of the first n boxes of the table z has the point (x, y)
+pub record Covered (z : List ℕ) (n x y : ℕ) : Type 0 where
+  pub place : ℕ
+  pub lt : place < n
+  pub yes : covers (entryAt z place) x y ≡ true
+
 -- the first n boxes of the table z are not empty and lie on a foil of w by h
 pub record Boxes (z : List ℕ) (n w h : ℕ) : Type 0 where
   pub len : n * 5 ≤ length z
@@ -40,3 +46,12 @@ pub record Boxes (z : List ℕ) (n w h : ℕ) : Type 0 where
 pub record Zoned (f : ℕ → ℕ → Bool) (w h : ℕ) (z : List ℕ) (n : ℕ) : Type 0 where
   pub same : boxFree w h n z ≡ f
   pub boxes : Boxes z n w h
+
+-- what an entry blocks with clearance d, clipped to a foil of w by h
+unfoldable pub zoneOf : ℕ → ℕ → ℕ → Entry → Entry
+zoneOf d w h e = entry 0 (e .x0 - d) (e .y0 - d) (min (e .x1 + d) w) (min (e .y1 + d) h)
+
+-- the box e stands at place k, and the boxes before it are as they were
+pub record Put (old new : List ℕ) (k : ℕ) (e : Entry) : Type 0 where
+  pub here : entryAt new k ≡ e
+  pub before : (j : ℕ) → j < k → entryAt new j ≡ entryAt old j

@@ -1,2 +1,3 @@
 -- What is blocked of a foil, as boxes.
 pub mod Boxes
+pub mod Table

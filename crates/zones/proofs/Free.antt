@@ -1,0 +1,139 @@
+-- What is free: a point is free where it is on the foil and no entry, widened by the clearance, or no box has it; so
+-- each law of `free` and of `boxFree` is one of a test of places below n.
+use Prim.Native.Nat.{ℕ, zero, suc, _+_, _≤_, _<_}
+use native.Mathlib.Omega.{arith}
+use mathlib.Core.Path.{_≡_, refl, ap, ap₂, sym, _∙_}
+use mathlib.Core.Bool.{Bool, true, false, not, _&&_}
+use mathlib.Core.List.{List, map}
+use lib.Dec.{leb, ltb}
+use borrow.Author.Tests.{le-leb, lt-ltb, lt-leb, le-ltb, leb-true, ltb-true}
+use Rattle.foil_spec.specs.Lists.{range, all}
+use Rattle.foil_spec.specs.Foil.{Entry, Layout, within, blocks, free}
+use Rattle.foil_spec.specs.Lent.{entryAt, layoutOf}
+use Rattle.list_laws.proofs.Tests.{both, clash, and-l, and-r, and-i, and-no-r, not-f, not-t, parts}
+use Rattle.list_laws.proofs.Members.{all-places, at-place}
+use Rattle.zones.specs.Boxes.{inside, covers, boxFree, Covered}
+
+-- ---- along one axis
+
+module _ (lo hi d v : ℕ) where
+  pub within-yes : lo ≤ v + d → v < hi + d → within lo hi d v ≡ true
+  unfolding within
+  within-yes a b = and-i (le-leb lo (v + d) a) (lt-ltb v (hi + d) b)
+
+  pub within-below : v + d < lo → within lo hi d v ≡ false
+  unfolding within
+  within-below a = simp (lt-leb lo (v + d) a)
+
+  pub within-above : hi + d ≤ v → within lo hi d v ≡ false
+  unfolding within
+  within-above b = and-no-r (leb lo (v + d)) _ (le-ltb v (hi + d) b)
+
+module _ (lo hi v : ℕ) where
+  pub inside-yes : lo ≤ v → v < hi → inside lo hi v ≡ true
+  unfolding inside
+  inside-yes a b = and-i (le-leb lo v a) (lt-ltb v hi b)
+
+  pub inside-below : v < lo → inside lo hi v ≡ false
+  unfolding inside
+  inside-below a = simp (lt-leb lo v a)
+
+  pub inside-above : hi ≤ v → inside lo hi v ≡ false
+  unfolding inside
+  inside-above b = and-no-r (leb lo v) _ (le-ltb v hi b)
+
+  pub of-inside : inside lo hi v ≡ true → (lo ≤ v) × (v < hi)
+  unfolding inside
+  of-inside h = (leb-true lo v (and-l _ _ h), ltb-true v hi (and-r (leb lo v) _ h))
+
+-- ---- one box
+
+module _ (e : Entry) (x y : ℕ) where
+  pub covers-yes : inside (e .x0) (e .x1) x ≡ true → inside (e .y0) (e .y1) y ≡ true → covers e x y ≡ true
+  unfolding covers
+  covers-yes a b = and-i a b
+
+  pub off-column : inside (e .x0) (e .x1) x ≡ false → covers e x y ≡ false
+  unfolding covers
+  off-column a = simp a
+
+  pub off-row : inside (e .y0) (e .y1) y ≡ false → covers e x y ≡ false
+  unfolding covers
+  off-row b = and-no-r (inside (e .x0) (e .x1) x) _ b
+
+  pub of-covers : covers e x y ≡ true → (inside (e .x0) (e .x1) x ≡ true) × (inside (e .y0) (e .y1) y ≡ true)
+  unfolding covers
+  of-covers h = (and-l _ _ h, and-r (inside (e .x0) (e .x1) x) _ h)
+
+-- ---- all boxes of a table
+
+-- a test that agrees at the places from a on
+module _ (p q : Entry → Bool) (s t : ℕ → Entry) where
+  none-same : (n a : ℕ) → ((k : ℕ) → a ≤ k → k < a + n → p (s k) ≡ q (t k))
+      → all (λ (e : Entry). not (p e)) (map s (range a n)) ≡ all (λ (e : Entry). not (q e)) (map t (range a n))
+  none-same zero a h = refl
+  none-same (suc n) a h =
+      ap₂ (λ (b c : Bool). not b && c) (h a (omega arith) (omega arith))
+      (none-same n (suc a) (λ k l m. h k (omega arith) (omega arith)))
+
+module _ (w h n : ℕ) (z : List ℕ) (x y : ℕ) where
+  -- free are the points of the foil that no box has
+  pub box-free-at : x < w → y < h → ((k : ℕ) → k < n → covers (entryAt z k) x y ≡ false)
+      → boxFree w h n z x y ≡ true
+  unfolding boxFree
+  box-free-at lx ly none =
+      and-i (and-i (lt-ltb x w lx) (lt-ltb y h ly))
+      (all-places (λ (e : Entry). not (covers e x y)) (entryAt z) n (λ k l. not-f (none k l)))
+
+  -- and no others
+  pub not-covered : boxFree w h n z x y ≡ true
+      → (x < w) × (y < h) × ((k : ℕ) → k < n → covers (entryAt z k) x y ≡ false)
+  unfolding boxFree
+  not-covered f =
+      let on = and-l (ltb x w && ltb y h) _ f in (
+        ltb-true x w (and-l _ _ on),
+        ltb-true y h (and-r (ltb x w) _ on),
+        λ k l.
+            not-t (covers (entryAt z k) x y)
+            (at-place (λ (e : Entry). not (covers e x y)) (entryAt z) n (and-r (ltb x w && ltb y h) _ f) k l),
+      )
+
+  pub covered-at : Covered z n x y → boxFree w h n z x y ≡ false
+  covered-at c =
+      both (boxFree w h n z x y) (λ f. clash (c .yes) (not-covered f .2 (c .place) (c .lt))) (λ f. f)
+
+-- two rows of the foil on which the same boxes have points
+pub row-same : (w h n : ℕ) (z : List ℕ) (x u y : ℕ) → u < h → y < h
+    → ((k : ℕ) → k < n → inside (entryAt z k .y0) (entryAt z k .y1) u ≡ inside (entryAt z k .y0) (entryAt z k .y1) y)
+    → boxFree w h n z x u ≡ boxFree w h n z x y
+unfolding boxFree covers
+row-same w h n z x u y lu ly same =
+    ap₂ (λ (b c : Bool). ltb x w && b && c) (lt-ltb u h lu ∙ sym (lt-ltb y h ly))
+    (none-same (λ e. covers e x u) (λ e. covers e x y) (entryAt z) (entryAt z) n 0
+    (λ k a b. ap (λ (c : Bool). inside (entryAt z k .x0) (entryAt z k .x1) x && c) (same k (omega arith))))
+
+-- ---- the entries of a layout
+
+-- what is free is on the foil
+pub free-inside : (l : Layout) (x y : ℕ) → free l x y ≡ true → (x < l .width) × (y < l .height)
+unfolding free
+free-inside l x y h =
+    let a : ltb x (l .width) ≡ true = search parts in
+    let b : ltb y (l .height) ≡ true = search parts in
+    (ltb-true x (l .width) a, ltb-true y (l .height) b)
+
+-- boxes that have just the points of the foil that the entries block
+pub zones-same : (w h d n : ℕ) (z t : List ℕ)
+    → ((k x y : ℕ) → k < n → x < w → y < h → covers (entryAt z k) x y ≡ blocks d (entryAt t k) x y)
+    → (x y : ℕ) → boxFree w h n z x y ≡ free (layoutOf w h d n t) x y
+unfolding boxFree free layoutOf
+zones-same w h d n z t same x y =
+    both (ltb x w)
+    (λ a.
+    both (ltb y h)
+    (λ b.
+    rw (a, b)
+    (none-same (λ e. covers e x y) (λ e. blocks d e x y) (entryAt z) (entryAt t) n 0
+    (λ k l m. same k x y (omega arith) (ltb-true x w a) (ltb-true y h b))))
+    (λ b. rw (a, b) refl))
+    (λ a. rw a refl)
