@@ -12,7 +12,7 @@ use Rattle.foil_spec.specs.Lent.{entryAt}
 use Rattle.list_laws.proofs.Tests.{and-l, and-r, and-i, both, clash}
 use Rattle.reach.specs.Reach.{Span, Marks}
 use Rattle.zones.specs.Boxes.{covers, boxFree, maxBoxes}
-use Rattle.zones.proofs.Free.{inside-yes, of-inside, free-at, of-free}
+use Rattle.zones.proofs.Free.{inside-yes, of-inside, box-free-at, not-covered}
 use Rattle.grid.specs.Size.{stride}
 use Rattle.grid.specs.Extent.{turned, extent}
 use Rattle.grid.specs.Lines.{hasMark, Marked, Collected, Lines}
@@ -29,14 +29,14 @@ module _ (W H n : ℕ) (z : List ℕ) where
   free-on : (upright : Bool) (x y : ℕ) → x < sizeOn W H upright → y < sizeOn W H (not upright) →
       ((k : ℕ) → k < n → turned upright (covers (entryAt z k)) x y ≡ false) →
       turned upright (boxFree W H n z) x y ≡ true
-  free-on false x y lx ly h = free-at W H n z x y lx ly h
-  free-on true x y lx ly h = free-at W H n z y x ly lx h
+  free-on false x y lx ly h = box-free-at W H n z x y lx ly h
+  free-on true x y lx ly h = box-free-at W H n z y x ly lx h
 
   of-free-on : (upright : Bool) (x y : ℕ) → turned upright (boxFree W H n z) x y ≡ true →
       (x < sizeOn W H upright) × (y < sizeOn W H (not upright))
       × ((k : ℕ) → k < n → turned upright (covers (entryAt z k)) x y ≡ false)
-  of-free-on false x y h = of-free W H n z x y h
-  of-free-on true x y h = let r = of-free W H n z y x h in (r .1, r .0, r .2)
+  of-free-on false x y h = not-covered W H n z x y h
+  of-free-on true x y h = let r = not-covered W H n z y x h in (r .1, r .0, r .2)
 
   module _ (upright : Bool) (p q : ℕ) (m : List ℕ) (M : Marked n z upright (sizeOn W H upright) p q m) where
     -- a box that has a number but not the next one ends there, and the next one is marked

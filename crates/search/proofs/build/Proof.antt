@@ -1,4 +1,4 @@
--- Columns and rows, and then their edges.
+-- Columns and rows, and then their links.
 use native.Mathlib.Omega.{arith}
 use borrow.Author.Needs.{needs}
 use Rattle.search.proofs.Grid.{posed-on}
@@ -8,40 +8,42 @@ use Rattle.search.proofs.build.Tie as tie
 axis-requires : tie.Need-axis-requires
 axis-requires c κs =
     let start = c .before .before .before .before .before .before .before .before in
+    let boxes = start .pre .0 .boxes in
     let on = posed-on (start .pre .0) in (
-      (omega arith, start .pre .0 .few, start .pre .0 .clearance, omega arith, omega arith),
-      (start .pre .0 .wide, omega arith, omega arith),
+      (boxes .len, boxes .few, on .0, on .2),
+      (boxes .width, start .pre .1 .marks, start .pre .1 .column-lines),
     )
 
 axis-requires-2 : tie.Need-axis-requires-2
 axis-requires-2 c κs =
     let at-axis = c .before .before .before .before .before .before in
     let start = at-axis .before .before .before .before .before .before .before .before .before in
+    let boxes = start .pre .0 .boxes in
     let on = posed-on (start .pre .0) in (
-      (omega arith, start .pre .0 .few, start .pre .0 .clearance, omega arith, omega arith),
-      (start .pre .0 .high, omega (arith, at-axis .axis .kept .1 .0), omega arith),
+      (boxes .len, boxes .few, on .1, on .3),
+      (boxes .height, omega (arith, at-axis .axis .kept .1 .0), start .pre .1 .row-lines),
     )
 
-edges-requires : tie.Need-edges-requires
-edges-requires c κs =
+links-requires : tie.Need-links-requires
+links-requires c κs =
     let at-rows = c .before .before .before .before .before .before .before in
     let at-columns = at-rows .before .before .before .before .before .before .before in
     let start = at-columns .before .before .before .before .before .before .before .before .before in
     let cols = at-columns .axis .ensures .fits in
     let rows = at-rows .axis2 .ensures .fits in (
-      (omega arith, start .pre .0 .clearance, start .pre .0 .boxes),
+      (_, _, start .pre .0 .boxes),
       record { along = rows; across = cols; room = omega arith },
     )
 
-edges-requires-2 : tie.Need-edges-requires-2
-edges-requires-2 c κs =
-    let at-edges = c .before .before .before .before .before in
-    let at-rows = at-edges .before .before .before .before .before .before .before .before in
+links-requires-2 : tie.Need-links-requires-2
+links-requires-2 c κs =
+    let at-links = c .before .before .before .before .before in
+    let at-rows = at-links .before .before .before .before .before .before .before .before in
     let at-columns = at-rows .before .before .before .before .before .before .before in
     let start = at-columns .before .before .before .before .before .before .before .before .before in
     let cols = at-columns .axis .ensures .fits in
     let rows = at-rows .axis2 .ensures .fits in (
-      (omega arith, start .pre .0 .clearance, start .pre .0 .boxes),
+      (_, _, start .pre .0 .boxes),
       record { along = cols; across = rows; room = omega arith },
     )
 
@@ -69,8 +71,8 @@ build-spec =
     (tie.spec
     axis-requires
     axis-requires-2
-    edges-requires
-    edges-requires-2
+    links-requires
+    links-requires-2
     same-length
     same-length-2
     same-length-3

@@ -29,6 +29,7 @@ seed-requires c κs =
       start .pre .1 .0 .level,
       start .pre .1 .0 .level-inks,
       start .pre .1 .0 .level-queue,
+      start .pre .1 .0 .level-blank,
     )
 
 seed-requires-2 : tie.Need-seed-requires-2
@@ -43,6 +44,7 @@ seed-requires-2 c κs =
       start .pre .1 .0 .upright,
       start .pre .1 .0 .upright-inks,
       start .pre .1 .0 .upright-queue,
+      start .pre .1 .0 .upright-blank,
     )
 
 rounds-requires : tie.Need-rounds-requires

@@ -18,8 +18,8 @@ label-requires c κs =
     let grid = at-build .build in
     let room = start .pre .1 .0 in (
       (
-        omega (arith, room .level-edges, grid .kept .1 .1 .0),
-        omega (arith, room .upright-edges, grid .kept .1 .1 .1 .0),
+        omega (arith, room .level-links, grid .kept .1 .1 .0),
+        omega (arith, room .upright-links, grid .kept .1 .1 .1 .0),
         grid .ensures .column-axis .fits,
         grid .ensures .row-axis .fits,
       ),
@@ -37,7 +37,7 @@ start-at-requires c κs =
     let grid = at-build .build in
     let label = at-label .label in
     let lists = start .pre .1 .1 in
-    let edges = start .pre .1 .0 .upright-edges in
+    let links = start .pre .1 .0 .upright-links in
     let cols = grid .ensures .column-axis .fits in (
       (
         grid .ensures .row-axis .fits,
@@ -50,7 +50,7 @@ start-at-requires c κs =
           omega (arith, lists .upright, label .kept .1 .0),
           omega (arith, lists .level-inks, label .kept .1 .1 .0),
           omega (arith, lists .upright-inks, label .kept .1 .1 .1 .0),
-          omega (arith, edges, grid .kept .1 .1 .1 .0),
+          omega (arith, links, grid .kept .1 .1 .1 .0),
         ),
         found-some (start .pre .0) (grid .ensures) (label .ensures),
       ),
@@ -129,8 +129,8 @@ returns c =
     searched (start .pre .0) (grid .ensures) (omega (arith, lists .level, label .kept .0))
     (omega (arith, lists .upright, label .kept .1 .0)) (omega (arith, lists .level-inks, label .kept .1 .1 .0))
     (omega (arith, lists .upright-inks, label .kept .1 .1 .1 .0))
-    (omega (arith, room .level-edges, grid .kept .1 .1 .0))
-    (omega (arith, room .upright-edges, grid .kept .1 .1 .1 .0)) (label .ensures) (c .start-at .ensures)
+    (omega (arith, room .level-links, grid .kept .1 .1 .0))
+    (omega (arith, room .upright-links, grid .kept .1 .1 .1 .0)) (label .ensures) (c .start-at .ensures)
 
 pub labels-spec : {M : Type 1} → statement M
 labels-spec =
