@@ -22,9 +22,10 @@ unfolding noPath
 no-path none k e n = sym (eq-eqb k 0 n)
 no-path (some cs) k e n = sym (ne-eqb k 0 (λ z. true≢false (sym (ap noPath (e z)))))
 
-module _ {t : List ℕ} {n d w h : ℕ} {S T : Point} {z : List ℕ} {c : ℕ} (Z : Zoned (free (layoutOf w h d n t)) w h z c) where
-  pub boxes-posed : Posed t n d w h S T → boxes.Posed z c w h S T
-  boxes-posed P =
+module _ {t : List ℕ} {n d w h : ℕ} {S T : Point} (P : Posed t n d w h S T) {z : List ℕ} {c : ℕ}
+    (Z : Zoned (free (layoutOf w h d n t)) w h z c) where
+  pub boxes-posed : boxes.Posed z c w h S T
+  boxes-posed =
       record {
         boxes = Z .boxes;
         s-free = ap (λ (f : ℕ → ℕ → Bool). f (S .x) (S .y)) (Z .same) ∙ P .s-free;
