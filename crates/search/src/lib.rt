@@ -335,21 +335,7 @@ fn labels(
         (now (cols .exit)) (now (rows .exit)) (now (kl .exit)) (now (ku .exit))
         (now (level .exit)) (now (upright .exit)) (now (il .exit)) (now (iu .exit)) r ⌝ }
 {
-    let size = build(
-        cols,
-        rows,
-        kl,
-        ku,
-        mark,
-        boxes,
-        n,
-        w,
-        h,
-        sx,
-        sy,
-        tx,
-        ty,
-    );
+    let size = build(cols, rows, kl, ku, mark, boxes, n, w, h, sx, sy, tx, ty);
     let nc = size.columns;
     let nr = size.rows;
     let s = label(
@@ -494,6 +480,17 @@ pub fn first_path(
     if out.len() / 2 < k {
         return k;
     }
-    walk(out, &level, &upright, &il, &iu, &kl, &ku, &cols, &rows, start);
+    walk(
+        out,
+        &level,
+        &upright,
+        &il,
+        &iu,
+        &kl,
+        &ku,
+        &cols,
+        &rows,
+        start,
+    );
     k
 }

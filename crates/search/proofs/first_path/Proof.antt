@@ -8,6 +8,19 @@ use Rattle.search.proofs.Finding.{found-none, found-many, walk-ready, f
 use Rattle.search.proofs.first_path.Statement.{statement}
 use Rattle.search.proofs.first_path.Tie as tie
 
+-- back to the start, to the labels, to where the corners fit, and to the walk
+abbrev atStart : tie.After-mark → tie.Start
+atStart c = c .before .before .before .before .before .before .before .before .before .before .before .before .before
+
+abbrev atLabels : tie.After-mark2 → tie.After-labels
+atLabels c = c .before .before .before .before .before .before .before .before .before .before .before
+
+abbrev atFits : tie.After-rows3 → tie.Else2
+atFits c = c .before .before .before .before .before .before .before .before .before
+
+abbrev beforeWalk : tie.After-slice-known2 → tie.After-rows3
+beforeWalk c = c .before .before .before
+
 slice-aggregate-labels : tie.Need-slice-aggregate-labels
 slice-aggregate-labels c = search needs
 
@@ -43,7 +56,7 @@ slice-aggregate-labels-11 c = search needs
 
 labels-requires : tie.Need-labels-requires
 labels-requires c κs = (
-  c .before .before .before .before .before .before .before .before .before .before .before .before .before .pre,
+  atStart c .pre,
   (
     record {
       column-lines = omega arith;
@@ -66,10 +79,10 @@ labels-requires c κs = (
 )
 
 returns : tie.Need-returns
-returns c = found-none (c .before .before .before .before .before .before .before .before .before .before .before .before .labels .ensures) _ (c .if1 .taken)
+returns c = found-none (atLabels (c .before) .labels .ensures) _ (c .if1 .taken)
 
 returns-2 : tie.Need-returns-2
-returns-2 c = found-many (c .before .before .before .before .before .before .before .before .before .before .before .before .before .labels .ensures) _ (omega (arith, c .if2 .taken))
+returns-2 c = found-many (atLabels (c .before .before) .labels .ensures) _ (omega (arith, c .if2 .taken))
 
 slice-aggregate-walk : tie.Need-slice-aggregate-walk
 slice-aggregate-walk c = search needs
@@ -96,52 +109,25 @@ slice-aggregate-walk-8 : tie.Need-slice-aggregate-walk-8
 slice-aggregate-walk-8 c = search needs
 
 walk-requires : tie.Need-walk-requires
-walk-requires c κs =
-    let at-fits = c .before .before .before .before .before .before .before .before .before in
-    let at-some = at-fits .before in
-    let at-labels = at-some .before .before .before .before .before .before .before .before .before .before .before .before in (
-      walk-ready (at-labels .labels .ensures) (at-some .if1 .left),
-      omega (arith, at-fits .if2 .left),
-    )
+walk-requires c κs = (
+  walk-ready (atLabels (atFits c .before .before) .labels .ensures) (atFits c .before .if1 .left),
+  omega (arith, atFits c .if2 .left),
+)
 
 same-length : tie.Need-same-length
 same-length c = search needs
 
 returns-3 : tie.Need-returns-3
 returns-3 c =
-    let at-walk = c .before .before in
-    let at-fits = at-walk .before .before .before .before .before .before .before .before .before .before in
-    let at-some = at-fits .before in
-    let at-labels = at-some .before .before .before .before .before .before .before .before .before .before .before .before in
-    found-some (at-labels .labels .ensures) _ _ (at-some .if1 .left) (omega (arith, at-fits .if2 .left))
-    (at-walk .walk .ensures)
+    let at-fits = atFits (beforeWalk c) in
+    found-some (atLabels (at-fits .before .before) .labels .ensures) _ _ (at-fits .before .if1 .left)
+    (omega (arith, at-fits .if2 .left)) (c .before .before .walk .ensures)
 
 pub first-path-spec : {M : Type 1} → statement M
 first-path-spec =
-    tie.close
-    (tie.spec
-    slice-aggregate-labels
-    slice-aggregate-labels-2
-    slice-aggregate-labels-3
-    slice-aggregate-labels-4
-    slice-aggregate-labels-5
-    slice-aggregate-labels-6
-    slice-aggregate-labels-7
-    slice-aggregate-labels-8
-    slice-aggregate-labels-9
-    slice-aggregate-labels-10
-    slice-aggregate-labels-11
-    labels-requires
-    returns
-    returns-2
-    slice-aggregate-walk
-    slice-aggregate-walk-2
-    slice-aggregate-walk-3
-    slice-aggregate-walk-4
-    slice-aggregate-walk-5
-    slice-aggregate-walk-6
-    slice-aggregate-walk-7
-    slice-aggregate-walk-8
-    walk-requires
-    same-length
-    returns-3)
+    tie.close (tie.spec slice-aggregate-labels slice-aggregate-labels-2 slice-aggregate-labels-3
+    slice-aggregate-labels-4 slice-aggregate-labels-5 slice-aggregate-labels-6 slice-aggregate-labels-7
+    slice-aggregate-labels-8 slice-aggregate-labels-9 slice-aggregate-labels-10 slice-aggregate-labels-11
+    labels-requires returns returns-2 slice-aggregate-walk slice-aggregate-walk-2 slice-aggregate-walk-3
+    slice-aggregate-walk-4 slice-aggregate-walk-5 slice-aggregate-walk-6 slice-aggregate-walk-7 slice-aggregate-walk-8
+    walk-requires same-length returns-3)

@@ -58,21 +58,6 @@ returns c =
 
 pub seed-spec : {M : Type 1} → statement M
 seed-spec =
-    tie.close
-    (tie.spec
-    mul-labels
-    add-labels
-    mul-labels-2
-    slice-write-labels
-    mul-inks
-    add-inks
-    mul-inks-2
-    slice-write-inks
-    cast-queue
-    slice-write-queue
-    cast-queue-2
-    slice-write-queue-2
-    same-length
-    same-length-2
-    same-length-3
-    returns)
+    tie.close (tie.spec mul-labels add-labels mul-labels-2 slice-write-labels mul-inks add-inks mul-inks-2
+    slice-write-inks cast-queue slice-write-queue cast-queue-2 slice-write-queue-2 same-length same-length-2
+    same-length-3 returns)
