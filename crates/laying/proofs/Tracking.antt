@@ -24,13 +24,12 @@ use Rattle.ledger_laws.proofs.Kept.{of-ok, laid-ok}
 use Rattle.ledger_laws.proofs.Lay.{lay-from-9}
 use Rattle.ledger_laws.proofs.Steps.{long-lists}
 use Rattle.ledger_laws.proofs.Sound.{Sound, of-sound, length-read}
-use Rattle.zones.specs.Table.{Table}
+use Rattle.zones.proofs.Tables.{table-of}
+use Rattle.strips.specs.Table.{Table}
 use Rattle.booking.specs.Rows.{rowsOf}
 use Rattle.booking.specs.Booked.{Stored, Unchanged}
-use Rattle.grid.proofs.Board.{boxes-of}
-use Rattle.search.specs.Grid.{Posed}
-use Rattle.booking.specs.Legs.{Corners, Legs}
-use Rattle.tracks.specs.Found.{Found}
+use Rattle.tracks.specs.Legs.{Corners, Legs}
+use Rattle.tracks.specs.Found.{Posed, Found}
 use Rattle.foil.specs.Contract.{answerOf, StepDone, refusedBy}
 use Rattle.foil.specs.declared.Answer.the-variants.{Laid}
 use Rattle.foil.specs.declared.Done.{Done}
@@ -67,12 +66,10 @@ module _ (b : Board) (t s ks : List ℕ) (net : ℕ) (S T : Point) (y : ReadyToL
   unfolding held layoutOf
   posed =
       record {
-        table = omega (arith, lists-long .0, limits .few);
-        few = limits .few;
-        clearance = limits .small;
-        wide = limits .wide;
-        high = limits .high;
-        boxes = boxes-of (b .width) (b .height) (b .clearance) (b .entries) t (of-ok l (facts .kept) .entries);
+        table =
+            table-of t (b .entries) (b .clearance) (b .width) (b .height) (limits .few)
+            (omega (arith, lists-long .0, limits .few)) (limits .small) (limits .wide) (limits .high)
+            (of-ok l (facts .kept) .entries);
         s-free = y .may .start-free;
         t-free = y .may .end-free;
       }

@@ -11,30 +11,29 @@ use lib.Seq.{getD-set-same, getD-set-other}
 use Rattle.reach.specs.Reach.{Reach, Within}
 use Rattle.grid.specs.Size.{stride, area}
 use Rattle.grid.specs.Lines.{Rising, Lines}
-use Rattle.grid.specs.Edges.{Filled}
 use Rattle.labels.specs.Line.{along}
 use Rattle.labels.specs.Ink.{Lean}
 use Rattle.labels.specs.Pass.{Below, Queued}
 use Rattle.labels.specs.Rounds.{Begun}
 use Rattle.labels.proofs.Runs.{zeros-set, zeros-le}
 use Rattle.labels.proofs.Meaning.{Says, Labelled, Measures, Measured}
-use Rattle.search.specs.Seeds.{Seeded}
+use Rattle.search.specs.Seeds.{Blank, Seeded}
 
 -- what `seed` leaves
-pub seeded : (lab₀ lab inks queue : List ℕ) (line k : ℕ) → line < stride → k < stride → area ≡ length lab
-    → area ≤ length inks → 2 * area ≤ length queue → Filled 0 area 0 lab₀ lab
+pub seeded : (lab inks queue : List ℕ) (line k : ℕ) → line < stride → k < stride → area ≡ length lab
+    → area ≤ length inks → 2 * area ≤ length queue → Blank lab
     → Seeded (set lab (line * stride + k) 1) (set inks (line * stride + k) 0) (set (set queue 0 line) 1 k) line k
-seeded lab₀ lab inks queue line k ll lk l li lq F =
+seeded lab inks queue line k ll lk l li lq none =
     record {
       one = getD-set-same lab (line * stride + k) 1 0 (omega arith);
       ink = getD-set-same inks (line * stride + k) 0 0 (omega arith);
-      rest = λ p lp n. getD-set-other lab (line * stride + k) p 1 0 n ∙ F .inside p lp (omega arith);
+      rest = λ p lp n. getD-set-other lab (line * stride + k) p 1 0 n ∙ none p lp;
       queue-line =
           getD-set-other (set queue 0 line) 1 0 k 0 (omega arith) ∙ getD-set-same queue 0 line 0 (omega arith);
       queue-crossing = getD-set-same (set queue 0 line) 1 k 0 (omega (arith, length-set queue 0 line));
       room =
           let z = zeros-le lab in
-          let i = F .inside (line * stride + k) (omega arith) (omega arith) in
+          let i = none (line * stride + k) (omega arith) in
           let w = zeros-set lab (line * stride + k) 0 (omega arith) i in
           omega arith;
     }

@@ -12,6 +12,10 @@ use Rattle.labels.specs.Pass.{zeros}
 abbrev pub Has : List ℕ → ℕ → ℕ → Type 0
 Has lines n x = (k : ℕ) × (k < n) × (getD lines k 0 ≡ x)
 
+-- no crossing has a label
+abbrev pub Blank : List ℕ → Type 0
+Blank lab = (p : ℕ) → p < area → getD lab p 0 ≡ 0
+
 -- r is the place of x among the first n lines
 pub record Placed (lines : List ℕ) (n x r : ℕ) : Type 0 where
   pub below : r < n
