@@ -1,9 +1,9 @@
 -- The boxes of the table, and the path between them.
 use native.Mathlib.Omega.{arith}
 use borrow.Author.Needs.{needs}
-use Rattle.tracks.proofs.Finding.{boxes-posed, layout-found}
-use Rattle.tracks.proofs.find.Statement.{statement}
-use Rattle.tracks.proofs.find.Tie as tie
+use Rattle.laying.proofs.Finding.{boxes-posed, layout-found}
+use Rattle.laying.proofs.path_between.Statement.{statement}
+use Rattle.laying.proofs.path_between.Tie as tie
 
 -- from the zones back to the function's start, from the search to the zones, and from the end to the search
 abbrev atStart : tie.After-boxes → tie.Start
@@ -36,8 +36,8 @@ returns c =
     let pre = atStart (zones .before) .pre in
     layout-found (pre .0) (zones .zones .ensures) (pre .1) (atSearch c .first-path .ensures)
 
-pub find-spec : {M : Type 1} → statement M
-find-spec =
+pub path-between-spec : {M : Type 1} → statement M
+path-between-spec =
     tie.close
     (tie.spec
     slice-aggregate-zones

@@ -15,7 +15,7 @@ use Rattle.foil_spec.specs.Lent.{layoutOf}
 use Rattle.zones.specs.Boxes.{boxFree, Zoned}
 use Rattle.search.specs.Grid as boxes
 use Rattle.search.specs.Search as search
-use Rattle.tracks.specs.Found.{Posed, Found}
+use Rattle.laying.specs.Found.{Posed, Found}
 
 no-path : (o : Option (List Point)) (k : ℕ) → (k ≡ 0 → o ≡ none) → k ≡ length (Option·getD o []) → noPath o ≡ eqb k 0
 unfolding noPath
