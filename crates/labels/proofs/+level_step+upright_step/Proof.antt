@@ -24,24 +24,17 @@ abbrev μ-upright-step : Measures 9 upright-step-kinds.ps ℕ
 μ-upright-step κs a = a .1 .1 .1 .1 .1 .1 .1 .1 .1 .1 .1 .1 .1 .0
 
 abbrev level-step-at : ℕ → In 9 level-step-kinds.ps
-level-step-at t =
-    and 9 level-step-kinds.ps (is 9 level-step-kinds.ps μ-level-step t) level-step.Pre
+level-step-at t = and 9 level-step-kinds.ps (is 9 level-step-kinds.ps μ-level-step t) level-step.Pre
 
 abbrev level-step-below : ℕ → In 9 level-step-kinds.ps
-level-step-below t =
-    and 9 level-step-kinds.ps (falls 9 level-step-kinds.ps _<_ μ-level-step t) level-step.Pre
+level-step-below t = and 9 level-step-kinds.ps (falls 9 level-step-kinds.ps _<_ μ-level-step t) level-step.Pre
 
 abbrev upright-step-at : ℕ → In 9 upright-step-kinds.ps
-upright-step-at t =
-    and 9 upright-step-kinds.ps (is 9 upright-step-kinds.ps μ-upright-step t) upright-step.Pre
+upright-step-at t = and 9 upright-step-kinds.ps (is 9 upright-step-kinds.ps μ-upright-step t) upright-step.Pre
 
 abbrev upright-step-below : ℕ → In 9 upright-step-kinds.ps
 upright-step-below t =
-    and
-    9
-    upright-step-kinds.ps
-    (falls 9 upright-step-kinds.ps _<_ μ-upright-step t)
-    upright-step.Pre
+    and 9 upright-step-kinds.ps (falls 9 upright-step-kinds.ps _<_ μ-upright-step t) upright-step.Pre
 
 -- what the two steps know of the functions that they call, the other step among them, where the label is less
 abbrev level-calls : ℕ → level-lts.Claims
@@ -64,6 +57,54 @@ upright-calls t = (
   level-step.Post,
 )
 
+-- back to the start, where the test fails, next_stop, put_corner and upright_step
+abbrev levelAtStart : (t : ℕ) → level-lts.Else1 (level-calls t) (level-step-at t) level-step.Post
+    → level-lts.Start (level-calls t) (level-step-at t) level-step.Post
+levelAtStart t c = c .before .before .before .before .before .before .before .before .before .before
+
+abbrev levelInElse : (t : ℕ) → level-lts.After-shared-slice-known10 (level-calls t) (level-step-at t) level-step.Post
+    → level-lts.Else1 (level-calls t) (level-step-at t) level-step.Post
+levelInElse t c = c .before .before .before .before
+
+abbrev levelAfterNextStop : (t : ℕ)
+    → level-lts.After-upright-step-arg (level-calls t) (level-step-at t) level-step.Post
+    → level-lts.After-next-stop (level-calls t) (level-step-at t) level-step.Post
+levelAfterNextStop t c = c .before .before .before .before .before .before .before
+
+abbrev levelAfterPutCorner : (t : ℕ)
+    → level-lts.After-upright-step-arg (level-calls t) (level-step-at t) level-step.Post
+    → level-lts.After-put-corner (level-calls t) (level-step-at t) level-step.Post
+levelAfterPutCorner t c = c .before .before .before
+
+abbrev levelAfterUprightStep : (t : ℕ)
+    → level-lts.After-slice-known3 (level-calls t) (level-step-at t) level-step.Post
+    → level-lts.After-upright-step (level-calls t) (level-step-at t) level-step.Post
+levelAfterUprightStep t c = c .before .before
+
+-- back to the start, where the test fails, next_stop, put_corner and level_step
+abbrev uprightAtStart : (t : ℕ) → upright-lts.Else1 (upright-calls t) (upright-step-at t) upright-step.Post
+    → upright-lts.Start (upright-calls t) (upright-step-at t) upright-step.Post
+uprightAtStart t c = c .before .before .before .before .before .before .before .before .before .before
+
+abbrev uprightInElse : (t : ℕ) → upright-lts.After-level-step-arg (upright-calls t)
+    (upright-step-at t) upright-step.Post → upright-lts.Else1 (upright-calls t) (upright-step-at t) upright-step.Post
+uprightInElse t c = c .before .before .before .before .before .before .before .before .before
+
+abbrev uprightAfterNextStop : (t : ℕ) → upright-lts.After-shared-slice-known10 (upright-calls t)
+    (upright-step-at t) upright-step.Post
+    → upright-lts.After-next-stop (upright-calls t) (upright-step-at t) upright-step.Post
+uprightAfterNextStop t c = c .before .before
+
+abbrev uprightAfterPutCorner : (t : ℕ)
+    → upright-lts.After-level-step-arg (upright-calls t) (upright-step-at t) upright-step.Post
+    → upright-lts.After-put-corner (upright-calls t) (upright-step-at t) upright-step.Post
+uprightAfterPutCorner t c = c .before .before .before
+
+abbrev uprightAfterLevelStep : (t : ℕ)
+    → upright-lts.After-slice-known3 (upright-calls t) (upright-step-at t) upright-step.Post
+    → upright-lts.After-level-step (upright-calls t) (upright-step-at t) upright-step.Post
+uprightAfterLevelStep t c = c .before .before
+
 level-step-returns : (t : ℕ) →
     level-lts.Need-returns (level-calls t) (level-step-at t) level-step.Post
 level-step-returns t c = level-done (c .if1 .taken)
@@ -74,36 +115,33 @@ level-step-sub-next-stop t c = omega arith
 
 level-step-mul-next-stop : (t : ℕ) →
     level-lts.Need-mul-next-stop (level-calls t) (level-step-at t) level-step.Post
-level-step-mul-next-stop t c = let sized = c .before .before .before .before .before .before .before .before
-    .before .before .pre .1 .0 .sized in omega (arith, sized .row-lines .few)
+level-step-mul-next-stop t c = let sized = levelAtStart t c .pre .1 .0 .sized in omega (arith, sized .row-lines .few)
 
 level-step-add-next-stop : (t : ℕ) →
     level-lts.Need-add-next-stop (level-calls t) (level-step-at t) level-step.Post
 level-step-add-next-stop t c =
-    let sized = c .before .before .before .before .before .before .before .before .before .before .pre .1 .0 .sized in
+    let sized = levelAtStart t c .pre .1 .0 .sized in
     omega (arith, sized .row-lines .few, sized .column-lines .few)
 
 level-step-mul-next-stop-2 : (t : ℕ) →
     level-lts.Need-mul-next-stop-2 (level-calls t) (level-step-at t) level-step.Post
 level-step-mul-next-stop-2 t c =
-    let sized = c .before .before .before .before .before .before .before .before .before .before .pre .1 .0 .sized in
+    let sized = levelAtStart t c .pre .1 .0 .sized in
     omega (arith, sized .row-lines .few, sized .column-lines .few)
 
 level-step-shared-slice-read-next-stop :
     (t : ℕ) → level-lts.Need-shared-slice-read-next-stop (level-calls t) (level-step-at t) level-step.Post
 level-step-shared-slice-read-next-stop t c =
-    let sized = c .before .before .before .before .before .before .before .before .before .before .before
-    .pre .1 .0 .sized in
+    let sized = levelAtStart t (c .before) .pre .1 .0 .sized in
     omega (arith, sized .row-lines .few, sized .column-lines .few, sized .level-inks)
 
 level-step-next-stop-requires : (t : ℕ) →
     level-lts.Need-next-stop-requires (level-calls t) (level-step-at t) level-step.Post
 level-step-next-stop-requires t c κs =
-    let at-if1 = c .before in
-    let at-start = at-if1 .before .before .before .before .before .before .before .before .before .before in
+    let at-start = levelAtStart t (c .before) in
     let pre = at-start .pre .1 in
     let sized = pre .0 .sized in
-    let above = at-if1 .if1 .left in
+    let above = c .before .if1 .left in
     let low = pre .0 .level-low .le (at-start .args .j) (pre .1 .1) (at-start .args .i) (pre .1 .0) in (
       (
         omega (arith, pre .1 .1, sized .row-lines .few),
@@ -112,7 +150,8 @@ level-step-next-stop-requires t c κs =
         omega (arith, low, pre .1 .3),
         sized .level-edges,
       ),
-      (sized .upright, sized .upright-inks, lean-low _ _ (pre .0 .upright-lean) (pre .1 .1) (omega (arith, pre .1 .2))),
+      (sized .upright, sized .upright-inks,
+          lean-low _ _ (pre .0 .upright-lean) (pre .1 .1) (omega (arith, pre .1 .2))),
     )
 
 level-step-mul-put-corner : (t : ℕ) →
@@ -123,11 +162,9 @@ level-step-shared-slice-read-put-corner :
     (t : ℕ) → level-lts.Need-shared-slice-read-put-corner (level-calls t) (level-step-at t) level-step.Post
 level-step-shared-slice-read-put-corner t c =
     let at-stop = c .before .before in
-    let at-if1 = at-stop .before .before in
-    let at-start = at-if1 .before .before .before .before .before .before .before .before .before .before in
-    let pre = at-start .pre .1 in
+    let pre = levelAtStart t (levelInElse t c) .pre .1 in
     let stop = at-stop .next-stop .ensures in
-    let above = at-if1 .if1 .left in
+    let above = levelInElse t c .if1 .left in
     let next = grounded-next _ _ _ _ (pre .0 .level) (pre .1 .1) (pre .1 .0) (pre .1 .2) above (pre .1 .3) stop in
     omega (arith, pre .0 .sized .column-lines .fit)
 
@@ -138,9 +175,7 @@ level-step-mul-put-corner-2 t c = omega arith
 level-step-shared-slice-read-put-corner-2 :
     (t : ℕ) → level-lts.Need-shared-slice-read-put-corner-2 (level-calls t) (level-step-at t) level-step.Post
 level-step-shared-slice-read-put-corner-2 t c =
-    let at-stop = c .before .before .before in
-    let at-start = at-stop .before .before .before .before .before .before .before .before .before .before
-    .before .before in
+    let at-start = levelAtStart t (levelInElse t (c .before)) in
     omega (arith, at-start .pre .1 .1, at-start .pre .1 .0 .sized .row-lines .fit)
 
 level-step-put-corner-requires : (t : ℕ) →
@@ -158,41 +193,38 @@ level-step-add-upright-step t c = omega arith
 level-step-upright-step-requires : (t : ℕ) →
     level-lts.Need-upright-step-requires (level-calls t) (level-step-at t) level-step.Post
 level-step-upright-step-requires t c κs =
-    let at-stop = c .before .before .before .before .before .before .before in
-    let at-if1 = at-stop .before .before in
-    let at-start = at-if1 .before .before .before .before .before .before .before .before .before .before in
+    let at-stop = levelAfterNextStop t c in
+    let at-start = levelAtStart t (at-stop .before .before) in
     let pre = at-start .pre .1 in
     let stop = at-stop .next-stop .ensures in
-    let above = at-if1 .if1 .left in
+    let above = at-stop .before .before .if1 .left in
     let next = grounded-next _ _ _ _ (pre .0 .level) (pre .1 .1) (pre .1 .0) (pre .1 .2) above (pre .1 .3) stop in
-    let at-put = c .before .before .before in (
+    (
       omega (arith, at-start .pre .0),
       (
         pre .0,
-        (next .0, pre .1 .1, omega arith, next .1, omega (arith, pre .1 .4, at-put .put-corner .kept .0)),
+        (next .0, pre .1 .1, omega arith, next .1,
+            omega (arith, pre .1 .4, levelAfterPutCorner t c .put-corner .kept .0)),
       ),
     )
 
 level-step-same-length : (t : ℕ) →
     level-lts.Need-same-length (level-calls t) (level-step-at t) level-step.Post
 level-step-same-length t c =
-    let at-step = c .before .before in
-    let at-put = at-step .before .before .before .before in
-    at-step .upright-step .kept .0 ∙ at-put .put-corner .kept .0
+    levelAfterUprightStep t c .upright-step .kept .0
+    ∙ levelAfterPutCorner t (levelAfterUprightStep t c .before) .put-corner .kept .0
 
 level-step-returns-2 : (t : ℕ) →
     level-lts.Need-returns-2 (level-calls t) (level-step-at t) level-step.Post
 level-step-returns-2 t c =
-    let at-stop = c .before .before .before .before .before .before .before .before .before .before in
-    let at-if1 = at-stop .before .before in
-    let at-start = at-if1 .before .before .before .before .before .before .before .before .before .before in
-    let pre = at-start .pre .1 in
+    let at-stop = levelAfterNextStop t (levelAfterUprightStep t c .before) in
+    let pre = levelAtStart t (at-stop .before .before) .pre .1 in
     let stop = at-stop .next-stop .ensures in
-    let above = at-if1 .if1 .left in
+    let above = at-stop .before .before .if1 .left in
     let next = grounded-next _ _ _ _ (pre .0 .level) (pre .1 .1) (pre .1 .0) (pre .1 .2) above (pre .1 .3) stop in
-    let at-step = c .before .before in
-    let at-put = at-step .before .before .before .before in
-    level-more (pre .1 .2) stop (next .0) (at-put .put-corner .ensures) (at-step .upright-step .ensures)
+    level-more (pre .1 .2) stop (next .0)
+    (levelAfterPutCorner t (levelAfterUprightStep t c .before) .put-corner .ensures)
+    (levelAfterUprightStep t c .upright-step .ensures)
 
 upright-step-returns : (t : ℕ) →
     upright-lts.Need-returns (upright-calls t) (upright-step-at t) upright-step.Post
@@ -204,36 +236,34 @@ upright-step-sub-next-stop t c = omega arith
 
 upright-step-mul-next-stop : (t : ℕ) →
     upright-lts.Need-mul-next-stop (upright-calls t) (upright-step-at t) upright-step.Post
-upright-step-mul-next-stop t c = let sized = c .before .before .before .before .before .before .before .before
-    .before .before .pre .1 .0 .sized in omega (arith, sized .column-lines .few)
+upright-step-mul-next-stop t c = let sized = uprightAtStart t c .pre .1 .0 .sized in
+    omega (arith, sized .column-lines .few)
 
 upright-step-add-next-stop : (t : ℕ) →
     upright-lts.Need-add-next-stop (upright-calls t) (upright-step-at t) upright-step.Post
 upright-step-add-next-stop t c =
-    let sized = c .before .before .before .before .before .before .before .before .before .before .pre .1 .0 .sized in
+    let sized = uprightAtStart t c .pre .1 .0 .sized in
     omega (arith, sized .column-lines .few, sized .row-lines .few)
 
 upright-step-mul-next-stop-2 : (t : ℕ) →
     upright-lts.Need-mul-next-stop-2 (upright-calls t) (upright-step-at t) upright-step.Post
 upright-step-mul-next-stop-2 t c =
-    let sized = c .before .before .before .before .before .before .before .before .before .before .pre .1 .0 .sized in
+    let sized = uprightAtStart t c .pre .1 .0 .sized in
     omega (arith, sized .column-lines .few, sized .row-lines .few)
 
 upright-step-shared-slice-read-next-stop :
     (t : ℕ) → upright-lts.Need-shared-slice-read-next-stop (upright-calls t) (upright-step-at t) upright-step.Post
 upright-step-shared-slice-read-next-stop t c =
-    let sized = c .before .before .before .before .before .before .before .before .before .before .before
-    .pre .1 .0 .sized in
+    let sized = uprightAtStart t (c .before) .pre .1 .0 .sized in
     omega (arith, sized .column-lines .few, sized .row-lines .few, sized .upright-inks)
 
 upright-step-next-stop-requires : (t : ℕ) →
     upright-lts.Need-next-stop-requires (upright-calls t) (upright-step-at t) upright-step.Post
 upright-step-next-stop-requires t c κs =
-    let at-if1 = c .before in
-    let at-start = at-if1 .before .before .before .before .before .before .before .before .before .before in
+    let at-start = uprightAtStart t (c .before) in
     let pre = at-start .pre .1 in
     let sized = pre .0 .sized in
-    let above = at-if1 .if1 .left in
+    let above = c .before .if1 .left in
     let low = pre .0 .upright-low .le (at-start .args .i) (pre .1 .0) (at-start .args .j) (pre .1 .1) in (
       (
         omega (arith, pre .1 .0, sized .column-lines .few),
@@ -252,9 +282,7 @@ upright-step-mul-put-corner t c = omega arith
 upright-step-shared-slice-read-put-corner :
     (t : ℕ) → upright-lts.Need-shared-slice-read-put-corner (upright-calls t) (upright-step-at t) upright-step.Post
 upright-step-shared-slice-read-put-corner t c =
-    let at-stop = c .before .before in
-    let at-start = at-stop .before .before .before .before .before .before .before .before .before .before
-    .before .before in
+    let at-start = uprightAtStart t (uprightAfterNextStop t c .before .before) in
     omega (arith, at-start .pre .1 .1, at-start .pre .1 .0 .sized .column-lines .fit)
 
 upright-step-mul-put-corner-2 : (t : ℕ) →
@@ -264,12 +292,10 @@ upright-step-mul-put-corner-2 t c = omega arith
 upright-step-shared-slice-read-put-corner-2 :
     (t : ℕ) → upright-lts.Need-shared-slice-read-put-corner-2 (upright-calls t) (upright-step-at t) upright-step.Post
 upright-step-shared-slice-read-put-corner-2 t c =
-    let at-stop = c .before .before .before in
-    let at-if1 = at-stop .before .before in
-    let at-start = at-if1 .before .before .before .before .before .before .before .before .before .before in
-    let pre = at-start .pre .1 in
+    let at-stop = uprightAfterNextStop t (c .before) in
+    let pre = uprightAtStart t (at-stop .before .before) .pre .1 in
     let stop = at-stop .next-stop .ensures in
-    let above = at-if1 .if1 .left in
+    let above = at-stop .before .before .if1 .left in
     let next = grounded-next _ _ _ _ (pre .0 .upright) (pre .1 .0) (pre .1 .1) (pre .1 .2) above (pre .1 .3) stop in
     omega (arith, pre .0 .sized .row-lines .fit)
 
@@ -288,80 +314,51 @@ upright-step-add-level-step t c = omega arith
 upright-step-level-step-requires : (t : ℕ) →
     upright-lts.Need-level-step-requires (upright-calls t) (upright-step-at t) upright-step.Post
 upright-step-level-step-requires t c κs =
-    let at-stop = c .before .before .before .before .before .before .before in
-    let at-if1 = at-stop .before .before in
-    let at-start = at-if1 .before .before .before .before .before .before .before .before .before .before in
+    let at-stop = uprightAfterNextStop t (uprightAfterPutCorner t c .before .before) in
+    let at-start = uprightAtStart t (uprightInElse t c) in
     let pre = at-start .pre .1 in
     let stop = at-stop .next-stop .ensures in
-    let above = at-if1 .if1 .left in
+    let above = uprightInElse t c .if1 .left in
     let next = grounded-next _ _ _ _ (pre .0 .upright) (pre .1 .0) (pre .1 .1) (pre .1 .2) above (pre .1 .3) stop in
-    let at-put = c .before .before .before in (
+    (
       omega (arith, at-start .pre .0),
       (
         pre .0,
-        (pre .1 .0, next .0, omega arith, next .1, omega (arith, pre .1 .4, at-put .put-corner .kept .0)),
+        (pre .1 .0, next .0, omega arith, next .1,
+            omega (arith, pre .1 .4, uprightAfterPutCorner t c .put-corner .kept .0)),
       ),
     )
 
 upright-step-same-length : (t : ℕ) →
     upright-lts.Need-same-length (upright-calls t) (upright-step-at t) upright-step.Post
 upright-step-same-length t c =
-    let at-step = c .before .before in
-    let at-put = at-step .before .before .before .before in
-    at-step .level-step .kept .0 ∙ at-put .put-corner .kept .0
+    uprightAfterLevelStep t c .level-step .kept .0
+    ∙ uprightAfterPutCorner t (uprightAfterLevelStep t c .before) .put-corner .kept .0
 
 upright-step-returns-2 : (t : ℕ) →
     upright-lts.Need-returns-2 (upright-calls t) (upright-step-at t) upright-step.Post
 upright-step-returns-2 t c =
-    let at-stop = c .before .before .before .before .before .before .before .before .before .before in
-    let at-if1 = at-stop .before .before in
-    let at-start = at-if1 .before .before .before .before .before .before .before .before .before .before in
-    let pre = at-start .pre .1 in
+    let at-stop = uprightAfterNextStop t
+    (uprightAfterPutCorner t (uprightAfterLevelStep t c .before) .before .before) in
+    let pre = uprightAtStart t (at-stop .before .before) .pre .1 in
     let stop = at-stop .next-stop .ensures in
-    let above = at-if1 .if1 .left in
+    let above = at-stop .before .before .if1 .left in
     let next = grounded-next _ _ _ _ (pre .0 .upright) (pre .1 .0) (pre .1 .1) (pre .1 .2) above (pre .1 .3) stop in
-    let at-step = c .before .before in
-    let at-put = at-step .before .before .before .before in
-    upright-more (pre .1 .2) stop (next .0) (at-put .put-corner .ensures) (at-step .level-step .ensures)
+    upright-more (pre .1 .2) stop (next .0)
+    (uprightAfterPutCorner t (uprightAfterLevelStep t c .before) .put-corner .ensures)
+    (uprightAfterLevelStep t c .level-step .ensures)
 
 pub +level-step+upright-step-spec : {M : Type 1} → statement M
 +level-step+upright-step-spec = close μ-level-step μ-upright-step (λ t. level-lts.spec (level-calls t)
-    (level-step-at t)
-    level-step.Post
-    (level-step-returns t)
-    (level-step-sub-next-stop t)
-    (level-step-mul-next-stop t)
-    (level-step-add-next-stop t)
-    (level-step-mul-next-stop-2 t)
-    (level-step-shared-slice-read-next-stop t)
-    (level-step-next-stop-requires t)
-    (level-step-mul-put-corner t)
-    (level-step-shared-slice-read-put-corner t)
-    (level-step-mul-put-corner-2 t)
-    (level-step-shared-slice-read-put-corner-2 t)
-    (level-step-put-corner-requires t)
-    (level-step-sub-upright-step t)
-    (level-step-add-upright-step t)
-    (level-step-upright-step-requires t)
-    (level-step-same-length t)
-    (level-step-returns-2 t))
-    λ t. upright-lts.spec (upright-calls t)
-    (upright-step-at t)
-    upright-step.Post
-    (upright-step-returns t)
-    (upright-step-sub-next-stop t)
-    (upright-step-mul-next-stop t)
-    (upright-step-add-next-stop t)
-    (upright-step-mul-next-stop-2 t)
-    (upright-step-shared-slice-read-next-stop t)
-    (upright-step-next-stop-requires t)
-    (upright-step-mul-put-corner t)
-    (upright-step-shared-slice-read-put-corner t)
-    (upright-step-mul-put-corner-2 t)
-    (upright-step-shared-slice-read-put-corner-2 t)
-    (upright-step-put-corner-requires t)
-    (upright-step-sub-level-step t)
-    (upright-step-add-level-step t)
-    (upright-step-level-step-requires t)
-    (upright-step-same-length t)
-    (upright-step-returns-2 t)
+    (level-step-at t) level-step.Post (level-step-returns t) (level-step-sub-next-stop t) (level-step-mul-next-stop t)
+    (level-step-add-next-stop t) (level-step-mul-next-stop-2 t) (level-step-shared-slice-read-next-stop t)
+    (level-step-next-stop-requires t) (level-step-mul-put-corner t) (level-step-shared-slice-read-put-corner t)
+    (level-step-mul-put-corner-2 t) (level-step-shared-slice-read-put-corner-2 t) (level-step-put-corner-requires t)
+    (level-step-sub-upright-step t) (level-step-add-upright-step t) (level-step-upright-step-requires t)
+    (level-step-same-length t) (level-step-returns-2 t)) λ t. upright-lts.spec (upright-calls t) (upright-step-at t)
+    upright-step.Post (upright-step-returns t) (upright-step-sub-next-stop t) (upright-step-mul-next-stop t)
+    (upright-step-add-next-stop t) (upright-step-mul-next-stop-2 t) (upright-step-shared-slice-read-next-stop t)
+    (upright-step-next-stop-requires t) (upright-step-mul-put-corner t) (upright-step-shared-slice-read-put-corner t)
+    (upright-step-mul-put-corner-2 t) (upright-step-shared-slice-read-put-corner-2 t)
+    (upright-step-put-corner-requires t) (upright-step-sub-level-step t) (upright-step-add-level-step t)
+    (upright-step-level-step-requires t) (upright-step-same-length t) (upright-step-returns-2 t)

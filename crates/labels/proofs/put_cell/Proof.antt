@@ -71,23 +71,6 @@ returns c = Push.puts (c .pre .4)
 
 pub put-cell-spec : {M : Type 1} → statement M
 put-cell-spec =
-    tie.close
-    (tie.spec
-    add-labels
-    mul-labels
-    add-labels-2
-    mul-labels-2
-    slice-write-labels
-    cast-queue
-    mul-queue
-    mul-queue-2
-    slice-write-queue
-    cast-queue-2
-    mul-queue-3
-    add-queue
-    mul-queue-4
-    slice-write-queue-2
-    add-result
-    same-length
-    same-length-2
-    returns)
+    tie.close (tie.spec add-labels mul-labels add-labels-2 mul-labels-2 slice-write-labels cast-queue mul-queue
+    mul-queue-2 slice-write-queue cast-queue-2 mul-queue-3 add-queue mul-queue-4 slice-write-queue-2 add-result
+    same-length same-length-2 returns)

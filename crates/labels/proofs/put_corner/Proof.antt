@@ -35,14 +35,5 @@ returns c = search needs
 
 pub put-corner-spec : {M : Type 1} → statement M
 put-corner-spec =
-    tie.close
-    (tie.spec
-    mul-out
-    mul-out-2
-    slice-write-out
-    mul-out-3
-    add-out
-    mul-out-4
-    slice-write-out-2
-    same-length
+    tie.close (tie.spec mul-out mul-out-2 slice-write-out mul-out-3 add-out mul-out-4 slice-write-out-2 same-length
     returns)

@@ -7,6 +7,45 @@ use Rattle.labels.proofs.Pass.{visit-passed, blank-run}
 use Rattle.labels.proofs.visit.Statement.{statement}
 use Rattle.labels.proofs.visit.Tie as tie
 
+-- back to the start, run_start, run_end, ahead_of, behind_of, behind, ink_run, push_run, where test 2 fails,
+-- ink_blank and push_blank
+abbrev atStartFromTest1 : tie.After-slice-known6 → tie.Start
+atStartFromTest1 c = c .before .before .before .before .before .before .before .before .before .before
+
+abbrev atStart : tie.After-run-start → tie.Start
+atStart c = c .before .before .before .before .before .before .before .before .before .before .before .before
+
+abbrev afterRunEnd : tie.After-push-run-arg2 → tie.After-run-end
+afterRunEnd c = c .before .before .before .before .before .before .before .before .before .before .before .before
+    .before .before .before .before .before .before
+
+abbrev afterAheadOf : tie.After-behind-of-arg → tie.After-ahead-of
+afterAheadOf c = c .before .before .before
+
+abbrev afterBehindOf : tie.After-ink-blank-arg4 → tie.After-behind-of
+afterBehindOf c = c .before .before .before .before .before .before .before
+
+abbrev afterBehind : tie.After-ink-run-arg4 → tie.After-behind
+afterBehind c = c .before .before .before .before .before .before
+
+abbrev afterInkRun : tie.After-queue → tie.After-ink-run
+afterInkRun c = c .before .before .before .before .before .before .before .before
+
+abbrev afterPushRun : tie.After-slice-known11 → tie.After-push-run
+afterPushRun c = c .before .before .before .before
+
+abbrev inElse2 : tie.After-ink-blank-arg4 → tie.Else2
+inElse2 c = c .before .before .before .before
+
+abbrev afterInkBlank : tie.After-push-blank-arg2 → tie.After-ink-blank
+afterInkBlank c = c .before .before .before .before
+
+abbrev afterPushBlank : tie.After-slice-known14 → tie.After-push-blank
+afterPushBlank c = c .before .before .before .before
+
+abbrev beforeAheadOf : tie.After-push-blank-arg2 → tie.After-ahead-of-arg
+beforeAheadOf c = afterAheadOf (afterBehindOf (afterInkBlank c .before) .before) .before
+
 mul-if1 : tie.Need-mul-if1
 mul-if1 c = omega arith
 
@@ -21,38 +60,33 @@ slice-read-if1 c = omega arith
 
 returns : tie.Need-returns
 returns c =
-    let pre = c .before .before .before .before .before .before .before .before .before .before .before .pre in
+    let pre = atStartFromTest1 (c .before) .pre in
     visit-passed (pre .1 .1 .1 .1 .0) (c .if1 .taken)
 
 run-start-requires : tie.Need-run-start-requires
 run-start-requires c κs =
-    let pre = c .before .before .before .before .before .before .before .before .before .before .before .pre in
+    let pre = atStartFromTest1 (c .before) .pre in
     (pre .0 .0, omega (arith, pre .0 .2, pre .0 .1 .few), pre .0 .4)
 
 run-end-requires : tie.Need-run-end-requires
 run-end-requires c κs =
-    let pre = c .before .before .before .before .before .before .before .before .before .before .before .before .pre in
+    let pre = atStart c .pre in
     (pre .0 .0, pre .0 .1 .few, pre .0 .2, pre .0 .4)
 
 ahead-of-requires : tie.Need-ahead-of-requires
 ahead-of-requires c κs =
-    let at-end = c .before in
-    let at-start = at-end .before in
-    let pre = at-start .before .before .before .before .before .before .before .before .before .before .before
-    .before .pre in
-    let start = at-start .run-start .ensures in
-    let end = at-end .run-end .ensures in (
+    let pre = atStart (c .before .before) .pre in
+    let start = c .before .before .run-start .ensures in
+    let end = c .before .run-end .ensures in (
       (pre .0 .0, pre .0 .1, end .le, start .le, end .after, pre .0 .3),
       ((pre .1 .0 .0, pre .1 .0 .1, pre .1 .1 .1 .0 .1), (pre .1 .1 .0 .0, pre .1 .1 .0 .1)),
     )
 
 behind-of-requires : tie.Need-behind-of-requires
 behind-of-requires c κs =
-    let at-end = c .before .before .before .before .before in
-    let at-start = at-end .before in
-    let pre = at-start .before .before .before .before .before .before .before .before .before .before .before
-    .before .pre in
-    let start = at-start .run-start .ensures in
+    let at-end = afterAheadOf c .before .before in
+    let pre = atStart (at-end .before) .pre in
+    let start = at-end .before .run-start .ensures in
     let end = at-end .run-end .ensures in (
       (pre .0 .0, pre .0 .1, end .le, start .le, end .after, pre .0 .3),
       ((pre .1 .0 .0, pre .1 .0 .1, pre .1 .1 .1 .0 .2), (pre .1 .1 .0 .0, pre .1 .1 .0 .1)),
@@ -60,13 +94,11 @@ behind-of-requires c κs =
 
 ink-run-requires : tie.Need-ink-run-requires
 ink-run-requires c κs =
-    let at-behind = c .before .before .before .before .before .before .before in
-    let at-ahead = at-behind .before .before .before .before in
+    let at-behind = afterBehind c .before in
+    let at-ahead = afterAheadOf (at-behind .before) in
     let at-end = at-ahead .before .before in
-    let at-start = at-end .before in
-    let at-test = at-start .before in
-    let pre = at-test .before .before .before .before .before .before .before .before .before .before .before .pre in
-    let start = at-start .run-start .ensures in
+    let pre = atStart (at-end .before) .pre in
+    let start = at-end .before .run-start .ensures in
     let end = at-end .run-end .ensures in (
       (pre .0 .0, pre .0 .1, end .le, omega (arith, start .le, end .after)),
       (
@@ -80,13 +112,9 @@ ink-run-requires c κs =
 
 push-run-requires : tie.Need-push-run-requires
 push-run-requires c κs =
-    let at-end = c .before .before .before .before .before .before .before .before .before .before .before
-    .before .before .before .before .before .before .before in
-    let at-start = at-end .before in
-    let pre = at-start .before .before .before .before .before .before .before .before .before .before .before
-    .before .pre in
-    let start = at-start .run-start .ensures in
-    let end = at-end .run-end .ensures in (
+    let pre = atStart (afterRunEnd c .before) .pre in
+    let start = afterRunEnd c .before .run-start .ensures in
+    let end = afterRunEnd c .run-end .ensures in (
       pre .0 .0,
       omega (arith, end .le, pre .0 .1 .few),
       omega (arith, end .after, start .le),
@@ -111,52 +139,44 @@ same-length-5 c = search needs
 
 returns-2 : tie.Need-returns-2
 returns-2 c =
-    let at-push = c .before .before .before .before in
-    let at-inks = at-push .before .before .before .before .before in
-    let at-end = at-inks .before .before .before .before .before .before .before .before .before .before .before
-    .before .before .before in
-    Visit.ran _ _ (at-end .before .run-start .ensures) (at-end .run-end .ensures) (at-inks .ink-run .ensures)
-    (at-push .push-run .ensures)
+    let at-end = afterRunEnd (afterPushRun c .before) in
+    Visit.ran _ _ (at-end .before .run-start .ensures) (at-end .run-end .ensures)
+    (afterInkRun (c .before) .ink-run .ensures) (afterPushRun c .push-run .ensures)
 
 ink-blank-requires : tie.Need-ink-blank-requires
 ink-blank-requires c κs =
-    let at-behind = c .before .before .before .before .before .before .before in
-    let at-ahead = at-behind .before .before .before .before in
+    let at-ahead = afterAheadOf (afterBehindOf c .before) in
     let at-end = at-ahead .before .before in
     let at-start = at-end .before in
-    let at-test = at-start .before in
-    let pre = at-test .before .before .before .before .before .before .before .before .before .before .before .pre in
+    let pre = atStart at-start .pre in
     let start = at-start .run-start .ensures in
     let end = at-end .run-end .ensures in (
       (pre .0 .0, pre .0 .1, end .le, omega (arith, start .le, end .after)),
       (
         (
           omega (arith, at-ahead .ahead-of .kept .0, pre .1 .1 .1 .0 .1),
-          omega (arith, at-behind .behind-of .kept .0, pre .1 .1 .1 .0 .2),
+          omega (arith, afterBehindOf c .behind-of .kept .0, pre .1 .1 .1 .0 .2),
         ),
         (
           (
             pre .1 .0 .2,
             blank-run (omega (
               arith,
-              c .before .before .before
-                  .before .if2 .left,
+              inElse2 c .if2 .left,
               pre .1 .1 .1 .1 .0,
-            )) (omega (arith, at-test .if1 .left, pre .1 .1 .1 .1 .0)) (pre .0 .2)
+            )) (omega (arith, at-start .before .if1 .left, pre .1 .1 .1 .1 .0)) (pre .0 .2)
                 (pre .1 .1 .1 .1 .1) start end,
           ),
-          (at-ahead .ahead-of .ensures, at-behind .behind-of .ensures),
+          (at-ahead .ahead-of .ensures, afterBehindOf c .behind-of .ensures),
         ),
       ),
     )
 
 push-blank-requires : tie.Need-push-blank-requires
 push-blank-requires c κs =
-    let at-low = c .before .before .before .before .before .before .before .before .before in
-    let at-end = at-low .before .before .before .before .before .before .before .before .before in
+    let at-end = beforeAheadOf c .before in
     let at-start = at-end .before in
-    let at-test = at-start .before in
-    let pre = at-test .before .before .before .before .before .before .before .before .before .before .before .pre in
+    let pre = atStart at-start .pre in
     let start = at-start .run-start .ensures in
     let end = at-end .run-end .ensures in (
       pre .0 .0,
@@ -164,8 +184,8 @@ push-blank-requires c κs =
       omega (arith, end .after, start .le),
       pre .0 .3,
       pre .1 .1 .1 .0 .0,
-      blank-run (omega (arith, at-low .if2 .left, pre .1 .1 .1 .1 .0))
-          (omega (arith, at-test .if1 .left, pre .1 .1 .1 .1 .0)) (pre .0 .2)
+      blank-run (omega (arith, inElse2 (afterInkBlank c .before) .if2 .left, pre .1 .1 .1 .1 .0))
+          (omega (arith, at-start .before .if1 .left, pre .1 .1 .1 .1 .0)) (pre .0 .2)
           (pre .1 .1 .1 .1 .1) start end,
     )
 
@@ -186,39 +206,13 @@ same-length-10 c = search needs
 
 returns-3 : tie.Need-returns-3
 returns-3 c =
-    let at-push = c .before .before .before .before in
-    let at-inks = at-push .before .before .before .before .before in
-    let at-end = at-inks .before .before .before .before .before .before .before .before .before .before .before
-    .before .before .before in
-    Visit.ran _ _ (at-end .before .run-start .ensures) (at-end .run-end .ensures) (at-inks .ink-blank .ensures)
-    (at-push .push-blank .ensures)
+    let at-end = beforeAheadOf (afterPushBlank c .before) .before in
+    Visit.ran _ _ (at-end .before .run-start .ensures) (at-end .run-end .ensures)
+    (afterInkBlank (afterPushBlank c .before) .ink-blank .ensures) (afterPushBlank c .push-blank .ensures)
 
 pub visit-spec : {M : Type 1} → statement M
 visit-spec =
-    tie.close
-    (tie.spec
-    mul-if1
-    add-if1
-    mul-if1-2
-    slice-read-if1
-    returns
-    run-start-requires
-    run-end-requires
-    ahead-of-requires
-    behind-of-requires
-    ink-run-requires
-    push-run-requires
-    same-length
-    same-length-2
-    same-length-3
-    same-length-4
-    same-length-5
-    returns-2
-    ink-blank-requires
-    push-blank-requires
-    same-length-6
-    same-length-7
-    same-length-8
-    same-length-9
-    same-length-10
-    returns-3)
+    tie.close (tie.spec mul-if1 add-if1 mul-if1-2 slice-read-if1 returns run-start-requires run-end-requires
+    ahead-of-requires behind-of-requires ink-run-requires push-run-requires same-length same-length-2 same-length-3
+    same-length-4 same-length-5 returns-2 ink-blank-requires push-blank-requires same-length-6 same-length-7
+    same-length-8 same-length-9 same-length-10 returns-3)

@@ -7,6 +7,10 @@ use Rattle.labels.proofs.Inks.{carried-stop}
 use Rattle.labels.proofs.run.carry.Statement.{statement}
 use Rattle.labels.proofs.run.carry.Tie as tie
 
+-- back to the start
+abbrev atStart : tie.Else1 → tie.Start
+atStart c = c .before .before .before .before
+
 mul-if1 : tie.Need-mul-if1
 mul-if1 c = omega arith
 
@@ -36,9 +40,8 @@ shared-slice-read-lesser c = omega arith
 
 add-lesser-2 : tie.Need-add-lesser-2
 add-lesser-2 c =
-    let at-stop = c .before in
-    let pre = at-stop .before .before .before .before .pre in
-    omega (arith, pre .1 .1 (at-stop .if1 .left))
+    let pre = atStart (c .before) .pre in
+    omega (arith, pre .1 .1 (c .before .if1 .left))
 
 lesser-requires : tie.Need-lesser-requires
 lesser-requires c κs = search needs
@@ -48,17 +51,5 @@ returns-2 c = carried-stop (c .before .before .if1 .left) (c .lesser .ensures)
 
 pub carry-spec : {M : Type 1} → statement M
 carry-spec =
-    tie.close
-    (tie.spec
-    mul-if1
-    add-if1
-    mul-if1-2
-    shared-slice-read-if1
-    returns
-    mul-lesser
-    add-lesser
-    mul-lesser-2
-    shared-slice-read-lesser
-    add-lesser-2
-    lesser-requires
-    returns-2)
+    tie.close (tie.spec mul-if1 add-if1 mul-if1-2 shared-slice-read-if1 returns mul-lesser add-lesser mul-lesser-2
+    shared-slice-read-lesser add-lesser-2 lesser-requires returns-2)

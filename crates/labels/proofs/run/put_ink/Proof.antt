@@ -40,16 +40,5 @@ returns-2 c = InkPut.puts (c .if1 .left)
 
 pub put-ink-spec : {M : Type 1} → statement M
 put-ink-spec =
-    tie.close
-    (tie.spec
-    mul-if1
-    add-if1
-    mul-if1-2
-    shared-slice-read-if1
-    returns
-    mul-own
-    add-own
-    mul-own-2
-    slice-write-own
-    same-length
-    returns-2)
+    tie.close (tie.spec mul-if1 add-if1 mul-if1-2 shared-slice-read-if1 returns mul-own add-own mul-own-2
+    slice-write-own same-length returns-2)

@@ -14,9 +14,4 @@ returns : tie.Need-returns
 returns c = start-nearer (c .before .back-from .ensures) (c .nearer .ensures)
 
 pub run-start-spec : {M : Type 1} → statement M
-run-start-spec =
-    tie.close
-    (tie.spec
-    back-from-requires
-    nearer-requires
-    returns)
+run-start-spec = tie.close (tie.spec back-from-requires nearer-requires returns)
