@@ -60,23 +60,5 @@ returns c = search needs
 
 pub combs-spec : {M : Type 1} → statement M
 combs-spec =
-    tie.close
-    (tie.spec
-    Inv-loop
-    μ-loop
-    add-x
-    loop-holds
-    next-requires
-    add-least
-    below-requires
-    add-least-2
-    sub-least
-    least-requires
-    tooth-requires
-    add-i
-    add-x-2
-    add-x-3
-    add-x-4
-    loop-less
-    loop-again
-    returns)
+    tie.close (tie.spec Inv-loop μ-loop add-x loop-holds next-requires add-least below-requires add-least-2 sub-least
+    least-requires tooth-requires add-i add-x-2 add-x-3 add-x-4 loop-less loop-again returns)

@@ -33,14 +33,4 @@ returns-2 c = search needs
 
 pub first-free-spec : {M : Type 1} → statement M
 first-free-spec =
-    tie.close
-    (tie.spec
-    Inv-loop
-    μ-loop
-    loop-holds
-    element-copy-out-if1
-    returns
-    add-p
-    loop-less
-    loop-again
-    returns-2)
+    tie.close (tie.spec Inv-loop μ-loop loop-holds element-copy-out-if1 returns add-p loop-less loop-again returns-2)

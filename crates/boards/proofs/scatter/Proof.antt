@@ -33,14 +33,4 @@ returns c = search needs
 
 pub scatter-spec : {M : Type 1} → statement M
 scatter-spec =
-    tie.close
-    (tie.spec
-    Inv-loop
-    μ-loop
-    loop-holds
-    patch-requires
-    patch-requires-2
-    add-i
-    loop-less
-    loop-again
-    returns)
+    tie.close (tie.spec Inv-loop μ-loop loop-holds patch-requires patch-requires-2 add-i loop-less loop-again returns)

@@ -45,18 +45,5 @@ returns-2 c = search needs
 
 pub write-job-spec : {M : Type 1} → statement M
 write-job-spec =
-    tie.close
-    (tie.spec
-    Inv-loop
-    μ-loop
-    no-board-requires
-    loop-holds
-    run-requires
-    after-requires
-    enum-known-next
-    enum-told
-    returns
-    add-counter
-    loop-less
-    loop-again
-    returns-2)
+    tie.close (tie.spec Inv-loop μ-loop no-board-requires loop-holds run-requires after-requires enum-known-next
+    enum-told returns add-counter loop-less loop-again returns-2)

@@ -30,5 +30,4 @@ returns c = search needs
 
 pub write-nets-spec : {M : Type 1} → statement M
 write-nets-spec =
-    tie.close
-    (tie.spec Inv-loop μ-loop loop-holds add-net write-net-requires loop-less loop-again returns)
+    tie.close (tie.spec Inv-loop μ-loop loop-holds add-net write-net-requires loop-less loop-again returns)

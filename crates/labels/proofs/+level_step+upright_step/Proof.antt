@@ -61,64 +61,49 @@ upright-calls t = (
 abbrev levelAtStart : (t : ℕ) → level-lts.Else1 (level-calls t) (level-step-at t) level-step.Post
     → level-lts.Start (level-calls t) (level-step-at t) level-step.Post
 levelAtStart t c = c .before .before .before .before .before .before .before .before .before .before
-
-abbrev levelInElse : (t : ℕ) → level-lts.After-shared-slice-known10 (level-calls t) (level-step-at t) level-step.Post
+abbrev levelAtIf1 : (t : ℕ) → level-lts.After-shared-slice-known10 (level-calls t) (level-step-at t) level-step.Post
     → level-lts.Else1 (level-calls t) (level-step-at t) level-step.Post
-levelInElse t c = c .before .before .before .before
-
-abbrev levelAfterNextStop : (t : ℕ)
-    → level-lts.After-upright-step-arg (level-calls t) (level-step-at t) level-step.Post
+levelAtIf1 t c = c .before .before .before .before
+abbrev levelAtStop : (t : ℕ) → level-lts.After-upright-step-arg (level-calls t) (level-step-at t) level-step.Post
     → level-lts.After-next-stop (level-calls t) (level-step-at t) level-step.Post
-levelAfterNextStop t c = c .before .before .before .before .before .before .before
-
-abbrev levelAfterPutCorner : (t : ℕ)
-    → level-lts.After-upright-step-arg (level-calls t) (level-step-at t) level-step.Post
+levelAtStop t c = c .before .before .before .before .before .before .before
+abbrev levelAtPut : (t : ℕ) → level-lts.After-upright-step-arg (level-calls t) (level-step-at t) level-step.Post
     → level-lts.After-put-corner (level-calls t) (level-step-at t) level-step.Post
-levelAfterPutCorner t c = c .before .before .before
-
-abbrev levelAfterUprightStep : (t : ℕ)
-    → level-lts.After-slice-known3 (level-calls t) (level-step-at t) level-step.Post
+levelAtPut t c = c .before .before .before
+abbrev levelAtStep : (t : ℕ) → level-lts.After-slice-known3 (level-calls t) (level-step-at t) level-step.Post
     → level-lts.After-upright-step (level-calls t) (level-step-at t) level-step.Post
-levelAfterUprightStep t c = c .before .before
+levelAtStep t c = c .before .before
 
 -- back to the start, where the test fails, next_stop, put_corner and level_step
 abbrev uprightAtStart : (t : ℕ) → upright-lts.Else1 (upright-calls t) (upright-step-at t) upright-step.Post
     → upright-lts.Start (upright-calls t) (upright-step-at t) upright-step.Post
 uprightAtStart t c = c .before .before .before .before .before .before .before .before .before .before
-
-abbrev uprightInElse : (t : ℕ) → upright-lts.After-level-step-arg (upright-calls t)
+abbrev uprightAtIf1 : (t : ℕ) → upright-lts.After-level-step-arg (upright-calls t)
     (upright-step-at t) upright-step.Post → upright-lts.Else1 (upright-calls t) (upright-step-at t) upright-step.Post
-uprightInElse t c = c .before .before .before .before .before .before .before .before .before
-
-abbrev uprightAfterNextStop : (t : ℕ) → upright-lts.After-shared-slice-known10 (upright-calls t)
+uprightAtIf1 t c = c .before .before .before .before .before .before .before .before .before
+abbrev uprightAtStop : (t : ℕ) → upright-lts.After-shared-slice-known10 (upright-calls t)
     (upright-step-at t) upright-step.Post
     → upright-lts.After-next-stop (upright-calls t) (upright-step-at t) upright-step.Post
-uprightAfterNextStop t c = c .before .before
-
-abbrev uprightAfterPutCorner : (t : ℕ)
-    → upright-lts.After-level-step-arg (upright-calls t) (upright-step-at t) upright-step.Post
+uprightAtStop t c = c .before .before
+abbrev uprightAtPut : (t : ℕ) → upright-lts.After-level-step-arg (upright-calls t)
+    (upright-step-at t) upright-step.Post
     → upright-lts.After-put-corner (upright-calls t) (upright-step-at t) upright-step.Post
-uprightAfterPutCorner t c = c .before .before .before
-
-abbrev uprightAfterLevelStep : (t : ℕ)
-    → upright-lts.After-slice-known3 (upright-calls t) (upright-step-at t) upright-step.Post
+uprightAtPut t c = c .before .before .before
+abbrev uprightAtStep : (t : ℕ) → upright-lts.After-slice-known3 (upright-calls t)
+    (upright-step-at t) upright-step.Post
     → upright-lts.After-level-step (upright-calls t) (upright-step-at t) upright-step.Post
-uprightAfterLevelStep t c = c .before .before
+uprightAtStep t c = c .before .before
 
-level-step-returns : (t : ℕ) →
-    level-lts.Need-returns (level-calls t) (level-step-at t) level-step.Post
+level-step-returns : (t : ℕ) → level-lts.Need-returns (level-calls t) (level-step-at t) level-step.Post
 level-step-returns t c = level-done (c .if1 .taken)
 
-level-step-sub-next-stop : (t : ℕ) →
-    level-lts.Need-sub-next-stop (level-calls t) (level-step-at t) level-step.Post
+level-step-sub-next-stop : (t : ℕ) → level-lts.Need-sub-next-stop (level-calls t) (level-step-at t) level-step.Post
 level-step-sub-next-stop t c = omega arith
 
-level-step-mul-next-stop : (t : ℕ) →
-    level-lts.Need-mul-next-stop (level-calls t) (level-step-at t) level-step.Post
-level-step-mul-next-stop t c = let sized = levelAtStart t c .pre .1 .0 .sized in omega (arith, sized .row-lines .few)
+level-step-mul-next-stop : (t : ℕ) → level-lts.Need-mul-next-stop (level-calls t) (level-step-at t) level-step.Post
+level-step-mul-next-stop t c = omega (arith, levelAtStart t c .pre .1 .0 .sized .row-lines .few)
 
-level-step-add-next-stop : (t : ℕ) →
-    level-lts.Need-add-next-stop (level-calls t) (level-step-at t) level-step.Post
+level-step-add-next-stop : (t : ℕ) → level-lts.Need-add-next-stop (level-calls t) (level-step-at t) level-step.Post
 level-step-add-next-stop t c =
     let sized = levelAtStart t c .pre .1 .0 .sized in
     omega (arith, sized .row-lines .few, sized .column-lines .few)
@@ -141,7 +126,6 @@ level-step-next-stop-requires t c κs =
     let at-start = levelAtStart t (c .before) in
     let pre = at-start .pre .1 in
     let sized = pre .0 .sized in
-    let above = c .before .if1 .left in
     let low = pre .0 .level-low .le (at-start .args .j) (pre .1 .1) (at-start .args .i) (pre .1 .0) in (
       (
         omega (arith, pre .1 .1, sized .row-lines .few),
@@ -154,17 +138,15 @@ level-step-next-stop-requires t c κs =
           lean-low _ _ (pre .0 .upright-lean) (pre .1 .1) (omega (arith, pre .1 .2))),
     )
 
-level-step-mul-put-corner : (t : ℕ) →
-    level-lts.Need-mul-put-corner (level-calls t) (level-step-at t) level-step.Post
+level-step-mul-put-corner : (t : ℕ) → level-lts.Need-mul-put-corner (level-calls t) (level-step-at t) level-step.Post
 level-step-mul-put-corner t c = omega arith
 
 level-step-shared-slice-read-put-corner :
     (t : ℕ) → level-lts.Need-shared-slice-read-put-corner (level-calls t) (level-step-at t) level-step.Post
 level-step-shared-slice-read-put-corner t c =
-    let at-stop = c .before .before in
-    let pre = levelAtStart t (levelInElse t c) .pre .1 in
-    let stop = at-stop .next-stop .ensures in
-    let above = levelInElse t c .if1 .left in
+    let pre = levelAtStart t (levelAtIf1 t c) .pre .1 in
+    let stop = c .before .before .next-stop .ensures in
+    let above = levelAtIf1 t c .if1 .left in
     let next = grounded-next _ _ _ _ (pre .0 .level) (pre .1 .1) (pre .1 .0) (pre .1 .2) above (pre .1 .3) stop in
     omega (arith, pre .0 .sized .column-lines .fit)
 
@@ -175,7 +157,7 @@ level-step-mul-put-corner-2 t c = omega arith
 level-step-shared-slice-read-put-corner-2 :
     (t : ℕ) → level-lts.Need-shared-slice-read-put-corner-2 (level-calls t) (level-step-at t) level-step.Post
 level-step-shared-slice-read-put-corner-2 t c =
-    let at-start = levelAtStart t (levelInElse t (c .before)) in
+    let at-start = levelAtStart t (levelAtIf1 t (c .before)) in
     omega (arith, at-start .pre .1 .1, at-start .pre .1 .0 .sized .row-lines .fit)
 
 level-step-put-corner-requires : (t : ℕ) →
@@ -193,41 +175,33 @@ level-step-add-upright-step t c = omega arith
 level-step-upright-step-requires : (t : ℕ) →
     level-lts.Need-upright-step-requires (level-calls t) (level-step-at t) level-step.Post
 level-step-upright-step-requires t c κs =
-    let at-stop = levelAfterNextStop t c in
-    let at-start = levelAtStart t (at-stop .before .before) in
+    let at-start = levelAtStart t (levelAtStop t c .before .before) in
     let pre = at-start .pre .1 in
-    let stop = at-stop .next-stop .ensures in
-    let above = at-stop .before .before .if1 .left in
-    let next = grounded-next _ _ _ _ (pre .0 .level) (pre .1 .1) (pre .1 .0) (pre .1 .2) above (pre .1 .3) stop in
-    (
+    let stop = levelAtStop t c .next-stop .ensures in
+    let above = levelAtStop t c .before .before .if1 .left in
+    let next = grounded-next _ _ _ _ (pre .0 .level) (pre .1 .1) (pre .1 .0) (pre .1 .2) above (pre .1 .3) stop in (
       omega (arith, at-start .pre .0),
       (
         pre .0,
-        (next .0, pre .1 .1, omega arith, next .1,
-            omega (arith, pre .1 .4, levelAfterPutCorner t c .put-corner .kept .0)),
+        (next .0, pre .1 .1, omega arith, next .1, omega (arith, pre .1 .4, levelAtPut t c .put-corner .kept .0)),
       ),
     )
 
-level-step-same-length : (t : ℕ) →
-    level-lts.Need-same-length (level-calls t) (level-step-at t) level-step.Post
+level-step-same-length : (t : ℕ) → level-lts.Need-same-length (level-calls t) (level-step-at t) level-step.Post
 level-step-same-length t c =
-    levelAfterUprightStep t c .upright-step .kept .0
-    ∙ levelAfterPutCorner t (levelAfterUprightStep t c .before) .put-corner .kept .0
+    levelAtStep t c .upright-step .kept .0 ∙ levelAtPut t (levelAtStep t c .before) .put-corner .kept .0
 
-level-step-returns-2 : (t : ℕ) →
-    level-lts.Need-returns-2 (level-calls t) (level-step-at t) level-step.Post
+level-step-returns-2 : (t : ℕ) → level-lts.Need-returns-2 (level-calls t) (level-step-at t) level-step.Post
 level-step-returns-2 t c =
-    let at-stop = levelAfterNextStop t (levelAfterUprightStep t c .before) in
+    let at-stop = levelAtStop t (levelAtStep t c .before) in
     let pre = levelAtStart t (at-stop .before .before) .pre .1 in
     let stop = at-stop .next-stop .ensures in
     let above = at-stop .before .before .if1 .left in
     let next = grounded-next _ _ _ _ (pre .0 .level) (pre .1 .1) (pre .1 .0) (pre .1 .2) above (pre .1 .3) stop in
-    level-more (pre .1 .2) stop (next .0)
-    (levelAfterPutCorner t (levelAfterUprightStep t c .before) .put-corner .ensures)
-    (levelAfterUprightStep t c .upright-step .ensures)
+    level-more (pre .1 .2) stop (next .0) (levelAtPut t (levelAtStep t c .before) .put-corner .ensures)
+    (levelAtStep t c .upright-step .ensures)
 
-upright-step-returns : (t : ℕ) →
-    upright-lts.Need-returns (upright-calls t) (upright-step-at t) upright-step.Post
+upright-step-returns : (t : ℕ) → upright-lts.Need-returns (upright-calls t) (upright-step-at t) upright-step.Post
 upright-step-returns t c = upright-done (c .if1 .taken)
 
 upright-step-sub-next-stop : (t : ℕ) →
@@ -236,8 +210,7 @@ upright-step-sub-next-stop t c = omega arith
 
 upright-step-mul-next-stop : (t : ℕ) →
     upright-lts.Need-mul-next-stop (upright-calls t) (upright-step-at t) upright-step.Post
-upright-step-mul-next-stop t c = let sized = uprightAtStart t c .pre .1 .0 .sized in
-    omega (arith, sized .column-lines .few)
+upright-step-mul-next-stop t c = omega (arith, uprightAtStart t c .pre .1 .0 .sized .column-lines .few)
 
 upright-step-add-next-stop : (t : ℕ) →
     upright-lts.Need-add-next-stop (upright-calls t) (upright-step-at t) upright-step.Post
@@ -263,7 +236,6 @@ upright-step-next-stop-requires t c κs =
     let at-start = uprightAtStart t (c .before) in
     let pre = at-start .pre .1 in
     let sized = pre .0 .sized in
-    let above = c .before .if1 .left in
     let low = pre .0 .upright-low .le (at-start .args .i) (pre .1 .0) (at-start .args .j) (pre .1 .1) in (
       (
         omega (arith, pre .1 .0, sized .column-lines .few),
@@ -282,7 +254,7 @@ upright-step-mul-put-corner t c = omega arith
 upright-step-shared-slice-read-put-corner :
     (t : ℕ) → upright-lts.Need-shared-slice-read-put-corner (upright-calls t) (upright-step-at t) upright-step.Post
 upright-step-shared-slice-read-put-corner t c =
-    let at-start = uprightAtStart t (uprightAfterNextStop t c .before .before) in
+    let at-start = uprightAtStart t (uprightAtStop t c .before .before) in
     omega (arith, at-start .pre .1 .1, at-start .pre .1 .0 .sized .column-lines .fit)
 
 upright-step-mul-put-corner-2 : (t : ℕ) →
@@ -292,7 +264,7 @@ upright-step-mul-put-corner-2 t c = omega arith
 upright-step-shared-slice-read-put-corner-2 :
     (t : ℕ) → upright-lts.Need-shared-slice-read-put-corner-2 (upright-calls t) (upright-step-at t) upright-step.Post
 upright-step-shared-slice-read-put-corner-2 t c =
-    let at-stop = uprightAfterNextStop t (c .before) in
+    let at-stop = uprightAtStop t (c .before) in
     let pre = uprightAtStart t (at-stop .before .before) .pre .1 in
     let stop = at-stop .next-stop .ensures in
     let above = at-stop .before .before .if1 .left in
@@ -314,39 +286,32 @@ upright-step-add-level-step t c = omega arith
 upright-step-level-step-requires : (t : ℕ) →
     upright-lts.Need-level-step-requires (upright-calls t) (upright-step-at t) upright-step.Post
 upright-step-level-step-requires t c κs =
-    let at-stop = uprightAfterNextStop t (uprightAfterPutCorner t c .before .before) in
-    let at-start = uprightAtStart t (uprightInElse t c) in
+    let at-start = uprightAtStart t (uprightAtIf1 t c) in
     let pre = at-start .pre .1 in
-    let stop = at-stop .next-stop .ensures in
-    let above = uprightInElse t c .if1 .left in
-    let next = grounded-next _ _ _ _ (pre .0 .upright) (pre .1 .0) (pre .1 .1) (pre .1 .2) above (pre .1 .3) stop in
-    (
+    let stop = uprightAtStop t (uprightAtPut t c .before .before) .next-stop .ensures in
+    let above = uprightAtIf1 t c .if1 .left in
+    let next = grounded-next _ _ _ _ (pre .0 .upright) (pre .1 .0) (pre .1 .1) (pre .1 .2) above (pre .1 .3) stop in (
       omega (arith, at-start .pre .0),
       (
         pre .0,
-        (pre .1 .0, next .0, omega arith, next .1,
-            omega (arith, pre .1 .4, uprightAfterPutCorner t c .put-corner .kept .0)),
+        (pre .1 .0, next .0, omega arith, next .1, omega (arith, pre .1 .4, uprightAtPut t c .put-corner .kept .0)),
       ),
     )
 
 upright-step-same-length : (t : ℕ) →
     upright-lts.Need-same-length (upright-calls t) (upright-step-at t) upright-step.Post
 upright-step-same-length t c =
-    uprightAfterLevelStep t c .level-step .kept .0
-    ∙ uprightAfterPutCorner t (uprightAfterLevelStep t c .before) .put-corner .kept .0
+    uprightAtStep t c .level-step .kept .0 ∙ uprightAtPut t (uprightAtStep t c .before) .put-corner .kept .0
 
-upright-step-returns-2 : (t : ℕ) →
-    upright-lts.Need-returns-2 (upright-calls t) (upright-step-at t) upright-step.Post
+upright-step-returns-2 : (t : ℕ) → upright-lts.Need-returns-2 (upright-calls t) (upright-step-at t) upright-step.Post
 upright-step-returns-2 t c =
-    let at-stop = uprightAfterNextStop t
-    (uprightAfterPutCorner t (uprightAfterLevelStep t c .before) .before .before) in
+    let at-stop = uprightAtStop t (uprightAtPut t (uprightAtStep t c .before) .before .before) in
     let pre = uprightAtStart t (at-stop .before .before) .pre .1 in
     let stop = at-stop .next-stop .ensures in
     let above = at-stop .before .before .if1 .left in
     let next = grounded-next _ _ _ _ (pre .0 .upright) (pre .1 .0) (pre .1 .1) (pre .1 .2) above (pre .1 .3) stop in
-    upright-more (pre .1 .2) stop (next .0)
-    (uprightAfterPutCorner t (uprightAfterLevelStep t c .before) .put-corner .ensures)
-    (uprightAfterLevelStep t c .level-step .ensures)
+    upright-more (pre .1 .2) stop (next .0) (uprightAtPut t (uprightAtStep t c .before) .put-corner .ensures)
+    (uprightAtStep t c .level-step .ensures)
 
 pub +level-step+upright-step-spec : {M : Type 1} → statement M
 +level-step+upright-step-spec = close μ-level-step μ-upright-step (λ t. level-lts.spec (level-calls t)

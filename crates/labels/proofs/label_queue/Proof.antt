@@ -23,15 +23,12 @@ abbrev μ-loop : tie.MeasureT-loop
 -- back to the start, the loop's head, the loop's turn and visit
 abbrev atStart : tie.After-floor-of Inv-loop μ-loop → tie.Start Inv-loop μ-loop
 atStart c = c .before .before .before .before .before .before .before .before .before .before .before
-
 abbrev atLoop : tie.After-shared-slice-known7 Inv-loop μ-loop → tie.At-loop Inv-loop μ-loop
 atLoop c = c .before .before .before
-
 abbrev inLoop : tie.After-visit-arg5 Inv-loop μ-loop → tie.In-loop Inv-loop μ-loop
 inLoop c = c .before .before .before .before .before .before .before
-
-abbrev afterVisit : tie.After-slice-known10 Inv-loop μ-loop → tie.After-visit Inv-loop μ-loop
-afterVisit c = c .before .before .before .before .before .before .before .before .before .before
+abbrev atVisit : tie.After-slice-known10 Inv-loop μ-loop → tie.After-visit Inv-loop μ-loop
+atVisit c = c .before .before .before .before .before .before .before .before .before .before
 
 floor-of-requires : tie.Need-floor-of-requires Inv-loop μ-loop
 floor-of-requires c κs = search needs
@@ -96,23 +93,23 @@ visit-requires c κs =
 
 add-p : tie.Need-add-p Inv-loop μ-loop
 add-p c =
-    let pre = atStart (inLoop (afterVisit c .before) .before .before) .pre in
-    omega (arith, inLoop (afterVisit c .before) .loop-test .taken, pre .0 .5)
+    let pre = atStart (inLoop (atVisit c .before) .before .before) .pre in
+    omega (arith, inLoop (atVisit c .before) .loop-test .taken, pre .0 .5)
 
 loop-less : tie.Need-loop-less Inv-loop μ-loop
 loop-less c = omega arith
 
 loop-again : tie.Need-loop-again Inv-loop μ-loop
 loop-again c =
-    let pre = atStart (inLoop (afterVisit c .before) .before .before) .pre in
-    let inv = inLoop (afterVisit c .before) .before .loop .inv in
-    let kept = afterVisit c .visit .kept .1 .1 .1 in (
+    let pre = atStart (inLoop (atVisit c .before) .before .before) .pre in
+    let inv = inLoop (atVisit c .before) .before .loop .inv in
+    let kept = atVisit c .visit .kept .1 .1 .1 in (
       omega arith,
       omega arith,
       kept .0 ∙ inv .2,
       kept .1 .0 ∙ inv .3,
       passing-more (pre .0 .1 .few) (inv .0) (omega arith) refl refl (pre .1 .1 .1 .1 .0) (inv .4)
-          (afterVisit c .visit .ensures),
+          (atVisit c .visit .ensures),
     )
 
 same-length : tie.Need-same-length Inv-loop μ-loop

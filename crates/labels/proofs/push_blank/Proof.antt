@@ -18,12 +18,10 @@ abbrev μ-loop : tie.MeasureT-loop
 -- back to the start, the loop's head and put_cell
 abbrev atStart : tie.After-put-cell-arg2 Inv-loop μ-loop → tie.Start Inv-loop μ-loop
 atStart c = c .before .before .before .before .before .before
-
 abbrev atLoop : tie.After-put-cell-arg2 Inv-loop μ-loop → tie.At-loop Inv-loop μ-loop
 atLoop c = c .before .before .before
-
-abbrev afterPutCell : tie.After-slice-known4 Inv-loop μ-loop → tie.After-put-cell Inv-loop μ-loop
-afterPutCell c = c .before .before .before .before
+abbrev atPut : tie.After-slice-known4 Inv-loop μ-loop → tie.After-put-cell Inv-loop μ-loop
+atPut c = c .before .before .before .before
 
 loop-holds : tie.Need-loop-holds Inv-loop μ-loop
 loop-holds c = (omega arith, omega arith, pushed-none _ _ _ _ _ _)
@@ -45,11 +43,11 @@ loop-less c = omega arith
 
 loop-again : tie.Need-loop-again Inv-loop μ-loop
 loop-again c =
-    let pre = atStart (afterPutCell c .before) .pre in (
+    let pre = atStart (atPut c .before) .pre in (
       omega arith,
       omega arith,
-      pushed-more (pre .0) (omega arith) (omega arith) (pre .4) (atLoop (afterPutCell c .before) .loop .inv .2)
-          (afterPutCell c .put-cell .ensures),
+      pushed-more (pre .0) (omega arith) (omega arith) (pre .4) (atLoop (atPut c .before) .loop .inv .2)
+          (atPut c .put-cell .ensures),
     )
 
 same-length : tie.Need-same-length Inv-loop μ-loop

@@ -8,9 +8,8 @@ use Rattle.labels.proofs.push_cell.Tie as tie
 -- back to the start and put_cell
 abbrev atStart : tie.After-put-cell-arg2 → tie.Start
 atStart c = c .before .before .before .before .before .before
-
-abbrev afterPutCell : tie.After-queue → tie.After-put-cell
-afterPutCell c = c .before .before .before
+abbrev afterPutCell : tie.After-slice-known5 → tie.After-put-cell
+afterPutCell c = c .before .before .before .before
 
 mul-if1 : tie.Need-mul-if1
 mul-if1 c = omega arith
@@ -39,7 +38,7 @@ same-length-2 : tie.Need-same-length-2
 same-length-2 c = search needs
 
 returns-2 : tie.Need-returns-2
-returns-2 c = afterPutCell (c .before) .put-cell .ensures
+returns-2 c = afterPutCell c .put-cell .ensures
 
 pub push-cell-spec : {M : Type 1} → statement M
 push-cell-spec =

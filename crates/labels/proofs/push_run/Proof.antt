@@ -16,12 +16,10 @@ abbrev μ-loop : tie.MeasureT-loop
 -- back to the start, the loop's head and push_cell
 abbrev atStart : tie.After-push-cell-arg2 Inv-loop μ-loop → tie.Start Inv-loop μ-loop
 atStart c = c .before .before .before .before .before .before
-
 abbrev atLoop : tie.After-push-cell-arg2 Inv-loop μ-loop → tie.At-loop Inv-loop μ-loop
 atLoop c = c .before .before .before
-
-abbrev afterPushCell : tie.After-slice-known4 Inv-loop μ-loop → tie.After-push-cell Inv-loop μ-loop
-afterPushCell c = c .before .before .before .before
+abbrev atPush : tie.After-slice-known4 Inv-loop μ-loop → tie.After-push-cell Inv-loop μ-loop
+atPush c = c .before .before .before .before
 
 loop-holds : tie.Need-loop-holds Inv-loop μ-loop
 loop-holds c = (omega arith, omega arith, pushed-none _ _ _ _ _ _)
@@ -39,11 +37,11 @@ loop-less c = omega arith
 
 loop-again : tie.Need-loop-again Inv-loop μ-loop
 loop-again c =
-    let pre = atStart (afterPushCell c .before) .pre in (
+    let pre = atStart (atPush c .before) .pre in (
       omega arith,
       omega arith,
-      pushed-more (pre .0) (omega arith) (omega arith) (pre .4) (atLoop (afterPushCell c .before) .loop .inv .2)
-          (afterPushCell c .push-cell .ensures),
+      pushed-more (pre .0) (omega arith) (omega arith) (pre .4) (atLoop (atPush c .before) .loop .inv .2)
+          (atPush c .push-cell .ensures),
     )
 
 same-length : tie.Need-same-length Inv-loop μ-loop

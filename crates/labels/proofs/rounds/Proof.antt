@@ -1,5 +1,5 @@
 -- The queues are right before each round, and a round that goes on leaves fewer crossings without a label.
-use Prim.Native.Nat.{_+_, _-_}
+use Prim.Native.Nat.{_+_}
 use native.Mathlib.Omega.{arith}
 use mathlib.Core.Path.{_≡_, refl, _∙_}
 use mathlib.Core.Logic.{inl, inr}
@@ -29,32 +29,24 @@ abbrev μ-loop : tie.MeasureT-loop
 -- back to the start, the loop's head, where test 2 fails, label_queue and label_queue2
 abbrev atStart : tie.After-shared-slice-known4 Inv-loop μ-loop → tie.Start Inv-loop μ-loop
 atStart c = c .before .before .before .before .before .before .before .before .before .before
-
 abbrev atLoop : tie.Else1 Inv-loop μ-loop → tie.At-loop Inv-loop μ-loop
 atLoop c = c .before .before
-
 abbrev atTest1 : tie.After-label-queue-arg6 Inv-loop μ-loop → tie.After-slice-known7 Inv-loop μ-loop
 atTest1 c = c .before .before .before .before .before .before .before .before .before .before .before
-
-abbrev goesOn : tie.Then3 Inv-loop μ-loop → tie.Else2 Inv-loop μ-loop
-goesOn c = c .before .before .before .before .before .before .before .before .before .before .before .before .before
+abbrev atIf2 : tie.Then3 Inv-loop μ-loop → tie.Else2 Inv-loop μ-loop
+atIf2 c = c .before .before .before .before .before .before .before .before .before .before .before .before .before
     .before .before .before .before .before .before .before .before .before .before .before .before .before .before
     .before .before .before .before .before .before .before .before
-
 abbrev atFirst : tie.After-label-queue-arg12 Inv-loop μ-loop → tie.After-label-queue Inv-loop μ-loop
 atFirst c = c .before .before .before .before .before .before .before .before .before .before .before .before .before
     .before .before .before
-
 abbrev atSecond : tie.After-behind4 Inv-loop μ-loop → tie.After-label-queue2 Inv-loop μ-loop
 atSecond c = c .before .before .before .before .before .before .before .before
-
 abbrev atRound : tie.After-behind4 Inv-loop μ-loop → tie.At-loop Inv-loop μ-loop
 atRound c = atTest1 (atFirst (atSecond c .before) .before) .before
 
 loop-holds : tie.Need-loop-holds Inv-loop μ-loop
-loop-holds c =
-    let pre = atStart c .pre in
-    (refl, refl, refl, refl, refl, refl, refl, refl, going-start _ _ _ _ (pre .1))
+loop-holds c = (refl, refl, refl, refl, refl, refl, refl, refl, going-start _ _ _ _ (atStart c .pre .1))
 
 mul-if1 : tie.Need-mul-if1 Inv-loop μ-loop
 mul-if1 c =
@@ -248,11 +240,11 @@ same-length-18 c = atSecond (c .before) .label-queue2 .ensures .added .size ∙ 
 
 returns-3 : tie.Need-returns-3 Inv-loop μ-loop
 returns-3 c =
-    let at-if1 = goesOn c .before .before in
+    let at-if1 = atIf2 c .before .before in
     let sized = atStart (atLoop at-if1 .before) .pre .0 .0 in
     going-stuck (sized .column-lines) (sized .row-lines) (atLoop at-if1 .loop .inv .8)
     (atFirst (atSecond (c .before) .before) .label-queue .ensures)
-    (atSecond (c .before) .label-queue2 .ensures) _ _ (c .if3 .taken) (at-if1 .if1 .left) (goesOn c .if2 .left)
+    (atSecond (c .before) .label-queue2 .ensures) _ _ (c .if3 .taken) (at-if1 .if1 .left) (atIf2 c .if2 .left)
 
 add-v : tie.Need-add-v Inv-loop μ-loop
 add-v c = omega (arith, atRound (c .before) .loop .inv .8 .top)

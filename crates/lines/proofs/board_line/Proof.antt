@@ -19,5 +19,4 @@ unfolding boardLine
 returns c = (c .before .before .number-line .ensures .0, omega arith)
 
 pub board-line-spec : {M : Type 1} → statement M
-board-line-spec =
-    tie.close (tie.spec slice-aggregate-number-line number-line-requires same-length returns)
+board-line-spec = tie.close (tie.spec slice-aggregate-number-line number-line-requires same-length returns)

@@ -19,5 +19,4 @@ unfolding fileLine
 returns c = (c .before .before .number-line .ensures .0, omega arith)
 
 pub file-line-spec : {M : Type 1} → statement M
-file-line-spec =
-    tie.close (tie.spec slice-aggregate-number-line number-line-requires same-length returns)
+file-line-spec = tie.close (tie.spec slice-aggregate-number-line number-line-requires same-length returns)

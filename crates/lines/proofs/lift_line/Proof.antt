@@ -19,5 +19,4 @@ unfolding liftLine
 returns c = (c .before .before .net-line .ensures .0, omega arith)
 
 pub lift-line-spec : {M : Type 1} → statement M
-lift-line-spec =
-    tie.close (tie.spec slice-aggregate-net-line net-line-requires same-length returns)
+lift-line-spec = tie.close (tie.spec slice-aggregate-net-line net-line-requires same-length returns)

@@ -19,5 +19,4 @@ unfolding patchLine
 returns c = (c .before .before .number-line .ensures .0, omega arith)
 
 pub patch-line-spec : {M : Type 1} → statement M
-patch-line-spec =
-    tie.close (tie.spec slice-aggregate-number-line number-line-requires same-length returns)
+patch-line-spec = tie.close (tie.spec slice-aggregate-number-line number-line-requires same-length returns)

@@ -19,5 +19,4 @@ unfolding trackRefused
 returns c = (c .before .before .net-line .ensures .0, omega arith)
 
 pub track-refused-spec : {M : Type 1} → statement M
-track-refused-spec =
-    tie.close (tie.spec slice-aggregate-net-line net-line-requires same-length returns)
+track-refused-spec = tie.close (tie.spec slice-aggregate-net-line net-line-requires same-length returns)

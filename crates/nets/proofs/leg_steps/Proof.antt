@@ -32,13 +32,4 @@ returns c = refl
 
 pub leg-steps-spec : {M : Type 1} → statement M
 leg-steps-spec =
-    tie.close
-    (tie.spec
-    sub-across
-    sub-across-2
-    sub-down
-    sub-down-2
-    cast-result
-    cast-result-2
-    add-result
-    returns)
+    tie.close (tie.spec sub-across sub-across-2 sub-down sub-down-2 cast-result cast-result-2 add-result returns)

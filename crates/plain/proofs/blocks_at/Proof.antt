@@ -7,6 +7,10 @@ use borrow.Author.Needs.{needs}
 use Rattle.plain.proofs.blocks_at.Statement.{statement}
 use Rattle.plain.proofs.blocks_at.Tie as tie
 
+-- back to where the test fails
+abbrev atAcross : tie.After-within2 → tie.Else1
+atAcross c = c .before .before .before
+
 mul-within : tie.Need-mul-within
 mul-within c = search needs
 
@@ -68,30 +72,11 @@ within-requires-2 c κs = search needs
 returns-2 : tie.Need-returns-2
 unfolding blocks entryAt
 returns-2 c =
-    let across = c .before .before .before in
-    simp (sym (across .before .within .ensures) ∙ not-false _ (across .if1 .left)) (c .within2 .ensures)
+    simp (sym (atAcross c .before .within .ensures) ∙ not-false _ (atAcross c .if1 .left)) (c .within2 .ensures)
 
 pub blocks-at-spec : {M : Type 1} → statement M
 blocks-at-spec =
-    tie.close
-    (tie.spec
-    mul-within
-    add-within
-    mul-within-2
-    element-copy-out-within
-    mul-within-3
-    add-within-2
-    mul-within-4
-    element-copy-out-within-2
-    within-requires
-    returns
-    mul-within-5
-    add-within-3
-    mul-within-6
-    element-copy-out-within-3
-    mul-within-7
-    add-within-4
-    mul-within-8
-    element-copy-out-within-4
-    within-requires-2
+    tie.close (tie.spec mul-within add-within mul-within-2 element-copy-out-within mul-within-3 add-within-2
+    mul-within-4 element-copy-out-within-2 within-requires returns mul-within-5 add-within-3 mul-within-6
+    element-copy-out-within-3 mul-within-7 add-within-4 mul-within-8 element-copy-out-within-4 within-requires-2
     returns-2)

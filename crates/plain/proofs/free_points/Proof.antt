@@ -39,16 +39,5 @@ returns c = search needs
 
 pub free-points-spec : {M : Type 1} → statement M
 free-points-spec =
-    tie.close
-    (tie.spec
-    Inv-loop
-    μ-loop
-    loop-holds
-    cast-x
-    cast-y
-    is-free-requires
-    element-write-map
-    add-p
-    loop-less
-    loop-again
-    returns)
+    tie.close (tie.spec Inv-loop μ-loop loop-holds cast-x cast-y is-free-requires element-write-map add-p loop-less
+    loop-again returns)

@@ -39,13 +39,5 @@ returns-2 c = search needs
 
 pub pattern-spec : {M : Type 1} → statement M
 pattern-spec =
-    tie.close
-    (tie.spec
-    slice-aggregate-write-all
-    write-all-requires
-    float-to-bits-print-hex
-    print-hex-requires
-    slice-aggregate-write-all-2
-    write-all-requires-2
-    returns
-    returns-2)
+    tie.close (tie.spec slice-aggregate-write-all write-all-requires float-to-bits-print-hex print-hex-requires
+    slice-aggregate-write-all-2 write-all-requires-2 returns returns-2)

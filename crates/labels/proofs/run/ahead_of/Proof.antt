@@ -17,10 +17,8 @@ abbrev μ-loop : tie.MeasureT-loop
 -- back to the start and the loop's head
 abbrev atStart : tie.After-shared-slice-known4 Inv-loop μ-loop → tie.Start Inv-loop μ-loop
 atStart c = c .before .before .before .before .before
-
 abbrev beforeLoop : tie.After-shared-slice-known7 Inv-loop μ-loop → tie.After-shared-slice-known4 Inv-loop μ-loop
 beforeLoop c = c .before .before .before .before .before
-
 abbrev atLoop : tie.After-carry Inv-loop μ-loop → tie.At-loop Inv-loop μ-loop
 atLoop c = c .before .before .before
 
@@ -34,9 +32,7 @@ shared-slice-read-top : tie.Need-shared-slice-read-top Inv-loop μ-loop
 shared-slice-read-top c = omega arith
 
 cast-top : tie.Need-cast-top Inv-loop μ-loop
-cast-top c =
-    let lines = atStart c .pre .0 .1 in
-    omega (arith, lines .below (atStart c .args .hi - 1) (omega arith))
+cast-top c = omega (arith, atStart c .pre .0 .1 .below (atStart c .args .hi - 1) (omega arith))
 
 mul-best : tie.Need-mul-best Inv-loop μ-loop
 mul-best c = omega arith
@@ -59,28 +55,24 @@ shared-slice-read-best-2 c = omega arith
 cast-best : tie.Need-cast-best Inv-loop μ-loop
 cast-best c =
     let start = atStart (c .before .before) in
-    let lines = start .pre .0 .1 in
-    omega (arith, lines .below (start .args .h) (omega arith))
+    omega (arith, start .pre .0 .1 .below (start .args .h) (omega arith))
 
 sub-best : tie.Need-sub-best Inv-loop μ-loop
 sub-best c =
     let start = atStart (c .before .before) in
-    let lines = start .pre .0 .1 in
-    omega (arith, rises lines (start .args .h) (start .args .hi - 1) (omega arith) (omega arith))
+    omega (arith, rises (start .pre .0 .1) (start .args .h) (start .args .hi - 1) (omega arith) (omega arith))
 
 add-best-2 : tie.Need-add-best-2 Inv-loop μ-loop
 add-best-2 c =
     let start = atStart (c .before .before) in
-    let lines = start .pre .0 .1 in
     let low = start .pre .1 .1 .0 .le (start .args .h) (omega arith) (start .pre .1 .1 .1) in
-    omega (arith, low, lines .below (start .args .hi - 1) (omega arith))
+    omega (arith, low, start .pre .0 .1 .below (start .args .hi - 1) (omega arith))
 
 add-best-3 : tie.Need-add-best-3 Inv-loop μ-loop
 add-best-3 c =
     let start = atStart (c .before .before) in
-    let lines = start .pre .0 .1 in
     let low = start .pre .1 .1 .0 .le (start .args .h) (omega arith) (start .pre .1 .1 .1) in
-    omega (arith, low, lines .below (start .args .hi - 1) (omega arith))
+    omega (arith, low, start .pre .0 .1 .below (start .args .hi - 1) (omega arith))
 
 loop-holds : tie.Need-loop-holds Inv-loop μ-loop
 loop-holds c =
@@ -99,9 +91,7 @@ shared-slice-read-carry : tie.Need-shared-slice-read-carry Inv-loop μ-loop
 shared-slice-read-carry c = omega arith
 
 cast-carry : tie.Need-cast-carry Inv-loop μ-loop
-cast-carry c =
-    let pre = atStart (beforeLoop c) .pre in
-    omega (arith, pre .0 .1 .below (c .before .before .loop .k - 1) (omega arith))
+cast-carry c = omega (arith, atStart (beforeLoop c) .pre .0 .1 .below (c .before .before .loop .k - 1) (omega arith))
 
 carry-requires : tie.Need-carry-requires Inv-loop μ-loop
 carry-requires c κs =
@@ -125,8 +115,7 @@ loop-again : tie.Need-loop-again Inv-loop μ-loop
 loop-again c =
     let at-test = c .before .before in
     let pre = atStart (beforeLoop (c .before)) .pre in
-    let inv = at-test .before .loop .inv in
-    let fit = pre .1 .0 .2 in (
+    let inv = at-test .before .loop .inv in (
       length-set (at-test .before .loop .ahead) (at-test .before .loop .k - 1) (c .carry .result) ∙ inv .0,
       down-more (pre .0 .1) (pre .0 .2) (at-test .loop-test .taken) (omega arith) (inv .1) (c .carry .ensures),
     )

@@ -1,5 +1,5 @@
 -- All crossings from lo on to the crossing at are joined.
-use Prim.Native.Nat.{_-_, _≤_}
+use Prim.Native.Nat.{_≤_}
 use native.Mathlib.Omega.{arith}
 use Rattle.labels.specs.Line.{Linked}
 use Rattle.labels.proofs.Line.{linked-refl, linked-down}

@@ -8,8 +8,8 @@ use Rattle.labels.proofs.run.carry.Statement.{statement}
 use Rattle.labels.proofs.run.carry.Tie as tie
 
 -- back to the start
-abbrev atStart : tie.Else1 → tie.Start
-atStart c = c .before .before .before .before
+abbrev atStart : tie.After-shared-slice-known4 → tie.Start
+atStart c = c .before .before .before .before .before
 
 mul-if1 : tie.Need-mul-if1
 mul-if1 c = omega arith
@@ -39,9 +39,7 @@ shared-slice-read-lesser : tie.Need-shared-slice-read-lesser
 shared-slice-read-lesser c = omega arith
 
 add-lesser-2 : tie.Need-add-lesser-2
-add-lesser-2 c =
-    let pre = atStart (c .before) .pre in
-    omega (arith, pre .1 .1 (c .before .if1 .left))
+add-lesser-2 c = omega (arith, atStart c .pre .1 .1 (c .before .if1 .left))
 
 lesser-requires : tie.Need-lesser-requires
 lesser-requires c κs = search needs

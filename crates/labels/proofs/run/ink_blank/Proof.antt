@@ -16,7 +16,6 @@ abbrev μ-loop : tie.MeasureT-loop
 -- back to the start and the loop's head
 abbrev atStart : tie.After-shared-slice-known9 Inv-loop μ-loop → tie.Start Inv-loop μ-loop
 atStart c = c .before .before .before .before .before .before .before .before .before .before .before .before
-
 abbrev atLoop : tie.After-shared-slice-known9 Inv-loop μ-loop → tie.At-loop Inv-loop μ-loop
 atLoop c = c .before .before .before .before
 

@@ -1,5 +1,4 @@
 -- The scan begins at the start of the run.
-use Prim.Native.Nat.{_-_}
 use native.Mathlib.Omega.{arith}
 use borrow.Author.Needs.{needs}
 use Rattle.labels.proofs.Line.{stop-of}
@@ -7,8 +6,8 @@ use Rattle.labels.proofs.run.next_stop.Statement.{statement}
 use Rattle.labels.proofs.run.next_stop.Tie as tie
 
 -- back to the start
-abbrev atStart : tie.After-run-start → tie.Start
-atStart c = c .before .before .before .before .before
+abbrev atStart : tie.After-shared-slice-known5 → tie.Start
+atStart c = c .before .before .before .before .before .before
 
 run-start-requires : tie.Need-run-start-requires
 run-start-requires c κs = search needs
@@ -21,7 +20,7 @@ shared-slice-read-scan c = omega arith
 
 scan-requires : tie.Need-scan-requires
 scan-requires c κs =
-    let pre = atStart (c .before) .pre in
+    let pre = atStart c .pre in
     let start = c .before .run-start .ensures in
     ((pre .0 .0, pre .0 .1, omega (arith, start .le, pre .0 .2), pre .0 .3, pre .0 .4), pre .1)
 

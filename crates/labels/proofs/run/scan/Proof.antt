@@ -21,12 +21,10 @@ abbrev μ-loop : tie.MeasureT-loop
 -- back to the start, the loop's head and is_stop
 abbrev atStart : tie.In-loop Inv-loop μ-loop → tie.Start Inv-loop μ-loop
 atStart c = c .before .before .before .before .before .before
-
 abbrev atLoop : tie.Then1 Inv-loop μ-loop → tie.At-loop Inv-loop μ-loop
 atLoop c = c .before .before .before
-
-abbrev afterIsStop : tie.After-shared-slice-known5 Inv-loop μ-loop → tie.After-is-stop Inv-loop μ-loop
-afterIsStop c = c .before .before
+abbrev atStop : tie.After-shared-slice-known5 Inv-loop μ-loop → tie.After-is-stop Inv-loop μ-loop
+atStop c = c .before .before
 
 loop-holds : tie.Need-loop-holds Inv-loop μ-loop
 loop-holds c = (omega arith, omega arith, linked-refl _ _ _, λ j q p. absurd (omega arith))
@@ -58,7 +56,7 @@ shared-slice-read-if2 c = omega arith
 returns-2 : tie.Need-returns-2 Inv-loop μ-loop
 returns-2 c =
     let at-if1 = c .before .before in
-    let at-loop = afterIsStop (c .before) .before .before in
+    let at-loop = atStop (c .before) .before .before in
     blocked _ _ _ _ _ _ _ _ _ _ (at-loop .loop .k) (omega arith) (at-loop .loop .inv .3)
     (sym (at-if1 .before .is-stop .ensures) ∙ at-if1 .if1 .left) (c .if2 .taken)
 
@@ -71,7 +69,7 @@ loop-less c = omega arith
 loop-again : tie.Need-loop-again Inv-loop μ-loop
 loop-again c =
     let at-if1 = c .before .before in
-    let at-loop = afterIsStop (c .before) .before .before in (
+    let at-loop = atStop (c .before) .before .before in (
       omega arith,
       omega arith,
       linked-up _ _ _ _ (omega arith) (at-loop .loop .inv .2) (c .if2 .left),

@@ -32,10 +32,7 @@ loop-less : tie.Need-loop-less Inv-loop μ-loop
 loop-less c = omega arith
 
 loop-again : tie.Need-loop-again Inv-loop μ-loop
-loop-again c = (
-  omega arith,
-  copied-more _ _ _ _ _ (omega arith) (omega arith) (c .before .before .loop .inv .1),
-)
+loop-again c = (omega arith, copied-more _ _ _ _ _ (omega arith) (omega arith) (c .before .before .loop .inv .1))
 
 add-result : tie.Need-add-result Inv-loop μ-loop
 add-result c = omega arith
@@ -48,17 +45,5 @@ returns c = copied-all _ _ _ _ _ (omega arith) (c .before .loop .inv .1)
 
 pub put-bytes-spec : {M : Type 1} → statement M
 put-bytes-spec =
-    tie.close
-    (tie.spec
-    Inv-loop
-    μ-loop
-    loop-holds
-    shared-slice-read-out
-    add-out
-    slice-write-out
-    add-i
-    loop-less
-    loop-again
-    add-result
-    same-length
-    returns)
+    tie.close (tie.spec Inv-loop μ-loop loop-holds shared-slice-read-out add-out slice-write-out add-i loop-less
+    loop-again add-result same-length returns)

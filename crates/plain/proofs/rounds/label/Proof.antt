@@ -60,23 +60,6 @@ returns-2 c = search needs
 
 pub label-spec : {M : Type 1} → statement M
 label-spec =
-    tie.close
-    (tie.spec
-    Inv-loop
-    μ-loop
-    spread-requires
-    spread-requires-2
-    spread-requires-3
-    spread-requires-4
-    loop-holds
-    round-requires
-    round-requires-2
-    add-has
-    has-requires
-    add-has-2
-    has-requires-2
-    returns
-    add-k
-    loop-less
-    loop-again
-    returns-2)
+    tie.close (tie.spec Inv-loop μ-loop spread-requires spread-requires-2 spread-requires-3 spread-requires-4
+    loop-holds round-requires round-requires-2 add-has has-requires add-has-2 has-requires-2 returns add-k loop-less
+    loop-again returns-2)

@@ -45,18 +45,5 @@ returns c = search needs
 
 pub round-spec : {M : Type 1} → statement M
 round-spec =
-    tie.close
-    (tie.spec
-    Inv-loop
-    μ-loop
-    loop-holds
-    mul-cost
-    element-copy-out-cost
-    add-spread
-    spread-requires
-    add-spread-2
-    spread-requires-2
-    add-p
-    loop-less
-    loop-again
-    returns)
+    tie.close (tie.spec Inv-loop μ-loop loop-holds mul-cost element-copy-out-cost add-spread spread-requires
+    add-spread-2 spread-requires-2 add-p loop-less loop-again returns)

@@ -45,18 +45,5 @@ returns-3 c = search needs
 
 pub spread-spec : {M : Type 1} → statement M
 spread-spec =
-    tie.close
-    (tie.spec
-    Inv-loop
-    μ-loop
-    loop-holds
-    beside-requires
-    returns
-    element-copy-out-if2
-    returns-2
-    add-mark
-    mark-requires
-    add-i
-    loop-less
-    loop-again
-    returns-3)
+    tie.close (tie.spec Inv-loop μ-loop loop-holds beside-requires returns element-copy-out-if2 returns-2 add-mark
+    mark-requires add-i loop-less loop-again returns-3)

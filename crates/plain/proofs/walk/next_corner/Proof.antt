@@ -42,17 +42,5 @@ returns-2 c = search needs
 
 pub next-corner-spec : {M : Type 1} → statement M
 next-corner-spec =
-    tie.close
-    (tie.spec
-    Inv-loop
-    μ-loop
-    loop-holds
-    segment-requires
-    after-requires
-    rest-requires
-    leads-requires
-    returns
-    add-q
-    loop-less
-    loop-again
-    returns-2)
+    tie.close (tie.spec Inv-loop μ-loop loop-holds segment-requires after-requires rest-requires leads-requires
+    returns add-q loop-less loop-again returns-2)

@@ -55,21 +55,5 @@ returns-2 c = search needs
 
 pub walk-spec : {M : Type 1} → statement M
 walk-spec =
-    tie.close
-    (tie.spec
-    Inv-loop
-    μ-loop
-    put-requires
-    loop-holds
-    add-count
-    next-corner-requires
-    returns
-    cast-put
-    put-requires-2
-    rest-requires
-    after-requires
-    loop-less
-    loop-again
-    cast-result
-    add-result
-    returns-2)
+    tie.close (tie.spec Inv-loop μ-loop put-requires loop-holds add-count next-corner-requires returns cast-put
+    put-requires-2 rest-requires after-requires loop-less loop-again cast-result add-result returns-2)
