@@ -57,261 +57,238 @@ upright-calls t = (
   level-step.Post,
 )
 
--- back to the start, where the test fails, next_stop, put_corner and upright_step
-abbrev levelAtStart : (t : ℕ) → level-lts.Else1 (level-calls t) (level-step-at t) level-step.Post
-    → level-lts.Start (level-calls t) (level-step-at t) level-step.Post
-levelAtStart t c = c .before .before .before .before .before .before .before .before .before .before
-abbrev levelAtIf1 : (t : ℕ) → level-lts.After-shared-slice-known10 (level-calls t) (level-step-at t) level-step.Post
-    → level-lts.Else1 (level-calls t) (level-step-at t) level-step.Post
-levelAtIf1 t c = c .before .before .before .before
-abbrev levelAtStop : (t : ℕ) → level-lts.After-upright-step-arg (level-calls t) (level-step-at t) level-step.Post
-    → level-lts.After-next-stop (level-calls t) (level-step-at t) level-step.Post
-levelAtStop t c = c .before .before .before .before .before .before .before
-abbrev levelAtPut : (t : ℕ) → level-lts.After-upright-step-arg (level-calls t) (level-step-at t) level-step.Post
-    → level-lts.After-put-corner (level-calls t) (level-step-at t) level-step.Post
-levelAtPut t c = c .before .before .before
-abbrev levelAtStep : (t : ℕ) → level-lts.After-slice-known3 (level-calls t) (level-step-at t) level-step.Post
-    → level-lts.After-upright-step (level-calls t) (level-step-at t) level-step.Post
-levelAtStep t c = c .before .before
+-- the step on a level segment, where the label is t: back to the start, to the test, and to what the calls answered
+module _ (t : ℕ) where
+  abbrev levelAtStart : level-lts.Else1 (level-calls t) (level-step-at t) level-step.Post
+      → level-lts.Start (level-calls t) (level-step-at t) level-step.Post
+  levelAtStart c = c .before .before .before .before .before .before .before .before .before .before
+  abbrev levelAtIf1 : level-lts.After-shared-slice-known10 (level-calls t) (level-step-at t) level-step.Post
+      → level-lts.Else1 (level-calls t) (level-step-at t) level-step.Post
+  levelAtIf1 c = c .before .before .before .before
+  abbrev levelAtStop : level-lts.After-upright-step-arg (level-calls t) (level-step-at t) level-step.Post
+      → level-lts.After-next-stop (level-calls t) (level-step-at t) level-step.Post
+  levelAtStop c = c .before .before .before .before .before .before .before
+  abbrev levelAtPut : level-lts.After-upright-step-arg (level-calls t) (level-step-at t) level-step.Post
+      → level-lts.After-put-corner (level-calls t) (level-step-at t) level-step.Post
+  levelAtPut c = c .before .before .before
+  abbrev levelAtStep : level-lts.After-slice-known3 (level-calls t) (level-step-at t) level-step.Post
+      → level-lts.After-upright-step (level-calls t) (level-step-at t) level-step.Post
+  levelAtStep c = c .before .before
 
--- back to the start, where the test fails, next_stop, put_corner and level_step
-abbrev uprightAtStart : (t : ℕ) → upright-lts.Else1 (upright-calls t) (upright-step-at t) upright-step.Post
-    → upright-lts.Start (upright-calls t) (upright-step-at t) upright-step.Post
-uprightAtStart t c = c .before .before .before .before .before .before .before .before .before .before
-abbrev uprightAtIf1 : (t : ℕ) → upright-lts.After-level-step-arg (upright-calls t)
-    (upright-step-at t) upright-step.Post → upright-lts.Else1 (upright-calls t) (upright-step-at t) upright-step.Post
-uprightAtIf1 t c = c .before .before .before .before .before .before .before .before .before
-abbrev uprightAtStop : (t : ℕ) → upright-lts.After-shared-slice-known10 (upright-calls t)
-    (upright-step-at t) upright-step.Post
-    → upright-lts.After-next-stop (upright-calls t) (upright-step-at t) upright-step.Post
-uprightAtStop t c = c .before .before
-abbrev uprightAtPut : (t : ℕ) → upright-lts.After-level-step-arg (upright-calls t)
-    (upright-step-at t) upright-step.Post
-    → upright-lts.After-put-corner (upright-calls t) (upright-step-at t) upright-step.Post
-uprightAtPut t c = c .before .before .before
-abbrev uprightAtStep : (t : ℕ) → upright-lts.After-slice-known3 (upright-calls t)
-    (upright-step-at t) upright-step.Post
-    → upright-lts.After-level-step (upright-calls t) (upright-step-at t) upright-step.Post
-uprightAtStep t c = c .before .before
+  level-step-returns : level-lts.Need-returns (level-calls t) (level-step-at t) level-step.Post
+  level-step-returns c = level-done (c .if1 .taken)
 
-level-step-returns : (t : ℕ) → level-lts.Need-returns (level-calls t) (level-step-at t) level-step.Post
-level-step-returns t c = level-done (c .if1 .taken)
+  level-step-sub-next-stop : level-lts.Need-sub-next-stop (level-calls t) (level-step-at t) level-step.Post
+  level-step-sub-next-stop c = omega arith
 
-level-step-sub-next-stop : (t : ℕ) → level-lts.Need-sub-next-stop (level-calls t) (level-step-at t) level-step.Post
-level-step-sub-next-stop t c = omega arith
+  level-step-mul-next-stop : level-lts.Need-mul-next-stop (level-calls t) (level-step-at t) level-step.Post
+  level-step-mul-next-stop c = omega (arith, levelAtStart c .pre .1 .0 .sized)
 
-level-step-mul-next-stop : (t : ℕ) → level-lts.Need-mul-next-stop (level-calls t) (level-step-at t) level-step.Post
-level-step-mul-next-stop t c = omega (arith, levelAtStart t c .pre .1 .0 .sized .row-lines .few)
+  level-step-add-next-stop : level-lts.Need-add-next-stop (level-calls t) (level-step-at t) level-step.Post
+  level-step-add-next-stop c = omega (arith, levelAtStart c .pre .1 .0 .sized)
 
-level-step-add-next-stop : (t : ℕ) → level-lts.Need-add-next-stop (level-calls t) (level-step-at t) level-step.Post
-level-step-add-next-stop t c =
-    let sized = levelAtStart t c .pre .1 .0 .sized in
-    omega (arith, sized .row-lines .few, sized .column-lines .few)
+  level-step-mul-next-stop-2 : level-lts.Need-mul-next-stop-2 (level-calls t) (level-step-at t) level-step.Post
+  level-step-mul-next-stop-2 c = omega (arith, levelAtStart c .pre .1 .0 .sized)
 
-level-step-mul-next-stop-2 : (t : ℕ) →
-    level-lts.Need-mul-next-stop-2 (level-calls t) (level-step-at t) level-step.Post
-level-step-mul-next-stop-2 t c =
-    let sized = levelAtStart t c .pre .1 .0 .sized in
-    omega (arith, sized .row-lines .few, sized .column-lines .few)
+  level-step-shared-slice-read-next-stop :
+      level-lts.Need-shared-slice-read-next-stop (level-calls t) (level-step-at t) level-step.Post
+  level-step-shared-slice-read-next-stop c = omega (arith, levelAtStart (c .before) .pre .1 .0 .sized)
 
-level-step-shared-slice-read-next-stop :
-    (t : ℕ) → level-lts.Need-shared-slice-read-next-stop (level-calls t) (level-step-at t) level-step.Post
-level-step-shared-slice-read-next-stop t c =
-    let sized = levelAtStart t (c .before) .pre .1 .0 .sized in
-    omega (arith, sized .row-lines .few, sized .column-lines .few, sized .level-inks)
+  level-step-next-stop-requires : level-lts.Need-next-stop-requires (level-calls t) (level-step-at t) level-step.Post
+  level-step-next-stop-requires c κs =
+      let at-start = levelAtStart (c .before) in
+      let pre = at-start .pre .1 in
+      let sized = pre .0 .sized in
+      let low = pre .0 .level-low .le (at-start .args .j) (pre .1 .1) (at-start .args .i) (pre .1 .0) in (
+        (
+          omega (arith, pre .1 .1, sized .row-lines .few),
+          sized .column-lines,
+          pre .1 .0,
+          omega (arith, low, pre .1 .3),
+          sized .level-edges,
+        ),
+        (sized .upright, sized .upright-inks,
+            lean-low _ _ (pre .0 .upright-lean) (pre .1 .1) (omega (arith, pre .1 .2))),
+      )
 
-level-step-next-stop-requires : (t : ℕ) →
-    level-lts.Need-next-stop-requires (level-calls t) (level-step-at t) level-step.Post
-level-step-next-stop-requires t c κs =
-    let at-start = levelAtStart t (c .before) in
-    let pre = at-start .pre .1 in
-    let sized = pre .0 .sized in
-    let low = pre .0 .level-low .le (at-start .args .j) (pre .1 .1) (at-start .args .i) (pre .1 .0) in (
-      (
-        omega (arith, pre .1 .1, sized .row-lines .few),
-        sized .column-lines,
-        pre .1 .0,
-        omega (arith, low, pre .1 .3),
-        sized .level-edges,
-      ),
-      (sized .upright, sized .upright-inks,
-          lean-low _ _ (pre .0 .upright-lean) (pre .1 .1) (omega (arith, pre .1 .2))),
-    )
+  level-step-mul-put-corner : level-lts.Need-mul-put-corner (level-calls t) (level-step-at t) level-step.Post
+  level-step-mul-put-corner c = omega arith
 
-level-step-mul-put-corner : (t : ℕ) → level-lts.Need-mul-put-corner (level-calls t) (level-step-at t) level-step.Post
-level-step-mul-put-corner t c = omega arith
+  level-step-shared-slice-read-put-corner :
+      level-lts.Need-shared-slice-read-put-corner (level-calls t) (level-step-at t) level-step.Post
+  level-step-shared-slice-read-put-corner c =
+      let pre = levelAtStart (levelAtIf1 c) .pre .1 in
+      let stop = c .before .before .next-stop .ensures in
+      let above = levelAtIf1 c .if1 .left in
+      let next = grounded-next _ _ _ _ (pre .0 .level) (pre .1 .1) (pre .1 .0) (pre .1 .2) above (pre .1 .3) stop in
+      omega (arith, pre .0 .sized .column-lines .fit)
 
-level-step-shared-slice-read-put-corner :
-    (t : ℕ) → level-lts.Need-shared-slice-read-put-corner (level-calls t) (level-step-at t) level-step.Post
-level-step-shared-slice-read-put-corner t c =
-    let pre = levelAtStart t (levelAtIf1 t c) .pre .1 in
-    let stop = c .before .before .next-stop .ensures in
-    let above = levelAtIf1 t c .if1 .left in
-    let next = grounded-next _ _ _ _ (pre .0 .level) (pre .1 .1) (pre .1 .0) (pre .1 .2) above (pre .1 .3) stop in
-    omega (arith, pre .0 .sized .column-lines .fit)
+  level-step-mul-put-corner-2 : level-lts.Need-mul-put-corner-2 (level-calls t) (level-step-at t) level-step.Post
+  level-step-mul-put-corner-2 c = omega arith
 
-level-step-mul-put-corner-2 : (t : ℕ) →
-    level-lts.Need-mul-put-corner-2 (level-calls t) (level-step-at t) level-step.Post
-level-step-mul-put-corner-2 t c = omega arith
+  level-step-shared-slice-read-put-corner-2 :
+      level-lts.Need-shared-slice-read-put-corner-2 (level-calls t) (level-step-at t) level-step.Post
+  level-step-shared-slice-read-put-corner-2 c =
+      let at-start = levelAtStart (levelAtIf1 (c .before)) in
+      omega (arith, at-start .pre .1 .1, at-start .pre .1 .0 .sized .row-lines .fit)
 
-level-step-shared-slice-read-put-corner-2 :
-    (t : ℕ) → level-lts.Need-shared-slice-read-put-corner-2 (level-calls t) (level-step-at t) level-step.Post
-level-step-shared-slice-read-put-corner-2 t c =
-    let at-start = levelAtStart t (levelAtIf1 t (c .before)) in
-    omega (arith, at-start .pre .1 .1, at-start .pre .1 .0 .sized .row-lines .fit)
+  level-step-put-corner-requires :
+      level-lts.Need-put-corner-requires (level-calls t) (level-step-at t) level-step.Post
+  level-step-put-corner-requires c κs = omega arith
+  level-step-sub-upright-step : level-lts.Need-sub-upright-step (level-calls t) (level-step-at t) level-step.Post
+  level-step-sub-upright-step c = omega arith
+  level-step-add-upright-step : level-lts.Need-add-upright-step (level-calls t) (level-step-at t) level-step.Post
+  level-step-add-upright-step c = omega arith
 
-level-step-put-corner-requires : (t : ℕ) →
-    level-lts.Need-put-corner-requires (level-calls t) (level-step-at t) level-step.Post
-level-step-put-corner-requires t c κs = omega arith
+  level-step-upright-step-requires :
+      level-lts.Need-upright-step-requires (level-calls t) (level-step-at t) level-step.Post
+  level-step-upright-step-requires c κs =
+      let at-start = levelAtStart (levelAtStop c .before .before) in
+      let pre = at-start .pre .1 in
+      let stop = levelAtStop c .next-stop .ensures in
+      let above = levelAtStop c .before .before .if1 .left in
+      let next = grounded-next _ _ _ _ (pre .0 .level) (pre .1 .1) (pre .1 .0) (pre .1 .2) above (pre .1 .3) stop in (
+        omega (arith, at-start .pre .0),
+        (
+          pre .0,
+          (next .0, pre .1 .1, omega arith, next .1, omega (arith, pre .1 .4, levelAtPut c .put-corner .kept .0)),
+        ),
+      )
 
-level-step-sub-upright-step : (t : ℕ) →
-    level-lts.Need-sub-upright-step (level-calls t) (level-step-at t) level-step.Post
-level-step-sub-upright-step t c = omega arith
+  level-step-same-length : level-lts.Need-same-length (level-calls t) (level-step-at t) level-step.Post
+  level-step-same-length c =
+      levelAtStep c .upright-step .kept .0 ∙ levelAtPut (levelAtStep c .before) .put-corner .kept .0
 
-level-step-add-upright-step : (t : ℕ) →
-    level-lts.Need-add-upright-step (level-calls t) (level-step-at t) level-step.Post
-level-step-add-upright-step t c = omega arith
+  level-step-returns-2 : level-lts.Need-returns-2 (level-calls t) (level-step-at t) level-step.Post
+  level-step-returns-2 c =
+      let at-stop = levelAtStop (levelAtStep c .before) in
+      let pre = levelAtStart (at-stop .before .before) .pre .1 in
+      let stop = at-stop .next-stop .ensures in
+      let above = at-stop .before .before .if1 .left in
+      let next = grounded-next _ _ _ _ (pre .0 .level) (pre .1 .1) (pre .1 .0) (pre .1 .2) above (pre .1 .3) stop in
+      level-more (pre .1 .2) stop (next .0) (levelAtPut (levelAtStep c .before) .put-corner .ensures)
+      (levelAtStep c .upright-step .ensures)
 
-level-step-upright-step-requires : (t : ℕ) →
-    level-lts.Need-upright-step-requires (level-calls t) (level-step-at t) level-step.Post
-level-step-upright-step-requires t c κs =
-    let at-start = levelAtStart t (levelAtStop t c .before .before) in
-    let pre = at-start .pre .1 in
-    let stop = levelAtStop t c .next-stop .ensures in
-    let above = levelAtStop t c .before .before .if1 .left in
-    let next = grounded-next _ _ _ _ (pre .0 .level) (pre .1 .1) (pre .1 .0) (pre .1 .2) above (pre .1 .3) stop in (
-      omega (arith, at-start .pre .0),
-      (
-        pre .0,
-        (next .0, pre .1 .1, omega arith, next .1, omega (arith, pre .1 .4, levelAtPut t c .put-corner .kept .0)),
-      ),
-    )
+-- and on an upright one
+module _ (t : ℕ) where
+  abbrev uprightAtStart : upright-lts.Else1 (upright-calls t) (upright-step-at t) upright-step.Post
+      → upright-lts.Start (upright-calls t) (upright-step-at t) upright-step.Post
+  uprightAtStart c = c .before .before .before .before .before .before .before .before .before .before
+  abbrev uprightAtIf1 : upright-lts.After-level-step-arg (upright-calls t)
+      (upright-step-at t) upright-step.Post → upright-lts.Else1 (upright-calls t) (upright-step-at t) upright-step.Post
+  uprightAtIf1 c = c .before .before .before .before .before .before .before .before .before
+  abbrev uprightAtStop : upright-lts.After-shared-slice-known10 (upright-calls t)
+      (upright-step-at t) upright-step.Post
+      → upright-lts.After-next-stop (upright-calls t) (upright-step-at t) upright-step.Post
+  uprightAtStop c = c .before .before
+  abbrev uprightAtPut : upright-lts.After-level-step-arg (upright-calls t)
+      (upright-step-at t) upright-step.Post
+      → upright-lts.After-put-corner (upright-calls t) (upright-step-at t) upright-step.Post
+  uprightAtPut c = c .before .before .before
+  abbrev uprightAtStep : upright-lts.After-slice-known3 (upright-calls t)
+      (upright-step-at t) upright-step.Post
+      → upright-lts.After-level-step (upright-calls t) (upright-step-at t) upright-step.Post
+  uprightAtStep c = c .before .before
 
-level-step-same-length : (t : ℕ) → level-lts.Need-same-length (level-calls t) (level-step-at t) level-step.Post
-level-step-same-length t c =
-    levelAtStep t c .upright-step .kept .0 ∙ levelAtPut t (levelAtStep t c .before) .put-corner .kept .0
+  upright-step-returns : upright-lts.Need-returns (upright-calls t) (upright-step-at t) upright-step.Post
+  upright-step-returns c = upright-done (c .if1 .taken)
 
-level-step-returns-2 : (t : ℕ) → level-lts.Need-returns-2 (level-calls t) (level-step-at t) level-step.Post
-level-step-returns-2 t c =
-    let at-stop = levelAtStop t (levelAtStep t c .before) in
-    let pre = levelAtStart t (at-stop .before .before) .pre .1 in
-    let stop = at-stop .next-stop .ensures in
-    let above = at-stop .before .before .if1 .left in
-    let next = grounded-next _ _ _ _ (pre .0 .level) (pre .1 .1) (pre .1 .0) (pre .1 .2) above (pre .1 .3) stop in
-    level-more (pre .1 .2) stop (next .0) (levelAtPut t (levelAtStep t c .before) .put-corner .ensures)
-    (levelAtStep t c .upright-step .ensures)
+  upright-step-sub-next-stop : upright-lts.Need-sub-next-stop (upright-calls t) (upright-step-at t) upright-step.Post
+  upright-step-sub-next-stop c = omega arith
 
-upright-step-returns : (t : ℕ) → upright-lts.Need-returns (upright-calls t) (upright-step-at t) upright-step.Post
-upright-step-returns t c = upright-done (c .if1 .taken)
+  upright-step-mul-next-stop : upright-lts.Need-mul-next-stop (upright-calls t) (upright-step-at t) upright-step.Post
+  upright-step-mul-next-stop c = omega (arith, uprightAtStart c .pre .1 .0 .sized)
 
-upright-step-sub-next-stop : (t : ℕ) →
-    upright-lts.Need-sub-next-stop (upright-calls t) (upright-step-at t) upright-step.Post
-upright-step-sub-next-stop t c = omega arith
+  upright-step-add-next-stop : upright-lts.Need-add-next-stop (upright-calls t) (upright-step-at t) upright-step.Post
+  upright-step-add-next-stop c = omega (arith, uprightAtStart c .pre .1 .0 .sized)
 
-upright-step-mul-next-stop : (t : ℕ) →
-    upright-lts.Need-mul-next-stop (upright-calls t) (upright-step-at t) upright-step.Post
-upright-step-mul-next-stop t c = omega (arith, uprightAtStart t c .pre .1 .0 .sized .column-lines .few)
+  upright-step-mul-next-stop-2 :
+      upright-lts.Need-mul-next-stop-2 (upright-calls t) (upright-step-at t) upright-step.Post
+  upright-step-mul-next-stop-2 c = omega (arith, uprightAtStart c .pre .1 .0 .sized)
 
-upright-step-add-next-stop : (t : ℕ) →
-    upright-lts.Need-add-next-stop (upright-calls t) (upright-step-at t) upright-step.Post
-upright-step-add-next-stop t c =
-    let sized = uprightAtStart t c .pre .1 .0 .sized in
-    omega (arith, sized .column-lines .few, sized .row-lines .few)
+  upright-step-shared-slice-read-next-stop :
+      upright-lts.Need-shared-slice-read-next-stop (upright-calls t) (upright-step-at t) upright-step.Post
+  upright-step-shared-slice-read-next-stop c = omega (arith, uprightAtStart (c .before) .pre .1 .0 .sized)
 
-upright-step-mul-next-stop-2 : (t : ℕ) →
-    upright-lts.Need-mul-next-stop-2 (upright-calls t) (upright-step-at t) upright-step.Post
-upright-step-mul-next-stop-2 t c =
-    let sized = uprightAtStart t c .pre .1 .0 .sized in
-    omega (arith, sized .column-lines .few, sized .row-lines .few)
+  upright-step-next-stop-requires :
+      upright-lts.Need-next-stop-requires (upright-calls t) (upright-step-at t) upright-step.Post
+  upright-step-next-stop-requires c κs =
+      let at-start = uprightAtStart (c .before) in
+      let pre = at-start .pre .1 in
+      let sized = pre .0 .sized in
+      let low = pre .0 .upright-low .le (at-start .args .i) (pre .1 .0) (at-start .args .j) (pre .1 .1) in (
+        (
+          omega (arith, pre .1 .0, sized .column-lines .few),
+          sized .row-lines,
+          pre .1 .1,
+          omega (arith, low, pre .1 .3),
+          sized .upright-edges,
+        ),
+        (sized .level, sized .level-inks, lean-low _ _ (pre .0 .level-lean) (pre .1 .0) (omega (arith, pre .1 .2))),
+      )
 
-upright-step-shared-slice-read-next-stop :
-    (t : ℕ) → upright-lts.Need-shared-slice-read-next-stop (upright-calls t) (upright-step-at t) upright-step.Post
-upright-step-shared-slice-read-next-stop t c =
-    let sized = uprightAtStart t (c .before) .pre .1 .0 .sized in
-    omega (arith, sized .column-lines .few, sized .row-lines .few, sized .upright-inks)
+  upright-step-mul-put-corner :
+      upright-lts.Need-mul-put-corner (upright-calls t) (upright-step-at t) upright-step.Post
+  upright-step-mul-put-corner c = omega arith
 
-upright-step-next-stop-requires : (t : ℕ) →
-    upright-lts.Need-next-stop-requires (upright-calls t) (upright-step-at t) upright-step.Post
-upright-step-next-stop-requires t c κs =
-    let at-start = uprightAtStart t (c .before) in
-    let pre = at-start .pre .1 in
-    let sized = pre .0 .sized in
-    let low = pre .0 .upright-low .le (at-start .args .i) (pre .1 .0) (at-start .args .j) (pre .1 .1) in (
-      (
-        omega (arith, pre .1 .0, sized .column-lines .few),
-        sized .row-lines,
-        pre .1 .1,
-        omega (arith, low, pre .1 .3),
-        sized .upright-edges,
-      ),
-      (sized .level, sized .level-inks, lean-low _ _ (pre .0 .level-lean) (pre .1 .0) (omega (arith, pre .1 .2))),
-    )
+  upright-step-shared-slice-read-put-corner :
+      upright-lts.Need-shared-slice-read-put-corner (upright-calls t) (upright-step-at t) upright-step.Post
+  upright-step-shared-slice-read-put-corner c =
+      let at-start = uprightAtStart (uprightAtStop c .before .before) in
+      omega (arith, at-start .pre .1 .1, at-start .pre .1 .0 .sized .column-lines .fit)
 
-upright-step-mul-put-corner : (t : ℕ) →
-    upright-lts.Need-mul-put-corner (upright-calls t) (upright-step-at t) upright-step.Post
-upright-step-mul-put-corner t c = omega arith
+  upright-step-mul-put-corner-2 :
+      upright-lts.Need-mul-put-corner-2 (upright-calls t) (upright-step-at t) upright-step.Post
+  upright-step-mul-put-corner-2 c = omega arith
 
-upright-step-shared-slice-read-put-corner :
-    (t : ℕ) → upright-lts.Need-shared-slice-read-put-corner (upright-calls t) (upright-step-at t) upright-step.Post
-upright-step-shared-slice-read-put-corner t c =
-    let at-start = uprightAtStart t (uprightAtStop t c .before .before) in
-    omega (arith, at-start .pre .1 .1, at-start .pre .1 .0 .sized .column-lines .fit)
+  upright-step-shared-slice-read-put-corner-2 :
+      upright-lts.Need-shared-slice-read-put-corner-2 (upright-calls t) (upright-step-at t) upright-step.Post
+  upright-step-shared-slice-read-put-corner-2 c =
+      let at-stop = uprightAtStop (c .before) in
+      let pre = uprightAtStart (at-stop .before .before) .pre .1 in
+      let stop = at-stop .next-stop .ensures in
+      let above = at-stop .before .before .if1 .left in
+      let next = grounded-next _ _ _ _ (pre .0 .upright) (pre .1 .0) (pre .1 .1) (pre .1 .2) above (pre .1 .3) stop in
+      omega (arith, pre .0 .sized .row-lines .fit)
 
-upright-step-mul-put-corner-2 : (t : ℕ) →
-    upright-lts.Need-mul-put-corner-2 (upright-calls t) (upright-step-at t) upright-step.Post
-upright-step-mul-put-corner-2 t c = omega arith
+  upright-step-put-corner-requires :
+      upright-lts.Need-put-corner-requires (upright-calls t) (upright-step-at t) upright-step.Post
+  upright-step-put-corner-requires c κs = omega arith
+  upright-step-sub-level-step :
+      upright-lts.Need-sub-level-step (upright-calls t) (upright-step-at t) upright-step.Post
+  upright-step-sub-level-step c = omega arith
+  upright-step-add-level-step :
+      upright-lts.Need-add-level-step (upright-calls t) (upright-step-at t) upright-step.Post
+  upright-step-add-level-step c = omega arith
 
-upright-step-shared-slice-read-put-corner-2 :
-    (t : ℕ) → upright-lts.Need-shared-slice-read-put-corner-2 (upright-calls t) (upright-step-at t) upright-step.Post
-upright-step-shared-slice-read-put-corner-2 t c =
-    let at-stop = uprightAtStop t (c .before) in
-    let pre = uprightAtStart t (at-stop .before .before) .pre .1 in
-    let stop = at-stop .next-stop .ensures in
-    let above = at-stop .before .before .if1 .left in
-    let next = grounded-next _ _ _ _ (pre .0 .upright) (pre .1 .0) (pre .1 .1) (pre .1 .2) above (pre .1 .3) stop in
-    omega (arith, pre .0 .sized .row-lines .fit)
+  upright-step-level-step-requires :
+      upright-lts.Need-level-step-requires (upright-calls t) (upright-step-at t) upright-step.Post
+  upright-step-level-step-requires c κs =
+      let at-start = uprightAtStart (uprightAtIf1 c) in
+      let pre = at-start .pre .1 in
+      let stop = uprightAtStop (uprightAtPut c .before .before) .next-stop .ensures in
+      let above = uprightAtIf1 c .if1 .left in
+      let next = grounded-next _ _ _ _ (pre .0 .upright) (pre .1 .0) (pre .1 .1) (pre .1 .2) above (pre .1 .3) stop in (
+        omega (arith, at-start .pre .0),
+        (
+          pre .0,
+          (pre .1 .0, next .0, omega arith, next .1, omega (arith, pre .1 .4, uprightAtPut c .put-corner .kept .0)),
+        ),
+      )
 
-upright-step-put-corner-requires : (t : ℕ) →
-    upright-lts.Need-put-corner-requires (upright-calls t) (upright-step-at t) upright-step.Post
-upright-step-put-corner-requires t c κs = omega arith
+  upright-step-same-length : upright-lts.Need-same-length (upright-calls t) (upright-step-at t) upright-step.Post
+  upright-step-same-length c =
+      uprightAtStep c .level-step .kept .0 ∙ uprightAtPut (uprightAtStep c .before) .put-corner .kept .0
 
-upright-step-sub-level-step : (t : ℕ) →
-    upright-lts.Need-sub-level-step (upright-calls t) (upright-step-at t) upright-step.Post
-upright-step-sub-level-step t c = omega arith
-
-upright-step-add-level-step : (t : ℕ) →
-    upright-lts.Need-add-level-step (upright-calls t) (upright-step-at t) upright-step.Post
-upright-step-add-level-step t c = omega arith
-
-upright-step-level-step-requires : (t : ℕ) →
-    upright-lts.Need-level-step-requires (upright-calls t) (upright-step-at t) upright-step.Post
-upright-step-level-step-requires t c κs =
-    let at-start = uprightAtStart t (uprightAtIf1 t c) in
-    let pre = at-start .pre .1 in
-    let stop = uprightAtStop t (uprightAtPut t c .before .before) .next-stop .ensures in
-    let above = uprightAtIf1 t c .if1 .left in
-    let next = grounded-next _ _ _ _ (pre .0 .upright) (pre .1 .0) (pre .1 .1) (pre .1 .2) above (pre .1 .3) stop in (
-      omega (arith, at-start .pre .0),
-      (
-        pre .0,
-        (pre .1 .0, next .0, omega arith, next .1, omega (arith, pre .1 .4, uprightAtPut t c .put-corner .kept .0)),
-      ),
-    )
-
-upright-step-same-length : (t : ℕ) →
-    upright-lts.Need-same-length (upright-calls t) (upright-step-at t) upright-step.Post
-upright-step-same-length t c =
-    uprightAtStep t c .level-step .kept .0 ∙ uprightAtPut t (uprightAtStep t c .before) .put-corner .kept .0
-
-upright-step-returns-2 : (t : ℕ) → upright-lts.Need-returns-2 (upright-calls t) (upright-step-at t) upright-step.Post
-upright-step-returns-2 t c =
-    let at-stop = uprightAtStop t (uprightAtPut t (uprightAtStep t c .before) .before .before) in
-    let pre = uprightAtStart t (at-stop .before .before) .pre .1 in
-    let stop = at-stop .next-stop .ensures in
-    let above = at-stop .before .before .if1 .left in
-    let next = grounded-next _ _ _ _ (pre .0 .upright) (pre .1 .0) (pre .1 .1) (pre .1 .2) above (pre .1 .3) stop in
-    upright-more (pre .1 .2) stop (next .0) (uprightAtPut t (uprightAtStep t c .before) .put-corner .ensures)
-    (uprightAtStep t c .level-step .ensures)
+  upright-step-returns-2 : upright-lts.Need-returns-2 (upright-calls t) (upright-step-at t) upright-step.Post
+  upright-step-returns-2 c =
+      let at-stop = uprightAtStop (uprightAtPut (uprightAtStep c .before) .before .before) in
+      let pre = uprightAtStart (at-stop .before .before) .pre .1 in
+      let stop = at-stop .next-stop .ensures in
+      let above = at-stop .before .before .if1 .left in
+      let next = grounded-next _ _ _ _ (pre .0 .upright) (pre .1 .0) (pre .1 .1) (pre .1 .2) above (pre .1 .3) stop in
+      upright-more (pre .1 .2) stop (next .0) (uprightAtPut (uprightAtStep c .before) .put-corner .ensures)
+      (uprightAtStep c .level-step .ensures)
 
 pub +level-step+upright-step-spec : {M : Type 1} → statement M
 +level-step+upright-step-spec = close μ-level-step μ-upright-step (λ t. level-lts.spec (level-calls t)

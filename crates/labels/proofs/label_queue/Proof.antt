@@ -40,10 +40,8 @@ loop-holds c =
 
 mul-k : tie.Need-mul-k Inv-loop μ-loop
 mul-k c = omega arith
-
 mul-k-2 : tie.Need-mul-k-2 Inv-loop μ-loop
 mul-k-2 c = omega arith
-
 shared-slice-read-k : tie.Need-shared-slice-read-k Inv-loop μ-loop
 shared-slice-read-k c = omega arith
 
@@ -52,13 +50,10 @@ cast-k c = omega (arith, c .shared-slice-known6 .given (2 * c .before .before .l
 
 mul-line : tie.Need-mul-line Inv-loop μ-loop
 mul-line c = omega arith
-
 add-line : tie.Need-add-line Inv-loop μ-loop
 add-line c = omega arith
-
 mul-line-2 : tie.Need-mul-line-2 Inv-loop μ-loop
 mul-line-2 c = omega arith
-
 shared-slice-read-line : tie.Need-shared-slice-read-line Inv-loop μ-loop
 shared-slice-read-line c = omega arith
 
@@ -114,16 +109,12 @@ loop-again c =
 
 same-length : tie.Need-same-length Inv-loop μ-loop
 same-length c = c .before .loop .inv .4 .visited .size
-
 same-length-2 : tie.Need-same-length-2 Inv-loop μ-loop
 same-length-2 c = c .before .loop .inv .4 .inked .size
-
 same-length-3 : tie.Need-same-length-3 Inv-loop μ-loop
 same-length-3 c = c .before .loop .inv .4 .added .size
-
 same-length-4 : tie.Need-same-length-4 Inv-loop μ-loop
 same-length-4 c = c .before .loop .inv .2
-
 same-length-5 : tie.Need-same-length-5 Inv-loop μ-loop
 same-length-5 c = c .before .loop .inv .3
 

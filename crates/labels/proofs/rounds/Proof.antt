@@ -26,63 +26,48 @@ abbrev μ-loop : tie.MeasureT-loop
     level upright il iu ql qu ahead behind v la lb ua ub =
     zeros level + zeros upright
 
--- back to the start, the loop's head, where test 2 fails, label_queue and label_queue2
+-- back to the start, to the round, to where neither label is found, and to what the two passes answered
 abbrev atStart : tie.After-shared-slice-known4 Inv-loop μ-loop → tie.Start Inv-loop μ-loop
 atStart c = c .before .before .before .before .before .before .before .before .before .before
 abbrev atLoop : tie.Else1 Inv-loop μ-loop → tie.At-loop Inv-loop μ-loop
 atLoop c = c .before .before
-abbrev atTest1 : tie.After-label-queue-arg6 Inv-loop μ-loop → tie.After-slice-known7 Inv-loop μ-loop
-atTest1 c = c .before .before .before .before .before .before .before .before .before .before .before
-abbrev atIf2 : tie.Then3 Inv-loop μ-loop → tie.Else2 Inv-loop μ-loop
-atIf2 c = c .before .before .before .before .before .before .before .before .before .before .before .before .before
-    .before .before .before .before .before .before .before .before .before .before .before .before .before .before
-    .before .before .before .before .before .before .before .before
+abbrev notFound : tie.After-label-queue-arg6 Inv-loop μ-loop → tie.Else2 Inv-loop μ-loop
+notFound c = c .before .before .before .before .before .before .before .before
+abbrev inRound : tie.After-label-queue-arg6 Inv-loop μ-loop → tie.At-loop Inv-loop μ-loop
+inRound c = atLoop (notFound c .before .before)
 abbrev atFirst : tie.After-label-queue-arg12 Inv-loop μ-loop → tie.After-label-queue Inv-loop μ-loop
 atFirst c = c .before .before .before .before .before .before .before .before .before .before .before .before .before
     .before .before .before
 abbrev atSecond : tie.After-behind4 Inv-loop μ-loop → tie.After-label-queue2 Inv-loop μ-loop
 atSecond c = c .before .before .before .before .before .before .before .before
 abbrev atRound : tie.After-behind4 Inv-loop μ-loop → tie.At-loop Inv-loop μ-loop
-atRound c = atTest1 (atFirst (atSecond c .before) .before) .before
+atRound c = inRound (atFirst (atSecond c .before) .before)
 
 loop-holds : tie.Need-loop-holds Inv-loop μ-loop
 loop-holds c = (refl, refl, refl, refl, refl, refl, refl, refl, going-start _ _ _ _ (atStart c .pre .1))
 
 mul-if1 : tie.Need-mul-if1 Inv-loop μ-loop
-mul-if1 c =
-    let sized = atStart (c .before) .pre .0 .0 in
-    omega (arith, sized .column-lines .few, sized .row-lines .few)
+mul-if1 c = omega (arith, atStart (c .before) .pre .0 .0)
 
 add-if1 : tie.Need-add-if1 Inv-loop μ-loop
-add-if1 c =
-    let sized = atStart (c .before) .pre .0 .0 in
-    omega (arith, sized .column-lines .few, sized .row-lines .few)
+add-if1 c = omega (arith, atStart (c .before) .pre .0 .0)
 
 mul-if1-2 : tie.Need-mul-if1-2 Inv-loop μ-loop
-mul-if1-2 c =
-    let sized = atStart (c .before) .pre .0 .0 in
-    omega (arith, sized .column-lines .few, sized .row-lines .few)
+mul-if1-2 c = omega (arith, atStart (c .before) .pre .0 .0)
 
 slice-read-if1 : tie.Need-slice-read-if1 Inv-loop μ-loop
-slice-read-if1 c =
-    let sized = atStart (c .before .before) .pre .0 .0 in
-    omega (arith, c .before .loop .inv .8 .level-room .labels, sized .column-lines .few, sized .row-lines .few)
+slice-read-if1 c = omega (arith, c .before .loop .inv .8 .level-room, atStart (c .before .before) .pre .0 .0)
 
 same-length : tie.Need-same-length Inv-loop μ-loop
 same-length c = c .before .before .loop .inv .0
-
 same-length-2 : tie.Need-same-length-2 Inv-loop μ-loop
 same-length-2 c = c .before .before .loop .inv .1
-
 same-length-3 : tie.Need-same-length-3 Inv-loop μ-loop
 same-length-3 c = c .before .before .loop .inv .2
-
 same-length-4 : tie.Need-same-length-4 Inv-loop μ-loop
 same-length-4 c = c .before .before .loop .inv .3
-
 same-length-5 : tie.Need-same-length-5 Inv-loop μ-loop
 same-length-5 c = c .before .before .loop .inv .4
-
 same-length-6 : tie.Need-same-length-6 Inv-loop μ-loop
 same-length-6 c = c .before .before .loop .inv .5
 
@@ -93,41 +78,29 @@ returns c =
     found {v = at-loop .loop .v} (omega (arith, going .top)) (going .rounds) (inl (c .if1 .taken))
 
 mul-if2 : tie.Need-mul-if2 Inv-loop μ-loop
-mul-if2 c =
-    let sized = atStart (atLoop c .before) .pre .0 .0 in
-    omega (arith, sized .column-lines .few, sized .row-lines .few)
+mul-if2 c = omega (arith, atStart (atLoop c .before) .pre .0 .0)
 
 add-if2 : tie.Need-add-if2 Inv-loop μ-loop
-add-if2 c =
-    let sized = atStart (atLoop c .before) .pre .0 .0 in
-    omega (arith, sized .column-lines .few, sized .row-lines .few)
+add-if2 c = omega (arith, atStart (atLoop c .before) .pre .0 .0)
 
 mul-if2-2 : tie.Need-mul-if2-2 Inv-loop μ-loop
-mul-if2-2 c =
-    let sized = atStart (atLoop c .before) .pre .0 .0 in
-    omega (arith, sized .column-lines .few, sized .row-lines .few)
+mul-if2-2 c = omega (arith, atStart (atLoop c .before) .pre .0 .0)
 
 slice-read-if2 : tie.Need-slice-read-if2 Inv-loop μ-loop
 slice-read-if2 c =
-    let sized = atStart (atLoop (c .before) .before) .pre .0 .0 in
-    omega (arith, atLoop (c .before) .loop .inv .8 .upright-room .labels, sized .column-lines .few,
-    sized .row-lines .few)
+    let at-loop = atLoop (c .before) in
+    omega (arith, at-loop .loop .inv .8 .upright-room, atStart (at-loop .before) .pre .0 .0)
 
 same-length-7 : tie.Need-same-length-7 Inv-loop μ-loop
 same-length-7 c = atLoop (c .before .before) .loop .inv .0
-
 same-length-8 : tie.Need-same-length-8 Inv-loop μ-loop
 same-length-8 c = atLoop (c .before .before) .loop .inv .1
-
 same-length-9 : tie.Need-same-length-9 Inv-loop μ-loop
 same-length-9 c = atLoop (c .before .before) .loop .inv .2
-
 same-length-10 : tie.Need-same-length-10 Inv-loop μ-loop
 same-length-10 c = atLoop (c .before .before) .loop .inv .3
-
 same-length-11 : tie.Need-same-length-11 Inv-loop μ-loop
 same-length-11 c = atLoop (c .before .before) .loop .inv .4
-
 same-length-12 : tie.Need-same-length-12 Inv-loop μ-loop
 same-length-12 c = atLoop (c .before .before) .loop .inv .5
 
@@ -139,14 +112,13 @@ returns-2 c =
 
 slice-aggregate-label-queue : tie.Need-slice-aggregate-label-queue Inv-loop μ-loop
 slice-aggregate-label-queue c = search needs
-
 slice-aggregate-label-queue-2 : tie.Need-slice-aggregate-label-queue-2 Inv-loop μ-loop
 slice-aggregate-label-queue-2 c = search needs
 
 label-queue-requires : tie.Need-label-queue-requires Inv-loop μ-loop
 label-queue-requires c κs =
-    let sized = atStart (atTest1 c .before .before) .pre .0 .0 in
-    let inv = atTest1 c .before .loop .inv in
+    let sized = atStart (inRound c .before) .pre .0 .0 in
+    let inv = inRound c .loop .inv in
     let going = inv .8 in (
       (
         sized .row-lines .few,
@@ -171,14 +143,13 @@ label-queue-requires c κs =
 
 slice-aggregate-label-queue-3 : tie.Need-slice-aggregate-label-queue-3 Inv-loop μ-loop
 slice-aggregate-label-queue-3 c = search needs
-
 slice-aggregate-label-queue-4 : tie.Need-slice-aggregate-label-queue-4 Inv-loop μ-loop
 slice-aggregate-label-queue-4 c = search needs
 
 label-queue-requires-2 : tie.Need-label-queue-requires-2 Inv-loop μ-loop
 label-queue-requires-2 c κs =
-    let sized = atStart (atTest1 (atFirst c .before) .before .before) .pre .0 .0 in
-    let inv = atTest1 (atFirst c .before) .before .loop .inv in
+    let sized = atStart (inRound (atFirst c .before) .before) .pre .0 .0 in
+    let inv = inRound (atFirst c .before) .loop .inv in
     let going = inv .8 in
     let C = sized .column-lines in
     let R = sized .row-lines in
@@ -240,11 +211,12 @@ same-length-18 c = atSecond (c .before) .label-queue2 .ensures .added .size ∙ 
 
 returns-3 : tie.Need-returns-3 Inv-loop μ-loop
 returns-3 c =
-    let at-if1 = atIf2 c .before .before in
+    let at-if2 = notFound (atFirst (atSecond (c .before) .before) .before) in
+    let at-if1 = at-if2 .before .before in
     let sized = atStart (atLoop at-if1 .before) .pre .0 .0 in
     going-stuck (sized .column-lines) (sized .row-lines) (atLoop at-if1 .loop .inv .8)
     (atFirst (atSecond (c .before) .before) .label-queue .ensures)
-    (atSecond (c .before) .label-queue2 .ensures) _ _ (c .if3 .taken) (at-if1 .if1 .left) (atIf2 c .if2 .left)
+    (atSecond (c .before) .label-queue2 .ensures) _ _ (c .if3 .taken) (at-if1 .if1 .left) (at-if2 .if2 .left)
 
 add-v : tie.Need-add-v Inv-loop μ-loop
 add-v c = omega (arith, atRound (c .before) .loop .inv .8 .top)

@@ -13,16 +13,12 @@ atWord c = atNumber c .before .before .before .before
 
 put-bytes-requires : tie.Need-put-bytes-requires
 put-bytes-requires c κs = omega arith
-
 put-item-requires : tie.Need-put-item-requires
 put-item-requires c κs = omega arith
-
 slice-aggregate-put-bytes : tie.Need-slice-aggregate-put-bytes
 slice-aggregate-put-bytes c = search needs
-
 put-bytes-requires-2 : tie.Need-put-bytes-requires-2
 put-bytes-requires-2 c κs = omega arith
-
 same-length : tie.Need-same-length
 same-length c = omega arith
 

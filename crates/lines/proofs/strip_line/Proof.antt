@@ -20,28 +20,20 @@ atWord c = atFirst c .before .before .before .before
 
 slice-aggregate-put-bytes : tie.Need-slice-aggregate-put-bytes
 slice-aggregate-put-bytes c = search needs
-
 put-bytes-requires : tie.Need-put-bytes-requires
 put-bytes-requires c κs = omega arith
-
 put-item-requires : tie.Need-put-item-requires
 put-item-requires c κs = omega arith
-
 put-item-requires-2 : tie.Need-put-item-requires-2
 put-item-requires-2 c κs = omega arith
-
 put-item-requires-3 : tie.Need-put-item-requires-3
 put-item-requires-3 c κs = omega arith
-
 put-item-requires-4 : tie.Need-put-item-requires-4
 put-item-requires-4 c κs = omega arith
-
 slice-aggregate-put-bytes-2 : tie.Need-slice-aggregate-put-bytes-2
 slice-aggregate-put-bytes-2 c = search needs
-
 put-bytes-requires-2 : tie.Need-put-bytes-requires-2
 put-bytes-requires-2 c κs = omega arith
-
 same-length : tie.Need-same-length
 same-length c = omega arith
 

@@ -22,34 +22,24 @@ atWord c = atNet c .before .before .before .before
 
 slice-aggregate-put-bytes : tie.Need-slice-aggregate-put-bytes
 slice-aggregate-put-bytes c = search needs
-
 put-bytes-requires : tie.Need-put-bytes-requires
 put-bytes-requires c κs = omega arith
-
 put-item-requires : tie.Need-put-item-requires
 put-item-requires c κs = omega arith
-
 put-item-requires-2 : tie.Need-put-item-requires-2
 put-item-requires-2 c κs = omega arith
-
 slice-aggregate-put-bytes-2 : tie.Need-slice-aggregate-put-bytes-2
 slice-aggregate-put-bytes-2 c = search needs
-
 put-bytes-requires-2 : tie.Need-put-bytes-requires-2
 put-bytes-requires-2 c κs = omega arith
-
 put-number-requires : tie.Need-put-number-requires
 put-number-requires c κs = omega arith
-
 put-corners-requires : tie.Need-put-corners-requires
 put-corners-requires c κs = omega arith
-
 slice-aggregate-put-bytes-3 : tie.Need-slice-aggregate-put-bytes-3
 slice-aggregate-put-bytes-3 c = search needs
-
 put-bytes-requires-3 : tie.Need-put-bytes-requires-3
 put-bytes-requires-3 c κs = omega arith
-
 same-length : tie.Need-same-length
 same-length c = omega arith
 

@@ -15,10 +15,8 @@ atEntered c = c .before .before .before .before .before .before .before
 
 mul-if1 : tie.Need-mul-if1
 mul-if1 c = search needs
-
 mul-if1-2 : tie.Need-mul-if1-2
 mul-if1-2 c = search needs
-
 shared-slice-read-if1 : tie.Need-shared-slice-read-if1
 shared-slice-read-if1 c = search needs
 
@@ -27,49 +25,34 @@ returns c = measured-skip _ _ _ _ (atStart (c .before) .pre .1 .1) (λ e. omega 
 
 mul-leg-steps : tie.Need-mul-leg-steps
 mul-leg-steps c = search needs
-
 add-leg-steps : tie.Need-add-leg-steps
 add-leg-steps c = search needs
-
 mul-leg-steps-2 : tie.Need-mul-leg-steps-2
 mul-leg-steps-2 c = search needs
-
 shared-slice-read-leg-steps : tie.Need-shared-slice-read-leg-steps
 shared-slice-read-leg-steps c = search needs
-
 mul-leg-steps-3 : tie.Need-mul-leg-steps-3
 mul-leg-steps-3 c = search needs
-
 add-leg-steps-2 : tie.Need-add-leg-steps-2
 add-leg-steps-2 c = search needs
-
 mul-leg-steps-4 : tie.Need-mul-leg-steps-4
 mul-leg-steps-4 c = search needs
-
 shared-slice-read-leg-steps-2 : tie.Need-shared-slice-read-leg-steps-2
 shared-slice-read-leg-steps-2 c = search needs
-
 mul-leg-steps-5 : tie.Need-mul-leg-steps-5
 mul-leg-steps-5 c = search needs
-
 add-leg-steps-3 : tie.Need-add-leg-steps-3
 add-leg-steps-3 c = search needs
-
 mul-leg-steps-6 : tie.Need-mul-leg-steps-6
 mul-leg-steps-6 c = search needs
-
 shared-slice-read-leg-steps-3 : tie.Need-shared-slice-read-leg-steps-3
 shared-slice-read-leg-steps-3 c = search needs
-
 mul-leg-steps-7 : tie.Need-mul-leg-steps-7
 mul-leg-steps-7 c = search needs
-
 add-leg-steps-4 : tie.Need-add-leg-steps-4
 add-leg-steps-4 c = search needs
-
 mul-leg-steps-8 : tie.Need-mul-leg-steps-8
 mul-leg-steps-8 c = search needs
-
 shared-slice-read-leg-steps-4 : tie.Need-shared-slice-read-leg-steps-4
 shared-slice-read-leg-steps-4 c = search needs
 

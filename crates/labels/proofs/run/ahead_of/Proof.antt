@@ -24,10 +24,8 @@ atLoop c = c .before .before .before
 
 sub-top : tie.Need-sub-top Inv-loop μ-loop
 sub-top c = omega arith
-
 mul-top : tie.Need-mul-top Inv-loop μ-loop
 mul-top c = omega arith
-
 shared-slice-read-top : tie.Need-shared-slice-read-top Inv-loop μ-loop
 shared-slice-read-top c = omega arith
 
@@ -36,19 +34,14 @@ cast-top c = omega (arith, atStart c .pre .0 .1 .below (atStart c .args .hi - 1)
 
 mul-best : tie.Need-mul-best Inv-loop μ-loop
 mul-best c = omega arith
-
 add-best : tie.Need-add-best Inv-loop μ-loop
 add-best c = omega arith
-
 mul-best-2 : tie.Need-mul-best-2 Inv-loop μ-loop
 mul-best-2 c = omega arith
-
 shared-slice-read-best : tie.Need-shared-slice-read-best Inv-loop μ-loop
 shared-slice-read-best c = omega arith
-
 mul-best-3 : tie.Need-mul-best-3 Inv-loop μ-loop
 mul-best-3 c = omega arith
-
 shared-slice-read-best-2 : tie.Need-shared-slice-read-best-2 Inv-loop μ-loop
 shared-slice-read-best-2 c = omega arith
 
@@ -83,10 +76,8 @@ loop-holds c =
 
 sub-k : tie.Need-sub-k Inv-loop μ-loop
 sub-k c = omega arith
-
 mul-carry : tie.Need-mul-carry Inv-loop μ-loop
 mul-carry c = omega arith
-
 shared-slice-read-carry : tie.Need-shared-slice-read-carry Inv-loop μ-loop
 shared-slice-read-carry c = omega arith
 

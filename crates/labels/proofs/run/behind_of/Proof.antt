@@ -24,7 +24,6 @@ atLoop c = c .before .before
 
 mul-top : tie.Need-mul-top Inv-loop μ-loop
 mul-top c = omega arith
-
 shared-slice-read-top : tie.Need-shared-slice-read-top Inv-loop μ-loop
 shared-slice-read-top c = omega arith
 
@@ -36,19 +35,14 @@ sub-top c = omega (arith, atStartFromLoop c .pre .0 .1 .below (atStartFromLoop c
 
 mul-best : tie.Need-mul-best Inv-loop μ-loop
 mul-best c = omega arith
-
 add-best : tie.Need-add-best Inv-loop μ-loop
 add-best c = omega arith
-
 mul-best-2 : tie.Need-mul-best-2 Inv-loop μ-loop
 mul-best-2 c = omega arith
-
 shared-slice-read-best : tie.Need-shared-slice-read-best Inv-loop μ-loop
 shared-slice-read-best c = omega arith
-
 mul-best-3 : tie.Need-mul-best-3 Inv-loop μ-loop
 mul-best-3 c = omega arith
-
 shared-slice-read-best-2 : tie.Need-shared-slice-read-best-2 Inv-loop μ-loop
 shared-slice-read-best-2 c = omega arith
 
@@ -76,7 +70,6 @@ loop-holds c =
 
 mul-carry : tie.Need-mul-carry Inv-loop μ-loop
 mul-carry c = omega arith
-
 shared-slice-read-carry : tie.Need-shared-slice-read-carry Inv-loop μ-loop
 shared-slice-read-carry c = omega arith
 
@@ -101,7 +94,6 @@ slice-write-behind c = omega (arith, atLoop (c .before) .loop .inv .0)
 
 add-k : tie.Need-add-k Inv-loop μ-loop
 add-k c = omega arith
-
 loop-less : tie.Need-loop-less Inv-loop μ-loop
 loop-less c = omega arith
 

@@ -24,19 +24,14 @@ loop-holds c = (omega arith, omega arith, inked-none _ _)
 
 mul-ink-of : tie.Need-mul-ink-of Inv-loop μ-loop
 mul-ink-of c = omega arith
-
 shared-slice-read-ink-of : tie.Need-shared-slice-read-ink-of Inv-loop μ-loop
 shared-slice-read-ink-of c = omega arith
-
 mul-ink-of-2 : tie.Need-mul-ink-of-2 Inv-loop μ-loop
 mul-ink-of-2 c = omega arith
-
 shared-slice-read-ink-of-2 : tie.Need-shared-slice-read-ink-of-2 Inv-loop μ-loop
 shared-slice-read-ink-of-2 c = omega arith
-
 mul-ink-of-3 : tie.Need-mul-ink-of-3 Inv-loop μ-loop
 mul-ink-of-3 c = omega arith
-
 shared-slice-read-ink-of-3 : tie.Need-shared-slice-read-ink-of-3 Inv-loop μ-loop
 shared-slice-read-ink-of-3 c = omega arith
 
@@ -53,10 +48,8 @@ ink-of-requires c κs =
 
 mul-own : tie.Need-mul-own Inv-loop μ-loop
 mul-own c = omega arith
-
 add-own : tie.Need-add-own Inv-loop μ-loop
 add-own c = omega arith
-
 mul-own-2 : tie.Need-mul-own-2 Inv-loop μ-loop
 mul-own-2 c = omega arith
 
@@ -67,7 +60,6 @@ slice-write-own c =
 
 add-k : tie.Need-add-k Inv-loop μ-loop
 add-k c = omega arith
-
 loop-less : tie.Need-loop-less Inv-loop μ-loop
 loop-less c = omega arith
 

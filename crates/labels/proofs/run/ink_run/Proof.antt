@@ -24,19 +24,14 @@ loop-holds c = (omega arith, omega arith, inked-none _ _)
 
 mul-ink-of : tie.Need-mul-ink-of Inv-loop μ-loop
 mul-ink-of c = omega arith
-
 shared-slice-read-ink-of : tie.Need-shared-slice-read-ink-of Inv-loop μ-loop
 shared-slice-read-ink-of c = omega arith
-
 mul-ink-of-2 : tie.Need-mul-ink-of-2 Inv-loop μ-loop
 mul-ink-of-2 c = omega arith
-
 shared-slice-read-ink-of-2 : tie.Need-shared-slice-read-ink-of-2 Inv-loop μ-loop
 shared-slice-read-ink-of-2 c = omega arith
-
 mul-ink-of-3 : tie.Need-mul-ink-of-3 Inv-loop μ-loop
 mul-ink-of-3 c = omega arith
-
 shared-slice-read-ink-of-3 : tie.Need-shared-slice-read-ink-of-3 Inv-loop μ-loop
 shared-slice-read-ink-of-3 c = omega arith
 
@@ -59,7 +54,6 @@ put-ink-requires c κs =
 
 add-k : tie.Need-add-k Inv-loop μ-loop
 add-k c = omega arith
-
 loop-less : tie.Need-loop-less Inv-loop μ-loop
 loop-less c = omega arith
 

@@ -46,10 +46,8 @@ returns c =
 
 mul-if2 : tie.Need-mul-if2 Inv-loop μ-loop
 mul-if2 c = omega arith
-
 add-if2 : tie.Need-add-if2 Inv-loop μ-loop
 add-if2 c = omega arith
-
 shared-slice-read-if2 : tie.Need-shared-slice-read-if2 Inv-loop μ-loop
 shared-slice-read-if2 c = omega arith
 
@@ -62,7 +60,6 @@ returns-2 c =
 
 add-k : tie.Need-add-k Inv-loop μ-loop
 add-k c = omega arith
-
 loop-less : tie.Need-loop-less Inv-loop μ-loop
 loop-less c = omega arith
 

@@ -17,16 +17,12 @@ atStart c = afterPutItem c .before .before .before
 
 put-item-requires : tie.Need-put-item-requires
 put-item-requires c κs = omega arith
-
 slice-aggregate-put-bytes : tie.Need-slice-aggregate-put-bytes
 slice-aggregate-put-bytes c = search needs
-
 put-bytes-requires : tie.Need-put-bytes-requires
 put-bytes-requires c κs = omega arith
-
 put-number-requires : tie.Need-put-number-requires
 put-number-requires c κs = omega arith
-
 same-length : tie.Need-same-length
 same-length c = omega arith
 

@@ -15,13 +15,10 @@ atStart c = atBlank c .before .before .before .before
 
 slice-aggregate-put-bytes : tie.Need-slice-aggregate-put-bytes
 slice-aggregate-put-bytes c = search needs
-
 put-bytes-requires : tie.Need-put-bytes-requires
 put-bytes-requires c κs = omega arith
-
 put-number-requires : tie.Need-put-number-requires
 put-number-requires c κs = omega arith
-
 same-length : tie.Need-same-length
 same-length c = omega arith
 

@@ -13,10 +13,8 @@ atDigits c = c .before .before .before .before .before
 
 decimal-requires : tie.Need-decimal-requires
 decimal-requires c κs = search needs
-
 array-share-prefix-text : tie.Need-array-share-prefix-text
 array-share-prefix-text c = search needs
-
 slice-aggregate-put-bytes : tie.Need-slice-aggregate-put-bytes
 slice-aggregate-put-bytes c = search needs
 
