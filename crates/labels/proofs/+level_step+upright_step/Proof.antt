@@ -105,7 +105,7 @@ module _ (t : ℕ) where
           sized .column-lines,
           pre .1 .0,
           omega (arith, low, pre .1 .3),
-          sized .level-edges,
+          omega (arith, pre .1 .1, sized .level-edges),
         ),
         (sized .upright, sized .upright-inks,
             lean-low _ _ (pre .0 .upright-lean) (pre .1 .1) (omega (arith, pre .1 .2))),
@@ -222,7 +222,7 @@ module _ (t : ℕ) where
           sized .row-lines,
           pre .1 .1,
           omega (arith, low, pre .1 .3),
-          sized .upright-edges,
+          omega (arith, pre .1 .0, sized .upright-edges),
         ),
         (sized .level, sized .level-inks, lean-low _ _ (pre .0 .level-lean) (pre .1 .0) (omega (arith, pre .1 .2))),
       )

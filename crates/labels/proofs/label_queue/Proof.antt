@@ -6,6 +6,7 @@ use lib.ListN.{length}
 use borrow.Author.Needs.{needs}
 use Rattle.labels.specs.Pass.{PassTo}
 use Rattle.labels.proofs.Inks.{lean-low}
+use Rattle.labels.proofs.Runs.{room-line}
 use Rattle.labels.proofs.Pass.{passing-none, passing-room, passing-more, passing-done}
 use Rattle.labels.proofs.label_queue.Statement.{statement}
 use Rattle.labels.proofs.label_queue.Tie as tie
@@ -69,14 +70,20 @@ visit-requires c κs =
     let room = pre .1 .1 .0 in
     let queued = pre .1 .1 .1 .1 .0 in
     let line = queued .cross-in p (inv .0) (omega arith) in (
-      (omega (arith, line, pre .0), pre .0 .1, queued .line-in p (inv .0) (omega arith), pre .0 .3, room .0),
       (
-        (pre .1 .0 .0, pre .1 .0 .1, omega (arith, pre .1 .0 .2, inv .4 .inked .size)),
+        omega (arith, line, pre .0),
+        pre .0 .1,
+        queued .line-in p (inv .0) (omega arith),
+        pre .0 .3,
+        omega (arith, line, room .0),
+      ),
+      (
+        (pre .1 .0 .0, pre .1 .0 .1, omega (arith, line, pre .1 .0 .2, inv .4 .inked .size)),
         (
           (lean-low _ _ (pre .1 .1 .1 .0 .1) line (pre .0 .2), queued .sound p (inv .0) (omega arith)),
           (
             (
-              passing-room (pre .1 .1 .1 .0 .0) (inv .4),
+              room-line (omega (arith, line)) (passing-room (pre .1 .1 .1 .0 .0) (inv .4)),
               omega (arith, room .2, inv .2),
               omega (arith, room .3, inv .3),
             ),

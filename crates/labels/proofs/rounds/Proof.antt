@@ -126,16 +126,21 @@ label-queue-requires c κs =
         going .pos,
         omega (arith, going .top),
         going .upright-order,
-        omega (arith, going .upright-room .left),
+        omega (arith, going .upright-room .left, going .upright-room .few),
       ),
       (
         (
-          going .upright-room .labels,
+          omega (arith, going .upright-room .labels),
           omega (arith, sized .upright-inks, inv .3),
           omega (arith, sized .level-inks, inv .2),
         ),
         (
-          (sized .level-edges, going .upright-room .places, omega (arith, inv .6), omega (arith, inv .7)),
+          (
+            sized .level-edges,
+            omega (arith, going .upright-room .places, going .upright-room .left),
+            omega (arith, inv .6),
+            omega (arith, inv .7),
+          ),
           ((going .level-room, going .upright-lean), (going .upright-queue, going .level-full)),
         ),
       ),
@@ -155,7 +160,14 @@ label-queue-requires-2 c κs =
     let R = sized .row-lines in
     let first = atFirst c .label-queue .ensures in
     let kept = atFirst c .label-queue .kept .1 .1 .1 in (
-      (C .few, R, going .pos, omega (arith, going .top), going .level-order, omega (arith, going .level-room .left)),
+      (
+        C .few,
+        R,
+        going .pos,
+        omega (arith, going .top),
+        going .level-order,
+        omega (arith, going .level-room .left, going .level-room .few),
+      ),
       (
         (
           omega (arith, going .level-room .labels, first .visited .size),
@@ -165,7 +177,7 @@ label-queue-requires-2 c κs =
         (
           (
             sized .upright-edges,
-            omega (arith, going .level-room .places, first .added .size),
+            omega (arith, going .level-room .places, going .level-room .left, first .added .size),
             omega (arith, inv .6, kept .0),
             omega (arith, inv .7, kept .1 .0),
           ),
@@ -179,14 +191,14 @@ add-if3 c =
     let going = atRound c .loop .inv .8 in
     let level = passing-room (going .level-room) (atFirst (atSecond c .before) .label-queue .ensures) in
     let upright = passing-room (going .upright-room) (atSecond c .label-queue2 .ensures) in
-    omega (arith, level .left, upright .left, going .level-room .left, going .upright-room .left)
+    omega (arith, level .left, upright .left, level .few, upright .few, going .level-room, going .upright-room)
 
 add-if3-2 : tie.Need-add-if3-2 Inv-loop μ-loop
 add-if3-2 c =
     let going = atRound c .loop .inv .8 in
     let level = passing-room (going .level-room) (atFirst (atSecond c .before) .label-queue .ensures) in
     let upright = passing-room (going .upright-room) (atSecond c .label-queue2 .ensures) in
-    omega (arith, level .left, upright .left, going .level-room .left, going .upright-room .left)
+    omega (arith, level .left, upright .left, level .few, upright .few, going .level-room, going .upright-room)
 
 same-length-13 : tie.Need-same-length-13 Inv-loop μ-loop
 same-length-13 c =

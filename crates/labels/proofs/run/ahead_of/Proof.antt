@@ -90,7 +90,7 @@ carry-requires c κs =
     let lines = pre .0 .1 in
     let k = c .before .before .loop .k - 1 in (
       (pre .0 .0, omega (arith, lines .few), pre .0 .5, omega (arith, lines .below k (omega arith))),
-      ((pre .1 .0 .0, pre .1 .0 .1), pre .1 .1 .0 .le k (omega arith)),
+      ((omega (arith, pre .1 .0 .0), omega (arith, pre .1 .0 .1)), pre .1 .1 .0 .le k (omega arith)),
     )
 
 mul-ahead : tie.Need-mul-ahead Inv-loop μ-loop

@@ -83,7 +83,10 @@ carry-requires : tie.Need-carry-requires Inv-loop μ-loop
 carry-requires c κs =
     let pre = atStart (atLoop c .before) .pre in (
       (pre .0 .0, omega (arith, pre .0 .1 .few), pre .0 .5, omega arith),
-      ((pre .1 .0 .0, pre .1 .0 .1), pre .1 .1 .0 .le (atLoop c .loop .k) (omega arith)),
+      (
+        (omega (arith, pre .1 .0 .0), omega (arith, pre .1 .0 .1)),
+        pre .1 .1 .0 .le (atLoop c .loop .k) (omega arith),
+      ),
     )
 
 mul-behind : tie.Need-mul-behind Inv-loop μ-loop

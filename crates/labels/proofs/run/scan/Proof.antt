@@ -33,7 +33,10 @@ is-stop-requires : tie.Need-is-stop-requires Inv-loop μ-loop
 is-stop-requires c κs =
     let pre = atStart c .pre in (
       (pre .0 .0, omega arith, omega arith, pre .0 .3),
-      ((pre .1 .0, pre .1 .1), pre .1 .2 .le (c .before .loop .k) (c .loop-test .taken)),
+      (
+        (omega (arith, pre .1 .0), omega (arith, pre .1 .1)),
+        pre .1 .2 .le (c .before .loop .k) (c .loop-test .taken),
+      ),
     )
 
 returns : tie.Need-returns Inv-loop μ-loop
