@@ -1,7 +1,7 @@
 -- Columns and rows, and then their links.
 use native.Mathlib.Omega.{arith}
 use borrow.Author.Needs.{needs}
-use Rattle.search.proofs.Grid.{posed-on}
+use Rattle.search.proofs.Grid.{axis-few, posed-on}
 use Rattle.search.proofs.build.Statement.{statement}
 use Rattle.search.proofs.build.Tie as tie
 
@@ -43,7 +43,7 @@ links-requires c κs =
       record {
         along = atRows c .axis2 .ensures .fits;
         across = columns .axis .ensures .fits;
-        room = omega (arith, pre .1 .level-links);
+        room = omega (arith, pre .1 .level-links, axis-few (atRows c .axis2 .ensures));
       },
     )
 
@@ -56,7 +56,7 @@ links-requires-2 c κs =
       record {
         along = columns .axis .ensures .fits;
         across = rows .axis2 .ensures .fits;
-        room = omega (arith, pre .1 .upright-links);
+        room = omega (arith, pre .1 .upright-links, axis-few (columns .axis .ensures));
       },
     )
 
