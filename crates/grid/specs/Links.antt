@@ -7,7 +7,7 @@ use mathlib.Core.Path.{_≡_}
 use lib.ListN.{getD, length}
 use Rattle.foil_spec.specs.Lent.{entryAt}
 use Rattle.reach.specs.Reach.{Span}
-use Rattle.grid.specs.Size.{stride, area}
+use Rattle.grid.specs.Size.{stride}
 use Rattle.grid.specs.Extent.{Misses}
 use Rattle.grid.specs.Lines.{Lines}
 
@@ -15,7 +15,7 @@ use Rattle.grid.specs.Lines.{Lines}
 pub record Crossed (lines : List ℕ) (m : ℕ) (cross : List ℕ) (n : ℕ) (link : List ℕ) : Type 0 where
   pub along : Lines lines m
   pub across : Lines cross n
-  pub room : area ≤ length link
+  pub room : m * stride ≤ length link
 
 -- the places a to b, b excluded, of a list are set to v
 pub record Filled (a b v : ℕ) (l₀ l : List ℕ) : Type 0 where

@@ -1,5 +1,6 @@
 -- The grid is faithful to the foil, and both points are on it.
-use Prim.Native.Nat.{ℕ, _<_}
+use Prim.Native.Nat.{ℕ, _≤_, _<_}
+use native.Mathlib.Omega.{arith}
 use mathlib.Core.Path.{_≡_}
 use mathlib.Core.Bool.{Bool, true, false}
 use mathlib.Core.List.{List}
@@ -12,13 +13,36 @@ use Rattle.reach.specs.Best.{At}
 use Rattle.grid.specs.Lines.{hasMark}
 use Rattle.grid.proofs.Board.{grid-marks, grid-links}
 use Rattle.labels.proofs.Faithful.{Faithful, faithful}
-use Rattle.search.specs.Grid.{Posed, Axis, Grid}
+use Rattle.search.specs.Grid.{mostLines, Posed, Axis, Grid}
 use Rattle.search.specs.Seeds.{Has}
+use Rattle.search.specs.Search.{LabelRoom}
 
 -- the target's number is marked
 target-marked : {z : List ℕ} {n : ℕ} {upright : Bool} {size p q : ℕ} {lines : List ℕ} {k : ℕ} (x : ℕ)
     → (A : Axis z n upright size p q lines k) → x ≡ q → hasMark (A .marks) x ≡ true
 target-marked x A e = rw e (eq-eqb _ _ (A .marked .q-on))
+
+-- an axis has few lines
+pub axis-few : {z : List ℕ} {n : ℕ} {upright : Bool} {size p q : ℕ} {lines : List ℕ} {k : ℕ}
+    → Axis z n upright size p q lines k → k ≤ mostLines n
+axis-few A = omega (arith, A .marked .few, A .collected .count)
+
+-- lists for the lines that there may be have room for those that there are
+pub label-room : {m nc nr : ℕ} {l u wl wu ql qu : List ℕ} → nc ≤ m → nr ≤ m → LabelRoom m m l u wl wu ql qu
+    → LabelRoom nc nr l u wl wu ql qu
+label-room c r M =
+    record {
+      level = omega (arith, M .level);
+      upright = omega (arith, M .upright);
+      level-few = M .level-few;
+      upright-few = M .upright-few;
+      level-blank = M .level-blank;
+      upright-blank = M .upright-blank;
+      level-inks = omega (arith, M .level-inks);
+      upright-inks = omega (arith, M .upright-inks);
+      level-queue = M .level-queue;
+      upright-queue = M .upright-queue;
+    }
 
 module _ {z : List ℕ} {n w h : ℕ} {S T : Point} where
   -- both points are on the foil

@@ -1,5 +1,5 @@
 -- The labels say how many corners the first path of fewest bends has, and a walk takes them; or there is no path.
-use Prim.Native.Nat.{ℕ, _+_, _-_, _≤_, _<_}
+use Prim.Native.Nat.{ℕ, _+_, _-_, _*_, _≤_, _<_}
 use native.Mathlib.Omega.{arith}
 use mathlib.Core.Path.{_≡_, refl, sym, ap, _∙_, subst}
 use mathlib.Core.Bool.{Bool, true, false}
@@ -16,7 +16,7 @@ use Rattle.reach.specs.Best.{PathD, Best, corners, At}
 use Rattle.reach.proofs.Greedy.{path-reach}
 use Rattle.reach.proofs.Best.{Fewest}
 use Rattle.reach.proofs.FirstPath.{best-first, none-first, fewest-first}
-use Rattle.grid.specs.Size.{area}
+use Rattle.grid.specs.Size.{stride}
 use Rattle.grid.specs.Lines.{Lines}
 use Rattle.labels.specs.Line.{along, labelTop}
 use Rattle.labels.specs.Ink.{Lean}
@@ -217,9 +217,9 @@ module _ {z : List ℕ} {n w h : ℕ} {S T : Point} (P : Posed z n w h S T) {col
       go false (stuck r zl zu p q) e = clash e refl
 
 module _ {z : List ℕ} {n w h : ℕ} {S T : Point} (P : Posed z n w h S T) {cols rows kl ku : List ℕ} {nc nr : ℕ}
-    (G : Grid z n w h S T cols rows kl ku nc nr) {i j : ℕ} {l u wl wu : List ℕ} (ll : area ≤ length l)
-    (lu : area ≤ length u) (li : area ≤ length wl) (ui : area ≤ length wu) (le : area ≤ length kl)
-    (ue : area ≤ length ku) where
+    (G : Grid z n w h S T cols rows kl ku nc nr) {i j : ℕ} {l u wl wu : List ℕ} (ll : nr * stride ≤ length l)
+    (lu : nc * stride ≤ length u) (li : nr * stride ≤ length wl) (ui : nc * stride ≤ length wu)
+    (le : nr * stride ≤ length kl) (ue : nc * stride ≤ length ku) where
   searched-none : Labelling cols rows kl ku nc nr S T i j false l u wl wu
       → Searched (firstPath (boxFree w h n z) w h S T) cols rows kl ku l u wl wu
       (record { columns = nc; rows = nr; i = i; j = j; upright = false; corners = 0 })

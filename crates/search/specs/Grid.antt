@@ -1,12 +1,12 @@
 -- The question that the search is asked, and the escape grid that is made for it.
-use Prim.Native.Nat.{ℕ, _≤_}
+use Prim.Native.Nat.{ℕ, _+_, _*_, _≤_}
 use mathlib.Core.Path.{_≡_}
 use mathlib.Core.Bool.{Bool, true, false}
 use mathlib.Core.List.{List}
 use lib.ListN.{length}
 use Rattle.foil_spec.specs.Foil.{Point}
 use Rattle.zones.specs.Boxes.{boxFree, Boxes}
-use Rattle.grid.specs.Size.{stride, area}
+use Rattle.grid.specs.Size.{stride}
 use Rattle.grid.specs.Lines.{Marked, Collected, Lines}
 use Rattle.grid.specs.Links.{Painted}
 
@@ -16,12 +16,16 @@ pub record Posed (z : List ℕ) (n w h : ℕ) (S T : Point) : Type 0 where
   pub s-free : boxFree w h n z (S .x) (S .y) ≡ true
   pub t-free : boxFree w h n z (T .x) (T .y) ≡ true
 
--- the lists for the grid have room
-pub record GridRoom (cols rows kl ku mark : List ℕ) : Type 0 where
+-- n boxes make at most so many lines of an axis: two for each, the first, the last, and those of S and T
+abbrev pub mostLines : ℕ → ℕ
+mostLines n = 2 * n + 4
+
+-- the lists for the grid of n boxes have room
+pub record GridRoom (n : ℕ) (cols rows kl ku mark : List ℕ) : Type 0 where
   pub column-lines : stride ≤ length cols
   pub row-lines : stride ≤ length rows
-  pub level-links : area ≤ length kl
-  pub upright-links : area ≤ length ku
+  pub level-links : mostLines n * stride ≤ length kl
+  pub upright-links : mostLines n * stride ≤ length ku
   pub marks : 4096 ≤ length mark
 
 -- the first k numbers of a list are the lines of the grid that cross an axis, with lines at p and q

@@ -8,23 +8,25 @@ use lib.ListN.{getD, length, drop}
 use Rattle.foil_spec.specs.Lists.{each}
 use Rattle.foil_spec.specs.Foil.{Point, point}
 use Rattle.foil_spec.specs.Lent.{pointNumbers}
-use Rattle.grid.specs.Size.{area}
+use Rattle.grid.specs.Size.{stride, area}
 use Rattle.labels.specs.Rounds.{Ended}
 use Rattle.labels.specs.Walk.{Trail, Walkable}
 use Rattle.search.specs.Seeds.{Blank, Seeded}
 use Rattle.search.specs.Choice.{Choice, labelAt}
 use Rattle.search.specs.declared.Start.{Start}
 
--- the lists for the labels and inks have room, and there is no label yet
-pub record LabelRoom (l u wl wu ql qu : List ℕ) : Type 0 where
-  pub level : area ≡ length l
-  pub upright : area ≡ length u
+-- the lists for the labels and inks of nc columns and nr rows have room, and there is no label yet
+pub record LabelRoom (nc nr : ℕ) (l u wl wu ql qu : List ℕ) : Type 0 where
+  pub level : nr * stride ≤ length l
+  pub upright : nc * stride ≤ length u
+  pub level-few : length l ≤ area
+  pub upright-few : length u ≤ area
   pub level-blank : Blank l
   pub upright-blank : Blank u
-  pub level-inks : area ≤ length wl
-  pub upright-inks : area ≤ length wu
-  pub level-queue : 2 * area ≤ length ql
-  pub upright-queue : 2 * area ≤ length qu
+  pub level-inks : nr * stride ≤ length wl
+  pub upright-inks : nc * stride ≤ length wu
+  pub level-queue : 2 * length l ≤ length ql
+  pub upright-queue : 2 * length u ≤ length qu
 
 -- the crossing (i, j) of S and (ti, tj) of T, the labels l₀ and u₀ and inks wl₀ and wu₀ before the first round, and
 -- the rounds

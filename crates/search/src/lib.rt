@@ -2,9 +2,9 @@
 // together.
 //
 // The work lists of `labels` and `walk` are `level` and `upright` for the labels of the grid's crossings in the two
-// directions, `il` and `iu` for their inks (AREA places), `ql` and `qu` for their queues (twice as many), `cols` and
-// `rows` for the lines of the grid (STRIDE places), `kl` and `ku` for the level and the upright links between its
-// crossings (AREA places), and `mark` for marks on an axis (4,096 places).
+// directions, `il` and `iu` for their inks, `kl` and `ku` for the level and the upright links between crossings (STRIDE
+// places for each line that there may be), `ql` and `qu` for queues of crossings (two numbers for each label), `cols`
+// and `rows` for the lines of the grid (STRIDE places), and `mark` for marks on an axis (4,096 places).
 use grid::AREA;
 use grid::STRIDE;
 use grid::collect;
@@ -23,15 +23,23 @@ ghost use lib.ListN.{length};
 ghost use Rattle.foil_spec.specs.Foil.{Point, point};
 ghost use Rattle.foil_spec.specs.Paths.{firstPath};
 ghost use Rattle.zones.specs.Boxes.{boxFree, maxBoxes};
-ghost use Rattle.grid.specs.Size.{stride, area};
+ghost use Rattle.grid.specs.Size.{stride};
 ghost use Rattle.grid.specs.Lines.{Lines};
-ghost use Rattle.search.specs.Grid.{Posed, GridRoom, Axis, Grid};
+ghost use Rattle.search.specs.Grid.{mostLines, Posed, GridRoom, Axis, Grid};
 ghost use Rattle.search.specs.Seeds.{Has, Placed, Blank, Seeded};
 ghost use Rattle.search.specs.Choice.{Choosing, Choice};
 ghost use Rattle.search.specs.Search.{LabelRoom, Labelling, Starts, Ready, Searched, Walked, Found};
 
 // A queue of crossings has two numbers for each.
 const QUEUE: usize = 143648;
+
+// Up to so many boxes make few lines: 68 an axis. What is kept of their crossings is a quarter of AREA, which takes a
+// quarter of the time to fill.
+const FEW: usize = 32;
+
+const FEW_AREA: usize = 18224;
+
+const FEW_QUEUE: usize = 36448;
 
 // How many columns and rows the grid has.
 struct Size {
@@ -86,7 +94,7 @@ fn build(
     ty: u16,
 ) -> Size
     requires { ⌜ Posed (now boxes) n w h (point sx sy) (point tx ty) ⌝ }
-    requires { ⌜ GridRoom (now cols) (now rows) (now kl) (now ku) (now mark) ⌝ }
+    requires { ⌜ GridRoom n (now cols) (now rows) (now kl) (now ku) (now mark) ⌝ }
     ensures { λ r. ⌜ Grid (now (boxes .entry)) n w h (point sx sy) (point tx ty)
         (now (cols .exit)) (now (rows .exit)) (now (kl .exit)) (now (ku .exit)) (r .columns) (r .rows) ⌝ }
 {
@@ -135,8 +143,8 @@ fn index_of(lines: &[u16], n: usize, x: u16) -> usize
 
 // Labels crossing k of a line 1, with the ink 0, where there is no label yet; the queue begins with that crossing.
 fn seed(labels: &mut [u32], inks: &mut [u32], queue: &mut [u16], line: usize, k: usize)
-    requires { ⌜ (line < stride) × (k < stride) × (area ≡ length (now labels)) × (area ≤ length (now inks))
-        × (2 * area ≤ length (now queue)) × Blank (now labels) ⌝ }
+    requires { ⌜ (line < stride) × (k < stride) × (line * stride + stride ≤ length (now labels))
+        × (line * stride + stride ≤ length (now inks)) × (2 ≤ length (now queue)) × Blank (now labels) ⌝ }
     ensures { λ _. ⌜ Seeded (now (labels .exit)) (now (inks .exit)) (now (queue .exit)) line k ⌝ }
 {
     labels[line * STRIDE + k] = 1;
@@ -171,8 +179,9 @@ fn label(
     tx: u16,
     ty: u16,
 ) -> Reached
-    requires { ⌜ (area ≤ length (now kl)) × (area ≤ length (now ku)) × Lines (now cols) nc × Lines (now rows) nr ⌝ }
-    requires { ⌜ LabelRoom (now level) (now upright) (now il) (now iu) (now ql) (now qu) ⌝ }
+    requires { ⌜ (nr * stride ≤ length (now kl)) × (nc * stride ≤ length (now ku)) × Lines (now cols) nc
+        × Lines (now rows) nr ⌝ }
+    requires { ⌜ LabelRoom nc nr (now level) (now upright) (now il) (now iu) (now ql) (now qu) ⌝ }
     requires { ⌜ Has (now cols) nc sx × Has (now rows) nr sy × Has (now cols) nc tx × Has (now rows) nr ty ⌝ }
     ensures { λ r. ⌜ Labelling (now (cols .entry)) (now (rows .entry)) (now (kl .entry)) (now (ku .entry)) nc nr
         (point sx sy) (point tx ty) (r .i) (r .j) (r .found) (now (level .exit)) (now (upright .exit))
@@ -216,9 +225,9 @@ fn starts_upright(
     i: usize,
     j: usize,
 ) -> bool
-    requires { ⌜ Lines (now rows) nr × (i < stride) × (j < nr) × (area ≤ length (now level)) ⌝ }
-    requires { ⌜ (area ≤ length (now upright)) × (area ≤ length (now il)) × (area ≤ length (now iu))
-        × (area ≤ length (now ku)) ⌝ }
+    requires { ⌜ Lines (now rows) nr × (i < stride) × (j < nr) × (nr * stride ≤ length (now level)) ⌝ }
+    requires { ⌜ (i * stride + stride ≤ length (now upright)) × (nr * stride ≤ length (now il))
+        × (i * stride + stride ≤ length (now iu)) × (i * stride + stride ≤ length (now ku)) ⌝ }
     requires { ⌜ Choosing (now level) (now upright) (now il) nr i j ⌝ }
     ensures { λ r. ⌜ Choice (now (level .entry)) (now (upright .entry)) (now (il .entry)) (now (iu .entry))
         (now (ku .entry)) (now (rows .entry)) nr i j r ⌝ }
@@ -268,9 +277,9 @@ fn start_at(
     j: usize,
     found: bool,
 ) -> Start
-    requires { ⌜ Lines (now rows) nr × (i < stride) × (j < nr) × (area ≤ length (now level)) ⌝ }
-    requires { ⌜ (area ≤ length (now upright)) × (area ≤ length (now il)) × (area ≤ length (now iu))
-        × (area ≤ length (now ku)) ⌝ }
+    requires { ⌜ Lines (now rows) nr × (i < stride) × (j < nr) × (nr * stride ≤ length (now level)) ⌝ }
+    requires { ⌜ (i * stride + stride ≤ length (now upright)) × (nr * stride ≤ length (now il))
+        × (i * stride + stride ≤ length (now iu)) × (i * stride + stride ≤ length (now ku)) ⌝ }
     requires { ⌜ (found ≡ true → Choosing (now level) (now upright) (now il) nr i j) ⌝ }
     ensures { λ r. ⌜ Starts (now (level .entry)) (now (upright .entry)) (now (il .entry)) (now (iu .entry))
         (now (ku .entry)) (now (rows .entry)) nc nr i j found r ⌝ }
@@ -329,8 +338,8 @@ fn labels(
     ty: u16,
 ) -> Start
     requires { ⌜ Posed (now boxes) n w h (point sx sy) (point tx ty) ⌝ }
-    requires { ⌜ GridRoom (now cols) (now rows) (now kl) (now ku) (now mark) ⌝ }
-    requires { ⌜ LabelRoom (now level) (now upright) (now il) (now iu) (now ql) (now qu) ⌝ }
+    requires { ⌜ GridRoom n (now cols) (now rows) (now kl) (now ku) (now mark) ⌝ }
+    requires { ⌜ LabelRoom (mostLines n) (mostLines n) (now level) (now upright) (now il) (now iu) (now ql) (now qu) ⌝ }
     ensures { λ r. ⌜ Searched (firstPath (boxFree w h n (now (boxes .entry))) w h (point sx sy) (point tx ty))
         (now (cols .exit)) (now (rows .exit)) (now (kl .exit)) (now (ku .exit))
         (now (level .exit)) (now (upright .exit)) (now (il .exit)) (now (iu .exit)) r ⌝ }
@@ -423,10 +432,120 @@ fn walk(
     );
 }
 
-// Searches the first path of fewest bends and least length between two points that the first n boxes leave free.
-// Answers how many corners it has, 0 where there is no path. Where they fit, they are written to the front of `out`,
-// and else nothing is.
-pub fn first_path(
+// Searches the first path, and writes its corners where they fit.
+fn path_in(
+    out: &mut [u16],
+    level: &mut [u32],
+    upright: &mut [u32],
+    il: &mut [u32],
+    iu: &mut [u32],
+    ql: &mut [u16],
+    qu: &mut [u16],
+    cols: &mut [u16],
+    rows: &mut [u16],
+    kl: &mut [u8],
+    ku: &mut [u8],
+    mark: &mut [u8],
+    boxes: &[u16],
+    n: usize,
+    w: u16,
+    h: u16,
+    sx: u16,
+    sy: u16,
+    tx: u16,
+    ty: u16,
+) -> usize
+    requires { ⌜ Posed (now boxes) n w h (point sx sy) (point tx ty) ⌝ }
+    requires { ⌜ GridRoom n (now cols) (now rows) (now kl) (now ku) (now mark) ⌝ }
+    requires { ⌜ LabelRoom (mostLines n) (mostLines n) (now level) (now upright) (now il) (now iu) (now ql) (now qu) ⌝ }
+    ensures { λ r. ⌜ Found (firstPath (boxFree w h n (now (boxes .entry))) w h (point sx sy) (point tx ty))
+        (now (out .entry)) (now (out .exit)) r ⌝ }
+{
+    let start = labels(
+        level,
+        upright,
+        il,
+        iu,
+        ql,
+        qu,
+        cols,
+        rows,
+        kl,
+        ku,
+        mark,
+        boxes,
+        n,
+        w,
+        h,
+        sx,
+        sy,
+        tx,
+        ty,
+    );
+    let k = start.corners;
+    if k == 0 {
+        return 0;
+    }
+    if out.len() / 2 < k {
+        return k;
+    }
+    walk(out, level, upright, il, iu, kl, ku, cols, rows, start);
+    k
+}
+
+// The same, with lists for the lines of few boxes.
+fn path_among_few(
+    out: &mut [u16],
+    boxes: &[u16],
+    n: usize,
+    w: u16,
+    h: u16,
+    sx: u16,
+    sy: u16,
+    tx: u16,
+    ty: u16,
+) -> usize
+    requires { ⌜ Posed (now boxes) n w h (point sx sy) (point tx ty) × (n ≤ 32) ⌝ }
+    ensures { λ r. ⌜ Found (firstPath (boxFree w h n (now (boxes .entry))) w h (point sx sy) (point tx ty))
+        (now (out .entry)) (now (out .exit)) r ⌝ }
+{
+    let mut level = [0u32; FEW_AREA];
+    let mut upright = [0u32; FEW_AREA];
+    let mut il = [0u32; FEW_AREA];
+    let mut iu = [0u32; FEW_AREA];
+    let mut ql = [0u16; FEW_QUEUE];
+    let mut qu = [0u16; FEW_QUEUE];
+    let mut cols = [0u16; STRIDE];
+    let mut rows = [0u16; STRIDE];
+    let mut kl = [0u8; FEW_AREA];
+    let mut ku = [0u8; FEW_AREA];
+    let mut mark = [0u8; 4096];
+    path_in(
+        out,
+        &mut level,
+        &mut upright,
+        &mut il,
+        &mut iu,
+        &mut ql,
+        &mut qu,
+        &mut cols,
+        &mut rows,
+        &mut kl,
+        &mut ku,
+        &mut mark,
+        boxes,
+        n,
+        w,
+        h,
+        sx,
+        sy,
+        tx,
+        ty,
+    )
+}
+
+// The same, with lists for the lines of as many boxes as there may be.
+fn path_among_many(
     out: &mut [u16],
     boxes: &[u16],
     n: usize,
@@ -452,7 +571,8 @@ pub fn first_path(
     let mut kl = [0u8; AREA];
     let mut ku = [0u8; AREA];
     let mut mark = [0u8; 4096];
-    let start = labels(
+    path_in(
+        out,
         &mut level,
         &mut upright,
         &mut il,
@@ -472,25 +592,29 @@ pub fn first_path(
         sy,
         tx,
         ty,
-    );
-    let k = start.corners;
-    if k == 0 {
-        return 0;
+    )
+}
+
+// Searches the first path of fewest bends and least length between two points that the first n boxes leave free.
+// Answers how many corners it has, 0 where there is no path. Where they fit, they are written to the front of `out`,
+// and else nothing is.
+pub fn first_path(
+    out: &mut [u16],
+    boxes: &[u16],
+    n: usize,
+    w: u16,
+    h: u16,
+    sx: u16,
+    sy: u16,
+    tx: u16,
+    ty: u16,
+) -> usize
+    requires { ⌜ Posed (now boxes) n w h (point sx sy) (point tx ty) ⌝ }
+    ensures { λ r. ⌜ Found (firstPath (boxFree w h n (now (boxes .entry))) w h (point sx sy) (point tx ty))
+        (now (out .entry)) (now (out .exit)) r ⌝ }
+{
+    if n <= FEW {
+        return path_among_few(out, boxes, n, w, h, sx, sy, tx, ty);
     }
-    if out.len() / 2 < k {
-        return k;
-    }
-    walk(
-        out,
-        &level,
-        &upright,
-        &il,
-        &iu,
-        &kl,
-        &ku,
-        &cols,
-        &rows,
-        start,
-    );
-    k
+    path_among_many(out, boxes, n, w, h, sx, sy, tx, ty)
 }

@@ -1,7 +1,7 @@
 -- Columns and rows, and then their links.
 use native.Mathlib.Omega.{arith}
 use borrow.Author.Needs.{needs}
-use Rattle.search.proofs.Grid.{posed-on}
+use Rattle.search.proofs.Grid.{axis-few, posed-on}
 use Rattle.search.proofs.build.Statement.{statement}
 use Rattle.search.proofs.build.Tie as tie
 
@@ -37,16 +37,27 @@ axis-requires-2 c κs =
 
 links-requires : tie.Need-links-requires
 links-requires c κs =
-    let cols = atColumns (atRows c .before) .axis .ensures .fits in (
-      (_, _, atStart (atColumns (atRows c .before) .before) .pre .0 .boxes),
-      record { along = atRows c .axis2 .ensures .fits; across = cols; room = omega arith },
+    let columns = atColumns (atRows c .before) in
+    let pre = atStart (columns .before) .pre in (
+      (_, _, pre .0 .boxes),
+      record {
+        along = atRows c .axis2 .ensures .fits;
+        across = columns .axis .ensures .fits;
+        room = omega (arith, pre .1 .level-links, axis-few (atRows c .axis2 .ensures));
+      },
     )
 
 links-requires-2 : tie.Need-links-requires-2
 links-requires-2 c κs =
-    let cols = atColumns (afterRows c .before .before) .axis .ensures .fits in (
-      (_, _, atStart (atColumns (afterRows c .before .before) .before) .pre .0 .boxes),
-      record { along = cols; across = afterRows c .before .axis2 .ensures .fits; room = omega arith },
+    let rows = afterRows c .before in
+    let columns = atColumns (rows .before) in
+    let pre = atStart (columns .before) .pre in (
+      (_, _, pre .0 .boxes),
+      record {
+        along = columns .axis .ensures .fits;
+        across = rows .axis2 .ensures .fits;
+        room = omega (arith, pre .1 .upright-links, axis-few (columns .axis .ensures));
+      },
     )
 
 same-length : tie.Need-same-length

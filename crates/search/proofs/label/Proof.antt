@@ -1,6 +1,5 @@
 -- The places of both points, the labels of the target, and the rounds.
 use native.Mathlib.Omega.{arith}
-use mathlib.Core.Path.{sym, _∙_}
 use borrow.Author.Needs.{needs}
 use Rattle.search.proofs.Seeds.{begun}
 use Rattle.search.proofs.label.Statement.{statement}
@@ -42,25 +41,29 @@ index-of-requires-4 : tie.Need-index-of-requires-4
 index-of-requires-4 c κs = search needs
 
 seed-requires : tie.Need-seed-requires
-seed-requires c κs = (
-  omega (arith, atTj c .index-of4 .ensures .below, atStart c .pre .0 .3 .few),
-  omega (arith, atTj c .before .index-of3 .ensures .below, atStart c .pre .0 .2 .few),
-  atStart c .pre .1 .0 .level,
-  atStart c .pre .1 .0 .level-inks,
-  atStart c .pre .1 .0 .level-queue,
-  atStart c .pre .1 .0 .level-blank,
-)
+seed-requires c κs =
+    let room = atStart c .pre .1 .0 in
+    let row = atTj c .index-of4 .ensures .below in (
+      omega (arith, row, atStart c .pre .0 .3 .few),
+      omega (arith, atTj c .before .index-of3 .ensures .below, atStart c .pre .0 .2 .few),
+      omega (arith, row, room .level),
+      omega (arith, row, room .level-inks),
+      omega (arith, row, room .level, room .level-queue),
+      room .level-blank,
+    )
 
 seed-requires-2 : tie.Need-seed-requires-2
 seed-requires-2 c κs =
     let at-tj = atTj (beforeSeed c) in
-    let start = atStart (beforeSeed c) in (
-      omega (arith, at-tj .before .index-of3 .ensures .below, start .pre .0 .2 .few),
+    let start = atStart (beforeSeed c) in
+    let room = start .pre .1 .0 in
+    let column = at-tj .before .index-of3 .ensures .below in (
+      omega (arith, column, start .pre .0 .2 .few),
       omega (arith, at-tj .index-of4 .ensures .below, start .pre .0 .3 .few),
-      start .pre .1 .0 .upright,
-      start .pre .1 .0 .upright-inks,
-      start .pre .1 .0 .upright-queue,
-      start .pre .1 .0 .upright-blank,
+      omega (arith, column, room .upright),
+      omega (arith, column, room .upright-inks),
+      omega (arith, column, room .upright, room .upright-queue),
+      room .upright-blank,
     )
 
 rounds-requires : tie.Need-rounds-requires
@@ -87,9 +90,11 @@ rounds-requires c κs =
         at-tj .before .before .index-of2 .ensures .below,
       ),
       begun (cols .few) (rows .few) (at-tj .before .index-of3 .ensures .below) (at-tj .index-of4 .ensures .below)
-          (room .level ∙ sym (level .kept .0)) (room .upright ∙ sym (upright .kept .0))
-          (omega (arith, room .level-queue, level .kept .1 .1 .0))
-          (omega (arith, room .upright-queue, upright .kept .1 .1 .0)) (level .ensures) (upright .ensures),
+          (omega (arith, room .level, level .kept .0)) (omega (arith, room .upright, upright .kept .0))
+          (omega (arith, room .level-few, level .kept .0)) (omega (arith, room .upright-few, upright .kept .0))
+          (omega (arith, room .level-queue, level .kept .0, level .kept .1 .1 .0))
+          (omega (arith, room .upright-queue, upright .kept .0, upright .kept .1 .1 .0))
+          (level .ensures) (upright .ensures),
     )
 
 same-length : tie.Need-same-length

@@ -1,7 +1,7 @@
 -- The grid, the labels, and where the walk starts.
 use native.Mathlib.Omega.{arith}
 use borrow.Author.Needs.{needs}
-use Rattle.search.proofs.Grid.{points-on}
+use Rattle.search.proofs.Grid.{axis-few, label-room, points-on}
 use Rattle.search.proofs.Search.{found-some, searched}
 use Rattle.search.proofs.labels.Statement.{statement}
 use Rattle.search.proofs.labels.Tie as tie
@@ -28,14 +28,16 @@ build-requires c κs = search needs
 label-requires : tie.Need-label-requires
 label-requires c κs =
     let grid = afterCols c .before .build in
-    let room = atStart c .pre .1 .0 in (
+    let room = atStart c .pre .1 .0 in
+    let columns = axis-few (grid .ensures .column-axis) in
+    let rows = axis-few (grid .ensures .row-axis) in (
       (
-        omega (arith, room .level-links, grid .kept .1 .1 .0),
-        omega (arith, room .upright-links, grid .kept .1 .1 .1 .0),
+        omega (arith, rows, room .level-links, grid .kept .1 .1 .0),
+        omega (arith, columns, room .upright-links, grid .kept .1 .1 .1 .0),
         grid .ensures .column-axis .fits,
         grid .ensures .row-axis .fits,
       ),
-      (atStart c .pre .1 .1, points-on (grid .ensures) (atStart c .pre .0)),
+      (label-room columns rows (atStart c .pre .1 .1), points-on (grid .ensures) (atStart c .pre .0)),
     )
 
 start-at-requires : tie.Need-start-at-requires
@@ -43,19 +45,22 @@ start-at-requires c κs =
     let start = atStart (atLabel c .before) in
     let grid = afterCols (atLabel c .before) .before .build in
     let label = atLabel c .label in
-    let lists = start .pre .1 .1 in (
+    let columns = axis-few (grid .ensures .column-axis) in
+    let rows = axis-few (grid .ensures .row-axis) in
+    let lists = label-room columns rows (start .pre .1 .1) in
+    let column = label .ensures .i-in in (
       (
         grid .ensures .row-axis .fits,
-        omega (arith, label .ensures .i-in, grid .ensures .column-axis .fits .few),
+        omega (arith, column, grid .ensures .column-axis .fits .few),
         label .ensures .j-in,
         omega (arith, lists .level, label .kept .0),
       ),
       (
         (
-          omega (arith, lists .upright, label .kept .1 .0),
+          omega (arith, column, lists .upright, label .kept .1 .0),
           omega (arith, lists .level-inks, label .kept .1 .1 .0),
-          omega (arith, lists .upright-inks, label .kept .1 .1 .1 .0),
-          omega (arith, start .pre .1 .0 .upright-links, grid .kept .1 .1 .1 .0),
+          omega (arith, column, lists .upright-inks, label .kept .1 .1 .1 .0),
+          omega (arith, column, columns, start .pre .1 .0 .upright-links, grid .kept .1 .1 .1 .0),
         ),
         found-some (start .pre .0) (grid .ensures) (label .ensures),
       ),
@@ -99,13 +104,15 @@ returns c =
     let start = atStart (atLabel (c .before) .before) in
     let grid = atBuild c .build in
     let label = atLabel (c .before) .label in
-    let lists = start .pre .1 .1 in
+    let columns = axis-few (grid .ensures .column-axis) in
+    let rows = axis-few (grid .ensures .row-axis) in
+    let lists = label-room columns rows (start .pre .1 .1) in
     let room = start .pre .1 .0 in
     searched (start .pre .0) (grid .ensures) (omega (arith, lists .level, label .kept .0))
     (omega (arith, lists .upright, label .kept .1 .0)) (omega (arith, lists .level-inks, label .kept .1 .1 .0))
     (omega (arith, lists .upright-inks, label .kept .1 .1 .1 .0))
-    (omega (arith, room .level-links, grid .kept .1 .1 .0))
-    (omega (arith, room .upright-links, grid .kept .1 .1 .1 .0)) (label .ensures) (c .start-at .ensures)
+    (omega (arith, rows, room .level-links, grid .kept .1 .1 .0))
+    (omega (arith, columns, room .upright-links, grid .kept .1 .1 .1 .0)) (label .ensures) (c .start-at .ensures)
 
 pub labels-spec : {M : Type 1} → statement M
 labels-spec =

@@ -53,8 +53,8 @@ same-length-3 c = search needs
 
 returns : tie.Need-returns
 returns c =
-    seeded (c .args .labels .now) (c .args .inks .now) (c .args .queue .now) _ _ (c .pre .0) (c .pre .1) (c .pre .2)
-    (c .pre .3) (c .pre .4) (c .pre .5)
+    seeded (c .args .labels .now) (c .args .inks .now) (c .args .queue .now) _ _ (c .pre .1) (c .pre .2) (c .pre .3)
+    (c .pre .4) (c .pre .5)
 
 pub seed-spec : {M : Type 1} → statement M
 seed-spec =

@@ -44,8 +44,9 @@ cast-t19 c =
 
 returns-2 : tie.Need-returns-2
 returns-2 c =
-    upright-start (not-ff _ (atChoice c .before .if1 .left))
-    (rw (c .before .if2 .taken) at (atChoice c .starts-upright .ensures))
+    let at-choice = c .before .before in
+    upright-start (not-ff _ (at-choice .before .if1 .left))
+    (rw (c .before .if2 .taken) at (at-choice .starts-upright .ensures))
 
 mul-t20 : tie.Need-mul-t20
 mul-t20 c = search needs
