@@ -4,7 +4,7 @@ use native.Mathlib.Omega.{arith}
 use mathlib.Core.Path.{_≡_, refl, sym, ap, _∙_}
 use mathlib.Core.Bool.{Bool, true, false, cond, or-true}
 use mathlib.Core.List.{List, [], _∷_, _++_, append-nil}
-use mathlib.Core.Option.{Option, none, some, Option·getD}
+use mathlib.Core.Option.{Option, none, some}
 use lib.ListN.{length}
 use borrow.Author.Tests.{le-leb, eq-eqb}
 use Rattle.foil_spec.specs.Lists.{all, any, each}
@@ -12,21 +12,19 @@ use Rattle.foil_spec.specs.Limits.{cornerPlaces}
 use Rattle.foil_spec.specs.Foil.{Point, Layout, noFoil, free}
 use Rattle.foil_spec.specs.Strips.{Strip}
 use Rattle.foil_spec.specs.Paths.{at, bends}
-use Rattle.foil_spec.specs.Ledger.{stripsOf, pathOf, noPath, cornersOf, short, cornerRoom, tooFine, next, says, first}
+use Rattle.foil_spec.specs.Ledger.{stripsOf, cornersOf, short, cornerRoom, tooFine, next, says, first}
 use Rattle.foil_spec.specs.Ledger.{Step, newFoil, draw, lay, lift, lookUp, Answer, numberOf, refusals, afterLent}
 use Rattle.foil_spec.specs.Ledger.{After, settle, refusalOf, ledgerStep}
 use Rattle.foil_spec.specs.Job.{jobRoom, steps, isEnd, recordEnd, recordChecks}
 use Rattle.foil_spec.specs.Calls.{runRecord, ran, endsJob, andThen, actAll, actRecord, wholeRefusals, reply, ledgerCall}
-use Rattle.list_laws.proofs.Tests.{clash, and-i, all-append}
+use Rattle.list_laws.proofs.Tests.{and-i, all-append}
 use Rattle.list_laws.proofs.Members.{each-append}
 use Rattle.path_laws.proofs.FirstPath.{of-path}
-use Rattle.path_laws.proofs.Laws.{gives-first}
 use Rattle.ledger_laws.specs.Line.{but, numbersFrom, ownNumbers}
 use Rattle.ledger_laws.specs.Numbers.{among}
 use Rattle.ledger_laws.proofs.Refusals.{first-passes}
-use Rattle.ledger_laws.proofs.Legs.{free-inside}
 use Rattle.ledger_laws.proofs.Kept.{step-keeps, call-keeps}
-use Rattle.ledger_laws.proofs.Lay.{has-path}
+use Rattle.ledger_laws.proofs.Lay.{Laid, first-laid}
 use Rattle.ledger_laws.proofs.Numbers.{answer-passes}
 use Rattle.bend_bound.proofs.Room.{corners-few, step-passes, Fine, fine-kept, no-foil-fine}
 use Rattle.lines.specs.Lines.{stripLine}
@@ -66,26 +64,17 @@ number-passes : (p : ℕ → Bool) (s : Step) (l : Layout) → tooFine l ≡ fal
     → p (numberOf (ledgerStep jobRoom s l .answer)) ≡ true
 number-passes p s l fine z h = answer-passes p z jobRoom s l (step-passes jobRoom job-room job-long p s h l fine)
 
--- a path has a corner
-corner-there : (l : Layout) (S T : Point) → noPath (pathOf l S T) ≡ false → 1 ≤ length (cornersOf l S T)
-unfolding cornersOf noPath pathOf
-corner-there l S T h = go (pathOf l S T) refl h
-  where
-    go : (o : Option (List Point)) → pathOf l S T ≡ o → noPath o ≡ false → 1 ≤ length (Option·getD o [])
-    go none e k = clash refl k
-    go (some cs) e k =
-        let a = gives-first (free l) (l .width) (l .height) (free-inside l) S (at T) cs e in
-        omega (arith, ap length (of-path (free l) S (at T) cs (a .path) .is))
-
--- a track that is laid has a path, and room for its corners
+-- a track that is laid is a path, which has a corner, and has room for its corners
 laid-possible : (l : Layout) (net : ℕ) (S T : Point) → tooFine l ≡ false
     → refusalOf jobRoom false (lay net S T) l ≡ none
     → possible (laidTrack net (bends (cornersOf l S T)) (cornersOf l S T)) ≡ true
 unfolding possible
 laid-possible l net S T fine e =
     let cs : List Point = cornersOf l S T in
+    let laid : Laid jobRoom false l net S T cs (bends cs) = record { unrefused = e; corners = refl; bent = refl } in
+    let first-is = first-laid jobRoom false l net S T cs (bends cs) laid .0 in
     simp (
-      le-leb 1 (length cs) (corner-there l S T (has-path jobRoom false l net S T e)),
+      le-leb 1 (length cs) (omega (arith, ap length (of-path (free l) S (at T) cs (first-is .path) .is))),
       le-leb (length cs) cornerPlaces (corners-few l S T fine),
       eq-eqb (bends cs) (bends cs) refl,
     )

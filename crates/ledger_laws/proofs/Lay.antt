@@ -121,8 +121,7 @@ laid-on r m net S T cs n h =
     let a = settled-laid o net S T (held m) _ m cs n h in
     record { unrefused = a .0; corners = a .1; bent = a .2 }
 
--- a lay that is not refused has a path
-pub has-path : (r : Room) (b : Bool) (l : Layout) (net : ℕ) (S T : Point)
+has-path : (r : Room) (b : Bool) (l : Layout) (net : ℕ) (S T : Point)
     → refusalOf r b (lay net S T) l ≡ none → noPath (pathOf l S T) ≡ false
 unfolding refusals
 has-path r b l net S T h =
