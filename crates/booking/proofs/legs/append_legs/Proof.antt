@@ -1,6 +1,6 @@
 -- `booking::legs::append_legs` meets its contract: after j turns the rows have the first j legs.
 use native.Mathlib.Omega.{arith}
-use Prim.Native.Nat.{_+_, _-_, _<_}
+use Prim.Native.Nat.{_+_, _-_}
 use mathlib.Core.Path.{_≡_, refl}
 use lib.ListN.{length}
 use Rattle.booking.proofs.Appending.{Going, going-none, going-more, going-all, single}
@@ -28,10 +28,16 @@ atLoop c = c .before .before .before .before .before
 
 append-leg-requires : tie.Need-append-leg-requires Inv-loop μ-loop
 append-leg-requires c κs =
-    let p = atStart (c .before .before) .pre .1 in
-    let l : 0 < atStart (c .before .before) .args .k = omega arith in
-    let small = (p .small-x 0 l, p .small-y 0 l) in
-    ((omega arith, omega arith), ((omega (arith, p .long), omega (arith, p .long)), (small, small)))
+    let p = atStart (c .before .before) .pre .1 in (
+      (omega arith, omega arith),
+      (
+        (omega (arith, p .long), omega (arith, p .long)),
+        (
+          (p .small-x 0 (omega arith), p .small-y 0 (omega arith)),
+          (p .small-x 0 (omega arith), p .small-y 0 (omega arith)),
+        ),
+      ),
+    )
 
 add-result : tie.Need-add-result Inv-loop μ-loop
 add-result c = omega arith
