@@ -140,7 +140,8 @@ fn visit(
     requires { ⌜ (n * stride ≤ length (now other)) × (n * stride ≤ length (now inks))
         × (line * stride + stride ≤ length (now own)) ⌝ }
     requires { ⌜ Low (now other) (now inks) line n v × (across (now other) line k ≡ v) ⌝ }
-    requires { ⌜ Room line (now labels) (now queue) q × (stride ≤ length (now ahead)) × (stride ≤ length (now behind)) ⌝ }
+    requires { ⌜ Room line (now labels) (now queue) q × (stride ≤ length (now ahead))
+        × (stride ≤ length (now behind)) ⌝ }
     requires { ⌜ (low ≡ floor v) × Joined (now edge) (now labels) line n (floor v) ⌝ }
     ensures { λ r. ⌜ Visit (now (other .entry)) (now (inks .entry)) (now (edge .entry)) (now (cross .entry)) line n k v
         (now (labels .entry)) (now (labels .exit)) (now (own .entry)) (now (own .exit))
@@ -208,7 +209,8 @@ fn label_queue(
     q: usize,
 ) -> usize
     requires { ⌜ (m ≤ stride) × Lines (now cross) n × (1 ≤ v) × (v < labelTop) × (a ≤ b) × (b ≤ area) ⌝ }
-    requires { ⌜ (n * stride ≤ length (now other)) × (n * stride ≤ length (now inks)) × (m * stride ≤ length (now own)) ⌝ }
+    requires { ⌜ (n * stride ≤ length (now other)) × (n * stride ≤ length (now inks))
+        × (m * stride ≤ length (now own)) ⌝ }
     requires { ⌜ (m * stride ≤ length (now edge)) × (2 * b ≤ length (now from)) × (stride ≤ length (now ahead))
         × (stride ≤ length (now behind)) ⌝ }
     requires { ⌜ Room (m - 1) (now labels) (now queue) q × Lean n m (now other) (now inks) ⌝ }

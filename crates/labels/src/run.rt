@@ -3,9 +3,9 @@
 use grid::STRIDE;
 ghost use Prim.Native.Nat.{_+_, _-_, _*_, _≤_, _<_, min};
 ghost use mathlib.Core.Path.{_≡_};
-ghost use lib.ListN.{getD, length};
+ghost use lib.ListN.{length};
 ghost use Rattle.foil_spec.specs.Paths.{gap};
-ghost use Rattle.grid.specs.Size.{stride, area};
+ghost use Rattle.grid.specs.Size.{stride};
 ghost use Rattle.grid.specs.Lines.{Lines};
 ghost use Rattle.labels.specs.Line.{across, RunStart, RunEnd, isStop, Scanned, Stop, labelTop};
 ghost use Rattle.labels.specs.Ink.{Low, Carried, Ahead, Behind, InkPut, Blank, RunInked};
@@ -117,8 +117,10 @@ fn scan(
     v: u32,
     s: u32,
 ) -> usize
-    requires { ⌜ (line < stride) × Lines (now cross) n × (lo ≤ n) × (v < labelTop) × (line * stride + stride ≤ length (now edge)) ⌝ }
-    requires { ⌜ (n * stride ≤ length (now other)) × (n * stride ≤ length (now inks)) × Low (now other) (now inks) line n v ⌝ }
+    requires { ⌜ (line < stride) × Lines (now cross) n × (lo ≤ n) × (v < labelTop)
+        × (line * stride + stride ≤ length (now edge)) ⌝ }
+    requires { ⌜ (n * stride ≤ length (now other)) × (n * stride ≤ length (now inks))
+        × Low (now other) (now inks) line n v ⌝ }
     ensures { λ r. ⌜ Scanned (now (other .entry)) (now (inks .entry)) (now (edge .entry)) (now (cross .entry))
         line n lo x v s r ⌝ }
 {
@@ -147,8 +149,10 @@ pub fn next_stop(
     v: u32,
     s: u32,
 ) -> usize
-    requires { ⌜ (line < stride) × Lines (now cross) n × (at < n) × (v < labelTop) × (line * stride + stride ≤ length (now edge)) ⌝ }
-    requires { ⌜ (n * stride ≤ length (now other)) × (n * stride ≤ length (now inks)) × Low (now other) (now inks) line n v ⌝ }
+    requires { ⌜ (line < stride) × Lines (now cross) n × (at < n) × (v < labelTop)
+        × (line * stride + stride ≤ length (now edge)) ⌝ }
+    requires { ⌜ (n * stride ≤ length (now other)) × (n * stride ≤ length (now inks))
+        × Low (now other) (now inks) line n v ⌝ }
     ensures { λ r. ⌜ Stop (now (other .entry)) (now (inks .entry)) (now (edge .entry)) (now (cross .entry))
         line n at v s r ⌝ }
 {
@@ -194,7 +198,8 @@ pub fn ahead_of(
     v: u32,
 )
     requires { ⌜ (line < stride) × Lines (now cross) n × (hi ≤ n) × (lo ≤ h) × (h < hi) × (v < labelTop) ⌝ }
-    requires { ⌜ (n * stride ≤ length (now other)) × (n * stride ≤ length (now inks)) × (stride ≤ length (now ahead)) ⌝ }
+    requires { ⌜ (n * stride ≤ length (now other)) × (n * stride ≤ length (now inks))
+        × (stride ≤ length (now ahead)) ⌝ }
     requires { ⌜ Low (now other) (now inks) line n v × (across (now other) line h ≡ v) ⌝ }
     ensures { λ _. ⌜ Ahead (now (other .entry)) (now (inks .entry)) (now (cross .entry)) line v lo hi lo
         (now (ahead .exit)) ⌝ }
@@ -223,7 +228,8 @@ pub fn behind_of(
     v: u32,
 )
     requires { ⌜ (line < stride) × Lines (now cross) n × (hi ≤ n) × (lo ≤ h) × (h < hi) × (v < labelTop) ⌝ }
-    requires { ⌜ (n * stride ≤ length (now other)) × (n * stride ≤ length (now inks)) × (stride ≤ length (now behind)) ⌝ }
+    requires { ⌜ (n * stride ≤ length (now other)) × (n * stride ≤ length (now inks))
+        × (stride ≤ length (now behind)) ⌝ }
     requires { ⌜ Low (now other) (now inks) line n v × (across (now other) line h ≡ v) ⌝ }
     ensures { λ _. ⌜ Behind (now (other .entry)) (now (inks .entry)) (now (cross .entry)) line v lo hi hi
         (now (behind .exit)) ⌝ }
@@ -250,7 +256,8 @@ fn ink_of(ahead: u32, behind: u32, x: u16) -> u32
 
 // Gives crossing k of a line the ink s, if it has no label.
 fn put_ink(own: &mut [u32], labels: &[u32], line: usize, k: usize, s: u32)
-    requires { ⌜ (line < stride) × (k < stride) × (line * stride + stride ≤ length (now own)) × (line * stride + stride ≤ length (now labels)) ⌝ }
+    requires { ⌜ (line < stride) × (k < stride) × (line * stride + stride ≤ length (now own))
+        × (line * stride + stride ≤ length (now labels)) ⌝ }
     ensures { λ _. ⌜ InkPut line k s (now (labels .entry)) (now (own .entry)) (now (own .exit)) ⌝ }
 {
     if labels[line * STRIDE + k] != 0 {
@@ -276,7 +283,8 @@ pub fn ink_run(
 )
     requires { ⌜ (line < stride) × Lines (now cross) n × (hi ≤ n) × (lo ≤ hi) ⌝ }
     requires { ⌜ (stride ≤ length (now ahead)) × (stride ≤ length (now behind)) ⌝ }
-    requires { ⌜ (line * stride + stride ≤ length (now own)) × (line * stride + stride ≤ length (now labels)) ⌝ }
+    requires { ⌜ (line * stride + stride ≤ length (now own))
+        × (line * stride + stride ≤ length (now labels)) ⌝ }
     requires { ⌜ Ahead (now other) (now inks) (now cross) line v lo hi lo (now ahead)
         × Behind (now other) (now inks) (now cross) line v lo hi hi (now behind) ⌝ }
     ensures { λ _. ⌜ RunInked (now (other .entry)) (now (inks .entry)) (now (cross .entry)) line v lo hi hi

@@ -285,6 +285,7 @@ module _ {z : List ℕ} {n w h : ℕ} {S T : Point} (P : Posed z n w h S T) {col
           }
 
   pub searched : {b : Bool} {s : Start} → Labelling cols rows kl ku nc nr S T i j b l u wl wu
-      → Starts l u wl wu ku rows nc nr i j b s → Searched (firstPath (boxFree w h n z) w h S T) cols rows kl ku l u wl wu s
+      → Starts l u wl wu ku rows nc nr i j b s
+      → Searched (firstPath (boxFree w h n z) w h S T) cols rows kl ku l u wl wu s
   searched B nowhere = searched-none B
   searched B (goes up c) = searched-some B up c

@@ -85,7 +85,8 @@ module _ (lab inks queue : List ℕ) (line k m n : ℕ) (S : Seeded lab inks que
 -- both lists are seeded at the crossing (i, j)
 pub begun : {l u wl wu ql qu : List ℕ} {nc nr i j : ℕ} → nc ≤ stride → nr ≤ stride → i < nc → j < nr
     → nr * stride ≤ length l → nc * stride ≤ length u → length l ≤ area → length u ≤ area
-    → 2 * length l ≤ length ql → 2 * length u ≤ length qu → Seeded l wl ql j i → Seeded u wu qu i j → Begun l u wl wu ql qu nc nr
+    → 2 * length l ≤ length ql → 2 * length u ≤ length qu → Seeded l wl ql j i → Seeded u wu qu i j
+    → Begun l u wl wu ql qu nc nr
 begun {l} {u} {wl} {wu} {ql} {qu} {nc} {nr} {i} {j} fc fr li lj al au tl tu bl bu L U =
     record {
       level = seeded-queue l wl ql j i nr nc L fr fc lj li;

@@ -7,8 +7,8 @@ use Rattle.search.proofs.path_in.Tie as tie
 
 -- from the first test back to the labels, and from the walk to where the corners fit
 abbrev atLabels : tie.After-slice-known23 → tie.After-labels
-atLabels c = c .before .before .before .before .before .before .before .before .before .before .before .before .before .before
-    .before .before .before .before .before .before .before .before
+atLabels c = c .before .before .before .before .before .before .before .before .before .before .before .before
+    .before .before .before .before .before .before .before .before .before .before
 
 abbrev itFits : tie.After-walk-arg9 → tie.Else2
 itFits c = c .before .before .before .before .before .before .before .before .before

@@ -71,7 +71,8 @@ returns : tie.Need-returns
 returns c =
     record {
       writes = λ cs ready.
-          upright-written cs _ _ _ _ _ _ _ _ _ ready _ _ (atStart (atFirst (goesUpright c)) .pre .1) (goesUpright c .if1 .taken)
+          upright-written cs _ _ _ _ _ _ _ _ _ ready _ _ (atStart (atFirst (goesUpright c)) .pre .1)
+          (goesUpright c .if1 .taken)
           (upright-label ready (goesUpright c .if1 .taken)) (atFirst (goesUpright c) .put-corner .ensures)
           (c .before .before .upright-step .ensures);
     }

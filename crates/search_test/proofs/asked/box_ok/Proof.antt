@@ -2,14 +2,19 @@
 use native.Mathlib.Omega.{arith}
 use mathlib.Core.Path.{sym}
 use mathlib.Core.Bool.{true≢false}
-use borrow.Author.Needs.{needs}
 use borrow.Author.Tests.{leb-true}
 use Rattle.search_test.proofs.asked.box_ok.Statement.{statement}
 use Rattle.search_test.proofs.asked.box_ok.Tie as tie
 
--- back to the entry
+-- back to the entry, and to where it has a width and a height
 abbrev atEntry : tie.Else3 → tie.After-entry-at
 atEntry c = c .before .before .before .before .before .before
+
+abbrev isWide : tie.Else3 → tie.Else1
+isWide c = c .before .before .before .before
+
+abbrev isHigh : tie.Else3 → tie.Else2
+isHigh c = c .before .before
 
 entry-at-requires : tie.Need-entry-at-requires
 entry-at-requires c κs = omega (arith, c .entry-at-arg .given .0)
@@ -27,8 +32,8 @@ returns-4 : tie.Need-returns-4
 returns-4 c = λ e.
     rw (← atEntry (c .before) .entry-at .ensures)
     (record {
-      across = c .before .before .before .before .before .if1 .left;
-      down = c .before .before .before .if2 .left;
+      across = isWide (c .before) .if1 .left;
+      down = isHigh (c .before) .if2 .left;
       right = c .before .if3 .left;
       bottom = leb-true _ _ e;
     })

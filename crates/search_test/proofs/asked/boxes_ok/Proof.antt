@@ -1,7 +1,7 @@
 -- `search_test::asked::boxes_ok` meets its contract: the entries up to i are not empty and on the board.
-use Prim.Native.Nat.{ℕ, _≤_, _-_}
+use Prim.Native.Nat.{_≤_, _-_}
 use native.Mathlib.Omega.{arith}
-use mathlib.Core.Path.{_≡_, sym}
+use mathlib.Core.Path.{sym}
 use mathlib.Core.Bool.{true≢false}
 use borrow.Author.Count.{below-more}
 use borrow.Author.Needs.{needs}
