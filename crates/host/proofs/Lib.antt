@@ -1,6 +1,8 @@
 -- What the proofs of the calls over structs share.
 pub mod Shared
 pub mod Plain
+pub mod Walks
+pub mod Values
 pub mod Places
 pub mod Flats
 pub mod Fronts

@@ -21,7 +21,7 @@ array-borrow-prefix-a c = omega (
   arith,
   c .numbers-lent .ensures,
   full (c .before .before .before .before .args .t)
-      (c .before .before .before .before .good .1 .1 .0),
+      (c .before .before .before .before .good .1 .0),
 )
 
 slice-aggregate-lay : tie.Need-slice-aggregate-lay
@@ -31,7 +31,7 @@ slice-aggregate-lay c =
       arith,
       c .before .numbers-lent .ensures,
       full (c .before .before .before .before .before .args .t) (c .before .before .before .before .before .good .1
-          .1 .0),
+          .0),
       length-take (c .before .numbers-lent .result) (c .before .before .before .before .before .args .t .at),
     )
 
@@ -52,7 +52,7 @@ returns c =
     flat-done _ _ _ _ _ _ _ _ _ _ _
     (full (c .before .before .before .before .before .before .before .before .before .before .before .before
     .before .before .args .t) (c .before .before .before .before .before .before .before .before .before .before
-    .before .before .before .before .good .1 .1 .0))
+    .before .before .before .before .good .1 .0))
     (c .before .before .before .before .before .before .before .before .before .before .numbers-lent .ensures)
     (c .before .before .before .before .before .a3 .given)
     (c .before .before .before .before .before .before .lay .ensures) (c .leave .ensures)

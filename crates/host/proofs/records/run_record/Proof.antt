@@ -22,7 +22,7 @@ array-borrow-prefix-a c =
       arith,
       c .numbers-lent .ensures,
       full (c .before .before .before .before .before .args .t) (c .before
-          .before .before .before .before .good .1 .1 .1 .0),
+          .before .before .before .before .good .1 .0),
     )
 
 slice-aggregate-run-record : tie.Need-slice-aggregate-run-record
@@ -32,7 +32,7 @@ slice-aggregate-run-record c =
       arith,
       c .before .numbers-lent .ensures,
       full (c .before .before .before .before .before .before .args .t) (c .before .before .before .before .before
-          .before .good .1 .1 .1 .0),
+          .before .good .1 .0),
       length-take (c .before .numbers-lent .result) (c .before .before .before .before .before .before .args .t .at),
     )
 
@@ -53,7 +53,7 @@ returns c =
     flat-ran _ _ _ _ _ _ _ _ _ _ _ _
     (full (c .before .before .before .before .before .before .before .before .before .before .before .before
     .before .before .before .args .t) (c .before .before .before .before .before .before .before .before .before
-    .before .before .before .before .before .before .good .1 .1 .1 .0))
+    .before .before .before .before .before .before .good .1 .0))
     (c .before .before .before .before .before .before .before .before .before .before .numbers-lent .ensures)
     (c .before .before .before .before .before .a3 .given)
     (c .before .before .before .before .before .before .run-record .ensures) (c .leave .ensures)
