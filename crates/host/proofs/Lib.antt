@@ -3,6 +3,8 @@ pub mod Shared
 pub mod Plain
 pub mod Walks
 pub mod Values
+pub mod Locals
+pub mod Words
 pub mod Places
 pub mod Flats
 pub mod Fronts

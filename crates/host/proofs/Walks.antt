@@ -4,7 +4,6 @@
 --     meets-by        a run meets a contract that requires nothing, by a walk from its parameters at their machine values
 --     calls-for       a call: it gives the tokens back, the last lists, and what is ensured
 --     opens-record, looks-into     a record by `&mut` is opened, or by `&` is looked into, at its machine value
---     drops           at a function's end: a local is emptied and freed
 --     ends-with, ends-saying       a walk ends: with the tokens, the last lists, the result, and what is ensured
 use mathlib.Core.Path.{_≡_, sym, ap, subst}
 use Prim.Native.Nat.{ℕ, zero}
@@ -44,6 +43,11 @@ use denote.Triple.Statement.{Contract, Triple}
 use denote.Triple.Call.{calls-from}
 use denote.Triple.Clauses.{Ended, Clauses, Lasts, atExit, lasts, ensured, closing}
 
+-- a tuple's parts in a row
+abbrev pub _⨾_ {α β} : {X : Type α} {Y : Type β} → X → Y → X × Y
+x ⨾ y = (x, y)
+
+infixr 20 _⨾_
 -- ---- types by value
 
 pub record ByValue (R : RattleType) : Type 2 where
@@ -161,7 +165,7 @@ module _ {M : Type 1} {𝓤 : URA M} {H : Heap 𝓤} {A : Atoms 𝓤} {W : Given
       subst (λ (u : Val). Sq W (Leaves 𝓤 H A T c y r ws Γ) (lands C Λ E d u rest q)) (sym (ap only at))
       (k r same (typed-at W B r same) ws)))))
 
--- ---- records behind references, and a function's end
+-- ---- values, and records behind references
 
 module _ {M : Type 1} {𝓤 : URA M} {H : Heap 𝓤} {A : Atoms 𝓤} {K : Type 0} {W : Given 𝓤 H A} {Γ : List (Item 𝓤)}
     {G : Goal 𝓤 H} where
@@ -191,25 +195,6 @@ module _ {M : Type 1} {𝓤 : URA M} {H : Heap 𝓤} {A : Atoms 𝓤} {K : Type 
       looks t z R (Is R) (shows 𝓤 H A R) (λ x. B .val x ∷ []) (B .tells) cp h b o (λ q′ vs.
       spelt t R (Is R) (shows 𝓤 H A R) (λ x. B .val x ∷ []) (B .tells) q′ h vs b o $ move t (1 ∷ []) $
       peeks t R (Is R) (shows 𝓤 H A R) h (B .val h ∷ []) (λ g. move t (1 ∷ 0 ∷ []) $ k q′ g))
-
-  pub drops : K → (n : ℕ) {τ : Ty} {b : ℕ} {v : Val} {E : Env 𝓤 H} → nth 𝓤 H A n Γ ≡ ‵ (fat fullShare τ b zero v)
-      → nth 𝓤 H A n (del 𝓤 H A n Γ) ≡ ‵ (fdies τ b)
-      → Step K W (del 𝓤 H A n (del 𝓤 H A n Γ)) (frees E G) Γ (frees ((τ, b) ∷ E) G)
-  drops t n {τ} {b} {v} at dies =
-      step (λ s.
-      let Δ : List (Item 𝓤) = del 𝓤 H A n Γ in
-      let Θ : List (Item 𝓤) = del 𝓤 H A n Δ in
-      record {
-        prf =
-            via 𝓤 (sep 𝓤 (H .at fullShare τ b zero v) (⋆ 𝓤 H A Δ))
-            (subst (λ (j : Item 𝓤). ent 𝓤 (⋆ 𝓤 H A Γ) (sep 𝓤 (mean 𝓤 H A j) (⋆ 𝓤 H A Δ))) at (pull 𝓤 H A n Γ))
-            (via 𝓤 (sep 𝓤 (H .room τ b zero) (⋆ 𝓤 H A Δ)) (monoL 𝓤 (⋆ 𝓤 H A Δ) (W .laws .at-room τ b zero v))
-            (via 𝓤 (⋆ 𝓤 H A (‵ (froom τ b zero) ∷ ‵ (fdies τ b) ∷ Θ))
-            (monoR 𝓤 (H .room τ b zero) (via 𝓤 (sep 𝓤 (H .dies τ b) (⋆ 𝓤 H A Θ))
-            (subst (λ (j : Item 𝓤). ent 𝓤 (⋆ 𝓤 H A Δ) (sep 𝓤 (mean 𝓤 H A j) (⋆ 𝓤 H A Θ))) dies (pull 𝓤 H A n Δ))
-            (push 𝓤 H A (‵ (fdies τ b)) Θ)))
-            ((free1 t $ s) .prf)));
-      })
 
 -- ---- how a walk ends
 
