@@ -107,8 +107,9 @@ class Param:
             return '(in-slice (%s .0 .1 .0))' % fact
         if self.ref:
             return '(tt, tt)'
-        return '(tt, record { fits = %s .1 })' % fact if self.type in WIDTHS else '(typed-at W %s (%s) (%s) .0)' % (
-            value(self.type), fact.replace('are', 'a'), fact)
+        if self.type in WIDTHS:
+            return '(in-number (%s .1))' % fact
+        return '(typed-at W %s (%s) (%s) .0)' % (value(self.type), fact.replace('are', 'a'), fact)
 
 
 # ---- the steps of a walk
@@ -379,7 +380,7 @@ def wrapped(lines):
                 break
             spaces = [i for i in range(len(indent) + 8 if first else 8, room) if line[i] == ' ']
             spots = [i for i in spaces if comment or not kept[begin + i]]
-            cut = max([i for i in spots if line[i - 1] == '$' and i > 60] or spots or spaces)
+            cut = max([i for i in spots if line[i - 1] == '$' and i > 85] or spots or spaces)
             out.append((line if first else going_on + line)[:cut + (0 if first else len(going_on))])
             skipped = len(line) - len(line[cut:].lstrip())
             begin, line, first = begin + skipped, line[skipped:], False
@@ -408,7 +409,7 @@ WORDS = (
     'returns enter params1 pass1 pass0 whole sub look-in lft-new lft-end fmOf owns Spells valss uint-vals uint-tells u8 '
     'u16 u32 u64 usize ptr-vals mut-tells shr-tells MutSlice ShrSlice slice-vals mut-slice-tells shr-slice-tells typesAt '
     'heard nothing closes shuts Args Vals Meets tripleOf entered cited Walk meets-by and-nothing calls-for typed-at '
-    'has-value opens-record looks-into ends-with ends-saying of-nothing allocates releases arg in-slice lends-on').split()
+    'has-value opens-record looks-into ends-with ends-saying of-nothing allocates releases arg in-slice in-number lends-on').split()
 
 
 def words_in(text):

@@ -32,4 +32,4 @@ pub use denote.Triple.Spec.{Meets, tripleOf}
 pub use denote.Triple.Table.{entered, cited}
 pub use Rattle.host.proofs.Walks.{Walk, meets-by, and-nothing, calls-for, typed-at, has-value, opens-record}
 pub use Rattle.host.proofs.Walks.{looks-into, ends-with, ends-saying, of-nothing}
-pub use Rattle.host.proofs.Locals.{allocates, releases, arg, in-slice, lends-on}
+pub use Rattle.host.proofs.Locals.{allocates, releases, arg, in-slice, in-number, lends-on}

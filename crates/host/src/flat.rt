@@ -57,12 +57,13 @@ pub fn put(f: Flat, i: usize, e: Entry) -> Flat
     ensures { λ r. ⌜ r ≡ withEntry f i e ⌝ }
 {
     if i < 128 {
+        let k = i * 5;
         let mut a = f.at;
-        a[i * 5] = e.net;
-        a[i * 5 + 1] = e.x0;
-        a[i * 5 + 2] = e.y0;
-        a[i * 5 + 3] = e.x1;
-        a[i * 5 + 4] = e.y1;
+        a[k] = e.net;
+        a[k + 1] = e.x0;
+        a[k + 2] = e.y0;
+        a[k + 3] = e.x1;
+        a[k + 4] = e.y1;
         Flat { at: a, len: f.len }
     } else {
         f
@@ -74,13 +75,14 @@ pub fn pick(f: Flat, i: usize) -> Entry
     ensures { λ r. ⌜ r ≡ entryAt (f .at) i ⌝ }
 {
     if i < 128 {
+        let k = i * 5;
         let a = f.at;
         Entry {
-            net: a[i * 5],
-            x0: a[i * 5 + 1],
-            y0: a[i * 5 + 2],
-            x1: a[i * 5 + 3],
-            y1: a[i * 5 + 4],
+            net: a[k],
+            x0: a[k + 1],
+            y0: a[k + 2],
+            x1: a[k + 3],
+            y1: a[k + 4],
         }
     } else {
         Entry {

@@ -12,7 +12,8 @@ use Rattle.host.proofs.Words.{assigns, land, returns, enter, params1, p
 use Rattle.host.proofs.Words.{fmOf, owns, Spells, valss, uint-vals, uint-tells, u16, ptr-vals, mut-tells}
 use Rattle.host.proofs.Words.{slice-vals, mut-slice-tells, typesAt, closes, Args, Vals, Meets, tripleOf}
 use Rattle.host.proofs.Words.{entered, cited, Walk, meets-by, and-nothing, calls-for, typed-at, has-value}
-use Rattle.host.proofs.Words.{opens-record, ends-with, allocates, releases, arg, in-slice, lends-on}
+use Rattle.host.proofs.Words.{opens-record, ends-with, allocates, releases, arg, in-slice, in-number}
+use Rattle.host.proofs.Words.{lends-on}
 use Rattle.host.proofs.Values.{a-Answer, a-Board, a-Left, left-answer, left-board}
 use Rattle.foil_spec.proofs.Board as board
 use Rattle.foil_spec.proofs.Entry as entry
@@ -37,12 +38,8 @@ module _ {M : Type 1} (𝓤 : URA M) (H : Heap 𝓤) (A : Atoms 𝓤) (W : Given
         κs) a vals) ∷ []) ∵
         enter ! (𝓣 .C) (𝓣 .Λ) f.Code.function _ _ $ allocates ! _
         (λ bs. params1 ! $ pass1 ! (init ! 18 refl (tt, tt)) $ pass1 ! (init ! 16 refl (in-slice (are .1 .0 .0 .1
-        .0))) $ pass1 ! (init ! 14 refl (in-slice (are .1 .1 .0 .0 .1 .0))) $ pass1 ! (init ! 12 refl (
-          tt,
-          record {
-            fits = are .1 .1 .1 .0 .1;
-          },
-        )) $ pass0 ! $
+        .0))) $ pass1 ! (init ! 14 refl (in-slice (are .1 .1 .0 .0 .1 .0))) $ pass1 ! (init ! 12 refl (in-number (are
+        .1 .1 .1 .0 .1))) $ pass0 ! $
         -- the record's borrow is opened, and the record copied out
         move ! (23 ∷ []) $ fsplit ! $ fsplit3 ! $ drop ! $ move ! (25 ∷ []) $ split ! $ move ! (2 ∷ 3 ∷ 0 ∷ []) $
         opens-record ! tt a-Board (a .0 .now) (a .0 .ptr .0) (a .0 .ptr .1) (λ g. assigns ! (of-opd ! (load ! (from !

@@ -11,7 +11,7 @@ use Rattle.host.proofs.Words.{assigns, land, returns, enter, params1, p
 use Rattle.host.proofs.Words.{valss, uint-vals, uint-tells, u16, ptr-vals, shr-tells, slice-vals}
 use Rattle.host.proofs.Words.{shr-slice-tells, typesAt, heard, nothing, shuts, Args, Vals, Meets, tripleOf}
 use Rattle.host.proofs.Words.{entered, cited, Walk, meets-by, and-nothing, calls-for, typed-at, has-value}
-use Rattle.host.proofs.Words.{looks-into, ends-saying, allocates, releases, arg, in-slice}
+use Rattle.host.proofs.Words.{looks-into, ends-saying, allocates, releases, arg, in-slice, in-number}
 use Rattle.host.proofs.Values.{a-Answer, a-Board, a-Flat}
 use Rattle.host.proofs.Tables.{whole-looked}
 use denote.Struct.Laws as LL
@@ -41,13 +41,8 @@ module _ {M : Type 1} (𝓤 : URA M) (H : Heap 𝓤) (A : Atoms 𝓤) (W : Given
         ∷ ‵ (owns (typesAt (f.signature .params) κs) a vals) ∷ []) ∵
         enter ! (𝓣 .C) (𝓣 .Λ) f.Code.function _ _ $ allocates ! _
         (λ bs. params1 ! $ pass1 ! (init ! 12 refl (tt, tt)) $ pass1 ! (init ! 10 refl (in-slice (are .1 .0 .0 .1
-        .0))) $ pass1 ! (init ! 8 refl (in-slice (are .1 .1 .0 .0 .1 .0))) $ pass1 ! (init ! 6 refl (
-          tt,
-          record {
-            fits = are .1 .1 .1 .0 .1;
-          },
-        )) $ pass1 ! (init ! 4 refl (tt, record { fits = are .1 .1 .1 .1 .0 .1 })) $ pass0
-        ! $
+        .0))) $ pass1 ! (init ! 8 refl (in-slice (are .1 .1 .0 .0 .1 .0))) $ pass1 ! (init ! 6 refl (in-number (are
+        .1 .1 .1 .0 .1))) $ pass1 ! (init ! 4 refl (in-number (are .1 .1 .1 .1 .0 .1))) $ pass0 ! $
         -- the record is looked into, and copied out
         move ! (17 ∷ []) $ fsplit ! $ fsplit3 ! $ drop ! $ drop ! $ move ! (18 ∷ []) $ split ! $ move ! (2 ∷ 0 ∷ [])
         $ looks-into ! tt a-Board (LL.copy board.the-type board′.the-copy 𝓤 H A W) (a .0 .now) (a .0 .ptr .0) (a .0

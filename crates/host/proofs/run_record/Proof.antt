@@ -13,7 +13,7 @@ use Rattle.host.proofs.Words.{fmOf, owns, Spells, valss, uint-vals, uin
 use Rattle.host.proofs.Words.{mut-tells, slice-vals, mut-slice-tells, shr-slice-tells, typesAt, closes}
 use Rattle.host.proofs.Words.{Args, Vals, Meets, tripleOf, entered, cited, Walk, meets-by, and-nothing}
 use Rattle.host.proofs.Words.{calls-for, typed-at, has-value, opens-record, ends-with, allocates, releases}
-use Rattle.host.proofs.Words.{arg, in-slice, lends-on}
+use Rattle.host.proofs.Words.{arg, in-slice, in-number, lends-on}
 use Rattle.host.proofs.Values.{a-Board, a-Ran, a-Reply, ran-answer, ran-board}
 use Rattle.foil_spec.proofs.Board as board
 use Rattle.foil_spec.proofs.Entry as entry
@@ -40,7 +40,7 @@ module _ {M : Type 1} (𝓤 : URA M) (H : Heap 𝓤) (A : Atoms 𝓤) (W : Given
         (λ bs. params1 ! $ pass1 ! (init ! 26 refl (tt, tt)) $ pass1 ! (init ! 24 refl (in-slice (are .1 .0 .0 .1
         .0))) $ pass1 ! (init ! 22 refl (in-slice (are .1 .1 .0 .0 .1 .0))) $ pass1 ! (init ! 20 refl (in-slice (are
         .1 .1 .1 .0 .0 .1 .0))) $ pass1 ! (init ! 18 refl (in-slice (are .1 .1 .1 .1 .0 .0 .1 .0))) $ pass1 ! (init !
-        16 refl (tt, record { fits = are .1 .1 .1 .1 .1 .0 .1 })) $ pass0 ! $
+        16 refl (in-number (are .1 .1 .1 .1 .1 .0 .1))) $ pass0 ! $
         -- the record's borrow is opened, and the record copied out
         move ! (31 ∷ []) $ fsplit ! $ fsplit3 ! $ drop ! $ move ! (33 ∷ []) $ split ! $ move ! (2 ∷ 3 ∷ 0 ∷ []) $
         opens-record ! tt a-Board (a .0 .now) (a .0 .ptr .0) (a .0 .ptr .1) (λ g. assigns ! (of-opd ! (load ! (from !

@@ -10,7 +10,7 @@ use Rattle.host.proofs.Words.{enter, params1, pass1, pass0, fmOf, owns,
 use Rattle.host.proofs.Words.{uint-tells, u16, ptr-vals, shr-tells, slice-vals, shr-slice-tells, typesAt}
 use Rattle.host.proofs.Words.{heard, nothing, Args, Vals, Meets, tripleOf, entered, cited, Walk, meets-by}
 use Rattle.host.proofs.Words.{and-nothing, calls-for, typed-at, has-value, ends-saying, allocates, releases}
-use Rattle.host.proofs.Words.{arg, in-slice}
+use Rattle.host.proofs.Words.{arg, in-slice, in-number}
 use Rattle.host.proofs.Values.{a-Ink, a-Resistance, an-OhmsSaid}
 use Rattle.foil_spec.proofs.Board as board
 use Rattle.foil_spec.proofs.Entry as entry
@@ -34,22 +34,21 @@ module _ {M : Type 1} (𝓤 : URA M) (H : Heap 𝓤) (A : Atoms 𝓤) (W : Given
     walk are =
         let fm = fmOf 𝓤 H (W .laws) 𝓣 in
         qed W (raw (toks 𝓤 A 3 κs qs) ∷ ‵ (owns (typesAt (f.signature .params) κs) a vals) ∷ []) ∵
-        enter ! (𝓣 .C) (𝓣 .Λ) f.Code.function _ _ $ allocates ! _ (λ bs. params1 ! $
-        pass1 ! (init ! 10 refl (tt, tt)) $ pass1 ! (init ! 8 refl (in-slice (are .1 .0 .0 .1 .0))) $
-        pass1 ! (init ! 6 refl (in-slice (are .1 .1 .0 .0 .1 .0))) $ pass1 ! (init ! 4 refl
-        (tt, record { fits = are .1 .1 .1 .0 .1 })) $ pass1 ! (init ! 2 refl (typed-at W a-Ink (a .1 .1 .1 .1 .0)
-        (are .1 .1 .1 .1 .0) .0)) $ pass0 ! $ move ! (14 ∷ 15 ∷ []) $ join ! $
+        enter ! (𝓣 .C) (𝓣 .Λ) f.Code.function _ _ $ allocates ! _ (λ bs. params1 ! $ pass1 ! (init ! 10 refl
+        (tt, tt)) $ pass1 ! (init ! 8 refl (in-slice (are .1 .0 .0 .1 .0))) $ pass1 ! (init ! 6 refl (in-slice (are
+        .1 .1 .0 .0 .1 .0))) $ pass1 ! (init ! 4 refl (in-number (are .1 .1 .1 .0 .1))) $ pass1 ! (init ! 2 refl
+        (typed-at W a-Ink (a .1 .1 .1 .1 .0) (are .1 .1 .1 .1 .0) .0)) $ pass0 ! $ move ! (14 ∷ 15 ∷ []) $ join ! $
         calls-for core.ended (core.clauses 𝓤 H A mem run) fm known ((κs, qs, tt, a, vals), tt) a-Resistance
         (and-nothing 𝓤 _) (arg ! 11 refl (arg ! 9 refl (arg ! 7 refl (arg ! 5 refl (arg ! 3 refl (no-more !)))))) (λ
-        r is₁ ok₁ ws. land ! (from ! (stop !)) (init ! 3 refl (ok₁ .0)) $ nothing ! $
-        has-value ! a-Resistance r is₁ $ fjoin ! $ nothing ! $ join ! $
+        r is₁ ok₁ ws. land ! (from ! (stop !)) (init ! 3 refl (ok₁ .0)) $ nothing ! $ has-value ! a-Resistance r is₁
+        $ fjoin ! $ nothing ! $ join ! $
         calls-for say.ended (say.clauses 𝓤 H A mem run) fm known-say
         ((tt, tt, tt, (r, tt), (a-Resistance .val r ∷ [], tt)), tt) an-OhmsSaid (and-nothing 𝓤 _) (arg ! 4 refl
-        (no-more !)) (λ s is₂ ok₂ us. land ! (from ! (stop !)) (init ! 18 refl (ok₂ .0)) $
-        returns ! (look ! 18 refl) $ releases ! (_ ∷ _ ∷ _ ∷ _ ∷ _ ∷ _ ∷ []) _ $ move ! (2 ∷ []) $
-        heard ! _ (λ e₁. move ! (4 ∷ []) $ heard ! _ (λ e₂. has-value ! an-OhmsSaid s is₂ $ keep ! (3 ∷ 0 ∷ 4 ∷ []) $
-        by ! (ends-saying W f.ended (f.clauses 𝓤 H A mem run) ((κs, qs, tt, a, vals), tt) (an-OhmsSaid .val s) s ws
-        (factI 𝓤 _ (emp 𝓤) (record { answer = r; said = e₁; holds = e₂ }))))))))
+        (no-more !)) (λ s is₂ ok₂ us. land ! (from ! (stop !)) (init ! 18 refl (ok₂ .0)) $ returns ! (look ! 18 refl)
+        $ releases ! (_ ∷ _ ∷ _ ∷ _ ∷ _ ∷ _ ∷ []) _ $ move ! (2 ∷ []) $ heard ! _ (λ e₁. move ! (4 ∷ []) $
+        heard ! _ (λ e₂. has-value ! an-OhmsSaid s is₂ $ keep ! (3 ∷ 0 ∷ 4 ∷ []) $ by ! (ends-saying W f.ended
+        (f.clauses 𝓤 H A mem run) ((κs, qs, tt, a, vals), tt) (an-OhmsSaid .val s) s ws (factI 𝓤 _ (emp 𝓤) (record
+        { answer = r; said = e₁; holds = e₂ }))))))))
 
   meets : Meets 𝓤 H A f.signature (WpFn 𝓤 H (𝓣 .C) (𝓣 .Λ) f.Code.function) (f.spec 𝓤 H A mem run)
   meets =

@@ -13,7 +13,7 @@ use Rattle.host.proofs.Words.{sub, look-in, lft-new, lft-end, fmOf, own
 use Rattle.host.proofs.Words.{uint-tells, u16, MutSlice, ShrSlice, slice-vals, mut-slice-tells, typesAt}
 use Rattle.host.proofs.Words.{heard, nothing, Args, Vals, Meets, tripleOf, entered, cited, Walk, meets-by}
 use Rattle.host.proofs.Words.{and-nothing, calls-for, typed-at, has-value, ends-saying, of-nothing}
-use Rattle.host.proofs.Words.{allocates, releases, arg, in-slice, lends-on}
+use Rattle.host.proofs.Words.{allocates, releases, arg, in-slice, in-number, lends-on}
 use Rattle.host.proofs.Values.{a-Board, a-Flat, a-Left, left-table}
 use Rattle.host.proofs.Shared.{LentShared, lends-shared, shared-back}
 use Rattle.host.proofs.Tables.{whole-done}
@@ -45,15 +45,10 @@ module _ {M : Type 1} (𝓤 : URA M) (H : Heap 𝓤) (A : Atoms 𝓤) (W : Given
         enter ! (𝓣 .C) (𝓣 .Λ) f.Code.function _ _ $ allocates ! _
         (λ bs. params1 ! $ pass1 ! (init ! 32 refl (typed-at W a-Board (a .0) (are .0) .0)) $ pass1 ! (init ! 30 refl
         (in-slice (are .1 .0 .0 .1 .0))) $ pass1 ! (init ! 28 refl (in-slice (are .1 .1 .0 .0 .1 .0))) $ pass1 !
-        (init ! 26 refl (tt, record { fits = are .1 .1 .1 .0 .1 })) $ pass1 ! (init ! 24 refl (
-          tt,
-          record {
-            fits =
-                are .1 .1 .1 .1 .0 .1;
-          },
-        )) $ pass1 ! (init ! 22 refl (tt, record { fits = are .1 .1 .1 .1 .1 .0 .1 })) $ pass1
-        ! (init ! 20 refl (tt, record { fits = are .1 .1 .1 .1 .1 .1 .0 .1 })) $ pass0 ! $ lends-on ! 30 12 refl refl
-        (init ! 12 refl (tt, tt)) refl refl (init ! 10 refl (in-slice (are .1 .0 .0 .1 .0))) $
+        (init ! 26 refl (in-number (are .1 .1 .1 .0 .1))) $ pass1 ! (init ! 24 refl (in-number (are .1 .1 .1 .1 .0
+        .1))) $ pass1 ! (init ! 22 refl (in-number (are .1 .1 .1 .1 .1 .0 .1))) $ pass1 ! (init ! 20 refl (in-number
+        (are .1 .1 .1 .1 .1 .1 .0 .1))) $ pass0 ! $ lends-on ! 30 12 refl refl (init ! 12 refl (tt, tt)) refl refl
+        (init ! 10 refl (in-slice (are .1 .0 .0 .1 .0))) $
         -- the table is lent as a `&` for the lifetime ν of the first call, and comes back
         move ! (37 ∷ []) $ fsplit ! $ move ! (1 ∷ []) $ fsplit ! $ move ! (39 ∷ []) $ split ! $ lft-new ! tt (λ ν.
         move ! (3 ∷ 1 ∷ []) $ use2 W (later (some (λ (δ : GName). ‵ (ShrSlice (named 0) (ν ∷ []) entry.the-row .own

@@ -13,7 +13,8 @@ use Rattle.host.proofs.Words.{sub, look-in, lft-new, lft-end, fmOf, own
 use Rattle.host.proofs.Words.{uint-tells, u8, u16, MutSlice, ShrSlice, slice-vals, mut-slice-tells}
 use Rattle.host.proofs.Words.{shr-slice-tells, typesAt, heard, nothing, Args, Vals, Meets, tripleOf}
 use Rattle.host.proofs.Words.{entered, cited, Walk, meets-by, and-nothing, calls-for, typed-at, has-value}
-use Rattle.host.proofs.Words.{ends-saying, of-nothing, allocates, releases, arg, in-slice, lends-on}
+use Rattle.host.proofs.Words.{ends-saying, of-nothing, allocates, releases, arg, in-slice, in-number}
+use Rattle.host.proofs.Words.{lends-on}
 use Rattle.host.proofs.Values.{a-Board, a-Flat, a-Ran, ran-table}
 use Rattle.host.proofs.Shared.{LentShared, lends-shared, shared-back}
 use Rattle.host.proofs.Running.{whole-ran}
@@ -45,9 +46,8 @@ module _ {M : Type 1} (𝓤 : URA M) (H : Heap 𝓤) (A : Atoms 𝓤) (W : Given
         (λ bs. params1 ! $ pass1 ! (init ! 34 refl (typed-at W a-Board (a .0) (are .0) .0)) $ pass1 ! (init ! 32 refl
         (in-slice (are .1 .0 .0 .1 .0))) $ pass1 ! (init ! 30 refl (in-slice (are .1 .1 .0 .0 .1 .0))) $ pass1 !
         (init ! 28 refl (in-slice (are .1 .1 .1 .0 .0 .1 .0))) $ pass1 ! (init ! 26 refl (in-slice (are .1 .1 .1 .1
-        .0 .0 .1 .0))) $ pass1 ! (init ! 24 refl (tt, record { fits = are .1 .1 .1 .1 .1 .0 .1 })) $ pass0 ! $
-        lends-on ! 32 16 refl refl (init ! 16 refl (tt, tt)) refl refl (init ! 14 refl (in-slice (are .1 .0 .0 .1
-        .0))) $
+        .0 .0 .1 .0))) $ pass1 ! (init ! 24 refl (in-number (are .1 .1 .1 .1 .1 .0 .1))) $ pass0 ! $ lends-on ! 32 16
+        refl refl (init ! 16 refl (tt, tt)) refl refl (init ! 14 refl (in-slice (are .1 .0 .0 .1 .0))) $
         -- the table is lent as a `&` for the lifetime ν of the first call, and comes back
         move ! (39 ∷ []) $ fsplit ! $ move ! (1 ∷ []) $ fsplit ! $ move ! (41 ∷ []) $ split ! $ lft-new ! tt (λ ν.
         move ! (3 ∷ 1 ∷ []) $ use2 W (later (some (λ (δ : GName). ‵ (ShrSlice (named 0) (ν ∷ []) entry.the-row .own
