@@ -7,6 +7,8 @@ use Rattle.host.specs.declared.records.Ran.{Ran}
 use Rattle.host.proofs.Walks.{ByValue, of-struct, of-enum}
 use Rattle.foil_spec.proofs.Board as board
 use Rattle.foil_spec.proofs.Board.Laws as board′
+use Rattle.foil_spec.proofs.Entry as entry
+use Rattle.foil_spec.proofs.Entry.Laws as entry′
 use Rattle.foil_spec.proofs.Ink as ink
 use Rattle.foil_spec.proofs.Ink.Laws as ink′
 use Rattle.foil.proofs.Answer as answer
@@ -30,6 +32,9 @@ use Rattle.host.proofs.records.RecordSaid.Laws as record-said′
 
 abbrev pub a-Board : ByValue board.the-row
 a-Board = of-struct board.the-type board′.the-laws board′.the-plain
+
+abbrev pub an-Entry : ByValue entry.the-row
+an-Entry = of-struct entry.the-type entry′.the-laws entry′.the-plain
 
 abbrev pub a-Ink : ByValue ink.the-row
 a-Ink = of-struct ink.the-type ink′.the-laws ink′.the-plain
