@@ -6,7 +6,7 @@ and ends with 1 if there are any. What it writes is formatted by `rt fmt`, and c
 
 Four shapes of function have a walk each. A walk follows the MIR statement by statement, so that the body of the
 function must be just as it stands here; `rest` is lists lent as `&mut` or `&`, numbers, and structs by value, in any
-order, the same in all three.
+order, the same in the function and in its core.
 
     public   pub fn f(board: &mut Board, table: &mut [Entry], rest) -> Answer
              { let b = *board; let out = core(b, table, rest); *board = out.board; out.answer }
@@ -23,8 +23,8 @@ order, the same in all three.
 A walk hands `rest` on as one thing, and what the callees ensure unopened, so that it knows nothing of a contract: a
 public call's is its core's at `out.answer` and `out.board`, a told one's is `ToldBy` of its core's, and those of an
 inner function and of a look follow from their core's by the law named with them, of e₁ : t ≡ frontOf es, e₂ : what the
-core ensures, and for an inner function e₃ : es′ ≡ overFront (out .table) es. The laws of walks stand in
-crates/host/proofs/Walks.antt.
+core ensures, and for an inner function e₃ : es′ ≡ overFront (out .table) es. The laws of walks stand in Walks.antt and
+Locals.antt of crates/host/proofs.
 
 A position in a walk counts the items that are held: the last local stands first, and each local is two items, its cell
 and the right to free it.
@@ -64,7 +64,7 @@ def at(base, i):
 
 def value(kind):
     """The name that Values.antt has for a type by value."""
-    return ('an-' if kind[0] in 'AO' and kind != 'Answer' else 'a-') + kind
+    return ('an-' if kind[0] in 'AEIO' else 'a-') + kind
 
 
 def move(*positions):
@@ -172,8 +172,9 @@ class Walk:
 
     def call(self, prefix, known, ghost, by, operands, front, binders):
         """A call whose parameters stand joined in front, with so many items before the locals."""
-        self.say('\n        calls-for %s.ended (%s.clauses 𝓤 H A mem run) fm %s (%s, tt) %s (and-nothing 𝓤 _) (%s) (λ %s. '
-                 % (prefix, prefix, known, ghost, by, copies([self.place(i, front) for i in operands]), binders))
+        self.say('\n        calls-for %s.ended (%s.clauses 𝓤 H A mem run) fm %s (%s, tt) %s (and-nothing 𝓤 _) (%s) '
+                 '(λ %s. ' % (prefix, prefix, known, ghost, by,
+                              copies([self.place(i, front) for i in operands]), binders))
 
     def land(self, local, front, typed):
         self.say('land ! (from ! (stop !)) (init ! %d refl (%s .0)) $ ' % (self.place(local, front), typed))
@@ -186,7 +187,10 @@ class Walk:
                  % (how, by, result, result, lasts, made))
 
 
+# ---- the four walks. Comments list what is held in front of the locals
+
 def public(function, core, left, answer, rest):
+    """left is the type of the core's result, answer that of the call's"""
     w = Walk(['&mut Board', '&mut [Entry]'] + rest, 2 + 2 * (1 + sum(r.startswith('&mut') for r in rest)))
     n = w.lifetimes()
     record, result = w.local(), w.local()
@@ -206,8 +210,8 @@ def public(function, core, left, answer, rest):
     part = left.lower()
     w.note('the new record is stored, and the borrow closed at it')
     w.say('assigns ! (of-opd ! (load ! (from ! (fld ! refl (stop !))) (look-in ! %d (sub ! 0 refl (whole !))))) '
-          '(from ! (hop ! (look ! %d refl) (stop !))) (store-raw ! 3 refl (typed-at W a-Board (r .board) (%s-board r is) '
-          '.0)) $ '
+          '(from ! (hop ! (look ! %d refl) (stop !))) (store-raw ! 3 refl (typed-at W a-Board (r .board) (%s-board r '
+          'is) .0)) $ '
           % (w.place(result, 7), w.place(1, 7), part))
     w.copy(0, '(from ! (fld ! refl (stop !))) (look-in ! %d (sub ! 1 refl (whole !)))' % w.place(result, 7), 7,
            '(typed-at W %s (r .%s) (%s-answer r is) .0)' % (value(answer), answer.lower(), part))
@@ -221,11 +225,12 @@ def public(function, core, left, answer, rest):
           % (value(answer), answer.lower(), part))
     w.end('ends-with', '(r .%s)' % answer.lower(), value(answer), '(r .board, ws .1)')
     write(function, w, 'public', "The record's borrow is opened and the record copied out; the lists are given to "
-          '`%s` for good; the new record is stored, and the borrow closed at it.' % colons(core), [('core', core, 'known')],
-          ['a-Board', value(left), value(answer), part + '-board', part + '-answer'])
+          '`%s` for good; the new record is stored, and the borrow closed at it.' % colons(core),
+          [('core', core, 'known')], ['a-Board', value(left), value(answer), part + '-board', part + '-answer'])
 
 
 def inner(function, core, left, rest, law):
+    """law: its `use` line, and the law with its arguments but the facts"""
     lent = sum(r.startswith('&mut') for r in rest)
     w = Walk(['Board', '&mut [Entry]'] + rest, 8 + 2 * lent)
     n = w.lifetimes()
@@ -236,23 +241,24 @@ def inner(function, core, left, rest, law):
     w.note('the table is lent as a `&` for the lifetime ν of the first call, and comes back')
     cells = 2 * w.count
     x = lambda name: 'record { ptr = a .1 .0 .ptr; name = %s; now = a .1 .0 .now }' % name
-    held = ("entry.the-row (κs .0) (ν ∷ []) (qs .0) (a .1 .0 .name) (a .1 .0 .ptr .0) (a .1 .0 .ptr .1)")
+    held = 'entry.the-row (κs .0) (ν ∷ []) (qs .0) (a .1 .0 .name) (a .1 .0 .ptr .0) (a .1 .0 .ptr .1)'
     w.say(move(cells + 1) + 'fsplit ! $ ' + move(1) + 'fsplit ! $ ' + move(cells + 3) + 'split ! $ lft-new ! tt (λ ν. '
           + move(3, 1))
     w.say('use2 W (later (some (λ (δ : GName). ‵ (ShrSlice (named 0) (ν ∷ []) entry.the-row .own (%s) (vals .1 .0)) ⊛ '
-          '‵ (LentShared %s (a .1 .0 .now))))) (lends-shared %s 𝓤 H A W (named 0) (named 0) (a .1 .0 .now) (are .1 .0 .0 '
-          '.1)) $ await ! tt $ pick ! (λ δ. split ! $ ' % (x('δ'), held, held))
+          '‵ (LentShared %s (a .1 .0 .now))))) (lends-shared %s 𝓤 H A W (named 0) (named 0) (a .1 .0 .now) (are .1 .0 '
+          '.0 .1)) $ await ! tt $ pick ! (λ δ. split ! $ ' % (x('δ'), held, held))
     w.say('nothing ! $ ' + move(1, 0) + 'fjoin ! $ nothing ! $ ' + move(3, 0) + 'join ! $ join ! $ ')
     w.call('ld', 'known-load', '((ν ∷ [], tt), (fullShare, tt), tt, (%s, tt), (vals .1 .0, tt))' % x('δ'),
            'a-Flat', [shared], 5, 't is₁ ok₁ us')
     w.say(move(1) + 'drop ! $ ' + move(1) + 'heard ! _ (λ e₁. ')
     w.land(loaded, 5, 'ok₁')
-    w.say('use1 W (‵ (flft (ν ∷ []) fullShare)) (fst∗ 𝓤 _ (emp 𝓤)) $ lft-end ! tt $ use2 W (later (‵ (MutSlice (named 0) '
-          '(κs .0) entry.the-row .own (a .1 .0) (vals .1 .0)) ⊛ ‵ (flft (κs .0) (qs .0)))) (shared-back %s 𝓤 H A W '
-          '(named 0) (named 0) (a .1 .0 .now) (are .1 .0 .0 .1)) $ await ! tt $ split ! $ ' % held)
+    w.say('use1 W (‵ (flft (ν ∷ []) fullShare)) (fst∗ 𝓤 _ (emp 𝓤)) $ lft-end ! tt $ use2 W (later (‵ (MutSlice '
+          '(named 0) (κs .0) entry.the-row .own (a .1 .0) (vals .1 .0)) ⊛ ‵ (flft (κs .0) (qs .0)))) (shared-back %s '
+          '𝓤 H A W (named 0) (named 0) (a .1 .0 .now) (are .1 .0 .0 .1)) $ await ! tt $ split ! $ ' % held)
     # the table; its token; the other tokens; what the rest owns; what the record owns
     operands = w.lend_all(2, 5)
-    w.say('has-value ! a-Flat t is₁ $ ' + move(0, 4) + 'fjoin ! $ ' + move(4, 0) + 'fjoin ! $ ' + move(3, 0) + 'join ! $ ')
+    w.say('has-value ! a-Flat t is₁ $ ' + move(0, 4) + 'fjoin ! $ ' + move(4, 0) + 'fjoin ! $ ' + move(3, 0)
+          + 'join ! $ ')
     w.call('core', 'known', '(κs .1, qs .1, tt, (a .0, (t, a .1 .1)), (vals .0, (a-Flat .val t ∷ [], vals .1 .1)))',
            value(left), [1, loaded] + operands, 3, 'r is₂ ok₂ zs')
     w.land(result, 5, 'ok₂')
@@ -269,7 +275,8 @@ def inner(function, core, left, rest, law):
     w.copy(0, '(from ! (stop !)) (look ! %d refl)' % w.place(result, 6), 6, '(ok₂ .0)')
     w.leave(6)
     # the table's token, last list and fact; those of the rest
-    w.say(move(5) + 'heard ! _ (λ e₂. ' + move(2) + 'heard ! _ (λ e₃. use1 W (‵ (flft (κs .0) (qs .0))) (fst∗ 𝓤 _ (emp 𝓤)) $ '
+    w.say(move(5) + 'heard ! _ (λ e₂. ' + move(2) + 'heard ! _ (λ e₃. '
+          'use1 W (‵ (flft (κs .0) (qs .0))) (fst∗ 𝓤 _ (emp 𝓤)) $ '
           + move(1) + 'fsplit ! $ ' + move(1) + 'drop ! $ ' + move(3) + 'fsplit ! $ drop ! $ fsplit ! $ drop ! $ '
           + move(1, 0) + 'fjoin ! $ nothing ! $ fjoin ! $ ' + move(1, 2) + 'join ! $ has-value ! %s r is₂ $ '
           % value(left) + move(1, 0))
@@ -278,7 +285,7 @@ def inner(function, core, left, rest, law):
           '(Shared.antt); the other lists are given to `%s` for good, and the table to `%s`.'
           % (colons('table.load'), colons(core), colons('table.store')),
           [('core', core, 'known'), ('ld', 'table.load', 'known-load'), ('st', 'table.store', 'known-store')],
-          ['a-Board', 'a-Flat', value(left), part + '-table'], ['of-nothing'],
+          ['a-Board', 'a-Flat', value(left), part + '-table'],
           ['use Rattle.host.proofs.Shared.{LentShared, lends-shared, shared-back}', law[0]])
 
 
@@ -299,8 +306,8 @@ def look(function, core, answer, rest, law):
     w.say('shuts ! tt board.the-row q (a .0 .now) (a-Board .val (a .0 .now) ∷ []) (a .0 .ptr .0) (a .0 .ptr .1) $ ')
     w.say(move(2) + 'split ! $ ' + move(4) + 'fsplit ! $ nothing ! $ ' + move(1, 0) + 'fjoin ! $ nothing ! $ '
           + move(3, 0) + 'join ! $ join ! $ ')
-    w.call('ld', 'known-load', '((κs .1 .0, tt), (qs .1 .0, tt), tt, (a .1 .0, tt), (vals .1 .0, tt))', 'a-Flat', [2], 5,
-           't is₁ ok₁ us')
+    w.call('ld', 'known-load', '((κs .1 .0, tt), (qs .1 .0, tt), tt, (a .1 .0, tt), (vals .1 .0, tt))', 'a-Flat',
+           [2], 5, 't is₁ ok₁ us')
     w.say(move(1) + 'drop ! $ ' + move(1) + 'heard ! _ (λ e₁. ')
     w.land(loaded, 5, 'ok₁')
     # the table's token; what the rest owns; the other tokens; the record's token and borrow
@@ -318,11 +325,12 @@ def look(function, core, answer, rest, law):
     w.end('ends-saying', 'r', value(answer), 'zs', ' (factI 𝓤 _ (emp 𝓤) (%s e₁ e₂))' % law[1])
     write(function, w, 'look', 'The record is copied out of its `&`; the table is passed to `%s` and the rest to `%s`.'
           % (colons('table.load'), colons(core)), [('core', core, 'known'), ('ld', 'table.load', 'known-load')],
-          ['a-Board', 'a-Flat', value(answer)], [], [law[0], 'use denote.Struct.Laws as LL',
-                                                     'use Rattle.foil_spec.proofs.Board.Laws as board′'])
+          ['a-Board', 'a-Flat', value(answer)],
+          [law[0], 'use denote.Struct.Laws as LL', 'use Rattle.foil_spec.proofs.Board.Laws as board′'])
 
 
 def told(function, core, answer, say, said, first, rest):
+    """say tells the core's answer as a `said`"""
     params = first + rest
     w = Walk(params, 1 + sum(p.startswith('&mut') * (2 if '[' in p else 1) for p in params))
     n = w.lifetimes()
@@ -403,13 +411,14 @@ def uses(module, names):
 SIGNS = [('mathlib.Core.List', '[], _∷_'), ('types.Kit', '‵, _⊛_, _$_, _∵_, !'),
          ('Rattle.host.proofs.Walks', '_⨾_')]
 WORDS = (
-    'refl URA fullShare named w8 w16 w32 w64 SProp emp fst∗ GName flft fres Memory Routine Heap WpFn Tables Atoms Fun '
-    'factI Lfts Shares toks givenOf tables tablesOf Given raw some later qed by move keep use1 use2 split join pick '
-    'fsplit fjoin await drop fsplit3 look look-raw store-raw init stop hop fld from load addr of-opd no-more assigns land '
-    'returns enter params1 pass1 pass0 whole sub look-in lft-new lft-end fmOf owns Spells valss uint-vals uint-tells u8 '
-    'u16 u32 u64 usize ptr-vals mut-tells shr-tells MutSlice ShrSlice slice-vals mut-slice-tells shr-slice-tells typesAt '
-    'heard nothing closes shuts Args Vals Meets tripleOf entered cited Walk meets-by and-nothing calls-for typed-at '
-    'has-value opens-record looks-into ends-with ends-saying of-nothing allocates releases arg in-slice in-number lends-on').split()
+    'refl URA fullShare named w8 w16 w32 w64 SProp emp fst∗ GName flft fres Memory Routine Heap WpFn Tables Atoms '
+    'Fun factI Lfts Shares toks givenOf tables tablesOf Given raw some later qed by move keep use1 use2 split '
+    'join pick fsplit fjoin await drop fsplit3 look look-raw store-raw init stop hop fld from load addr of-opd '
+    'no-more assigns land returns enter params1 pass1 pass0 whole sub look-in lft-new lft-end fmOf owns Spells '
+    'valss uint-vals uint-tells u8 u16 u32 u64 usize ptr-vals mut-tells shr-tells MutSlice ShrSlice slice-vals '
+    'mut-slice-tells shr-slice-tells typesAt heard nothing closes shuts Args Vals Meets tripleOf entered cited '
+    'Walk meets-by and-nothing calls-for typed-at has-value opens-record looks-into ends-with ends-saying '
+    'of-nothing allocates releases arg in-slice in-number lends-on').split()
 
 
 def words_in(text):
@@ -421,8 +430,9 @@ def words_in(text):
 WRITTEN = {}
 
 
-def write(function, walk, shape, idea, callees, values, laws=(), more=()):
-    """callees: (prefix, function, name of what is known of it) for each"""
+def write(function, walk, shape, idea, callees, values, more=()):
+    """callees: (prefix, function, name of what is known of it) for each; values: what Values.antt is asked for; more:
+    further `use` lines"""
     name = function.split('.')[-1].replace('_', '-')
     known = ['(%s : Meets 𝓤 H A %s.signature (𝓣 .C %s.Symbol.name) (%s.spec 𝓤 H A mem run))' % (k, p, p, p)
              for p, c, k in callees]
@@ -458,7 +468,8 @@ def write(function, walk, shape, idea, callees, values, laws=(), more=()):
     ]
     body[5 + len(known)] += ' where'
     for i, (p, c, _) in enumerate(callees):
-        body += ['    (cited 𝓤 H (tripleOf 𝓤 H (𝓖 .A) %s.signature (%s.spec 𝓤 H (𝓖 .A) (𝓜 .mem) (𝓡 .run))) 𝓜 𝓡' % (p, p),
+        body += ['    (cited 𝓤 H (tripleOf 𝓤 H (𝓖 .A) %s.signature (%s.spec 𝓤 H (𝓖 .A) (𝓜 .mem) (𝓡 .run))) 𝓜 𝓡'
+                 % (p, p),
                  '    f.Code.env %s.Symbol.name %s.Symbol.routine f.Code.calls-%s (%s.Met.met 𝓤 H 𝓜 𝓖 𝓡))%s'
                  % (p, p, symbol(c), p, ')' if i + 1 == len(callees) else '')]
     text = '\n'.join(body)
@@ -470,7 +481,7 @@ def write(function, walk, shape, idea, callees, values, laws=(), more=()):
     head += uses('Rattle.host.proofs.Words', [x for x in WORDS if x in there])
     values = set(values) | {value(p.type) for p in walk.params if not p.ref and p.type not in WIDTHS}
     head += uses('Rattle.host.proofs.Values', sorted(values))
-    head += [m for m in more]
+    head += list(more)
     for prefix, module in (('board', 'Board'), ('entry', 'Entry')):
         if prefix + '.the-row' in text or prefix + '.the-type' in text:
             head += ['use Rattle.foil_spec.proofs.%s as %s' % (module, prefix)]
@@ -502,21 +513,23 @@ def reading(name, core, answer, rest, law):
 
 STEP = (TABLES % 'whole-done', 'whole-done' + ' _' * 10)
 RECORD = (RUNNING % 'whole-ran', 'whole-ran' + ' _' * 11)
-LISTS = ['&mut [u16]']
-changing('new_foil', 'table.clear', 'flat.new_foil', 'Left', 'Answer', LISTS + ['u16'] * 3, STEP)
-changing('draw', 'table.append', 'flat.draw', 'Left', 'Answer', LISTS + ['u16'] * 4, STEP)
-changing('lay', 'table.append_track', 'flat.lay', 'Left', 'Answer', LISTS * 2 + ['u16'] * 5, STEP)
-changing('lift', 'table.lift', 'flat.lift', 'Left', 'Answer', LISTS + ['u16'], STEP)
-changing('run_record', 'table.run_record', 'records.run_record', 'Ran', 'Reply', LISTS * 2 + ['&[u8]', 'usize'], RECORD)
-reading('look_up', 'flat.look_up', 'Answer', ['&[u16]', 'u16', 'u16'], (TABLES % 'whole-looked', 'whole-looked' + ' _' * 6))
-reading('ohms', 'flat.ohms', 'Resistance', ['&[u16]', 'u16', 'Ink'], (TABLES % 'whole-ohms', 'whole-ohms' + ' _' * 7))
+LOOK = (TABLES % 'whole-looked', 'whole-looked' + ' _' * 6)
+OHMS = (TABLES % 'whole-ohms', 'whole-ohms' + ' _' * 7)
+STRIPS, CORNERS = '&mut [u16]', '&mut [u16]'
+changing('new_foil', 'table.clear', 'flat.new_foil', 'Left', 'Answer', [STRIPS] + ['u16'] * 3, STEP)
+changing('draw', 'table.append', 'flat.draw', 'Left', 'Answer', [STRIPS] + ['u16'] * 4, STEP)
+changing('lay', 'table.append_track', 'flat.lay', 'Left', 'Answer', [STRIPS, CORNERS] + ['u16'] * 5, STEP)
+changing('lift', 'table.lift', 'flat.lift', 'Left', 'Answer', [STRIPS, 'u16'], STEP)
+changing('run_record', 'table.run_record', 'records.run_record', 'Ran', 'Reply',
+         [STRIPS, CORNERS, '&[u8]', 'usize'], RECORD)
+reading('look_up', 'flat.look_up', 'Answer', ['&[u16]', 'u16', 'u16'], LOOK)
+reading('ohms', 'flat.ohms', 'Resistance', ['&[u16]', 'u16', 'Ink'], OHMS)
 
 
 def formatted(files):
     """The files as `rt fmt` leaves them."""
     with tempfile.TemporaryDirectory() as copy:
-        for name in ('crates.txt',):
-            shutil.copy(name, copy)
+        shutil.copy('crates.txt', copy)
         for path, text in files.items():
             os.makedirs(os.path.dirname(os.path.join(copy, path)), exist_ok=True)
             with open(os.path.join(copy, path), 'w') as file:

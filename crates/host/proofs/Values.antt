@@ -36,16 +36,16 @@ a-Board = of-struct board.the-type board′.the-laws board′.the-plain
 abbrev pub an-Entry : ByValue entry.the-row
 an-Entry = of-struct entry.the-type entry′.the-laws entry′.the-plain
 
-abbrev pub a-Ink : ByValue ink.the-row
-a-Ink = of-struct ink.the-type ink′.the-laws ink′.the-plain
+abbrev pub an-Ink : ByValue ink.the-row
+an-Ink = of-struct ink.the-type ink′.the-laws ink′.the-plain
 
 abbrev pub a-Flat : ByValue flat.the-row
 a-Flat = of-struct flat.the-type flat′.the-laws flat′.the-plain
 
 -- ---- answers
 
-abbrev pub a-Answer : ByValue answer.the-row
-a-Answer = of-enum answer.the-type answer′.the-laws answer′.the-plain tt
+abbrev pub an-Answer : ByValue answer.the-row
+an-Answer = of-enum answer.the-type answer′.the-laws answer′.the-plain tt
 
 abbrev pub a-Reply : ByValue reply.the-row
 a-Reply = of-enum reply.the-type reply′.the-laws reply′.the-plain tt
@@ -75,7 +75,7 @@ pub left-board : (r : Left) → Is left.the-row r (a-Left .val r ∷ [])
 left-board r is = LL.owed left.the-type left′.the-laws r _ is .0
 
 pub left-answer : (r : Left) → Is left.the-row r (a-Left .val r ∷ [])
-    → Is answer.the-row (r .answer) (a-Answer .val (r .answer) ∷ [])
+    → Is answer.the-row (r .answer) (an-Answer .val (r .answer) ∷ [])
 left-answer r is = LL.owed left.the-type left′.the-laws r _ is .1 .0
 
 pub left-table : (r : Left) → Is left.the-row r (a-Left .val r ∷ [])

@@ -14,7 +14,7 @@ use Rattle.host.proofs.Words.{slice-vals, mut-slice-tells, typesAt, clo
 use Rattle.host.proofs.Words.{entered, cited, Walk, meets-by, and-nothing, calls-for, typed-at, has-value}
 use Rattle.host.proofs.Words.{opens-record, ends-with, allocates, releases, arg, in-slice, in-number}
 use Rattle.host.proofs.Words.{lends-on}
-use Rattle.host.proofs.Values.{a-Answer, a-Board, a-Left, left-answer, left-board}
+use Rattle.host.proofs.Values.{a-Board, a-Left, an-Answer, left-answer, left-board}
 use Rattle.foil_spec.proofs.Board as board
 use Rattle.foil_spec.proofs.Entry as entry
 use Rattle.host.proofs.table.append as core
@@ -69,14 +69,16 @@ module _ {M : Type 1} (𝓤 : URA M) (H : Heap 𝓤) (A : Atoms 𝓤) (W : Given
         assigns ! (of-opd ! (load ! (from ! (fld ! refl (stop !))) (look-in ! 15 (sub ! 0 refl (whole !))))) (from !
         (hop ! (look ! 31 refl) (stop !))) (store-raw ! 3 refl (typed-at W a-Board (r .board) (left-board r is) .0))
         $ assigns ! (of-opd ! (load ! (from ! (fld ! refl (stop !))) (look-in ! 15 (sub ! 1 refl (whole !))))) (from
-        ! (stop !)) (init ! 33 refl (typed-at W a-Answer (r .answer) (left-answer r is) .0)) $ has-value ! a-Board (r
-        .board) (left-board r is) $ move ! (4 ∷ 0 ∷ 5 ∷ 6 ∷ 7 ∷ []) $ closes ! tt board.the-row (r .board) (a-Board
-        .val (r .board) ∷ []) (a .0 .ptr .0) (a .0 .ptr .1) $ returns ! (look ! 32 refl) $ releases ! (_ ∷ _ ∷ _ ∷ _
-        ∷ _ ∷ _ ∷ []) _ $ use1 W (‵ (fres (a .0 .name) (board.the-row .coded .code (r .board)))) (W .names .obs-res
-        (a .0 .name) (board.the-row .coded .code (r .board))) $ move ! (4 ∷ []) $ fsplit ! $ drop ! $ move ! (1 ∷ 0 ∷
-        []) $ fjoin ! $ move ! (2 ∷ 3 ∷ []) $ join ! $ has-value ! a-Answer (r .answer) (left-answer r is) $ keep !
-        (1 ∷ 0 ∷ 2 ∷ 4 ∷ []) $ by ! (ends-with W f.ended (f.clauses 𝓤 H A mem run) ((κs, qs, tt, a, vals), tt)
-        (a-Answer .val (r .answer)) (r .answer) (r .board, ws .1)))))
+        ! (stop !)) (init ! 33 refl (typed-at W an-Answer (r .answer) (left-answer r is) .0)) $ has-value ! a-Board
+        (r .board) (left-board r is) $ move ! (4 ∷ 0 ∷ 5 ∷ 6 ∷ 7 ∷ []) $ closes ! tt board.the-row (r .board)
+        (a-Board .val (r .board) ∷ []) (a .0 .ptr .0) (a .0 .ptr .1) $ returns ! (look ! 32 refl) $ releases ! (_ ∷ _
+        ∷ _ ∷ _ ∷ _ ∷ _ ∷ []) _ $ use1 W (‵ (fres (a .0 .name) (board.the-row .coded .code (r .board)))) (W .names
+        .obs-res (a .0 .name) (board.the-row .coded .code (r .board))) $ move ! (4 ∷ []) $ fsplit ! $ drop ! $ move !
+        (1 ∷ 0 ∷ []) $ fjoin ! $ move ! (2 ∷ 3 ∷ []) $ join ! $ has-value ! an-Answer (r .answer) (left-answer r is)
+        $ keep ! (1 ∷ 0 ∷ 2 ∷ 4 ∷ []) $ by ! (ends-with W f.ended (f.clauses 𝓤 H A mem run) (
+          (κs, qs, tt, a, vals),
+          tt,
+        ) (an-Answer .val (r .answer)) (r .answer) (r .board, ws .1)))))
 
   meets : Meets 𝓤 H A f.signature (WpFn 𝓤 H (𝓣 .C) (𝓣 .Λ) f.Code.function) (f.spec 𝓤 H A mem run)
   meets =

@@ -12,7 +12,7 @@ use Rattle.host.proofs.Words.{valss, uint-vals, uint-tells, u16, ptr-va
 use Rattle.host.proofs.Words.{shr-slice-tells, typesAt, heard, nothing, shuts, Args, Vals, Meets, tripleOf}
 use Rattle.host.proofs.Words.{entered, cited, Walk, meets-by, and-nothing, calls-for, typed-at, has-value}
 use Rattle.host.proofs.Words.{looks-into, ends-saying, allocates, releases, arg, in-slice, in-number}
-use Rattle.host.proofs.Values.{a-Answer, a-Board, a-Flat}
+use Rattle.host.proofs.Values.{a-Board, a-Flat, an-Answer}
 use Rattle.host.proofs.Tables.{whole-looked}
 use denote.Struct.Laws as LL
 use Rattle.foil_spec.proofs.Board.Laws as board′
@@ -83,13 +83,15 @@ module _ {M : Type 1} (𝓤 : URA M) (H : Heap 𝓤) (A : Atoms 𝓤) (W : Given
             (a-Board .val (a .0 .now) ∷ [], (a-Flat .val t ∷ [], vals .1 .1)),
           ),
           tt,
-        ) a-Answer (and-nothing 𝓤 _) (arg
-        ! 6 refl (arg ! 4 refl (arg ! 12 refl (arg ! 10 refl (arg ! 8 refl (no-more !)))))) (λ r is₂ ok₂ zs. land !
-        (from ! (stop !)) (init ! 20 refl (ok₂ .0)) $ returns ! (look ! 20 refl) $ releases ! (_ ∷ _ ∷ _ ∷ _ ∷ _ ∷ _
-        ∷ []) _ $ move ! (2 ∷ []) $ heard ! _ (λ e₂. move ! (2 ∷ []) $ use1 W (‵ (flft (κs .1 .0) (qs .1 .0))) (fst∗
-        𝓤 _ (emp 𝓤)) $ move ! (0 ∷ 1 ∷ []) $ join ! $ move ! (2 ∷ 0 ∷ []) $ join ! $ has-value ! a-Answer r is₂ $
-        keep ! (1 ∷ 0 ∷ 2 ∷ []) $ by ! (ends-saying W f.ended (f.clauses 𝓤 H A mem run) ((κs, qs, tt, a, vals), tt)
-        (a-Answer .val r) r zs (factI 𝓤 _ (emp 𝓤) (whole-looked _ _ _ _ _ _ e₁ e₂)))))))))
+        ) an-Answer (and-nothing 𝓤 _)
+        (arg ! 6 refl (arg ! 4 refl (arg ! 12 refl (arg ! 10 refl (arg ! 8 refl (no-more !)))))) (λ r is₂ ok₂ zs.
+        land ! (from ! (stop !)) (init ! 20 refl (ok₂ .0)) $ returns ! (look ! 20 refl) $ releases ! (_ ∷ _ ∷ _ ∷ _ ∷
+        _ ∷ _ ∷ []) _ $ move ! (2 ∷ []) $ heard ! _ (λ e₂. move ! (2 ∷ []) $ use1 W (‵ (flft (κs .1 .0) (qs .1 .0)))
+        (fst∗ 𝓤 _ (emp 𝓤)) $ move ! (0 ∷ 1 ∷ []) $ join ! $ move ! (2 ∷ 0 ∷ []) $ join ! $ has-value ! an-Answer r
+        is₂ $ keep ! (1 ∷ 0 ∷ 2 ∷ []) $ by ! (ends-saying W f.ended (f.clauses 𝓤 H A mem run) (
+          (κs, qs, tt, a, vals),
+          tt,
+        ) (an-Answer .val r) r zs (factI 𝓤 _ (emp 𝓤) (whole-looked _ _ _ _ _ _ e₁ e₂)))))))))
 
   meets : Meets 𝓤 H A f.signature (WpFn 𝓤 H (𝓣 .C) (𝓣 .Λ) f.Code.function) (f.spec 𝓤 H A mem run)
   meets =

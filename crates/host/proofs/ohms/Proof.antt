@@ -12,7 +12,7 @@ use Rattle.host.proofs.Words.{valss, uint-vals, uint-tells, u16, ptr-va
 use Rattle.host.proofs.Words.{shr-slice-tells, typesAt, heard, nothing, shuts, Args, Vals, Meets, tripleOf}
 use Rattle.host.proofs.Words.{entered, cited, Walk, meets-by, and-nothing, calls-for, typed-at, has-value}
 use Rattle.host.proofs.Words.{looks-into, ends-saying, allocates, releases, arg, in-slice, in-number}
-use Rattle.host.proofs.Values.{a-Board, a-Flat, a-Ink, a-Resistance}
+use Rattle.host.proofs.Values.{a-Board, a-Flat, a-Resistance, an-Ink}
 use Rattle.host.proofs.Tables.{whole-ohms}
 use denote.Struct.Laws as LL
 use Rattle.foil_spec.proofs.Board.Laws as board′
@@ -24,7 +24,7 @@ use Rattle.host.proofs.ohms as f
 
 -- the machine values of the parameters
 abbrev spells : (κs : Lfts 3) → Spells (typesAt (f.signature .params) κs)
-spells κs = ptr-vals ⨾ slice-vals ⨾ slice-vals ⨾ uint-vals w16 ⨾ (λ x. a-Ink .val x ∷ []) ⨾ tt
+spells κs = ptr-vals ⨾ slice-vals ⨾ slice-vals ⨾ uint-vals w16 ⨾ (λ x. an-Ink .val x ∷ []) ⨾ tt
 
 module _ {M : Type 1} (𝓤 : URA M) (H : Heap 𝓤) (A : Atoms 𝓤) (W : Given 𝓤 H A) (mem : Memory → SProp 𝓤)
     (run : Routine → Fun 𝓤) (𝓣 : Tables 𝓤 H)
@@ -42,7 +42,7 @@ module _ {M : Type 1} (𝓤 : URA M) (H : Heap 𝓤) (A : Atoms 𝓤) (W : Given
         enter ! (𝓣 .C) (𝓣 .Λ) f.Code.function _ _ $ allocates ! _
         (λ bs. params1 ! $ pass1 ! (init ! 12 refl (tt, tt)) $ pass1 ! (init ! 10 refl (in-slice (are .1 .0 .0 .1
         .0))) $ pass1 ! (init ! 8 refl (in-slice (are .1 .1 .0 .0 .1 .0))) $ pass1 ! (init ! 6 refl (in-number (are
-        .1 .1 .1 .0 .1))) $ pass1 ! (init ! 4 refl (typed-at W a-Ink (a .1 .1 .1 .1 .0) (are .1 .1 .1 .1 .0) .0)) $
+        .1 .1 .1 .0 .1))) $ pass1 ! (init ! 4 refl (typed-at W an-Ink (a .1 .1 .1 .1 .0) (are .1 .1 .1 .1 .0) .0)) $
         pass0 ! $
         -- the record is looked into, and copied out
         move ! (17 ∷ []) $ fsplit ! $ fsplit3 ! $ drop ! $ drop ! $ move ! (18 ∷ []) $ split ! $ move ! (2 ∷ 0 ∷ [])
@@ -98,7 +98,7 @@ module _ {M : Type 1} (𝓤 : URA M) (H : Heap 𝓤) (A : Atoms 𝓤) (W : Given
   meets =
       meets-by 𝓤 H A f.signature (f.spec 𝓤 H A mem run) (WpFn 𝓤 H (𝓣 .C) (𝓣 .Λ) f.Code.function) spells
       (λ κs. shr-tells (named 0) (κs .0) board.the-row ⨾ shr-slice-tells (named 1) (κs .1 .0) entry.the-row ⨾
-      shr-slice-tells (named 2) (κs .1 .1 .0) u16 ⨾ uint-tells w16 ⨾ a-Ink .tells ⨾ tt)
+      shr-slice-tells (named 2) (κs .1 .1 .0) u16 ⨾ uint-tells w16 ⨾ an-Ink .tells ⨾ tt)
       (λ κs qs bounds a g. walk κs qs a)
 
 pub ohms-spec : {M : Type 1} → f.Statement.statement M

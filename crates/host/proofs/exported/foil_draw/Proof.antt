@@ -11,7 +11,7 @@ use Rattle.host.proofs.Words.{valss, uint-vals, uint-tells, u16, ptr-va
 use Rattle.host.proofs.Words.{mut-slice-tells, typesAt, heard, nothing, Args, Vals, Meets, tripleOf}
 use Rattle.host.proofs.Words.{entered, cited, Walk, meets-by, and-nothing, calls-for, has-value}
 use Rattle.host.proofs.Words.{ends-saying, allocates, releases, arg, in-slice, in-number, lends-on}
-use Rattle.host.proofs.Values.{a-Answer, a-Said}
+use Rattle.host.proofs.Values.{a-Said, an-Answer}
 use Rattle.foil_spec.proofs.Board as board
 use Rattle.foil_spec.proofs.Entry as entry
 use Rattle.host.proofs.draw as core
@@ -43,12 +43,12 @@ module _ {M : Type 1} (𝓤 : URA M) (H : Heap 𝓤) (A : Atoms 𝓤) (W : Given
         6 refl (tt, tt)) refl refl (init ! 4 refl (in-slice (are .1 .0 .0 .1 .0))) $ lends-on ! 20 2 refl refl (init
         ! 2 refl (tt, tt)) refl refl (init ! 0 refl (in-slice (are .1 .1 .0 .0 .1 .0))) $ move ! (28 ∷ 29 ∷ []) $
         join ! $
-        calls-for core.ended (core.clauses 𝓤 H A mem run) fm known ((κs, qs, tt, a, vals), tt) a-Answer (and-nothing
+        calls-for core.ended (core.clauses 𝓤 H A mem run) fm known ((κs, qs, tt, a, vals), tt) an-Answer (and-nothing
         𝓤 _) (arg ! 9 refl (arg ! 5 refl (arg ! 1 refl (arg ! 19 refl (arg ! 17 refl (arg ! 15 refl (arg ! 13 refl
         (no-more !)))))))) (λ r is₁ ok₁ ws. land ! (from ! (stop !)) (init ! 13 refl (ok₁ .0)) $ nothing ! $
-        has-value ! a-Answer r is₁ $ fjoin ! $ nothing ! $ join ! $
+        has-value ! an-Answer r is₁ $ fjoin ! $ nothing ! $ join ! $
         calls-for say.ended (say.clauses 𝓤 H A mem run) fm known-say
-        ((tt, tt, tt, (r, tt), (a-Answer .val r ∷ [], tt)), tt) a-Said (and-nothing 𝓤 _) (arg ! 14 refl (no-more !))
+        ((tt, tt, tt, (r, tt), (an-Answer .val r ∷ [], tt)), tt) a-Said (and-nothing 𝓤 _) (arg ! 14 refl (no-more !))
         (λ s is₂ ok₂ us. land ! (from ! (stop !)) (init ! 32 refl (ok₂ .0)) $ returns ! (look ! 32 refl) $
         releases ! (_ ∷ _ ∷ _ ∷ _ ∷ _ ∷ _ ∷ []) _ $ move ! (2 ∷ []) $ heard ! _ (λ e₁. move ! (4 ∷ []) $
         heard ! _ (λ e₂. has-value ! a-Said s is₂ $ keep ! (3 ∷ 0 ∷ 4 ∷ []) $ by ! (ends-saying W f.ended (f.clauses

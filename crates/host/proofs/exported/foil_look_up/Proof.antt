@@ -11,7 +11,7 @@ use Rattle.host.proofs.Words.{uint-tells, u16, ptr-vals, shr-tells, sli
 use Rattle.host.proofs.Words.{heard, nothing, Args, Vals, Meets, tripleOf, entered, cited, Walk, meets-by}
 use Rattle.host.proofs.Words.{and-nothing, calls-for, has-value, ends-saying, allocates, releases, arg}
 use Rattle.host.proofs.Words.{in-slice, in-number}
-use Rattle.host.proofs.Values.{a-Answer, a-Said}
+use Rattle.host.proofs.Values.{a-Said, an-Answer}
 use Rattle.foil_spec.proofs.Board as board
 use Rattle.foil_spec.proofs.Entry as entry
 use Rattle.host.proofs.look_up as core
@@ -38,12 +38,12 @@ module _ {M : Type 1} (𝓤 : URA M) (H : Heap 𝓤) (A : Atoms 𝓤) (W : Given
         (tt, tt)) $ pass1 ! (init ! 8 refl (in-slice (are .1 .0 .0 .1 .0))) $ pass1 ! (init ! 6 refl (in-slice (are
         .1 .1 .0 .0 .1 .0))) $ pass1 ! (init ! 4 refl (in-number (are .1 .1 .1 .0 .1))) $ pass1 ! (init ! 2 refl
         (in-number (are .1 .1 .1 .1 .0 .1))) $ pass0 ! $ move ! (14 ∷ 15 ∷ []) $ join ! $
-        calls-for core.ended (core.clauses 𝓤 H A mem run) fm known ((κs, qs, tt, a, vals), tt) a-Answer (and-nothing
+        calls-for core.ended (core.clauses 𝓤 H A mem run) fm known ((κs, qs, tt, a, vals), tt) an-Answer (and-nothing
         𝓤 _) (arg ! 11 refl (arg ! 9 refl (arg ! 7 refl (arg ! 5 refl (arg ! 3 refl (no-more !)))))) (λ r is₁ ok₁ ws.
-        land ! (from ! (stop !)) (init ! 3 refl (ok₁ .0)) $ nothing ! $ has-value ! a-Answer r is₁ $ fjoin ! $
+        land ! (from ! (stop !)) (init ! 3 refl (ok₁ .0)) $ nothing ! $ has-value ! an-Answer r is₁ $ fjoin ! $
         nothing ! $ join ! $
         calls-for say.ended (say.clauses 𝓤 H A mem run) fm known-say
-        ((tt, tt, tt, (r, tt), (a-Answer .val r ∷ [], tt)), tt) a-Said (and-nothing 𝓤 _) (arg ! 4 refl (no-more !))
+        ((tt, tt, tt, (r, tt), (an-Answer .val r ∷ [], tt)), tt) a-Said (and-nothing 𝓤 _) (arg ! 4 refl (no-more !))
         (λ s is₂ ok₂ us. land ! (from ! (stop !)) (init ! 18 refl (ok₂ .0)) $ returns ! (look ! 18 refl) $
         releases ! (_ ∷ _ ∷ _ ∷ _ ∷ _ ∷ _ ∷ []) _ $ move ! (2 ∷ []) $ heard ! _ (λ e₁. move ! (4 ∷ []) $
         heard ! _ (λ e₂. has-value ! a-Said s is₂ $ keep ! (3 ∷ 0 ∷ 4 ∷ []) $ by ! (ends-saying W f.ended (f.clauses

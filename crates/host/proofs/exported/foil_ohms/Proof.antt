@@ -11,7 +11,7 @@ use Rattle.host.proofs.Words.{uint-tells, u16, ptr-vals, shr-tells, sli
 use Rattle.host.proofs.Words.{heard, nothing, Args, Vals, Meets, tripleOf, entered, cited, Walk, meets-by}
 use Rattle.host.proofs.Words.{and-nothing, calls-for, typed-at, has-value, ends-saying, allocates, releases}
 use Rattle.host.proofs.Words.{arg, in-slice, in-number}
-use Rattle.host.proofs.Values.{a-Ink, a-Resistance, an-OhmsSaid}
+use Rattle.host.proofs.Values.{a-Resistance, an-Ink, an-OhmsSaid}
 use Rattle.foil_spec.proofs.Board as board
 use Rattle.foil_spec.proofs.Entry as entry
 use Rattle.host.proofs.ohms as core
@@ -20,7 +20,7 @@ use Rattle.host.proofs.exported.foil_ohms as f
 
 -- the machine values of the parameters
 abbrev spells : (κs : Lfts 3) → Spells (typesAt (f.signature .params) κs)
-spells κs = ptr-vals ⨾ slice-vals ⨾ slice-vals ⨾ uint-vals w16 ⨾ (λ x. a-Ink .val x ∷ []) ⨾ tt
+spells κs = ptr-vals ⨾ slice-vals ⨾ slice-vals ⨾ uint-vals w16 ⨾ (λ x. an-Ink .val x ∷ []) ⨾ tt
 
 module _ {M : Type 1} (𝓤 : URA M) (H : Heap 𝓤) (A : Atoms 𝓤) (W : Given 𝓤 H A) (mem : Memory → SProp 𝓤)
     (run : Routine → Fun 𝓤) (𝓣 : Tables 𝓤 H)
@@ -37,7 +37,7 @@ module _ {M : Type 1} (𝓤 : URA M) (H : Heap 𝓤) (A : Atoms 𝓤) (W : Given
         enter ! (𝓣 .C) (𝓣 .Λ) f.Code.function _ _ $ allocates ! _ (λ bs. params1 ! $ pass1 ! (init ! 10 refl
         (tt, tt)) $ pass1 ! (init ! 8 refl (in-slice (are .1 .0 .0 .1 .0))) $ pass1 ! (init ! 6 refl (in-slice (are
         .1 .1 .0 .0 .1 .0))) $ pass1 ! (init ! 4 refl (in-number (are .1 .1 .1 .0 .1))) $ pass1 ! (init ! 2 refl
-        (typed-at W a-Ink (a .1 .1 .1 .1 .0) (are .1 .1 .1 .1 .0) .0)) $ pass0 ! $ move ! (14 ∷ 15 ∷ []) $ join ! $
+        (typed-at W an-Ink (a .1 .1 .1 .1 .0) (are .1 .1 .1 .1 .0) .0)) $ pass0 ! $ move ! (14 ∷ 15 ∷ []) $ join ! $
         calls-for core.ended (core.clauses 𝓤 H A mem run) fm known ((κs, qs, tt, a, vals), tt) a-Resistance
         (and-nothing 𝓤 _) (arg ! 11 refl (arg ! 9 refl (arg ! 7 refl (arg ! 5 refl (arg ! 3 refl (no-more !)))))) (λ
         r is₁ ok₁ ws. land ! (from ! (stop !)) (init ! 3 refl (ok₁ .0)) $ nothing ! $ has-value ! a-Resistance r is₁
@@ -54,7 +54,7 @@ module _ {M : Type 1} (𝓤 : URA M) (H : Heap 𝓤) (A : Atoms 𝓤) (W : Given
   meets =
       meets-by 𝓤 H A f.signature (f.spec 𝓤 H A mem run) (WpFn 𝓤 H (𝓣 .C) (𝓣 .Λ) f.Code.function) spells
       (λ κs. shr-tells (named 0) (κs .0) board.the-row ⨾ shr-slice-tells (named 1) (κs .1 .0) entry.the-row ⨾
-      shr-slice-tells (named 2) (κs .1 .1 .0) u16 ⨾ uint-tells w16 ⨾ a-Ink .tells ⨾ tt)
+      shr-slice-tells (named 2) (κs .1 .1 .0) u16 ⨾ uint-tells w16 ⨾ an-Ink .tells ⨾ tt)
       (λ κs qs bounds a g. walk κs qs a)
 
 pub foil-ohms-spec : {M : Type 1} → f.Statement.statement M

@@ -59,8 +59,8 @@ returns : tie.Need-returns
 returns c =
     let d = leftBy c in
     let lent = lentOn (called d) in
-    flat-done _ _ _ _ _ _ _ _ _ _ _ (whole (atStart lent)) (lent .numbers-lent .ensures) (d .a3 .given) (called d .lay .ensures)
-    (c .leave .ensures)
+    flat-done _ _ _ _ _ _ _ _ _ _ _ (whole (atStart lent)) (lent .numbers-lent .ensures) (d .a3 .given)
+    (called d .lay .ensures) (c .leave .ensures)
 
 pub lay-spec : {M : Type 1} → statement M
 lay-spec =

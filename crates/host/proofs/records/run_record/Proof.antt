@@ -59,8 +59,8 @@ returns : tie.Need-returns
 returns c =
     let d = leftBy c in
     let lent = lentOn (called d) in
-    flat-ran _ _ _ _ _ _ _ _ _ _ _ _ (whole (atStart lent)) (lent .numbers-lent .ensures) (d .a3 .given) (called d .run-record .ensures)
-    (c .leave .ensures)
+    flat-ran _ _ _ _ _ _ _ _ _ _ _ _ (whole (atStart lent)) (lent .numbers-lent .ensures) (d .a3 .given)
+    (called d .run-record .ensures) (c .leave .ensures)
 
 pub run-record-spec : {M : Type 1} → statement M
 run-record-spec =
