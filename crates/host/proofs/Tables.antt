@@ -22,11 +22,9 @@ use Rattle.foil.specs.declared.Done.{Done}
 use Rattle.ohms.specs.Contract.{OhmsAnswered, resistanceOf}
 use Rattle.ohms.specs.declared.Resistance.{Resistance}
 use Rattle.host.specs.declared.flat.Flat.{Flat}
-use Rattle.host.specs.declared.flat.Said.{Said}
-use Rattle.host.specs.declared.flat.OhmsSaid.{OhmsSaid}
 use Rattle.host.specs.declared.flat.Left.{Left}
 use Rattle.host.specs.Flats.{numbersLent, entriesOf, frontOf, overFront}
-use Rattle.host.specs.Calls.{saidOf, HostLooked, LookTold, HostOhms, OhmsTold, ThinDone, FlatDone}
+use Rattle.host.specs.Calls.{HostDone, HostLooked, HostOhms, FlatDone}
 use Rattle.host.proofs.Flats.{front-places, loaded, stored, lent-on}
 use Rattle.host.proofs.Fronts.{longer, step-longer, ohms-longer}
 
@@ -84,14 +82,15 @@ module _ (P : List ℕ → List ℕ → Type 0) where
         (lt-or-le (length es) 128)
 
     -- the table is loaded, something is done to the numbers, and these are stored
-    pub on-table : (es es′ : List Entry) (f : Flat) → f .len ≡ frontOf es .len
-        → es′ ≡ overFront f es → P (numbers (entriesOf (frontOf es))) (numbers (entriesOf f))
-        → P (numbers es) (numbers es′)
-    on-table es es′ f l e d =
+    pub on-table : (es es′ : List Entry) (t f : Flat) → t ≡ frontOf es → f .len ≡ t .len → es′ ≡ overFront f es
+        → P (numbers (entriesOf t)) (numbers (entriesOf f)) → P (numbers es) (numbers es′)
+    on-table es es′ t f front l e d =
+        let len : f .len ≡ frontOf es .len = l ∙ ap (λ (x : Flat). x .len) front in
         subst₂ P (fronts es)
         (sym (each-append entryNumbers (entriesOf f) (drop 128 es))
-        ∙ ap numbers (sym (e ∙ stored f es (l ∙ front-places es))))
-        (on-whole es (entriesOf f) (subst (λ (x : List Entry). P (numbers x) (numbers (entriesOf f))) (loaded es) d))
+        ∙ ap numbers (sym (e ∙ stored f es (len ∙ front-places es))))
+        (on-whole es (entriesOf f)
+        (subst (λ (x : List Entry). P (numbers x) (numbers (entriesOf f))) (ap entriesOf front ∙ loaded es) d))
 
 -- ---- a step
 
@@ -110,31 +109,23 @@ module _ (c : Step) (b : Board) (s ks : List ℕ) (r : Done) (s′ ks′ : List 
         corners = d .corners ∙ sym (ap (λ x. x .state .corners) e);
       }
 
-pub whole-done : (c : Step) (b : Board) (es : List Entry) (s ks : List ℕ) (r : Left) (es′ : List Entry)
-    (s′ ks′ : List ℕ) → FlatDone c b (frontOf es) s ks r s′ ks′ → es′ ≡ overFront (r .table) es
-    → ThinDone c b es s ks r es′ s′ ks′
-whole-done c b es s ks r es′ s′ ks′ d e =
+pub whole-done : (c : Step) (b : Board) (es : List Entry) (t : Flat) (s ks : List ℕ) (r : Left) (es′ : List Entry)
+    (s′ ks′ : List ℕ) → t ≡ frontOf es → FlatDone c b t s ks r s′ ks′ → es′ ≡ overFront (r .table) es
+    → HostDone c b es s ks (r .answer) (r .board) es′ s′ ks′
+whole-done c b es t s ks r es′ s′ ks′ front d e =
     let o : Done = record { answer = r .answer; board = r .board } in
-    record {
-      said = d .thin .said;
-      done =
-          on-table (Stepped c b s ks o s′ ks′) (stepped-more c b s ks o s′ ks′) es es′ (r .table) (d .places) e
-          (d .thin .done);
-    }
+    on-table (Stepped c b s ks o s′ ks′) (stepped-more c b s ks o s′ ks′) es es′ t (r .table) front (d .places) e
+    (d .done)
 
 module _ (c : Step) (b : Board) (t : Flat) (s ks : List ℕ) (d : Done) (s′ ks′ new : List ℕ) (n : ℕ) where
   abbrev after : Left
-  after =
-      record { board = d .board; answer = d .answer; table = written-over t new n; said = saidOf (d .answer) }
+  after = record { board = d .board; answer = d .answer; table = written-over t new n }
 
   pub flat-done : (r : Left) → length (t .at) ≡ 640 → n ≡ numbersLent (t .len) → length new ≡ length (take n (t .at))
       → StepDone c (lent b (take n (t .at)) s ks) d new s′ ks′ → r ≡ after → FlatDone c b t s ks r s′ ks′
   flat-done r full e l q is =
       subst (λ (x : Left). FlatDone c b t s ks x s′ ks′) (sym is)
-      (record {
-        places = refl;
-        thin = record { said = refl; done = on-entries (Stepped c b s ks d s′ ks′) t new n full e l q };
-      })
+      (record { places = refl; done = on-entries (Stepped c b s ks d s′ ks′) t new n full e l q })
 
 -- ---- a look up, which leaves the table as it is
 
@@ -150,15 +141,9 @@ module _ (p : Point) (b : Board) (s : List ℕ) (a : Answer) where
         state = ap (longer rest) (d .state) ∙ sym (ap (λ x. x .state) e);
       }
 
-pub whole-looked : (p : Point) (b : Board) (es : List Entry) (s : List ℕ) (a : Answer)
-    → HostLooked p b (entriesOf (frontOf es)) s a → HostLooked p b es s a
-whole-looked p b es s a d =
-    on-table (LooksUp p b s a) (looked-more p b s a) es _ (frontOf es) refl refl d
-
-pub whole-told : (p : Point) (b : Board) (es : List Entry) (s : List ℕ) (r : Said)
-    → LookTold p b (entriesOf (frontOf es)) s r → LookTold p b es s r
-whole-told p b es s r d =
-    record { answer = d .answer; said = d .said; looked = whole-looked p b es s (d .answer) (d .looked) }
+pub whole-looked : (p : Point) (b : Board) (es : List Entry) (t : Flat) (s : List ℕ) (a : Answer)
+    → t ≡ frontOf es → HostLooked p b (entriesOf t) s a → HostLooked p b es s a
+whole-looked p b es t s a front d = on-table (LooksUp p b s a) (looked-more p b s a) es _ t t front refl refl d
 
 pub flat-looked : (p : Point) (b : Board) (t : Flat) (s : List ℕ) (a : Answer) (n : ℕ) → length (t .at) ≡ 640
     → n ≡ numbersLent (t .len) → Looked p (lent b (take n (t .at)) s []) a → HostLooked p b (entriesOf t) s a
@@ -178,15 +163,10 @@ module _ (net : ℕ) (i : Ink) (b : Board) (s : List ℕ) (r : Resistance) where
         state = ap (longer rest) (d .state) ∙ sym (ap (λ x. x .state) e);
       }
 
-pub whole-ohms : (net : ℕ) (i : Ink) (b : Board) (es : List Entry) (s : List ℕ) (r : Resistance)
-    → HostOhms net i b (entriesOf (frontOf es)) s r → HostOhms net i b es s r
-whole-ohms net i b es s r d =
-    on-table (Tells net i b s r) (tells-more net i b s r) es _ (frontOf es) refl refl d
-
-pub whole-ohms-told : (net : ℕ) (i : Ink) (b : Board) (es : List Entry) (s : List ℕ) (r : OhmsSaid)
-    → OhmsTold net i b (entriesOf (frontOf es)) s r → OhmsTold net i b es s r
-whole-ohms-told net i b es s r d =
-    record { answer = d .answer; said = d .said; ohms = whole-ohms net i b es s (d .answer) (d .ohms) }
+pub whole-ohms : (net : ℕ) (i : Ink) (b : Board) (es : List Entry) (t : Flat) (s : List ℕ) (r : Resistance)
+    → t ≡ frontOf es → HostOhms net i b (entriesOf t) s r → HostOhms net i b es s r
+whole-ohms net i b es t s r front d =
+    on-table (Tells net i b s r) (tells-more net i b s r) es _ t t front refl refl d
 
 pub flat-ohms : (net : ℕ) (i : Ink) (b : Board) (t : Flat) (s : List ℕ) (r : Resistance) (n : ℕ)
     → length (t .at) ≡ 640 → n ≡ numbersLent (t .len) → OhmsAnswered net i (lent b (take n (t .at)) s []) r

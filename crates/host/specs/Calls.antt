@@ -44,39 +44,20 @@ saidOf Accepted = record { number = 0; corners = 0; bends = 0; place = 0 }
 saidOf (Laid k n) = record { number = 0; corners = k; bends = n; place = 0 }
 saidOf (Found k) = record { number = 0; corners = 0; bends = 0; place = k }
 
--- a step whose answer is told by its numbers
-pub record StepTold (c : Step) (b : Board) (es : List Entry) (s ks : List ℕ) (r : Said) (b′ : Board) (es′ : List Entry)
-    (s′ ks′ : List ℕ) : Type 0 where
-  pub answer : Answer
-  pub said : r ≡ saidOf answer
-  pub done : HostDone c b es s ks answer b′ es′ s′ ks′
-
--- a look up whose answer is told by its numbers
-pub record LookTold (p : Point) (b : Board) (es : List Entry) (s : List ℕ) (r : Said) : Type 0 where
-  pub answer : Answer
-  pub said : r ≡ saidOf answer
-  pub looked : HostLooked p b es s answer
-
 -- the number of a refusal, 0 for none, and the ohms, 0 where they are refused
 unfoldable pub ohmsSaid : Resistance → OhmsSaid
 ohmsSaid (RefusedOhms n) = record { number = n; ohms = whole 0 }
 ohmsSaid (Ohms x) = record { number = 0; ohms = x }
 
--- ohms that are told by these two numbers
-pub record OhmsTold (net : ℕ) (i : Ink) (b : Board) (es : List Entry) (s : List ℕ) (r : OhmsSaid) : Type 0 where
-  pub answer : Resistance
-  pub said : r ≡ ohmsSaid answer
-  pub ohms : HostOhms net i b es s answer
+-- r says, by `say`, an answer for which P holds
+pub record ToldBy {A B : Type 0} (say : A → B) (P : A → Type 0) (r : B) : Type 0 where
+  pub answer : A
+  pub said : r ≡ say answer
+  pub holds : P answer
 
--- ---- what the thin functions leave
+-- ---- what the calls on the table's numbers leave
 
--- a step on the table es left r, es′, s′ and ks′
-pub record ThinDone (c : Step) (b : Board) (es : List Entry) (s ks : List ℕ) (r : Left) (es′ : List Entry)
-    (s′ ks′ : List ℕ) : Type 0 where
-  pub said : r .said ≡ saidOf (r .answer)
-  pub done : HostDone c b es s ks (r .answer) (r .board) es′ s′ ks′
-
--- the same of the table's numbers by value, whose places stay as many
+-- a step on the table's numbers by value, whose places stay as many, left r, s′ and ks′
 pub record FlatDone (c : Step) (b : Board) (t : Flat) (s ks : List ℕ) (r : Left) (s′ ks′ : List ℕ) : Type 0 where
   pub places : r .table .len ≡ t .len
-  pub thin : ThinDone c b (entriesOf t) s ks r (entriesOf (r .table)) s′ ks′
+  pub done : HostDone c b (entriesOf t) s ks (r .answer) (r .board) (entriesOf (r .table)) s′ ks′

@@ -33,7 +33,7 @@ pub fn new_foil(
         r (now (board .exit)) (now (table .exit)) (now (strips .exit)) [] ⌝ }
 {
     let b = *board;
-    let out = table::clear(table, strips, b, w, h, d);
+    let out = table::clear(b, table, strips, w, h, d);
     *board = out.board;
     out.answer
 }
@@ -53,7 +53,7 @@ pub fn draw(
         r (now (board .exit)) (now (table .exit)) (now (strips .exit)) [] ⌝ }
 {
     let b = *board;
-    let out = table::append(table, strips, b, x0, y0, x1, y1);
+    let out = table::append(b, table, strips, x0, y0, x1, y1);
     *board = out.board;
     out.answer
 }
@@ -76,7 +76,7 @@ pub fn lay(
         r (now (board .exit)) (now (table .exit)) (now (strips .exit)) (now (corners .exit)) ⌝ }
 {
     let b = *board;
-    let out = table::append_track(table, strips, corners, b, net, sx, sy, tx, ty);
+    let out = table::append_track(b, table, strips, corners, net, sx, sy, tx, ty);
     *board = out.board;
     out.answer
 }
@@ -88,7 +88,7 @@ pub fn lift(board: &mut Board, table: &mut [Entry], strips: &mut [u16], net: u16
         r (now (board .exit)) (now (table .exit)) (now (strips .exit)) [] ⌝ }
 {
     let b = *board;
-    let out = table::lift(table, strips, b, net);
+    let out = table::lift(b, table, strips, net);
     *board = out.board;
     out.answer
 }
@@ -99,7 +99,7 @@ pub fn look_up(board: &Board, table: &[Entry], strips: &[u16], x: u16, y: u16) -
 {
     let b = *board;
     let t = load(table);
-    flat::look_up(strips, t, b, x, y)
+    flat::look_up(b, t, strips, x, y)
 }
 
 // The ohms of a net. Nothing is changed.
@@ -108,7 +108,7 @@ pub fn ohms(board: &Board, table: &[Entry], strips: &[u16], net: u16, ink: Ink) 
 {
     let b = *board;
     let t = load(table);
-    flat::ohms(strips, t, b, net, ink)
+    flat::ohms(b, t, strips, net, ink)
 }
 
 // Runs the record that begins at place `at` of a job file's bytes.
@@ -125,7 +125,7 @@ pub fn run_record(
         r (now (board .exit)) (now (table .exit)) (now (strips .exit)) (now (corners .exit)) ⌝ }
 {
     let b = *board;
-    let out = table::run_record(table, strips, corners, bytes, b, at);
+    let out = table::run_record(b, table, strips, corners, bytes, at);
     *board = out.board;
     out.reply
 }

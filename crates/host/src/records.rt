@@ -34,12 +34,11 @@ pub struct RecordSaid {
     pub next: usize,
 }
 
-// What a record leaves: the board's record, its reply, the table's numbers, and the reply as numbers.
+// What a record leaves: the board's record, its reply, and the table's numbers.
 pub struct Ran {
     pub board: Board,
     pub reply: Reply,
     pub table: Flat,
-    pub said: RecordSaid,
 }
 
 // No numbers.
@@ -127,7 +126,7 @@ fn run(answers: Answers, next: Next) -> RecordSaid
 }
 
 // The numbers of a reply.
-fn record_said_of(reply: Reply) -> RecordSaid
+pub fn record_said_of(reply: Reply) -> RecordSaid
     ensures { λ r. ⌜ r ≡ recordSaidOf reply ⌝ }
 {
     match reply {
@@ -143,7 +142,6 @@ fn leave(done: Replied, at: [u16; 640], len: usize) -> Ran
       board = done .board;
       reply = done .reply;
       table = record { at = at; len = len };
-      said = recordSaidOf (done .reply);
     } ⌝ }
 {
     let board = done.board;
@@ -152,17 +150,16 @@ fn leave(done: Replied, at: [u16; 640], len: usize) -> Ran
         board,
         reply,
         table: Flat { at, len },
-        said: record_said_of(reply),
     }
 }
 
 // Runs the record at a place of the bytes.
 pub fn run_record(
+    b: Board,
+    t: Flat,
     strips: &mut [u16],
     corners: &mut [u16],
     bytes: &[u8],
-    t: Flat,
-    b: Board,
     at: usize,
 ) -> Ran
     ensures { λ r. ⌜ FlatRan (now (bytes .entry)) at b t (now (strips .entry)) (now (corners .entry))
