@@ -511,14 +511,15 @@ def reading(name, core, answer, rest, law):
     told('exported.foil_' + name, name, answer, *SAY[answer], ['&Board', '&[Entry]'], rest)
 
 
-STEP = (TABLES % 'whole-done', 'whole-done' + ' _' * 10)
+STEP = (TABLES % 'whole-done', 'whole-done' + ' _' * 8)
+WRITE = (TABLES % 'whole-wrote', 'whole-wrote' + ' _' * 10)
 RECORD = (RUNNING % 'whole-ran', 'whole-ran' + ' _' * 11)
 LOOK = (TABLES % 'whole-looked', 'whole-looked' + ' _' * 6)
 OHMS = (TABLES % 'whole-ohms', 'whole-ohms' + ' _' * 7)
 STRIPS, CORNERS = '&mut [u16]', '&mut [u16]'
 changing('new_foil', 'table.clear', 'flat.new_foil', 'Left', 'Answer', [STRIPS] + ['u16'] * 3, STEP)
 changing('draw', 'table.append', 'flat.draw', 'Left', 'Answer', [STRIPS] + ['u16'] * 4, STEP)
-changing('lay', 'table.append_track', 'flat.lay', 'Left', 'Answer', [STRIPS, CORNERS] + ['u16'] * 5, STEP)
+changing('lay', 'table.append_track', 'flat.lay', 'Left', 'Answer', [STRIPS, CORNERS] + ['u16'] * 5, WRITE)
 changing('lift', 'table.lift', 'flat.lift', 'Left', 'Answer', [STRIPS, 'u16'], STEP)
 changing('run_record', 'table.run_record', 'records.run_record', 'Ran', 'Reply',
          [STRIPS, CORNERS, '&[u8]', 'usize'], RECORD)

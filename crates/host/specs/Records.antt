@@ -27,7 +27,7 @@ use Rattle.host.specs.Calls.{saidOf}
 abbrev pub HostRan : List ℕ → ℕ → Board → List Entry → List ℕ → List ℕ → Reply → Board → List Entry → List ℕ
     → List ℕ → Type 0
 HostRan bs at b es s ks r b′ es′ s′ ks′ =
-    RecordDone bs at (lent b (each entryNumbers es) s ks) (record { reply = r; board = b′ }) (each entryNumbers es′)
+    RecordDone bs at (lent b (each entryNumbers es) s) ks (record { reply = r; board = b′ }) (each entryNumbers es′)
     s′ ks′
 
 -- ---- replies as numbers

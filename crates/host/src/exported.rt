@@ -16,10 +16,9 @@ use crate::run_record;
 use foil_spec::Board;
 use foil_spec::Entry;
 use foil_spec::Ink;
-ghost use mathlib.Core.List.{[]};
 ghost use Rattle.foil_spec.specs.Foil.{point};
 ghost use Rattle.foil_spec.specs.Ledger.{newFoil, draw as draws, lay as lays, lift as lifts};
-ghost use Rattle.host.specs.Calls.{ToldBy, saidOf, ohmsSaid, HostDone, HostLooked, HostOhms};
+ghost use Rattle.host.specs.Calls.{ToldBy, saidOf, ohmsSaid, HostDone, HostWrote, HostLooked, HostOhms};
 ghost use Rattle.host.specs.Records.{recordSaidOf, HostRan};
 
 // Begins a foil of w by h with clearance d: an empty table, and one strip, the whole foil.
@@ -33,8 +32,8 @@ pub extern "C" fn foil_new_foil(
     d: u16,
 ) -> Said
     ensures { λ r. ⌜ ToldBy saidOf (λ a. HostDone (newFoil w h d)
-        (now (board .entry)) (now (table .entry)) (now (strips .entry)) []
-        a (now (board .exit)) (now (table .exit)) (now (strips .exit)) []) r ⌝ }
+        (now (board .entry)) (now (table .entry)) (now (strips .entry))
+        a (now (board .exit)) (now (table .exit)) (now (strips .exit))) r ⌝ }
 {
     let answer = new_foil(board, table, strips, w, h, d);
     said_of(answer)
@@ -52,8 +51,8 @@ pub extern "C" fn foil_draw(
     y1: u16,
 ) -> Said
     ensures { λ r. ⌜ ToldBy saidOf (λ a. HostDone (draws x0 y0 x1 y1)
-        (now (board .entry)) (now (table .entry)) (now (strips .entry)) []
-        a (now (board .exit)) (now (table .exit)) (now (strips .exit)) []) r ⌝ }
+        (now (board .entry)) (now (table .entry)) (now (strips .entry))
+        a (now (board .exit)) (now (table .exit)) (now (strips .exit))) r ⌝ }
 {
     let answer = draw(board, table, strips, x0, y0, x1, y1);
     said_of(answer)
@@ -73,7 +72,7 @@ pub extern "C" fn foil_lay(
     tx: u16,
     ty: u16,
 ) -> Said
-    ensures { λ r. ⌜ ToldBy saidOf (λ a. HostDone (lays net (point sx sy) (point tx ty))
+    ensures { λ r. ⌜ ToldBy saidOf (λ a. HostWrote (lays net (point sx sy) (point tx ty))
         (now (board .entry)) (now (table .entry)) (now (strips .entry)) (now (corners .entry))
         a (now (board .exit)) (now (table .exit)) (now (strips .exit)) (now (corners .exit))) r ⌝ }
 {
@@ -90,8 +89,8 @@ pub extern "C" fn foil_lift(
     net: u16,
 ) -> Said
     ensures { λ r. ⌜ ToldBy saidOf (λ a. HostDone (lifts net)
-        (now (board .entry)) (now (table .entry)) (now (strips .entry)) []
-        a (now (board .exit)) (now (table .exit)) (now (strips .exit)) []) r ⌝ }
+        (now (board .entry)) (now (table .entry)) (now (strips .entry))
+        a (now (board .exit)) (now (table .exit)) (now (strips .exit))) r ⌝ }
 {
     let answer = lift(board, table, strips, net);
     said_of(answer)

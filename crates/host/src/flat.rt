@@ -4,19 +4,20 @@ use foil::Done;
 use foil_spec::Board;
 use foil_spec::Entry;
 use foil_spec::Ink;
+use foil_spec::MAX_ENTRIES;
+use foil_spec::TABLE_SIZE;
 use ohms::Resistance;
 ghost use mathlib.Core.Path.{_≡_};
-ghost use mathlib.Core.List.{[]};
 ghost use Rattle.foil_spec.specs.Foil.{point};
 ghost use Rattle.foil_spec.specs.Ledger.{newFoil, draw as draws, lay as lays, lift as lifts};
 ghost use Rattle.foil_spec.specs.Lent.{entryAt};
 ghost use Rattle.strips.specs.Told.{Told};
 ghost use Rattle.host.specs.Flats.{zeros, withEntry, placesLent, numbersLent, entriesOf};
-ghost use Rattle.host.specs.Calls.{saidOf, ohmsSaid, FlatDone, HostLooked, HostOhms};
+ghost use Rattle.host.specs.Calls.{saidOf, ohmsSaid, FlatDone, FlatWrote, HostLooked, HostOhms};
 
 // The first 128 places of a lent table as numbers, five a place, and how many places are lent.
 pub struct Flat {
-    pub at: [u16; 640],
+    pub at: [u16; TABLE_SIZE],
     pub len: usize,
 }
 
@@ -48,7 +49,7 @@ pub struct Left {
 pub fn empty(n: usize) -> Flat
     ensures { λ r. ⌜ r ≡ zeros n ⌝ }
 {
-    let a = [0; 640];
+    let a = [0; TABLE_SIZE];
     Flat { at: a, len: n }
 }
 
@@ -56,7 +57,7 @@ pub fn empty(n: usize) -> Flat
 pub fn put(f: Flat, i: usize, e: Entry) -> Flat
     ensures { λ r. ⌜ r ≡ withEntry f i e ⌝ }
 {
-    if i < 128 {
+    if i < MAX_ENTRIES {
         let k = i * 5;
         let mut a = f.at;
         a[k] = e.net;
@@ -74,7 +75,7 @@ pub fn put(f: Flat, i: usize, e: Entry) -> Flat
 pub fn pick(f: Flat, i: usize) -> Entry
     ensures { λ r. ⌜ r ≡ entryAt (f .at) i ⌝ }
 {
-    if i < 128 {
+    if i < MAX_ENTRIES {
         let k = i * 5;
         let a = f.at;
         Entry {
@@ -118,7 +119,7 @@ pub fn same(a: Entry, b: Entry) -> bool
 pub fn places_lent(n: usize) -> usize
     ensures { λ r. ⌜ r ≡ placesLent n ⌝ }
 {
-    if n < 128 { n } else { 128 }
+    if n < MAX_ENTRIES { n } else { MAX_ENTRIES }
 }
 
 // How many numbers these places have, five each.
@@ -154,7 +155,7 @@ pub fn said_of(answer: Answer) -> Said
 }
 
 // What a call on the table's numbers has left.
-fn leave(done: Done, at: [u16; 640], len: usize) -> Left
+fn leave(done: Done, at: [u16; TABLE_SIZE], len: usize) -> Left
     ensures { λ r. ⌜ r ≡ record {
       board = done .board;
       answer = done .answer;
@@ -172,7 +173,7 @@ fn leave(done: Done, at: [u16; 640], len: usize) -> Left
 
 // Begins a foil.
 pub fn new_foil(b: Board, t: Flat, strips: &mut [u16], w: u16, h: u16, d: u16) -> Left
-    ensures { λ r. ⌜ FlatDone (newFoil w h d) b t (now (strips .entry)) [] r (now (strips .exit)) [] ⌝ }
+    ensures { λ r. ⌜ FlatDone (newFoil w h d) b t (now (strips .entry)) r (now (strips .exit)) ⌝ }
 {
     let mut a = t.at;
     let n = numbers_lent(t.len);
@@ -182,7 +183,7 @@ pub fn new_foil(b: Board, t: Flat, strips: &mut [u16], w: u16, h: u16, d: u16) -
 
 // Draws a patch.
 pub fn draw(b: Board, t: Flat, strips: &mut [u16], x0: u16, y0: u16, x1: u16, y1: u16) -> Left
-    ensures { λ r. ⌜ FlatDone (draws x0 y0 x1 y1) b t (now (strips .entry)) [] r (now (strips .exit)) [] ⌝ }
+    ensures { λ r. ⌜ FlatDone (draws x0 y0 x1 y1) b t (now (strips .entry)) r (now (strips .exit)) ⌝ }
 {
     let mut a = t.at;
     let n = numbers_lent(t.len);
@@ -202,7 +203,7 @@ pub fn lay(
     tx: u16,
     ty: u16,
 ) -> Left
-    ensures { λ r. ⌜ FlatDone (lays net (point sx sy) (point tx ty)) b t
+    ensures { λ r. ⌜ FlatWrote (lays net (point sx sy) (point tx ty)) b t
         (now (strips .entry)) (now (corners .entry)) r (now (strips .exit)) (now (corners .exit)) ⌝ }
 {
     let mut a = t.at;
@@ -213,7 +214,7 @@ pub fn lay(
 
 // Lifts a net.
 pub fn lift(b: Board, t: Flat, strips: &mut [u16], net: u16) -> Left
-    ensures { λ r. ⌜ FlatDone (lifts net) b t (now (strips .entry)) [] r (now (strips .exit)) [] ⌝ }
+    ensures { λ r. ⌜ FlatDone (lifts net) b t (now (strips .entry)) r (now (strips .exit)) ⌝ }
 {
     let mut a = t.at;
     let n = numbers_lent(t.len);

@@ -13,10 +13,9 @@ use foil_spec::Ink;
 use job::Reply;
 use ohms::Resistance;
 use table::load;
-ghost use mathlib.Core.List.{[]};
 ghost use Rattle.foil_spec.specs.Foil.{point};
 ghost use Rattle.foil_spec.specs.Ledger.{newFoil, draw as draws, lay as lays, lift as lifts};
-ghost use Rattle.host.specs.Calls.{HostDone, HostLooked, HostOhms};
+ghost use Rattle.host.specs.Calls.{HostDone, HostWrote, HostLooked, HostOhms};
 ghost use Rattle.host.specs.Records.{HostRan};
 
 // Begins a foil of w by h with clearance d: an empty table, and one strip, the whole foil.
@@ -29,8 +28,8 @@ pub fn new_foil(
     d: u16,
 ) -> Answer
     ensures { λ r. ⌜ HostDone (newFoil w h d)
-        (now (board .entry)) (now (table .entry)) (now (strips .entry)) []
-        r (now (board .exit)) (now (table .exit)) (now (strips .exit)) [] ⌝ }
+        (now (board .entry)) (now (table .entry)) (now (strips .entry))
+        r (now (board .exit)) (now (table .exit)) (now (strips .exit)) ⌝ }
 {
     let b = *board;
     let out = table::clear(b, table, strips, w, h, d);
@@ -49,8 +48,8 @@ pub fn draw(
     y1: u16,
 ) -> Answer
     ensures { λ r. ⌜ HostDone (draws x0 y0 x1 y1)
-        (now (board .entry)) (now (table .entry)) (now (strips .entry)) []
-        r (now (board .exit)) (now (table .exit)) (now (strips .exit)) [] ⌝ }
+        (now (board .entry)) (now (table .entry)) (now (strips .entry))
+        r (now (board .exit)) (now (table .exit)) (now (strips .exit)) ⌝ }
 {
     let b = *board;
     let out = table::append(b, table, strips, x0, y0, x1, y1);
@@ -71,7 +70,7 @@ pub fn lay(
     tx: u16,
     ty: u16,
 ) -> Answer
-    ensures { λ r. ⌜ HostDone (lays net (point sx sy) (point tx ty))
+    ensures { λ r. ⌜ HostWrote (lays net (point sx sy) (point tx ty))
         (now (board .entry)) (now (table .entry)) (now (strips .entry)) (now (corners .entry))
         r (now (board .exit)) (now (table .exit)) (now (strips .exit)) (now (corners .exit)) ⌝ }
 {
@@ -84,8 +83,8 @@ pub fn lay(
 // Lifts a net: takes out all its entries, the rest keeping their order.
 pub fn lift(board: &mut Board, table: &mut [Entry], strips: &mut [u16], net: u16) -> Answer
     ensures { λ r. ⌜ HostDone (lifts net)
-        (now (board .entry)) (now (table .entry)) (now (strips .entry)) []
-        r (now (board .exit)) (now (table .exit)) (now (strips .exit)) [] ⌝ }
+        (now (board .entry)) (now (table .entry)) (now (strips .entry))
+        r (now (board .exit)) (now (table .exit)) (now (strips .exit)) ⌝ }
 {
     let b = *board;
     let out = table::lift(b, table, strips, net);

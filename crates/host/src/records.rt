@@ -4,6 +4,7 @@ use crate::flat::Said;
 use crate::flat::numbers_lent;
 use crate::flat::said_of;
 use foil_spec::Board;
+use foil_spec::TABLE_SIZE;
 use job::Answers;
 use job::Next;
 use job::Replied;
@@ -137,7 +138,7 @@ pub fn record_said_of(reply: Reply) -> RecordSaid
 }
 
 // What a record on the table's numbers has left.
-fn leave(done: Replied, at: [u16; 640], len: usize) -> Ran
+fn leave(done: Replied, at: [u16; TABLE_SIZE], len: usize) -> Ran
     ensures { λ r. ⌜ r ≡ record {
       board = done .board;
       reply = done .reply;

@@ -13,11 +13,10 @@ use crate::records::Ran;
 use foil_spec::Board;
 use foil_spec::Entry;
 ghost use mathlib.Core.Path.{_≡_};
-ghost use mathlib.Core.List.{[]};
 ghost use Rattle.foil_spec.specs.Foil.{point};
 ghost use Rattle.foil_spec.specs.Ledger.{newFoil, draw as draws, lay as lays, lift as lifts};
 ghost use Rattle.host.specs.Flats.{frontOf, overFront};
-ghost use Rattle.host.specs.Calls.{HostDone};
+ghost use Rattle.host.specs.Calls.{HostDone, HostWrote};
 ghost use Rattle.host.specs.Records.{HostRan};
 
 // Takes the numbers of a table's first 128 places out; the places after them are not even read.
@@ -56,8 +55,8 @@ pub fn store(table: &mut [Entry], f: Flat)
 
 // Empties the table: a foil begins.
 pub fn clear(b: Board, table: &mut [Entry], strips: &mut [u16], w: u16, h: u16, d: u16) -> Left
-    ensures { λ r. ⌜ HostDone (newFoil w h d) b (now (table .entry)) (now (strips .entry)) []
-        (r .answer) (r .board) (now (table .exit)) (now (strips .exit)) [] ⌝ }
+    ensures { λ r. ⌜ HostDone (newFoil w h d) b (now (table .entry)) (now (strips .entry))
+        (r .answer) (r .board) (now (table .exit)) (now (strips .exit)) ⌝ }
 {
     let t = load(table);
     let out = flat::new_foil(b, t, strips, w, h, d);
@@ -76,8 +75,8 @@ pub fn append(
     x1: u16,
     y1: u16,
 ) -> Left
-    ensures { λ r. ⌜ HostDone (draws x0 y0 x1 y1) b (now (table .entry)) (now (strips .entry)) []
-        (r .answer) (r .board) (now (table .exit)) (now (strips .exit)) [] ⌝ }
+    ensures { λ r. ⌜ HostDone (draws x0 y0 x1 y1) b (now (table .entry)) (now (strips .entry))
+        (r .answer) (r .board) (now (table .exit)) (now (strips .exit)) ⌝ }
 {
     let t = load(table);
     let out = flat::draw(b, t, strips, x0, y0, x1, y1);
@@ -98,7 +97,7 @@ pub fn append_track(
     tx: u16,
     ty: u16,
 ) -> Left
-    ensures { λ r. ⌜ HostDone (lays net (point sx sy) (point tx ty)) b
+    ensures { λ r. ⌜ HostWrote (lays net (point sx sy) (point tx ty)) b
         (now (table .entry)) (now (strips .entry)) (now (corners .entry))
         (r .answer) (r .board) (now (table .exit)) (now (strips .exit)) (now (corners .exit)) ⌝ }
 {
@@ -111,8 +110,8 @@ pub fn append_track(
 
 // Lifts a net's entries out.
 pub fn lift(b: Board, table: &mut [Entry], strips: &mut [u16], net: u16) -> Left
-    ensures { λ r. ⌜ HostDone (lifts net) b (now (table .entry)) (now (strips .entry)) []
-        (r .answer) (r .board) (now (table .exit)) (now (strips .exit)) [] ⌝ }
+    ensures { λ r. ⌜ HostDone (lifts net) b (now (table .entry)) (now (strips .entry))
+        (r .answer) (r .board) (now (table .exit)) (now (strips .exit)) ⌝ }
 {
     let t = load(table);
     let out = flat::lift(b, t, strips, net);

@@ -5,7 +5,7 @@ use native.Mathlib.Omega.{arith}
 use lib.ListN.{length, length-take}
 use Rattle.host.specs.Flats.{numbersLent}
 use Rattle.host.proofs.Flats.{full}
-use Rattle.host.proofs.Tables.{flat-done}
+use Rattle.host.proofs.Tables.{flat-wrote}
 use Rattle.host.proofs.flat.lay.Statement.{statement}
 use Rattle.host.proofs.flat.lay.Tie as tie
 
@@ -59,7 +59,7 @@ returns : tie.Need-returns
 returns c =
     let d = leftBy c in
     let lent = lentOn (called d) in
-    flat-done _ _ _ _ _ _ _ _ _ _ _ (whole (atStart lent)) (lent .numbers-lent .ensures) (d .a3 .given)
+    flat-wrote _ _ _ _ _ _ _ _ _ _ _ (whole (atStart lent)) (lent .numbers-lent .ensures) (d .a3 .given)
     (called d .lay .ensures) (c .leave .ensures)
 
 pub lay-spec : {M : Type 1} → statement M

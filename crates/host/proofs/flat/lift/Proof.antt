@@ -56,7 +56,7 @@ returns : tie.Need-returns
 returns c =
     let d = leftBy c in
     let lent = lentOn (called d) in
-    flat-done _ _ _ _ _ _ _ _ _ _ _ (whole (atStart lent)) (lent .numbers-lent .ensures) (d .a3 .given)
+    flat-done _ _ _ _ _ _ _ _ _ (whole (atStart lent)) (lent .numbers-lent .ensures) (d .a3 .given)
     (called d .lift .ensures) (c .leave .ensures)
 
 pub lift-spec : {M : Type 1} → statement M

@@ -125,7 +125,7 @@ module _ {M : Type 1} (𝓤 : URA M) (H : Heap 𝓤) (A : Atoms 𝓤) (W : Given
         fsplit ! $ move ! (1 ∷ []) $ drop ! $ move ! (3 ∷ []) $ fsplit ! $ drop ! $ fsplit ! $ drop ! $ move ! (1 ∷ 0
         ∷ []) $ fjoin ! $ nothing ! $ fjoin ! $ move ! (1 ∷ 2 ∷ []) $ join ! $ has-value ! a-Left r is₂ $ move ! (1 ∷
         0 ∷ []) $ by ! (ends-saying W f.ended (f.clauses 𝓤 H A mem run) ((κs, qs, tt, a, vals), tt) (a-Left .val r) r
-        (tt, (vs .0, zs .1 .1)) (factI 𝓤 _ (emp 𝓤) (whole-done _ _ _ _ _ _ _ _ _ _ e₁ e₂ e₃))))))))))))
+        (tt, (vs .0, zs .1 .1)) (factI 𝓤 _ (emp 𝓤) (whole-done _ _ _ _ _ _ _ _ e₁ e₂ e₃))))))))))))
 
   meets : Meets 𝓤 H A f.signature (WpFn 𝓤 H (𝓣 .C) (𝓣 .Λ) f.Code.function) (f.spec 𝓤 H A mem run)
   meets =
