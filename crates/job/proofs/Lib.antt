@@ -1,8 +1,10 @@
 -- Laws that the proofs of a record use.
 pub mod Places
 pub mod Checking
-pub mod Corners
+pub mod StaysSound
+pub mod Acting
+pub mod Ending
+pub mod Telling
+pub mod Bits
 pub mod Stepping
-pub mod Steps
 pub mod Wholes
-pub mod Replies
