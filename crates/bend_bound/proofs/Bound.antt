@@ -13,7 +13,7 @@ use Rattle.foil_spec.specs.Foil.{Point, point, Layout, free}
 use Rattle.foil_spec.specs.Strips.{strips}
 use Rattle.foil_spec.specs.Paths.{at, bends}
 use Rattle.foil_spec.specs.Ledger.{stripsOf, pathOf}
-use Rattle.foil_spec.specs.Lent.{held, sound, roomOf}
+use Rattle.foil_spec.specs.Lent.{held, sound}
 use Rattle.list_laws.proofs.Tests.{not-ff}
 use Rattle.path_laws.proofs.FirstPath.{of-path}
 use Rattle.path_laws.proofs.Laws.{gives-first, gives-none}
@@ -75,10 +75,10 @@ joined-bends l S T ds h = go (pathOf l S T) refl
 
 pub laid-bends : LaidBends
 unfolding stripsOf
-laid-bends m net S T cs n h =
+laid-bends r m net S T cs n h =
     let l : Layout = held m in
-    let o = laid-on m net S T cs n h in
-    let fine : sound m ≡ true = not-ff (sound m) (laid-unbroken (roomOf m) (not (sound m)) l net S T cs n o) in
-    let a = first-laid (roomOf m) (not (sound m)) l net S T cs n o in
+    let o = laid-on r m net S T cs n h in
+    let fine : sound m ≡ true = not-ff (sound m) (laid-unbroken r (not (sound m)) l net S T cs n o) in
+    let a = first-laid r (not (sound m)) l net S T cs n o in
     let b = fewest-bends (free l) (l .width) (l .height) (free-inside l) S T cs (a .0 .path) (a .0 .fewest) in
     omega (arith, a .1, b, ap bendBound (of-sound m fine .counted))

@@ -9,7 +9,7 @@ use lib.ListN.{length}
 use Rattle.foil_spec.specs.Foil.{Point, Layout, free}
 use Rattle.foil_spec.specs.Strips.{strips}
 use Rattle.foil_spec.specs.Paths.{isPath, bends}
-use Rattle.foil_spec.specs.Ledger.{stripsOf, pathOf, lay, laid}
+use Rattle.foil_spec.specs.Ledger.{stripsOf, pathOf, Room, lay, laid}
 use Rattle.foil_spec.specs.Lent.{Lent, stepOn}
 
 -- on a foil with K strips: one bend at most if K is 1, else 2K − 2
@@ -42,5 +42,5 @@ JoinedBends =
 -- a lay that is accepted answers so few bends, by the count of strips in the record before the lay
 abbrev pub LaidBends : Type 0
 LaidBends =
-    (m : Lent) (net : ℕ) (S T : Point) (cs : List Point) (n : ℕ) → stepOn (lay net S T) m .answer ≡ laid cs n
-    → n ≤ bendBound (m .board .strips)
+    (r : Room) (m : Lent) (net : ℕ) (S T : Point) (cs : List Point) (n : ℕ)
+    → stepOn r (lay net S T) m .answer ≡ laid cs n → n ≤ bendBound (m .board .strips)

@@ -19,7 +19,8 @@ use Rattle.booking.specs.Rows.{rowsOf}
 use Rattle.booking.specs.Booked.{Stored, Unchanged}
 use Rattle.booking.proofs.Filling.{length-rows}
 
-pub rows-long : (n : ℕ) (rows : List ℕ) → n ≤ maxEntries → rows ≡ rowsOf (map (entryAt rows) (range 0 n)) → tableSize ≤ length rows
+pub rows-long : (n : ℕ) (rows : List ℕ) → n ≤ maxEntries
+    → rows ≡ rowsOf (map (entryAt rows) (range 0 n)) → tableSize ≤ length rows
 rows-long n rows few e =
     let k = length-read rows n in
     omega (arith, length-rows (map (entryAt rows) (range 0 n)) (omega arith), ap length e)

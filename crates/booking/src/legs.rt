@@ -37,7 +37,7 @@ fn append_leg(rows: &mut [u16], n: usize, net: u16, path: &[u16], i: usize, j: u
 // Puts an entry for each leg of the path of k corners after the n entries of the rows, or one entry of
 // a single point for one corner, and answers how many entries there are then.
 pub fn append_legs(rows: &mut [u16], n: usize, net: u16, path: &[u16], k: usize) -> usize
-    requires { ⌜ (1 ≤ k) × (n + k ≤ 129) × (n < maxEntries) × (tableSize ≡ length (now rows)) ⌝ }
+    requires { ⌜ (1 ≤ k) × (n + k ≤ suc maxEntries) × (n < maxEntries) × (tableSize ≡ length (now rows)) ⌝ }
     requires { ⌜ Corners (now path) k ⌝ }
     ensures { λ r. ⌜ Legs (now (rows .entry)) (now (rows .exit)) n net (now (path .entry)) k r ⌝ }
 {

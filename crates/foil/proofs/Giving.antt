@@ -14,7 +14,7 @@ use Rattle.foil_spec.specs.Foil.{Layout}
 use Rattle.foil_spec.specs.Ledger.{Room, short, tooFine, Step, says, next, Refusal, _⇒_, first, reads, refusals, afterLent}
 use Rattle.foil_spec.specs.Ledger.{After, settle, refusalOf}
 use Rattle.foil_spec.specs.Ledger.{Answer as Outcome, accepted}
-use Rattle.foil_spec.specs.Lent.{Lent, lent, held, store, sound, roomIn, stepOn}
+use Rattle.foil_spec.specs.Lent.{Lent, lent, held, store, sound, roomIn, stepOn, outputAfter}
 use Rattle.foil_spec.specs.declared.Board.{Board}
 use Rattle.list_laws.proofs.Tests.{lt-or-le}
 use Rattle.ledger_laws.proofs.Refusals.{own-refused}
@@ -27,7 +27,7 @@ use Rattle.foil.specs.declared.Answer.the-variants.{Accepted}
 use Rattle.foil.specs.declared.Done.{Done}
 use Rattle.foil.specs.declared.lent.Checked.{Checked}
 use Rattle.foil.specs.declared.lent.Checked.the-variants as checked
-use Rattle.foil.specs.Contract.{answerOf, Gave, refusedBy, TooShort, LentChecked, takenOver}
+use Rattle.foil.specs.Contract.{answerOf, Gave, Wrote, refusedBy, TooShort, LentChecked, takenOver}
 
 -- ---- the lists' lengths
 
@@ -93,21 +93,37 @@ module _ (c : Step) (m : Lent) (n : ℕ) (d : Done) (q : d ≡ refusedBy n (m .b
   step-refused r e = gave-refused _ _ m n d e q
 
   -- a call that reads what is lent, refused by 12 or 13
+  lent-first : reads c ≡ true → (limit output : ℕ) → LentChecked m (checked.Refused n)
+      → refusalOf (roomIn limit m output) (not (sound m)) c (held m) ≡ some n
+  unfolding refusalOf
+  lent-first f limit output k =
+      rw (f, and-true (not (sound m))) (k limit output (refusals c (roomIn limit m output) (held m)))
+
   pub lent-refused : reads c ≡ true → (limit output : ℕ) → LentChecked m (checked.Refused n)
       → Gave (stepOn (roomIn limit m output) c m) d (m .table) (m .strips)
-  lent-refused f limit output k =
-      let r : Room = roomIn limit m output in
-      step-refused r (reads-all r (not (sound m)) ∙ k limit output (refusals c r (held m)))
-    where
-      reads-all : (r : Room) (b : Bool)
-          → refusalOf r b c (held m) ≡ first (afterLent r b (refusals c r (held m)))
-      reads-all r b = unfold refusalOf in rw (f, and-true b) refl
+  lent-refused f limit output k = step-refused (roomIn limit m output) (lent-first f limit output k)
+
+  -- the same with an output list, which stays as it is
+  pub wrote-refused : (r : Room) (out : List ℕ) → refusalOf r (not (sound m)) c (held m) ≡ some n
+      → Wrote c r m out d (m .table) (m .strips) out
+  unfolding stepOn settle outputAfter
+  wrote-refused r out e = record { gave = step-refused r e; output = rw e refl }
 
   -- on a state that keeps the rules, refused by one of its own refusals
   pub own-done : sound m ≡ true → (r : Room) → short r ≡ false → first (refusals c r (held m)) ≡ some n
       → Gave (stepOn r c m) d (m .table) (m .strips)
   own-done g r long e =
       step-refused r (ap (λ (b : Bool). refusalOf r (not b) c (held m)) g ∙ own-refused r c (held m) false long refl ∙ e)
+
+  pub own-wrote : sound m ≡ true → (r : Room) (out : List ℕ) → short r ≡ false → first (refusals c r (held m)) ≡ some n
+      → Wrote c r m out d (m .table) (m .strips) out
+  own-wrote g r out long e =
+      wrote-refused r out
+      (ap (λ (b : Bool). refusalOf r (not b) c (held m)) g ∙ own-refused r c (held m) false long refl ∙ e)
+
+  pub lent-wrote : reads c ≡ true → (limit : ℕ) (out : List ℕ) → LentChecked m (checked.Refused n)
+      → Wrote c (roomIn limit m (length out)) m out d (m .table) (m .strips) out
+  lent-wrote f limit out k = wrote-refused (roomIn limit m (length out)) out (lent-first f limit (length out) k)
 
 -- ---- 12 and 13
 

@@ -1,37 +1,28 @@
 -- The starred test foils of document 01, and the ohms of its track: one list of cases, and one fact over it.
-use Prim.Native.Nat.{ℕ, _*_}
+use Prim.Native.Nat.{ℕ}
 use mathlib.Core.Path.{_≡_, refl}
 use mathlib.Core.Bool.{true, false, xor}
 use mathlib.Core.List.{List, [], _∷_, map, reverse}
 use mathlib.Core.Option.{some}
 use lib.IntN.{pos, negsuc}
 use lib.Ieee.{Float, nan, inf, fin, binary64, ofInt, ofBits, add, mul, div, lt, le, eq}
-use Rattle.foil_spec.specs.Limits.{maxEntries, maxStrips, cornerPlaces}
-use Rattle.foil_spec.specs.Foil.{Point, point, Entry, entry, Layout}
+use Rattle.foil_spec.specs.Foil.{Point, point, Entry, entry, Layout, noFoil}
 use Rattle.foil_spec.specs.Foil.{sizeOk, clearanceOk, netOk, boxOk, within, blocks, free}
 use Rattle.foil_spec.specs.Strips.{Strip, stopIn, stop, scan, scanAt, starts, isRun, isTop, begun}
 use Rattle.foil_spec.specs.Strips.{stripsFrom, holds, placeOf}
 use Rattle.foil_spec.specs.Paths.{after, between, levelFree, uprightFree, segment, bends, points, goings}
 use Rattle.foil_spec.specs.Paths.{stepsFrom, shortest, firstFrom, firstPathTo}
 use Rattle.foil_spec.specs.Ledger.{stripsOf, pathOf, noPath, cornersOf, leg, legsFrom, legs, ofNet, inUse}
-use Rattle.foil_spec.specs.Ledger.{offFoil, blocked, Room, short, cornerRoom, tooLong, tooFine, next, says}
+use Rattle.foil_spec.specs.Ledger.{offFoil, blocked, short, cornerRoom, tooLong, tooFine, next, says}
 use Rattle.foil_spec.specs.Ledger.{first, reads, refusals, afterLent, settle, refusalOf, ledgerStep}
 use Rattle.foil_spec.specs.Ledger.{newFoil, draw, lay, lift, lookUp, refused, accepted, laid, found}
 use Rattle.foil_spec.specs.Job.{number, fieldCount, mapByte, has, fieldsAt, recordEnd, field, stepAt}
-use Rattle.foil_spec.specs.Job.{stepsAt, steps, isEnd, recordChecks}
+use Rattle.foil_spec.specs.Job.{jobRoom, stepsAt, steps, isEnd, recordChecks}
 use Rattle.foil_spec.specs.Nets.{legsOf, legSteps, stepsOf, netLength, netBends}
 use Rattle.foil_spec.specs.Ohms.{whole, sheetOk, widthOk, bendOk, inkOk, formula, ohmsRefusals, ohmsOf}
 use Rattle.foil_spec.specs.Calls.{Call, step, runRecord, ohms, Reply, answered, ran, atEnd, measured}
 use Rattle.foil_spec.specs.Calls.{endsJob, andThen, actAll, actRecord, tooLarge, wholeRefusals, ohmsReply}
 use Rattle.foil_spec.specs.Calls.{reply, ledgerCall}
-
--- lists as long as the job program lends them
-abbrev enough : Room
-enough = record { table = maxEntries; strips = maxStrips; output = 2 * cornerPlaces; limit = maxEntries }
-
--- before the first call
-abbrev blank : Layout
-blank = record { width = 0; height = 0; clearance = 0; entries = [] }
 
 abbrev strip : ℕ → ℕ → ℕ → ℕ → Strip
 strip x0 y0 x1 y1 = record { x0 = x0; y0 = y0; x1 = x1; y1 = y1 }
@@ -50,10 +41,10 @@ pub record Case : Type 0 where
 outcomeFrom : Layout → List Reply → List Call → Outcome
 outcomeFrom l told [] = record { replies = reverse told; entries = l .entries; strips = stripsOf l }
 outcomeFrom l told (c ∷ cs) =
-    outcomeFrom (ledgerCall enough c l .state) (ledgerCall enough c l .answer ∷ told) cs
+    outcomeFrom (ledgerCall jobRoom c l .state) (ledgerCall jobRoom c l .answer ∷ told) cs
 
 -- the bytes of document 01's job
-jobBytes : List ℕ
+unfoldable pub jobBytes : List ℕ
 jobBytes =
     0x03 ∷ 0x06 ∷ 0x00 ∷ 0x04 ∷ 0x00 ∷ 0x00 ∷ 0x00 ∷ 0x02 ∷ 0x00 ∷ 0x00 ∷ 0x00 ∷ 0x03 ∷ 0x00 ∷ 0x03 ∷ 0x00
     ∷ 0x04 ∷ 0x05 ∷ 0x00 ∷ 0x00 ∷ 0x00 ∷ 0x00 ∷ 0x00 ∷ 0x04 ∷ 0x00 ∷ 0x00 ∷ 0x00 ∷ 0x00 ∷ []
@@ -229,14 +220,14 @@ cases =
     ∷ []
 
 -- every case comes out as document 01 says
-starred : map (λ (c : Case). outcomeFrom blank [] (c .calls)) cases ≡ map (λ (c : Case). c .outcome) cases
+starred : map (λ (c : Case). outcomeFrom noFoil [] (c .calls)) cases ≡ map (λ (c : Case). c .outcome) cases
 unfolding outcomeFrom cases jobBytes
     sizeOk clearanceOk netOk boxOk within blocks free
     stopIn stop scan scanAt starts isRun isTop begun stripsFrom holds placeOf
     after between levelFree uprightFree segment bends points goings stepsFrom shortest firstFrom firstPathTo
     stripsOf pathOf noPath cornersOf leg legsFrom legs ofNet inUse offFoil blocked
     short cornerRoom tooLong tooFine next says first reads refusals afterLent settle refusalOf ledgerStep
-    number fieldCount mapByte has fieldsAt recordEnd field stepAt stepsAt steps isEnd recordChecks
+    jobRoom number fieldCount mapByte has fieldsAt recordEnd field stepAt stepsAt steps isEnd recordChecks
     endsJob andThen actAll actRecord tooLarge wholeRefusals ohmsReply reply ledgerCall xor
     legsOf legSteps stepsOf netLength netBends whole sheetOk widthOk bendOk inkOk formula ohmsRefusals ohmsOf half bits
     ofInt ofBits add mul div lt le eq

@@ -1,7 +1,7 @@
 -- The foil: its limits, the entries of its table, what an entry blocks, and which points are free.
 use Prim.Native.Nat.{ℕ, suc, _+_}
 use mathlib.Core.Bool.{Bool, not, _&&_, _||_}
-use mathlib.Core.List.{List}
+use mathlib.Core.List.{List, []}
 use lib.Dec.{leb, ltb, eqb}
 use Rattle.foil_spec.specs.Lists.{all}
 use Rattle.foil_spec.specs.declared.Point as declaredPoint
@@ -33,6 +33,10 @@ pub record Layout : Type 0 where
   pub height : ℕ
   pub clearance : ℕ
   pub entries : List Entry
+
+-- no foil is begun yet
+abbrev pub noFoil : Layout
+noFoil = record { width = 0; height = 0; clearance = 0; entries = [] }
 
 -- W and H run from 1 to 4,096
 unfoldable pub sizeOk : ℕ → Bool

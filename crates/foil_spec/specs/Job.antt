@@ -5,8 +5,13 @@ use mathlib.Core.List.{List, [], _∷_}
 use lib.Dec.{leb, ltb, eqb}
 use lib.ListN.{length, getD}
 use Rattle.foil_spec.specs.Lists.{range, consIf}
+use Rattle.foil_spec.specs.Limits.{maxEntries, maxStrips, cornerPlaces}
 use Rattle.foil_spec.specs.Foil.{point}
-use Rattle.foil_spec.specs.Ledger.{Step, newFoil, draw, lay, lift, Refusal, _⇒_}
+use Rattle.foil_spec.specs.Ledger.{Room, Step, newFoil, draw, lay, lift, Refusal, _⇒_}
+
+-- the job program lends whole lists and all corner places
+unfoldable pub jobRoom : Room
+jobRoom = record { table = maxEntries; strips = maxStrips; output = 2 * cornerPlaces; limit = maxEntries }
 
 -- the number of two bytes at a place, low byte first
 unfoldable pub number : List ℕ → ℕ → ℕ

@@ -1,5 +1,5 @@
--- What is proved of the escape grid's code, and of the grid over the board.
-pub mod Blocked
+-- What is proved of the escape grid's code, and of the grid over the foil.
+pub mod Covers
 pub mod Marking
 pub mod Painting
 pub mod Board

@@ -1,5 +1,5 @@
 -- What the contracts of the escape grid's code say.
 pub mod Size
-pub mod Zones
+pub mod Extent
 pub mod Lines
-pub mod Edges
+pub mod Links

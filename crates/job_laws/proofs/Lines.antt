@@ -4,31 +4,31 @@ use native.Mathlib.Omega.{arith}
 use mathlib.Core.Path.{_≡_, refl, sym, ap, _∙_}
 use mathlib.Core.Bool.{Bool, true, false, cond, or-true}
 use mathlib.Core.List.{List, [], _∷_, _++_, append-nil}
-use mathlib.Core.Option.{Option, none, some, Option·getD}
+use mathlib.Core.Option.{Option, none, some}
 use lib.ListN.{length}
 use borrow.Author.Tests.{le-leb, eq-eqb}
 use Rattle.foil_spec.specs.Lists.{all, any, each}
-use Rattle.foil_spec.specs.Foil.{Point, Layout, free}
+use Rattle.foil_spec.specs.Limits.{cornerPlaces}
+use Rattle.foil_spec.specs.Foil.{Point, Layout, noFoil, free}
 use Rattle.foil_spec.specs.Strips.{Strip}
 use Rattle.foil_spec.specs.Paths.{at, bends}
-use Rattle.foil_spec.specs.Ledger.{stripsOf, pathOf, noPath, cornersOf, tooFine, says, first, short, refusals}
-use Rattle.foil_spec.specs.Ledger.{Step, newFoil, draw, lay, lift, lookUp, Answer, numberOf, After, settle}
-use Rattle.foil_spec.specs.Ledger.{ledgerStep}
-use Rattle.foil_spec.specs.Job.{steps, isEnd, recordEnd, recordChecks}
-use Rattle.foil_spec.specs.Calls.{runRecord, ran, endsJob, andThen, actAll, actRecord, ledgerCall}
-use Rattle.list_laws.proofs.Tests.{clash, and-i, all-append}
+use Rattle.foil_spec.specs.Ledger.{stripsOf, cornersOf, short, cornerRoom, tooFine, next, says, first}
+use Rattle.foil_spec.specs.Ledger.{Step, newFoil, draw, lay, lift, lookUp, Answer, numberOf, refusals, afterLent}
+use Rattle.foil_spec.specs.Ledger.{After, settle, refusalOf, ledgerStep}
+use Rattle.foil_spec.specs.Job.{jobRoom, steps, isEnd, recordEnd, recordChecks}
+use Rattle.foil_spec.specs.Calls.{runRecord, ran, endsJob, andThen, actAll, actRecord, wholeRefusals, reply, ledgerCall}
+use Rattle.list_laws.proofs.Tests.{and-i, all-append}
 use Rattle.list_laws.proofs.Members.{each-append}
 use Rattle.path_laws.proofs.FirstPath.{of-path}
-use Rattle.path_laws.proofs.Laws.{gives-first}
+use Rattle.ledger_laws.specs.Line.{but, numbersFrom, ownNumbers}
 use Rattle.ledger_laws.specs.Numbers.{among}
-use Rattle.ledger_laws.proofs.Refusals.{none-applies, first-passes}
-use Rattle.ledger_laws.proofs.Legs.{free-inside}
+use Rattle.ledger_laws.proofs.Refusals.{first-passes}
 use Rattle.ledger_laws.proofs.Kept.{step-keeps, call-keeps}
-use Rattle.ledger_laws.proofs.Numbers.{fileChecks, among-passes}
-use Rattle.bend_bound.specs.Room.{cornerPlaces}
-use Rattle.bend_bound.proofs.Room.{ownNumbers, own-number, corners-few, bare-fine, Fine, fine-kept}
+use Rattle.ledger_laws.proofs.Lay.{Laid, first-laid}
+use Rattle.ledger_laws.proofs.Numbers.{answer-passes}
+use Rattle.bend_bound.proofs.Room.{corners-few, step-passes, Fine, fine-kept, no-foil-fine}
 use Rattle.lines.specs.Lines.{stripLine}
-use Rattle.lines.specs.Output.{trackLine, stepLine, stepLines, jobRoom, noFoil, replyLines, outputFrom, output}
+use Rattle.lines.specs.Output.{trackLine, stepLine, stepLines, replyLines, outputFrom, output}
 use Rattle.job_laws.specs.JobLines.{Line, board, patch, refusedTrack, laidTrack, lifted, strip, file}
 use Rattle.job_laws.specs.JobLines.{bytesOf, possible, InLines, WritesLines}
 
@@ -55,63 +55,51 @@ job-long : short jobRoom ≡ false
 unfolding short jobRoom
 job-long = refl
 
-job-room : cornerPlaces ≤ jobRoom .corners
-unfolding jobRoom
+job-room : cornerPlaces ≤ cornerRoom jobRoom
+unfolding cornerRoom jobRoom
 job-room = omega arith
 
--- a number by which a step is refused passes a test that all its own numbers pass
-refused-passes : (p : ℕ → Bool) (s : Step) (l : Layout) → tooFine l ≡ false → all p (ownNumbers s) ≡ true
-    → (n : ℕ) → first (refusals s jobRoom false l) ≡ some n → p n ≡ true
-refused-passes p s l fine h n e =
-    among-passes p (ownNumbers s) n h (own-number jobRoom job-long job-room s l fine n e)
+-- what a step answers passes a test that 0 and its own numbers pass
+number-passes : (p : ℕ → Bool) (s : Step) (l : Layout) → tooFine l ≡ false → p 0 ≡ true → all p (ownNumbers s) ≡ true
+    → p (numberOf (ledgerStep jobRoom s l .answer)) ≡ true
+number-passes p s l fine z h = answer-passes p z jobRoom s l (step-passes jobRoom job-room job-long p s h l fine)
 
--- a path has a corner
-corner-there : (l : Layout) (S T : Point) → noPath (pathOf l S T) ≡ false → 1 ≤ length (cornersOf l S T)
-unfolding cornersOf noPath pathOf
-corner-there l S T h = go (pathOf l S T) refl h
-  where
-    go : (o : Option (List Point)) → pathOf l S T ≡ o → noPath o ≡ false → 1 ≤ length (Option·getD o [])
-    go none e k = clash refl k
-    go (some cs) e k =
-        let a = gives-first (free l) (l .width) (l .height) (free-inside l) S (at T) cs e in
-        omega (arith, ap length (of-path (free l) S (at T) cs (a .path) .is))
-
--- a track that is laid has a path, and room for its corners
+-- a track that is laid is a path, which has a corner, and has room for its corners
 laid-possible : (l : Layout) (net : ℕ) (S T : Point) → tooFine l ≡ false
-    → first (refusals (lay net S T) jobRoom false l) ≡ none
+    → refusalOf jobRoom false (lay net S T) l ≡ none
     → possible (laidTrack net (bends (cornersOf l S T)) (cornersOf l S T)) ≡ true
-unfolding possible refusals
+unfolding possible
 laid-possible l net S T fine e =
     let cs : List Point = cornersOf l S T in
-    let joined : noPath (pathOf l S T) ≡ false = search none-applies depth 12 in
+    let laid : Laid jobRoom false l net S T cs (bends cs) = record { unrefused = e; corners = refl; bent = refl } in
+    let first-is = first-laid jobRoom false l net S T cs (bends cs) laid .0 in
     simp (
-      le-leb 1 (length cs) (corner-there l S T joined),
-      le-leb (length cs) 8192 (omega (arith, corners-few l S T fine)),
+      le-leb 1 (length cs) (omega (arith, ap length (of-path (free l) S (at T) cs (first-is .path) .is))),
+      le-leb (length cs) cornerPlaces (corners-few l S T fine),
       eq-eqb (bends cs) (bends cs) refl,
     )
 
--- the line of a step that is refused by one of its own numbers, or accepted
-settled-line : (s : Step) (l : Layout) → tooFine l ≡ false → (o : Option ℕ) → first (refusals s jobRoom false l) ≡ o
-    → InLines (stepLine s (settle o s l .answer))
-unfolding settle says stepLine trackLine numberOf bytesOf possible among ownNumbers
-settled-line (newFoil W H d) l fine none e = one-line (board 0) refl
-settled-line (newFoil W H d) l fine (some n) e =
-    one-line (board n) (refused-passes (λ k. possible (board k)) (newFoil W H d) l fine refl n e)
-settled-line (draw x0 y0 x1 y1) l fine none e = one-line (patch 0) refl
-settled-line (draw x0 y0 x1 y1) l fine (some n) e =
-    one-line (patch n) (refused-passes (λ k. possible (patch k)) (draw x0 y0 x1 y1) l fine refl n e)
-settled-line (lay net S T) l fine none e = one-line (laidTrack net _ _) (laid-possible l net S T fine e)
-settled-line (lay net S T) l fine (some n) e =
-    one-line (refusedTrack net n)
-    (refused-passes (λ k. possible (refusedTrack net k)) (lay net S T) l fine refl n e)
-settled-line (lift net) l fine none e = one-line (lifted net 0) refl
-settled-line (lift net) l fine (some n) e =
-    one-line (lifted net n) (refused-passes (λ k. possible (lifted net k)) (lift net) l fine refl n e)
-settled-line (lookUp p) l fine o e = no-line
+module _ (l : Layout) (fine : tooFine l ≡ false) where
+  -- the line of a lay that is refused by one of its own numbers, or accepted
+  lay-line : (net : ℕ) (S T : Point) (o : Option ℕ) → refusalOf jobRoom false (lay net S T) l ≡ o
+      → InLines (trackLine net
+      (settle o (record { answer = says (lay net S T) l; state = next (lay net S T) l }) l .answer))
+  unfolding settle says trackLine bytesOf possible among ownNumbers numbersFrom but refusals
+  lay-line net S T none e = one-line (laidTrack net _ _) (laid-possible l net S T fine e)
+  lay-line net S T (some n) e =
+      one-line (refusedTrack net n)
+      (step-passes jobRoom job-room job-long (λ k. possible (refusedTrack net k)) (lay net S T) refl l fine n e)
 
-step-line : (s : Step) (l : Layout) → tooFine l ≡ false → InLines (stepLine s (ledgerStep jobRoom s l .answer))
-unfolding ledgerStep
-step-line s l fine = settled-line s l fine (first (refusals s jobRoom false l)) refl
+  step-line : (s : Step) → InLines (stepLine s (ledgerStep jobRoom s l .answer))
+  unfolding stepLine bytesOf possible among ownNumbers numbersFrom but refusals
+  step-line (newFoil W H d) =
+      one-line (board _) (number-passes (λ n. possible (board n)) (newFoil W H d) l fine refl refl)
+  step-line (draw x0 y0 x1 y1) =
+      one-line (patch _) (number-passes (λ n. possible (patch n)) (draw x0 y0 x1 y1) l fine refl refl)
+  step-line (lay net S T) = unfold ledgerStep in lay-line net S T (refusalOf jobRoom false (lay net S T) l) refl
+  step-line (lift net) =
+      one-line (lifted net _) (number-passes (λ n. possible (lifted net n)) (lift net) l fine refl refl)
+  step-line (lookUp p) = no-line
 
 -- ---- a record's lines
 
@@ -134,7 +122,7 @@ step-lines : (ss : List Step) (l : Layout) → tooFine l ≡ false
 unfolding actAll stepLines
 step-lines [] l fine = no-line
 step-lines (s ∷ ss) l fine =
-    then-lines s ss (ledgerStep jobRoom s l) _ (step-line s l fine)
+    then-lines s ss (ledgerStep jobRoom s l) _ (step-line l fine s)
     (step-lines ss (ledgerStep jobRoom s l .state) (step-keeps Fine jobRoom (fine-kept jobRoom) s l fine))
 
 strip-lines : (ss : List Strip) → InLines (each stripLine ss)
@@ -161,20 +149,21 @@ reply-lines none false ss place l rest fine h k = go (any endsJob given)
     go true = step-lines ss l fine
     go false = more-lines (step-lines ss l fine) (k place)
 
-file-possible : (bs : List ℕ) (at n : ℕ) → first (fileChecks jobRoom bs at) ≡ some n → possible (file n) ≡ true
-unfolding recordChecks possible among
+file-possible : (bs : List ℕ) (at n : ℕ) → first (wholeRefusals jobRoom false bs at) ≡ some n
+    → possible (file n) ≡ true
+unfolding wholeRefusals afterLent recordChecks possible among
 file-possible bs at = first-passes (λ k. possible (file k)) _ (simp (job-long, or-true))
 
 -- ---- the whole output
 
 output-lines : (most : ℕ) (bs : List ℕ) (at : ℕ) (l : Layout) → tooFine l ≡ false → InLines (outputFrom most bs at l)
-unfolding outputFrom ledgerCall
+unfolding outputFrom ledgerCall reply
 output-lines zero bs at l fine = no-line
 output-lines (suc most) bs at l fine =
-    reply-lines (first (fileChecks jobRoom bs at)) (isEnd bs at) (steps bs at) (recordEnd bs at) l _ fine
+    reply-lines (first (wholeRefusals jobRoom false bs at)) (isEnd bs at) (steps bs at) (recordEnd bs at) l _ fine
     (file-possible bs at)
     (λ n. output-lines most bs n _ (call-keeps Fine jobRoom (fine-kept jobRoom) (runRecord bs at) l fine))
 
 pub writes-lines : WritesLines
-unfolding output noFoil
-writes-lines bs = output-lines _ bs 0 noFoil bare-fine
+unfolding output
+writes-lines bs = output-lines _ bs 0 noFoil no-foil-fine

@@ -7,6 +7,7 @@ use mathlib.Core.List.{List, [], _∷_, _++_}
 use lib.Dec.{leb, eqb}
 use lib.ListN.{length}
 use Rattle.foil_spec.specs.Lists.{all, each}
+use Rattle.foil_spec.specs.Limits.{cornerPlaces}
 use Rattle.foil_spec.specs.Foil.{Point}
 use Rattle.foil_spec.specs.Strips.{Strip}
 use Rattle.foil_spec.specs.Paths.{bends}
@@ -39,7 +40,7 @@ unfoldable pub possible : Line → Bool
 possible (board n) = among n (0 ∷ 1 ∷ 2 ∷ [])
 possible (patch n) = among n (0 ∷ 3 ∷ 10 ∷ 11 ∷ [])
 possible (refusedTrack net n) = among n (4 ∷ 5 ∷ 7 ∷ 8 ∷ 9 ∷ 10 ∷ 11 ∷ [])
-possible (laidTrack net n cs) = leb 1 (length cs) && leb (length cs) 8192 && eqb n (bends cs)
+possible (laidTrack net n cs) = leb 1 (length cs) && leb (length cs) cornerPlaces && eqb n (bends cs)
 possible (lifted net n) = among n (0 ∷ 4 ∷ 6 ∷ 11 ∷ [])
 possible (strip s) = true
 possible (file n) = among n (14 ∷ 15 ∷ 16 ∷ 17 ∷ 18 ∷ [])

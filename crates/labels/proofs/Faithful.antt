@@ -14,7 +14,7 @@ use Rattle.reach.specs.Reach.{flip, Span, Within, Marks}
 use Rattle.reach.proofs.Reach.{span-refl, span-sym, span-trans, span-start, span-end, span-part}
 use Rattle.reach.proofs.Slide.{near}
 use Rattle.grid.specs.Lines.{hasMark, Collected}
-use Rattle.grid.proofs.Board.{Edges}
+use Rattle.grid.specs.Links.{Links}
 use Rattle.labels.specs.Line.{Linked}
 use Rattle.labels.proofs.Line.{linked-sym, linked-at, linked-part}
 
@@ -34,7 +34,7 @@ pub record Faithful (f : ℕ → ℕ → Bool) (T : ℕ → ℕ → Type 0) (cro
   pub sorted : (a b : ℕ) → a ≤ b → b < n → getD cross a 0 ≤ getD cross b 0
 
 module _ {f : ℕ → ℕ → Bool} {cross : List ℕ} {n : ℕ} {lines : List ℕ} {m : ℕ} {edge : List ℕ}
-    (E : Edges f cross n lines m edge) (j : ℕ) (lj : j < m) where
+    (E : Links f cross n lines m edge) (j : ℕ) (lj : j < m) where
   -- d edges up from crossing a
   joined-up : (a d : ℕ) → a + d < n → f (getD cross a 0) (getD lines j 0) ≡ true → Linked edge j a (a + d) →
       Span f (getD lines j 0) (getD cross a 0) (getD cross (a + d) 0)
@@ -102,7 +102,7 @@ collected-up {lines = lines} C a b l lb = pick (decLt a b)
 -- The grid made from marks, where targets are on marked columns.
 module _ {f : ℕ → ℕ → Bool} {T : ℕ → ℕ → Type 0} {mx : List ℕ} {w : ℕ} {cross : List ℕ} {n : ℕ} {lines : List ℕ}
     {m : ℕ} (M : Marks f (hasMark mx) w) (target : (x y : ℕ) → T x y → hasMark mx x ≡ true)
-    (C : Collected mx w cross n) {edge : List ℕ} (E : Edges f cross n lines m edge) where
+    (C : Collected mx w cross n) {edge : List ℕ} (E : Links f cross n lines m edge) where
   near-any : (r s i j c : ℕ) → i < n → j < m → Span f (getD lines j 0) (getD cross i 0) c →
       Within r s (flip f) (flip T) (getD lines j 0) c →
       (k : ℕ) × (t : ℕ) × (k < n) × Linked edge j i k × Within r t (flip f) (flip T) (getD lines j 0) (getD cross k 0)

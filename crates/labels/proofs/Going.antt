@@ -116,8 +116,8 @@ pub record Going (el eu cols rows : List ℕ) (nc nr : ℕ) (l₀ u₀ wl₀ wu�
   pub twin : Twin l u nc nr
   pub level-full : Full el l nr nc (floor v)
   pub upright-full : Full eu u nc nr (floor v)
-  pub level-room : Room l ql lb
-  pub upright-room : Room u qu ub
+  pub level-room : Room (nr - 1) l ql lb
+  pub upright-room : Room (nc - 1) u qu ub
   pub level-order : la ≤ lb
   pub upright-order : ua ≤ ub
   pub top : v + (zeros l + zeros u) ≤ 2 * area + 1
@@ -145,7 +145,7 @@ going-start el eu cols rows B = record {
   upright-room = B .upright-room;
   level-order = omega arith;
   upright-order = omega arith;
-  top = omega (arith, B .level-room .left, B .upright-room .left);
+  top = omega (arith, B .level-room .left, B .upright-room .left, B .level-room .few, B .upright-room .few);
 }
 
 -- A level pass, and an upright pass after it.

@@ -338,10 +338,11 @@ pub passing-done : {other inks edge cross from : List ℕ} {m n v a p b : ℕ} {
 passing-done e h = rw (← e) h
 
 -- there is still room for every crossing without a label
-pub passing-room : {other inks edge cross from : List ℕ} {m n v a p : ℕ} {l₀ l w₀ w t₀ t : List ℕ} {q₀ q : ℕ} →
-    Room l₀ t₀ q₀ → PassTo other inks edge cross from m n v a p l₀ l w₀ w t₀ t q₀ q → Room l t q
+pub passing-room : {other inks edge cross from : List ℕ} {m n v a p last : ℕ} {l₀ l w₀ w t₀ t : List ℕ} {q₀ q : ℕ} →
+    Room last l₀ t₀ q₀ → PassTo other inks edge cross from m n v a p l₀ l w₀ w t₀ t q₀ q → Room last l t q
 passing-room r P = record {
   labels = omega (arith, r .labels, P .visited .size);
-  places = omega (arith, r .places, P .added .size);
-  left = omega (arith, r .left, P .visited .count, P .added .grew);
+  few = omega (arith, r .few, P .visited .size);
+  places = omega (arith, r .places, P .visited .size, P .added .size);
+  left = omega (arith, r .left, P .visited .count, P .visited .size, P .added .grew);
 }

@@ -89,16 +89,21 @@ pushed-none line lo v q l t = record {
 }
 
 -- there is still room for every crossing without a label
-pub pushed-room : {line lo k v : ℕ} {l₀ l t₀ t : List ℕ} {q₀ q : ℕ} → Room l₀ t₀ q₀ →
-    RunPushed line lo k v l₀ l t₀ t q₀ q → Room l t q
+pub pushed-room : {line lo k v last : ℕ} {l₀ l t₀ t : List ℕ} {q₀ q : ℕ} → Room last l₀ t₀ q₀ →
+    RunPushed line lo k v l₀ l t₀ t q₀ q → Room last l t q
 pushed-room r P = record {
   labels = omega (arith, r .labels, P .run .size);
-  places = omega (arith, r .places, P .size);
-  left = omega (arith, r .left, P .run .count, P .grew);
+  few = omega (arith, r .few, P .run .size);
+  places = omega (arith, r .places, P .run .size, P .size);
+  left = omega (arith, r .left, P .run .count, P .run .size, P .grew);
 }
 
+-- what has room for the lines up to the last has room for each
+pub room-line : {last line : ℕ} {l t : List ℕ} {q : ℕ} → line ≤ last → Room last l t q → Room line l t q
+room-line le r = record { labels = omega (arith, r .labels); few = r .few; places = r .places; left = r .left }
+
 module _ {line lo k v : ℕ} {l₀ t₀ : List ℕ} {q₀ : ℕ} (ll : line < stride) (lk : k < stride) (le : lo ≤ k)
-    (R : Room l₀ t₀ q₀) where
+    (R : Room line l₀ t₀ q₀) where
   pub pushed-more : {l l′ t t′ : List ℕ} {q r : ℕ} → RunPushed line lo k v l₀ l t₀ t q₀ q →
       Push line k v l l′ t t′ q r → RunPushed line lo (k + 1) v l₀ l′ t₀ t′ q₀ r
   pushed-more {l} {l′} {t} {t′} {q} {r} P (stays x) = record {

@@ -48,11 +48,12 @@ pub record Queued (queue : List ℕ) (a b m n : ℕ) (lab : List ℕ) (v : ℕ) 
   pub whole : (i : ℕ) → i < m → (k : ℕ) → k < n → along lab i k ≡ v →
       (p : ℕ) × (a ≤ p) × (p < b) × (getD queue (2 * p) 0 ≡ i) × (getD queue (2 * p + 1) 0 ≡ k)
 
--- a queue that ends at q has room for every crossing without a label
-pub record Room (lab queue : List ℕ) (q : ℕ) : Type 0 where
-  pub labels : area ≤ length lab
-  pub places : 2 * area ≤ length queue
-  pub left : q + zeros lab ≤ area
+-- the labels have room for the lines up to `last`, and a queue that ends at q has room for every place without a label
+pub record Room (last : ℕ) (lab queue : List ℕ) (q : ℕ) : Type 0 where
+  pub labels : last * stride + stride ≤ length lab
+  pub few : length lab ≤ area
+  pub places : 2 * length lab ≤ length queue
+  pub left : q + zeros lab ≤ length lab
 
 -- crossing k of a line is pushed: labels, queue and the queue's end before and after
 pub data Push (line k v : ℕ) : List ℕ → List ℕ → List ℕ → List ℕ → ℕ → ℕ → Type 0 where

@@ -1,12 +1,12 @@
 -- The rounds of the search on a grid with nc columns and nr rows: a level label of column i and row j stands at
 -- j * stride + i, an upright one at i * stride + j; 0 is no label, and the target has the label 1 in both lists.
-use Prim.Native.Nat.{ℕ, _+_, _≤_, _<_}
+use Prim.Native.Nat.{ℕ, _+_, _-_, _*_, _≤_, _<_}
 use mathlib.Core.Path.{_≡_}
 use mathlib.Core.Logic.{_≢_, _⊎_}
 use mathlib.Core.Bool.{Bool, true, false}
 use mathlib.Core.List.{List}
 use lib.ListN.{length}
-use Rattle.grid.specs.Size.{area}
+use Rattle.grid.specs.Size.{stride}
 use Rattle.grid.specs.Lines.{Lines}
 use Rattle.labels.specs.Line.{along, labelTop}
 use Rattle.labels.specs.Ink.{Inked, Lean}
@@ -16,12 +16,12 @@ use Rattle.labels.specs.Pass.{Pass, Below, Queued, Room}
 pub record Sized (l u wl wu el eu cols rows : List ℕ) (nc nr : ℕ) : Type 0 where
   pub column-lines : Lines cols nc
   pub row-lines : Lines rows nr
-  pub level : area ≤ length l
-  pub upright : area ≤ length u
-  pub level-inks : area ≤ length wl
-  pub upright-inks : area ≤ length wu
-  pub level-edges : area ≤ length el
-  pub upright-edges : area ≤ length eu
+  pub level : nr * stride ≤ length l
+  pub upright : nc * stride ≤ length u
+  pub level-inks : nr * stride ≤ length wl
+  pub upright-inks : nc * stride ≤ length wu
+  pub level-edges : nr * stride ≤ length el
+  pub upright-edges : nc * stride ≤ length eu
 
 -- a crossing has the label 1 in both lists or in none
 pub record Twin (l u : List ℕ) (nc nr : ℕ) : Type 0 where
@@ -37,8 +37,8 @@ pub record Begun (l u wl wu ql qu : List ℕ) (nc nr : ℕ) : Type 0 where
   pub upright-low : Below nc nr u 1
   pub level-lean : Lean nr nc l wl
   pub upright-lean : Lean nc nr u wu
-  pub level-room : Room l ql 1
-  pub upright-room : Room u qu 1
+  pub level-room : Room (nr - 1) l ql 1
+  pub upright-room : Room (nc - 1) u qu 1
 
 -- after some rounds, the next of which looks for the label v: labels l and u, inks wl and wu
 pub data Rounds (el eu cols rows : List ℕ) (nc nr : ℕ) (l₀ u₀ wl₀ wu₀ : List ℕ)

@@ -17,7 +17,7 @@ use run::next_stop;
 use run::run_end;
 use run::run_start;
 ghost use mathlib.Core.Path.{_≡_};
-ghost use Prim.Native.Nat.{_+_, _*_, _≤_, _<_};
+ghost use Prim.Native.Nat.{_+_, _-_, _*_, _≤_, _<_};
 ghost use lib.ListN.{length};
 ghost use Rattle.grid.specs.Size.{stride, area};
 ghost use Rattle.grid.specs.Lines.{Lines};
@@ -29,7 +29,7 @@ ghost use Rattle.labels.specs.Walk.{put, Walkable, LevelWalk, UprightWal
 
 // Gives crossing k of a line, which has no label, the label v + 1 and puts it at the end q of the queue; the end then.
 fn put_cell(labels: &mut [u32], queue: &mut [u16], line: usize, k: usize, v: u32, q: usize) -> usize
-    requires { ⌜ (line < stride) × (k < stride) × (v < labelTop) × Room (now labels) (now queue) q
+    requires { ⌜ (line < stride) × (k < stride) × (v < labelTop) × Room line (now labels) (now queue) q
         × (along (now labels) line k ≡ 0) ⌝ }
     ensures { λ r. ⌜ Push line k v (now (labels .entry)) (now (labels .exit))
         (now (queue .entry)) (now (queue .exit)) q r ⌝ }
@@ -49,7 +49,7 @@ fn push_cell(
     v: u32,
     q: usize,
 ) -> usize
-    requires { ⌜ (line < stride) × (k < stride) × (v < labelTop) × Room (now labels) (now queue) q ⌝ }
+    requires { ⌜ (line < stride) × (k < stride) × (v < labelTop) × Room line (now labels) (now queue) q ⌝ }
     ensures { λ r. ⌜ Push line k v (now (labels .entry)) (now (labels .exit))
         (now (queue .entry)) (now (queue .exit)) q r ⌝ }
 {
@@ -69,7 +69,7 @@ fn push_run(
     v: u32,
     q: usize,
 ) -> usize
-    requires { ⌜ (line < stride) × (hi ≤ stride) × (lo ≤ hi) × (v < labelTop) × Room (now labels) (now queue) q ⌝ }
+    requires { ⌜ (line < stride) × (hi ≤ stride) × (lo ≤ hi) × (v < labelTop) × Room line (now labels) (now queue) q ⌝ }
     ensures { λ r. ⌜ RunPushed line lo hi v (now (labels .entry)) (now (labels .exit))
         (now (queue .entry)) (now (queue .exit)) q r ⌝ }
 {
@@ -92,7 +92,7 @@ fn push_blank(
     v: u32,
     q: usize,
 ) -> usize
-    requires { ⌜ (line < stride) × (hi ≤ stride) × (lo ≤ hi) × (v < labelTop) × Room (now labels) (now queue) q
+    requires { ⌜ (line < stride) × (hi ≤ stride) × (lo ≤ hi) × (v < labelTop) × Room line (now labels) (now queue) q
         × Blank (now labels) line lo hi ⌝ }
     ensures { λ r. ⌜ RunPushed line lo hi v (now (labels .entry)) (now (labels .exit))
         (now (queue .entry)) (now (queue .exit)) q r ⌝ }
@@ -135,10 +135,13 @@ fn visit(
     low: u32,
     q: usize,
 ) -> usize
-    requires { ⌜ (line < stride) × Lines (now cross) n × (k < n) × (v < labelTop) × (area ≤ length (now edge)) ⌝ }
-    requires { ⌜ (area ≤ length (now other)) × (area ≤ length (now inks)) × (area ≤ length (now own)) ⌝ }
+    requires { ⌜ (line < stride) × Lines (now cross) n × (k < n) × (v < labelTop)
+        × (line * stride + stride ≤ length (now edge)) ⌝ }
+    requires { ⌜ (n * stride ≤ length (now other)) × (n * stride ≤ length (now inks))
+        × (line * stride + stride ≤ length (now own)) ⌝ }
     requires { ⌜ Low (now other) (now inks) line n v × (across (now other) line k ≡ v) ⌝ }
-    requires { ⌜ Room (now labels) (now queue) q × (stride ≤ length (now ahead)) × (stride ≤ length (now behind)) ⌝ }
+    requires { ⌜ Room line (now labels) (now queue) q × (stride ≤ length (now ahead))
+        × (stride ≤ length (now behind)) ⌝ }
     requires { ⌜ (low ≡ floor v) × Joined (now edge) (now labels) line n (floor v) ⌝ }
     ensures { λ r. ⌜ Visit (now (other .entry)) (now (inks .entry)) (now (edge .entry)) (now (cross .entry)) line n k v
         (now (labels .entry)) (now (labels .exit)) (now (own .entry)) (now (own .exit))
@@ -206,10 +209,11 @@ fn label_queue(
     q: usize,
 ) -> usize
     requires { ⌜ (m ≤ stride) × Lines (now cross) n × (1 ≤ v) × (v < labelTop) × (a ≤ b) × (b ≤ area) ⌝ }
-    requires { ⌜ (area ≤ length (now other)) × (area ≤ length (now inks)) × (area ≤ length (now own)) ⌝ }
-    requires { ⌜ (area ≤ length (now edge)) × (2 * area ≤ length (now from)) × (stride ≤ length (now ahead))
+    requires { ⌜ (n * stride ≤ length (now other)) × (n * stride ≤ length (now inks))
+        × (m * stride ≤ length (now own)) ⌝ }
+    requires { ⌜ (m * stride ≤ length (now edge)) × (2 * b ≤ length (now from)) × (stride ≤ length (now ahead))
         × (stride ≤ length (now behind)) ⌝ }
-    requires { ⌜ Room (now labels) (now queue) q × Lean n m (now other) (now inks) ⌝ }
+    requires { ⌜ Room (m - 1) (now labels) (now queue) q × Lean n m (now other) (now inks) ⌝ }
     requires { ⌜ Queued (now from) a b n m (now other) v × Full (now edge) (now labels) m n (floor v) ⌝ }
     ensures { λ r. ⌜ PassTo (now (other .entry)) (now (inks .entry)) (now (edge .entry)) (now (cross .entry))
         (now (from .entry)) m n v a b (now (labels .entry)) (now (labels .exit)) (now (own .entry)) (now (own .exit))

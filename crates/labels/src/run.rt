@@ -3,9 +3,9 @@
 use grid::STRIDE;
 ghost use Prim.Native.Nat.{_+_, _-_, _*_, _≤_, _<_, min};
 ghost use mathlib.Core.Path.{_≡_};
-ghost use lib.ListN.{getD, length};
+ghost use lib.ListN.{length};
 ghost use Rattle.foil_spec.specs.Paths.{gap};
-ghost use Rattle.grid.specs.Size.{stride, area};
+ghost use Rattle.grid.specs.Size.{stride};
 ghost use Rattle.grid.specs.Lines.{Lines};
 ghost use Rattle.labels.specs.Line.{across, RunStart, RunEnd, isStop, Scanned, Stop, labelTop};
 ghost use Rattle.labels.specs.Ink.{Low, Carried, Ahead, Behind, InkPut, Blank, RunInked};
@@ -42,7 +42,7 @@ fn nearer(a: usize, b: usize) -> usize
 
 // The first crossing of a line that is joined with the crossing `at`.
 fn back_from(edge: &[u8], line: usize, at: usize) -> usize
-    requires { ⌜ (line < stride) × (at ≤ stride) × (area ≤ length (now edge)) ⌝ }
+    requires { ⌜ (line < stride) × (at ≤ stride) × (line * stride + stride ≤ length (now edge)) ⌝ }
     ensures { λ r. ⌜ RunStart (now (edge .entry)) line at r ⌝ }
 {
     let mut lo = at;
@@ -58,7 +58,7 @@ fn back_from(edge: &[u8], line: usize, at: usize) -> usize
 // The same. It is no more than `at`: with that said once more, the compiler does not carry a place of every list along
 // the scan.
 pub fn run_start(edge: &[u8], line: usize, at: usize) -> usize
-    requires { ⌜ (line < stride) × (at ≤ stride) × (area ≤ length (now edge)) ⌝ }
+    requires { ⌜ (line < stride) × (at ≤ stride) × (line * stride + stride ≤ length (now edge)) ⌝ }
     ensures { λ r. ⌜ RunStart (now (edge .entry)) line at r ⌝ }
 {
     nearer(back_from(edge, line, at), at)
@@ -66,7 +66,7 @@ pub fn run_start(edge: &[u8], line: usize, at: usize) -> usize
 
 // The first crossing after the crossing `at`, of n on a line, that is not joined with it.
 pub fn run_end(edge: &[u8], line: usize, n: usize, at: usize) -> usize
-    requires { ⌜ (line < stride) × (n ≤ stride) × (at < n) × (area ≤ length (now edge)) ⌝ }
+    requires { ⌜ (line < stride) × (n ≤ stride) × (at < n) × (line * stride + stride ≤ length (now edge)) ⌝ }
     ensures { λ r. ⌜ RunEnd (now (edge .entry)) line n at r ⌝ }
 {
     let mut hi = at + 1;
@@ -91,7 +91,7 @@ fn is_stop(
     s: u32,
 ) -> bool
     requires { ⌜ (line < stride) × (k < stride) × (k < length (now cross)) × (v < labelTop) ⌝ }
-    requires { ⌜ (area ≤ length (now other)) × (area ≤ length (now inks)) ⌝ }
+    requires { ⌜ (k * stride + stride ≤ length (now other)) × (k * stride + stride ≤ length (now inks)) ⌝ }
     requires { ⌜ (across (now other) line k ≡ v → across (now inks) line k ≤ 4095 * v) ⌝ }
     ensures { λ r. ⌜ r ≡ isStop (now (other .entry)) (now (inks .entry)) (now (cross .entry)) line x v s k ⌝ }
 {
@@ -117,8 +117,10 @@ fn scan(
     v: u32,
     s: u32,
 ) -> usize
-    requires { ⌜ (line < stride) × Lines (now cross) n × (lo ≤ n) × (v < labelTop) × (area ≤ length (now edge)) ⌝ }
-    requires { ⌜ (area ≤ length (now other)) × (area ≤ length (now inks)) × Low (now other) (now inks) line n v ⌝ }
+    requires { ⌜ (line < stride) × Lines (now cross) n × (lo ≤ n) × (v < labelTop)
+        × (line * stride + stride ≤ length (now edge)) ⌝ }
+    requires { ⌜ (n * stride ≤ length (now other)) × (n * stride ≤ length (now inks))
+        × Low (now other) (now inks) line n v ⌝ }
     ensures { λ r. ⌜ Scanned (now (other .entry)) (now (inks .entry)) (now (edge .entry)) (now (cross .entry))
         line n lo x v s r ⌝ }
 {
@@ -147,8 +149,10 @@ pub fn next_stop(
     v: u32,
     s: u32,
 ) -> usize
-    requires { ⌜ (line < stride) × Lines (now cross) n × (at < n) × (v < labelTop) × (area ≤ length (now edge)) ⌝ }
-    requires { ⌜ (area ≤ length (now other)) × (area ≤ length (now inks)) × Low (now other) (now inks) line n v ⌝ }
+    requires { ⌜ (line < stride) × Lines (now cross) n × (at < n) × (v < labelTop)
+        × (line * stride + stride ≤ length (now edge)) ⌝ }
+    requires { ⌜ (n * stride ≤ length (now other)) × (n * stride ≤ length (now inks))
+        × Low (now other) (now inks) line n v ⌝ }
     ensures { λ r. ⌜ Stop (now (other .entry)) (now (inks .entry)) (now (edge .entry)) (now (cross .entry))
         line n at v s r ⌝ }
 {
@@ -169,7 +173,7 @@ pub fn next_stop(
 // The least of `best` and, where crossing k of a line is a stop for the label v, its ink and x more.
 fn carry(other: &[u32], inks: &[u32], line: usize, k: usize, v: u32, x: u32, best: u32) -> u32
     requires { ⌜ (line < stride) × (k < stride) × (v < labelTop) × (x ≤ 4096) ⌝ }
-    requires { ⌜ (area ≤ length (now other)) × (area ≤ length (now inks)) ⌝ }
+    requires { ⌜ (k * stride + stride ≤ length (now other)) × (k * stride + stride ≤ length (now inks)) ⌝ }
     requires { ⌜ (across (now other) line k ≡ v → across (now inks) line k ≤ 4095 * v) ⌝ }
     ensures { λ r. ⌜ Carried (now (other .entry)) (now (inks .entry)) line v k x best r ⌝ }
 {
@@ -194,7 +198,8 @@ pub fn ahead_of(
     v: u32,
 )
     requires { ⌜ (line < stride) × Lines (now cross) n × (hi ≤ n) × (lo ≤ h) × (h < hi) × (v < labelTop) ⌝ }
-    requires { ⌜ (area ≤ length (now other)) × (area ≤ length (now inks)) × (stride ≤ length (now ahead)) ⌝ }
+    requires { ⌜ (n * stride ≤ length (now other)) × (n * stride ≤ length (now inks))
+        × (stride ≤ length (now ahead)) ⌝ }
     requires { ⌜ Low (now other) (now inks) line n v × (across (now other) line h ≡ v) ⌝ }
     ensures { λ _. ⌜ Ahead (now (other .entry)) (now (inks .entry)) (now (cross .entry)) line v lo hi lo
         (now (ahead .exit)) ⌝ }
@@ -223,7 +228,8 @@ pub fn behind_of(
     v: u32,
 )
     requires { ⌜ (line < stride) × Lines (now cross) n × (hi ≤ n) × (lo ≤ h) × (h < hi) × (v < labelTop) ⌝ }
-    requires { ⌜ (area ≤ length (now other)) × (area ≤ length (now inks)) × (stride ≤ length (now behind)) ⌝ }
+    requires { ⌜ (n * stride ≤ length (now other)) × (n * stride ≤ length (now inks))
+        × (stride ≤ length (now behind)) ⌝ }
     requires { ⌜ Low (now other) (now inks) line n v × (across (now other) line h ≡ v) ⌝ }
     ensures { λ _. ⌜ Behind (now (other .entry)) (now (inks .entry)) (now (cross .entry)) line v lo hi hi
         (now (behind .exit)) ⌝ }
@@ -250,7 +256,8 @@ fn ink_of(ahead: u32, behind: u32, x: u16) -> u32
 
 // Gives crossing k of a line the ink s, if it has no label.
 fn put_ink(own: &mut [u32], labels: &[u32], line: usize, k: usize, s: u32)
-    requires { ⌜ (line < stride) × (k < stride) × (area ≤ length (now own)) × (area ≤ length (now labels)) ⌝ }
+    requires { ⌜ (line < stride) × (k < stride) × (line * stride + stride ≤ length (now own))
+        × (line * stride + stride ≤ length (now labels)) ⌝ }
     ensures { λ _. ⌜ InkPut line k s (now (labels .entry)) (now (own .entry)) (now (own .exit)) ⌝ }
 {
     if labels[line * STRIDE + k] != 0 {
@@ -276,7 +283,8 @@ pub fn ink_run(
 )
     requires { ⌜ (line < stride) × Lines (now cross) n × (hi ≤ n) × (lo ≤ hi) ⌝ }
     requires { ⌜ (stride ≤ length (now ahead)) × (stride ≤ length (now behind)) ⌝ }
-    requires { ⌜ (area ≤ length (now own)) × (area ≤ length (now labels)) ⌝ }
+    requires { ⌜ (line * stride + stride ≤ length (now own))
+        × (line * stride + stride ≤ length (now labels)) ⌝ }
     requires { ⌜ Ahead (now other) (now inks) (now cross) line v lo hi lo (now ahead)
         × Behind (now other) (now inks) (now cross) line v lo hi hi (now behind) ⌝ }
     ensures { λ _. ⌜ RunInked (now (other .entry)) (now (inks .entry)) (now (cross .entry)) line v lo hi hi
@@ -306,7 +314,7 @@ pub fn ink_blank(
 )
     requires { ⌜ (line < stride) × Lines (now cross) n × (hi ≤ n) × (lo ≤ hi) ⌝ }
     requires { ⌜ (stride ≤ length (now ahead)) × (stride ≤ length (now behind)) ⌝ }
-    requires { ⌜ (area ≤ length (now own)) × Blank (now labels) line lo hi ⌝ }
+    requires { ⌜ (line * stride + stride ≤ length (now own)) × Blank (now labels) line lo hi ⌝ }
     requires { ⌜ Ahead (now other) (now inks) (now cross) line v lo hi lo (now ahead)
         × Behind (now other) (now inks) (now cross) line v lo hi hi (now behind) ⌝ }
     ensures { λ _. ⌜ RunInked (now (other .entry)) (now (inks .entry)) (now (cross .entry)) line v lo hi hi

@@ -16,7 +16,7 @@ use Rattle.list_laws.proofs.Members.{at-place}
 use Rattle.path_laws.proofs.Segments.{end-free}
 use Rattle.ledger_laws.proofs.Stored.{length-points}
 use Rattle.ledger_laws.proofs.CornerLists.{corners-read}
-use Rattle.tracks.specs.Legs.{Corners}
+use Rattle.booking.specs.Legs.{Corners}
 
 -- ---- every corner of a path is free
 

@@ -1,4 +1,5 @@
--- Laws that the proofs of lay use.
+-- Laws of lay.
+pub mod Finding
 pub mod Corners
 pub mod Checking
 pub mod Tracking

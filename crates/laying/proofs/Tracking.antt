@@ -1,5 +1,5 @@
 -- Lay from its search on, return by return.
-use Prim.Native.Nat.{ℕ, _+_, _-_, _*_, _/_, _≤_, _<_, max}
+use Prim.Native.Nat.{ℕ, _+_, _-_, _*_, _/_, _≤_, _<_, min, max}
 use native.Mathlib.Omega.{arith}
 use mathlib.Core.Path.{_≡_, refl, sym, ap, _∙_, subst}
 use mathlib.Core.Bool.{true, false, not}
@@ -10,83 +10,85 @@ use lib.ListN.{length, drop, replicate, length-append}
 use lib.Seq.{paste}
 use borrow.Author.Tests.{lt-ltb, le-ltb, eq-eqb, ne-eqb}
 use Rattle.foil_spec.specs.Lists.{range, all, each}
+use Rattle.foil_spec.specs.Limits.{maxEntries, tableSize, stripsSize}
 use Rattle.foil_spec.specs.Foil.{Point, Layout, entryOk, free}
 use Rattle.foil_spec.specs.Paths.{at, bends}
-use Rattle.foil_spec.specs.Ledger.{Step, lay, pathOf, noPath, cornersOf, legs, tooLong, tooFine}
-use Rattle.foil_spec.specs.Ledger.{next, says, laid, _⇒_, first}
-use Rattle.foil_spec.specs.Lent.{Lent, lent, withCorners, store, pointNumbers, entryAt, layoutOf, held, sound, roomOf}
-use Rattle.foil_spec.specs.Lent.{cornersAfter, finish, stepOn}
+use Rattle.foil_spec.specs.Ledger.{lay, pathOf, noPath, cornersOf, legs, Room, short, cornerRoom, tooLong, tooFine}
+use Rattle.foil_spec.specs.Ledger.{next, says, _⇒_, first, settle, refusalOf}
+use Rattle.foil_spec.specs.Lent.{Lent, lent, store, pointNumbers, overFront, entryAt, layoutOf, held, sound, stepOn}
+use Rattle.foil_spec.specs.Lent.{outputAfter}
 use Rattle.foil_spec.specs.declared.Board.{Board}
 use Rattle.list_laws.proofs.Tests.{all-append}
 use Rattle.path_laws.proofs.Laws.{gives-first}
 use Rattle.ledger_laws.proofs.Legs.{free-inside}
-use Rattle.ledger_laws.proofs.Kept.{of-ok, laid-ok}
+use Rattle.ledger_laws.proofs.Rules.{of-ok}
+use Rattle.ledger_laws.proofs.Line.{laid-ok}
 use Rattle.ledger_laws.proofs.Lay.{lay-from-9}
-use Rattle.ledger_laws.proofs.Steps.{long-lists}
-use Rattle.ledger_laws.proofs.Sound.{Sound, of-sound, length-read}
-use Rattle.strips.specs.Table.{Table}
+use Rattle.ledger_laws.proofs.Sound.{Sound, of-sound, sound-long, length-read}
+use Rattle.zones.specs.Table.{Table}
+use Rattle.zones.proofs.Tables.{table-of}
 use Rattle.booking.specs.Rows.{rowsOf}
 use Rattle.booking.specs.Booked.{Stored, Unchanged}
-use Rattle.grid.proofs.Board.{boxes-of}
-use Rattle.search.specs.Grid.{Posed}
-use Rattle.tracks.specs.Legs.{Corners, Legs}
-use Rattle.tracks.specs.Found.{Found}
-use Rattle.foil.specs.Contract.{answerOf, StepDone, refusedBy}
+use Rattle.booking.specs.Legs.{Corners, Legs}
+use Rattle.foil.specs.Contract.{answerOf, OutputIn, refusedBy}
 use Rattle.foil.specs.declared.Answer.the-variants.{Laid}
 use Rattle.foil.specs.declared.Done.{Done}
-use Rattle.foil.proofs.Refusing.{refusal, refused-done, fine-done}
+use Rattle.foil.proofs.Giving.{wrote-refused}
 use Rattle.foil.proofs.Making.{rows-again, rows-layout, rows-table, copied-rows}
 use Rattle.foil.proofs.Limits.{Held, held-limits}
 use Rattle.laying.specs.Points.{ReadyToLay}
+use Rattle.laying.specs.Found.{Posed, Found}
 use Rattle.laying.proofs.Corners.{corners-free, length-legs, read-path, small-corners, copied-corners}
 
-module _ (b : Board) (t s ks : List ℕ) (net : ℕ) (S T : Point) (y : ReadyToLay (lent b t s ks) net S T) where
+module _ (b : Board) (t s ks : List ℕ) (net : ℕ) (S T : Point) (limit : ℕ) (limited : limit ≤ maxEntries)
+    (y : ReadyToLay (lent b t s) net S T) where
   abbrev m : Lent
-  m = lent b t s ks
+  m = lent b t s
 
   abbrev l : Layout
   l = held m
 
-  abbrev c : Step
-  c = lay net S T
+  -- what the call is to give, in each room of the limit and the output list
+  abbrev Gives : Done → List ℕ → List ℕ → List ℕ → Type 0
+  Gives r t′ s′ ks′ = OutputIn (lay net S T) limit m ks r t′ s′ ks′
 
   -- the corners of the first path
   abbrev cs : List Point
   cs = cornersOf l S T
 
   facts : Sound m
-  facts = of-sound m (y .ready .fine)
+  facts = of-sound m (y .fine)
 
   pub limits : Held b
-  limits = held-limits b t s ks facts
+  limits = held-limits b t s facts
 
-  pub lists-long : (640 ≤ length t) × (16384 ≤ length s)
-  lists-long = let k = long-lists m (y .ready .long) in (k .table, k .strips)
+  pub lists-long : (tableSize ≤ length t) × (stripsSize ≤ length s)
+  lists-long = let k = sound-long m (y .fine) in (k .table, k .strips)
 
   pub posed : Posed t (b .entries) (b .clearance) (b .width) (b .height) S T
   unfolding held layoutOf
   posed =
       record {
-        table = omega (arith, lists-long .0, limits .few);
-        few = limits .few;
-        clearance = limits .small;
-        wide = limits .wide;
-        high = limits .high;
-        boxes = boxes-of (b .width) (b .height) (b .clearance) (b .entries) t (of-ok l (facts .kept) .entries);
+        table =
+            table-of t (b .entries) (b .clearance) (b .width) (b .height) (limits .few)
+            (omega (arith, lists-long .0, limits .few)) (limits .small) (limits .wide) (limits .high)
+            (of-ok l (facts .kept) .entries);
         s-free = y .may .start-free;
         t-free = y .may .end-free;
       }
 
-  from-9 : refusal c m
+  -- the refusals from 9 on are those that are left
+  from-9 : (room : Room) → short room ≡ false
+      → refusalOf room (not (sound m)) (lay net S T) l
       ≡ first (
       (noPath (pathOf l S T) ⇒ 9)
-      ∷ (ltb (roomOf m .corners) (length cs) ⇒ 12)
-      ∷ (tooLong (next c l) ⇒ 10)
-      ∷ (tooFine (next c l) ⇒ 11)
+      ∷ (ltb (cornerRoom room) (length cs) ⇒ 12)
+      ∷ (tooLong room (next (lay net S T) l) ⇒ 10)
+      ∷ (tooFine (next (lay net S T) l) ⇒ 11)
       ∷ [])
-  from-9 = lay-from-9 (roomOf m) (not (sound m)) l net S T (y .ready .long) (ap not (y .ready .fine)) (y .may)
+  from-9 room long = lay-from-9 room (not (sound m)) l net S T long (ap not (y .fine)) (y .may)
 
-  entries-after : next c l .entries ≡ l .entries ++ legs net cs
+  entries-after : next (lay net S T) l .entries ≡ l .entries ++ legs net cs
   unfolding next
   entries-after = refl
 
@@ -100,25 +102,20 @@ module _ (b : Board) (t s ks : List ℕ) (net : ℕ) (S T : Point) (y : ReadyToL
     unfolding held
     found = searched
 
-    pub no-path : k ≡ 0 → (r : Done) → r ≡ refusedBy 9 b → StepDone c m r t s ks
+    pub no-path : k ≡ 0 → (r : Done) → r ≡ refusedBy 9 b → Gives r t s ks
     unfolding first
-    no-path e r q = refused-done c m 9 r q (from-9 ∙ rw (found .none ∙ eq-eqb k 0 e) refl)
+    no-path e r q room long _ _ =
+        wrote-refused (lay net S T) m 9 r q room ks (from-9 room long ∙ rw (found .none ∙ eq-eqb k 0 e) refl)
 
     module _ (some-path : k ≡ 0 → ⊥) where
-      from-12 : refusal c m
-          ≡ first (
-          (ltb (roomOf m .corners) (length cs) ⇒ 12)
-          ∷ (tooLong (next c l) ⇒ 10)
-          ∷ (tooFine (next c l) ⇒ 11)
-          ∷ [])
-      unfolding first
-      from-12 = from-9 ∙ rw (found .none ∙ ne-eqb k 0 some-path) refl
-
-      pub few-corners : length ks / 2 < k → (r : Done) → r ≡ refusedBy 12 b → StepDone c m r t s ks
-      unfolding first roomOf
-      few-corners h r q =
-          refused-done c m 12 r q
-          (from-12 ∙ rw (lt-ltb (length ks / 2) (length cs) (omega (arith, found .count))) refl)
+      pub few-corners : length ks / 2 < k → (r : Done) → r ≡ refusedBy 12 b → Gives r t s ks
+      unfolding first cornerRoom
+      few-corners h r q room long _ out =
+          wrote-refused (lay net S T) m 12 r q room ks
+          (from-9 room long ∙ rw (
+            found .none ∙ ne-eqb k 0 some-path,
+            lt-ltb (room .output / 2) (length cs) (omega (arith, found .count, out)),
+          ) refl)
 
       -- how many entries the legs are
       legs-count : length (legs net cs) ≡ max 1 (k - 1)
@@ -131,30 +128,37 @@ module _ (b : Board) (t s ks : List ℕ) (net : ℕ) (S T : Point) (y : ReadyToL
           length-append (l .entries) (legs net cs)
           ∙ omega (arith, length-read t (b .entries), legs-count)
 
-      module _ (room : k ≤ length ks / 2) where
-        from-10 : refusal c m ≡ first ((tooLong (next c l) ⇒ 10) ∷ (tooFine (next c l) ⇒ 11) ∷ [])
-        unfolding first roomOf
-        from-10 = from-12 ∙ rw (le-ltb (length ks / 2) (length cs) (omega (arith, found .count))) refl
+      module _ (fit : k ≤ length ks / 2) where
+        from-10 : (room : Room) → short room ≡ false → room .output ≡ length ks
+            → refusalOf room (not (sound m)) (lay net S T) l
+            ≡ first ((tooLong room (next (lay net S T) l) ⇒ 10) ∷ (tooFine (next (lay net S T) l) ⇒ 11) ∷ [])
+        unfolding first cornerRoom
+        from-10 room long out =
+            from-9 room long ∙ rw (
+              found .none ∙ ne-eqb k 0 some-path,
+              le-ltb (room .output / 2) (length cs) (omega (arith, found .count, out)),
+            ) refl
 
-        pub table-full : (n : ℕ) → n ≡ max 1 (k - 1) → 128 - b .entries < n → (r : Done) → r ≡ refusedBy 10 b
-            → StepDone c m r t s ks
+        pub table-full : (n : ℕ) → n ≡ max 1 (k - 1) → limit < b .entries + n → (r : Done) → r ≡ refusedBy 10 b
+            → Gives r t s ks
         unfolding first tooLong
-        table-full n e h r q =
-            refused-done c m 10 r q
-            (from-10
-            ∙ rw (lt-ltb 128 (length (next c l .entries))
-            (omega (arith, ap length entries-after, all-count, limits .few))) refl)
+        table-full n e h r q room long is out =
+            wrote-refused (lay net S T) m 10 r q room ks
+            (from-10 room long out
+            ∙ rw (lt-ltb (min maxEntries (room .limit)) (length (next (lay net S T) l .entries))
+            (omega (arith, ap length entries-after, all-count))) refl)
 
-        module _ (n : ℕ) (n-is : n ≡ max 1 (k - 1)) (fits : n ≤ 128 - b .entries) where
-          from-11 : refusal c m ≡ first ((tooFine (next c l) ⇒ 11) ∷ [])
+        module _ (n : ℕ) (n-is : n ≡ max 1 (k - 1)) (fits : b .entries + n ≤ limit) where
+          from-11 : (room : Room) → short room ≡ false → room .limit ≡ limit → room .output ≡ length ks
+              → refusalOf room (not (sound m)) (lay net S T) l ≡ first ((tooFine (next (lay net S T) l) ⇒ 11) ∷ [])
           unfolding first tooLong
-          from-11 =
-              from-10
-              ∙ rw (le-ltb 128 (length (next c l .entries))
-              (omega (arith, ap length entries-after, all-count, limits .few))) refl
+          from-11 room long is out =
+              from-10 room long out
+              ∙ rw (le-ltb (min maxEntries (room .limit)) (length (next (lay net S T) l .entries))
+              (omega (arith, ap length entries-after, all-count, limited))) refl
 
-          pub sums : (1 ≤ k) × (b .entries + k ≤ 129) × (b .entries < 128)
-          sums = (omega (arith, some-path), omega (arith, limits .few), omega (arith, limits .few))
+          pub sums : (1 ≤ k) × (b .entries + k ≤ 129) × (b .entries < maxEntries)
+          sums = (omega (arith, some-path), omega (arith, limited), omega (arith, limited))
 
           path-is : path ≡ each pointNumbers cs ++ drop (length (each pointNumbers cs)) path₀
           path-is = found .corners (sums .0) (omega (arith, sums .1))
@@ -176,7 +180,7 @@ module _ (b : Board) (t s ks : List ℕ) (net : ℕ) (S T : Point) (y : ReadyToL
               (omega (arith, i .0, limits .wide), omega (arith, i .1, limits .high)))
               (is-path (pathOf l S T) refl (ne-eqb k 0 some-path) (found .none))
 
-          module _ (old rows : List ℕ) (all-rows : ℕ) (copied : old ≡ paste (replicate 640 0) 0 t 640)
+          module _ (old rows : List ℕ) (all-rows : ℕ) (copied : old ≡ paste (replicate tableSize 0) 0 t tableSize)
               (added : Legs old rows (b .entries) net path k all-rows) where
             laid-rows : rows ≡ rowsOf (l .entries ++ legs net cs)
             unfolding held layoutOf
@@ -208,7 +212,7 @@ module _ (b : Board) (t s ks : List ℕ) (net : ℕ) (S T : Point) (y : ReadyToL
             pub laid-again : rows ≡ rowsOf (map (entryAt rows) (range 0 all-rows))
             laid-again = rows-again rows (l .entries ++ legs net cs) all-rows laid-count laid-rows
 
-            layout-is : layoutOf (b .width) (b .height) (b .clearance) all-rows rows ≡ next c l
+            layout-is : layoutOf (b .width) (b .height) (b .clearance) all-rows rows ≡ next (lay net S T) l
             unfolding next held layoutOf
             layout-is =
                 rows-layout rows (l .entries ++ legs net cs) all-rows laid-count laid-rows
@@ -216,27 +220,39 @@ module _ (b : Board) (t s ks : List ℕ) (net : ℕ) (S T : Point) (y : ReadyToL
 
             pub too-fine : (r : Done) (t′ s′ : List ℕ)
                 → Unchanged (layoutOf (b .width) (b .height) (b .clearance) all-rows rows) t s t′ s′
-                → r ≡ refusedBy 11 b → StepDone c m r t′ s′ ks
-            too-fine r t′ s′ = fine-done c m r t′ s′ _ layout-is from-11
+                → r ≡ refusedBy 11 b → Gives r t′ s′ ks
+            unfolding first
+            too-fine r t′ s′ u q room long is out =
+                let n = subst (λ (x : Layout). Unchanged x t s t′ s′) layout-is u in
+                let w = wrote-refused (lay net S T) m 11 r q room ks
+                (from-11 room long is out ∙ rw (n .many) refl) in
+                record {
+                  gave = record {
+                    answer = w .gave .answer;
+                    board = w .gave .board;
+                    table = n .table ∙ w .gave .table;
+                    strips = n .strips ∙ w .gave .strips;
+                  };
+                  output = w .output;
+                }
 
             pub laid-done : (after : Board) (t′ s′ ks′ : List ℕ) (n : ℕ) → n ≡ k - 2
                 → Stored (layoutOf (b .width) (b .height) (b .clearance) all-rows rows) t s t′ s′ after
                 → ks′ ≡ paste ks 0 path (k * 2)
-                → StepDone c m (record { answer = Laid k n; board = after }) t′ s′ ks′
-            unfolding stepOn finish answerOf store cornersAfter first says bends
-            laid-done after t′ s′ ks′ n n-is u q =
+                → Gives (record { answer = Laid k n; board = after }) t′ s′ ks′
+            unfolding stepOn settle answerOf store outputAfter overFront first says bends
+            laid-done after t′ s′ ks′ n n-is u q room long is out =
                 let d = subst (λ (x : Layout). Stored x t s t′ s′ after) layout-is u in
-                let unrefused : refusal c m ≡ none = from-11 ∙ rw (d .fine) refl in
-                let o : stepOn c m
-                ≡ record {
-                  answer = laid cs (bends cs);
-                  state = withCorners (store (next c l) m) (cornersAfter (laid cs (bends cs)) ks);
-                } = rw unrefused refl in
+                let unrefused : refusalOf room (not (sound m)) (lay net S T) l ≡ none =
+                from-11 room long is out ∙ rw (d .fine) refl in
                 let e : n ≡ length cs - 2 = n-is ∙ ap (λ (j : ℕ). j - 2) (found .count) in
-                record {
-                  answer = rw o (λ i. Laid (found .count i) (e i));
-                  board = rw o (d .board);
-                  table = rw o (d .table);
-                  strips = rw o (d .strips);
-                  corners = rw o (q ∙ copied-corners cs _ path k (found .count) path-is ks);
-                }
+                rw unrefused
+                (record {
+                  gave = record {
+                    answer = λ i. Laid (found .count i) (e i);
+                    board = d .board;
+                    table = d .table;
+                    strips = d .strips;
+                  };
+                  output = q ∙ copied-corners cs _ path k (found .count) path-is ks;
+                })

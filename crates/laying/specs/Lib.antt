@@ -1,2 +1,3 @@
 -- What the contracts of lay cite.
 pub mod Points
+pub mod Found

@@ -13,7 +13,6 @@ use Rattle.foil_spec.specs.Foil.{Point, Layout, free}
 use Rattle.foil_spec.specs.Strips.{Strip, holds}
 use Rattle.foil_spec.specs.Ledger.{stripsOf}
 use Rattle.foil_spec.specs.Lent.{Lent, stripNumbers, written, boardOf, store, listedStrip, listedStrips}
-use Rattle.foil_spec.specs.declared.Board.{Board}
 use Rattle.foil_spec.proofs.Written.{written-zero}
 use Rattle.list_laws.proofs.Tests.{both}
 use Rattle.list_laws.proofs.Members.{In, in-map, in-range, Sorted, sorted-places}

@@ -102,8 +102,7 @@ lifts-back m l c cs b earlier k later e net S T ds n s h next rest q u long =
     let w = subst (λ (js : List Moment). Chain m (k .ledgerAfter) js (p .1 .end)) q (p .1 .chain) in
     let line = lift-line k next net S T ds n m (p .0) s h (w .0) u long in
     let back-is : next .ledgerAfter ≡ k .ledgerBefore =
-    w .1 .left ∙ ap (λ (a : After Answer Layout). a .state) line in
-    (
+    w .1 .left ∙ ap (λ (a : After Answer Layout). a .state) line in (
       w .1 .answer ∙ ap (λ (a : After Answer Layout). a .answer) line,
       w .1 .after .is ∙ ap (λ (x : Layout). store x m) back-is ∙ sym (p .0 .before .is),
     )

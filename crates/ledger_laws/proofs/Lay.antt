@@ -1,5 +1,5 @@
 -- On the ledger lay answers 9 exactly where there is no path, lays the first one, and lift takes it back.
-use Prim.Native.Nat.{ℕ, _≤_}
+use Prim.Native.Nat.{ℕ}
 use native.Mathlib.Omega.{arith}
 use mathlib.Core.Path.{_≡_, refl, sym, ap, _∙_, subst}
 use mathlib.Core.Bool.{Bool, true, false, not}
@@ -7,7 +7,7 @@ use mathlib.Core.List.{List, [], _∷_, _++_, append-nil}
 use mathlib.Core.Option.{Option, none, some, Option·getD}
 use mathlib.Core.Logic.{_↔_}
 use lib.Dec.{ltb}
-use borrow.Author.Tests.{eq-eqb, lt-leb, ltb-false}
+use borrow.Author.Tests.{eq-eqb, lt-leb}
 use lib.ListN.{length}
 use Rattle.foil_spec.specs.Lists.{keep, any}
 use Rattle.foil_spec.specs.Foil.{Point, Entry, Layout, netOk, free}
@@ -23,6 +23,7 @@ use Rattle.path_laws.proofs.Laws.{gives-first, gives-none, none-is}
 use Rattle.ledger_laws.specs.Demand3.{MayLay}
 use Rattle.ledger_laws.proofs.Refusals.{none-applies, unrefused-sound, unrefused-own}
 use Rattle.ledger_laws.proofs.Legs.{free-inside}
+use Rattle.ledger_laws.proofs.Line.{settled-refused}
 
 -- ---- 9
 
@@ -56,13 +57,6 @@ lay-from-9 r broken l net S T long fine k =
       k .end-free,
     ) refl
 
-settled-9 : (o : Option ℕ) (net : ℕ) (S T : Point) (l : Layout)
-    → settle o (record { answer = says (lay net S T) l; state = next (lay net S T) l }) l .answer ≡ refused 9
-    → o ≡ some 9
-unfolding settle says
-settled-9 none net S T l h = absurd (let z : _≡_ {A = ℕ} 0 1 = cc in omega arith)
-settled-9 (some n) net S T l h = let e : n ≡ 9 = cc in ap {A = ℕ} {B = Option ℕ} some e
-
 after-9 : (a b c : Bool) → first ((a ⇒ 12) ∷ (b ⇒ 10) ∷ (c ⇒ 11) ∷ []) ≡ some 9 → ⊥
 unfolding first
 after-9 true b c h = let e : _≡_ {A = ℕ} 12 9 = cc in omega arith
@@ -89,7 +83,7 @@ pub ledger-9 : (r : Room) (l : Layout) (net : ℕ) (S T : Point) → short r ≡
 unfolding pathOf ledgerStep
 ledger-9 r l net S T long k = (
   λ h.
-      let e = settled-9 (refusalOf r false (lay net S T) l) net S T l h in
+      let e = settled-refused (refusalOf r false (lay net S T) l) (lay net S T) l _ l 9 (omega arith) h in
       gives-none (free l) (l .width) (l .height) (free-inside l) S (at T)
       (only-9 (pathOf l S T) _ _ _ (sym (lay-from-9 r false l net S T long refl k) ∙ e)),
   λ h. answers-9 r l net S T long k (none-is (free l) (l .width) (l .height) (free-inside l) S (at T) h),

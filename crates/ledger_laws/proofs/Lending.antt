@@ -131,7 +131,8 @@ module _ (m : Lent) (long : Long m) (c : Lending) (l : Layout) (g : layoutOk l �
         call-short (roomFor c (store l m)) (c .call) (front c (store l m)) (ap short (room-front c m l long g) ∙ e),
         told-short (roomFor c m) (c .call) l e,
       )
-      (ap {A = Lent} {B = After Reply Lent} (λ n. record { answer = answered (refused (shortNumber (c .call))); state = n })
+      (ap {A = Lent} {B = After Reply Lent}
+      (λ n. record { answer = answered (refused (shortNumber (c .call))); state = n })
       (back-front c (store l m)))
 
   lend-long : LongFront c m → lend c (store l m) ≡ shown m (told m c l)
@@ -320,7 +321,8 @@ opened : (r : Room) (bs : List ℕ) (xs : List Answer) (n : Option ℕ) (l : Lay
     → ledgerCall r (runRecord bs 0) l .answer ≡ ran (accepted ∷ xs) n → Opened r bs l
 unfolding ledgerCall reply
 opened r bs xs n l e =
-    let a = of-ran (first (wholeRefusals r false bs 0)) (isEnd bs 0) r (steps bs 0) (recordEnd bs 0) l accepted xs n e in
+    let o : Option ℕ = first (wholeRefusals r false bs 0) in
+    let a = of-ran o (isEnd bs 0) r (steps bs 0) (recordEnd bs 0) l accepted xs n e in
     let b = opens bs (own-checks r false bs 0 (a .unrefused)) in
     let h = first-answer r (newFoil (b .W) (b .H) (b .d)) (b .later) l accepted (a .answers)
     (subst (λ (ss : List Step). actAll (ledgerStep r) ss l .answer ≡ accepted ∷ a .answers) (b .is) (a .are)) in
@@ -339,8 +341,9 @@ begun-record r bs xs n l m e =
     let b = a .board in
     let new : Step = newFoil (b .W) (b .H) (b .d) in
     let u = a .taken in
-    let ends : actRecord (ledgerStep r) (first (wholeRefusals r false bs 0)) (isEnd bs 0) (steps bs 0) (recordEnd bs 0) l
-    .state ≡ actAll (ledgerStep r) (new ∷ b .later) l .state =
+    let o : Option ℕ = first (wholeRefusals r false bs 0) in
+    let ends : actRecord (ledgerStep r) o (isEnd bs 0) (steps bs 0) (recordEnd bs 0) l .state
+    ≡ actAll (ledgerStep r) (new ∷ b .later) l .state =
     ap₂ (λ (t : Option ℕ) (q : Bool). actRecord (ledgerStep r) t q (steps bs 0) (recordEnd bs 0) l .state)
     (a .unrefused) (a .not-end)
     ∙ ran-state r (steps bs 0) (recordEnd bs 0) l
@@ -412,8 +415,8 @@ module _ (r : Room) (l l′ : Layout) where
   record-anew bs xs n e =
       let a = opened r bs xs n l e in
       let b = a .board in
-      rw (a .unrefused, a .not-end, b .is, new-anew (b .W) (b .H) (b .d) (taken-answer (b .W) (b .H) (b .d) r l (a .taken)))
-      refl
+      let new = new-anew (b .W) (b .H) (b .d) (taken-answer (b .W) (b .H) (b .d) r l (a .taken)) in
+      rw (a .unrefused, a .not-end, b .is, new) refl
 
   pub begins-anew : (c : Call) → Begins c (ledgerCall r c l .answer) → ledgerCall r c l ≡ ledgerCall r c l′
   begins-anew c (inl (W, H, d, e, h)) =

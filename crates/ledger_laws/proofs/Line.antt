@@ -1,7 +1,7 @@
 -- Each step of the ledger keeps what lists of calls ask of it.
 use Prim.Native.Nat.{ℕ, suc, min, _≤_, _<_}
 use native.Mathlib.Omega.{arith}
-use mathlib.Core.Path.{_≡_, refl, sym}
+use mathlib.Core.Path.{_≡_, refl, sym, ap, _∙_}
 use mathlib.Core.Bool.{Bool, true, false, not, _&&_, _||_, or-true, true≢false}
 use mathlib.Core.List.{List, [], _∷_, _++_}
 use mathlib.Core.Option.{Option, none, some, Option·getD}
@@ -14,7 +14,7 @@ use Rattle.foil_spec.specs.Foil.{Point, Entry, entry, Layout, sizeOk, clearance
 use Rattle.foil_spec.specs.Paths.{at}
 use Rattle.foil_spec.specs.Ledger.{stripsOf, pathOf, cornersOf, legs, ofNet, withEntries, Room, cornerRoom, tooLong}
 use Rattle.foil_spec.specs.Ledger.{tooFine, Step, newFoil, draw, lay, lift, lookUp, numberOf, next, says}
-use Rattle.foil_spec.specs.Ledger.{Refusal, _⇒_, first, reads, refusals}
+use Rattle.foil_spec.specs.Ledger.{refused, Refusal, first, reads, refusals, settle}
 use Rattle.foil_spec.specs.Lent.{layoutOk}
 use Rattle.list_laws.proofs.Tests.{and-l, and-r, and-i, not-ff, both, all-append, all-keep}
 use Rattle.path_laws.proofs.Laws.{gives-first}
@@ -22,7 +22,7 @@ use Rattle.strip_laws.proofs.Laws.{one-strip}
 use Rattle.ledger_laws.specs.Line.{Line, but, numbersFrom, ownNumbers}
 use Rattle.ledger_laws.proofs.Refusals.{none-applies, first-passes}
 use Rattle.ledger_laws.proofs.Legs.{free-inside, legs-ok}
-use Rattle.ledger_laws.proofs.Rules.{Keeps, of-ok, to-ok}
+use Rattle.ledger_laws.proofs.Rules.{of-ok, to-ok}
 
 -- ---- what the steps leave
 
@@ -178,7 +178,7 @@ lay-line net S T = record {
   accepts = λ l. refl;
   numbers = λ r l. refl;
   unbroken = refl;
-  output = λ r l h. (S, T, lay-12 net S T r l h);
+  output = λ r l h. (refl, S, T, lay-12 net S T r l h);
 }
 
 lift-line : (net : ℕ) → Line (lift net)
@@ -210,3 +210,10 @@ line (draw x0 y0 x1 y1) = draw-line x0 y0 x1 y1
 line (lay net S T) = lay-line net S T
 line (lift net) = lift-line net
 line (lookUp p) = look-line p
+
+-- a step that answers a refusal was refused by its number
+pub settled-refused : {A : Type 0} (o : Option ℕ) (s : Step) (l : Layout) (new old : A) (n : ℕ) → 0 < n
+    → settle o (record { answer = says s l; state = new }) old .answer ≡ refused n → o ≡ some n
+unfolding settle numberOf
+settled-refused none s l new old n h e = absurd (omega (arith, h, sym (line s .accepts l) ∙ ap numberOf e))
+settled-refused (some k) s l new old n h e = ap {A = ℕ} {B = Option ℕ} some (ap numberOf e)

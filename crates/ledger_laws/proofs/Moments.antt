@@ -1,7 +1,7 @@
 -- Each step that a list of calls runs goes as on the ledger, on lists that hold the ledger's layout.
 use Prim.Native.Nat.{ℕ, _≤_}
 use native.Mathlib.Omega.{arith}
-use mathlib.Core.Path.{_≡_, refl, sym, ap, ap₂, _∙_, subst}
+use mathlib.Core.Path.{_≡_, refl, sym, ap, _∙_, subst}
 use mathlib.Core.Bool.{Bool, true, false, cond}
 use mathlib.Core.List.{List, [], _∷_, _++_}
 use mathlib.Core.Option.{Option, none, some}
@@ -167,7 +167,8 @@ module _ (m : Lent) (long : Long m) (c : Lending) (l : Layout) (g : layoutOk l �
   -- the steps of the call c, where k is what it calls
   abbrev Steps : Call → Type 0
   Steps k =
-      Chain m l (momentsOf c lists (stepsRun k (ledgerCall (roomFor c lists) k l .answer)) (front c lists) (c .output) l)
+      Chain m l
+      (momentsOf c lists (stepsRun k (ledgerCall (roomFor c lists) k l .answer)) (front c lists) (c .output) l)
       (ledgerCall (roomFor c lists) k l .state)
 
   short-goes : short (roomFor c lists) ≡ true → (s : Step) → Goes m (momentOf c lists s (front c lists) (c .output) l)
@@ -239,7 +240,8 @@ onward-append : (m : Lent) (l l′ : Layout) (ks js : List Moment) → Chain m l
 onward-append m l l′ ks js h o =
     record { end = o .end; chain = chain-append m l l′ (o .end) ks js h (o .chain) }
 
-onward : (m : Lent) → Long m → (cs : List Lending) (l : Layout) → layoutOk l ≡ true → Onward m l (moments (store l m) l cs)
+onward : (m : Lent) → Long m → (cs : List Lending) (l : Layout) → layoutOk l ≡ true
+    → Onward m l (moments (store l m) l cs)
 unfolding moments
 onward m long [] l g = record { end = l; chain = refl }
 onward m long (c ∷ cs) l g =
@@ -376,4 +378,5 @@ pub at-every : (m : Lent) (l : Layout) (c : Lending) (cs : List Lending) → Beg
     → (earlier : List Moment) (k : Moment) (later : List Moment) → moments m l (c ∷ cs) ≡ earlier ++ (k ∷ later)
     → Standing m k later
 at-every m l c cs h earlier k later e =
-    stands m (moments m l (c ∷ cs)) (opened m l c (unfold told in begun (roomFor c m) (c .call) l (front c m) h) cs) earlier k later e
+    let b = begun (roomFor c m) (c .call) l (front c m) (unfold told in h) in
+    stands m (moments m l (c ∷ cs)) (opened m l c b cs) earlier k later e

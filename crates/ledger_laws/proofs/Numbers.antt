@@ -1,26 +1,27 @@
 -- A test that the numbers of all steps and records pass is passed by all numbers that a list of calls answers.
 use Prim.Native.Nat.{ℕ}
-use mathlib.Core.Path.{_≡_, refl, ap, _∙_, subst}
-use mathlib.Core.Bool.{Bool, true, false, not, _||_, cond, or-true}
+use native.Mathlib.Decide.{ℕ-discrete}
+use mathlib.Core.Path.{_≡_, refl, sym, ap, _∙_, subst}
+use mathlib.Core.Bool.{Bool, true, false, not, cond, or-true}
 use mathlib.Core.List.{List, [], _∷_, map}
-use mathlib.Core.Logic.{inl, inr}
+use mathlib.Core.Logic.{inl, inr, by-cases}
 use mathlib.Core.Option.{Option, none, some, Option·some-injective}
 use lib.Dec.{eqb}
 use lib.Ieee.{Float}
-use borrow.Author.Tests.{eqb-true, eq-eqb}
+use borrow.Author.Tests.{ne-eqb}
 use Rattle.foil_spec.specs.Lists.{all}
 use Rattle.foil_spec.specs.Foil.{Layout}
-use Rattle.foil_spec.specs.Ledger.{Room, short, Step, Answer, numberOf, says, next, Refusal, first, refusals, afterLent, After}
-use Rattle.foil_spec.specs.Ledger.{settle, refusalOf, ledgerStep}
+use Rattle.foil_spec.specs.Ledger.{Room, short, Step, Answer, numberOf, says, next, Refusal, first, refusals, afterLent}
+use Rattle.foil_spec.specs.Ledger.{After, settle, refusalOf, ledgerStep}
 use Rattle.foil_spec.specs.Lent.{Lent}
 use Rattle.foil_spec.specs.Job.{isEnd, steps, recordEnd, recordChecks}
-use Rattle.foil_spec.specs.Calls.{Call, step, runRecord, ohms, Reply, endsJob, andThen, actAll, actRecord}
+use Rattle.foil_spec.specs.Calls.{Call, step, runRecord, ohms, endsJob, andThen, actAll, actRecord}
 use Rattle.foil_spec.specs.Calls.{wholeRefusals, ohmsReply, reply, ledgerCall, answersIn}
 use Rattle.foil_spec.specs.Ohms.{ohmsRefusals}
 use Rattle.foil_spec.specs.declared.Ink.{Ink}
 use Rattle.foil_spec.specs.Sequence.{Lending, roomFor, told, Left, leaves, runLedger}
-use Rattle.list_laws.proofs.Tests.{both, and-i, not-t, not-ff, all-append}
-use Rattle.list_laws.proofs.Members.{In, of-all, of-any, none-of, in-any, in-keep}
+use Rattle.list_laws.proofs.Tests.{both, and-i, not-t, all-append}
+use Rattle.list_laws.proofs.Members.{In, of-all, none-of, in-keep}
 use Rattle.ledger_laws.specs.Line.{but, numbersFrom, ownNumbers}
 use Rattle.ledger_laws.specs.Numbers.{numbersIn, numbersOf, among, NeverBroken}
 use Rattle.ledger_laws.proofs.Refusals.{first-passes, first-in}
@@ -28,20 +29,23 @@ use Rattle.ledger_laws.proofs.Line.{line}
 use Rattle.ledger_laws.proofs.Kept.{step-keeps}
 use Rattle.ledger_laws.proofs.Demand3.{behaves-as-ledger}
 
+-- a test p that 0 passes, and each number that a step is refused by, is passed by what the step answers
+module _ (p : ℕ → Bool) (zero-passes : p 0 ≡ true) where
+  settled-passes : (o : Option ℕ) (s : Step) (l : Layout) → ((n : ℕ) → o ≡ some n → p n ≡ true)
+      → p (numberOf (settle o (record { answer = says s l; state = next s l }) l .answer)) ≡ true
+  unfolding settle numberOf
+  settled-passes (some n) s l h = h n refl
+  settled-passes none s l h = ap p (line s .accepts l) ∙ zero-passes
+
+  pub answer-passes : (r : Room) (s : Step) (l : Layout) → ((n : ℕ) → refusalOf r false s l ≡ some n → p n ≡ true)
+      → p (numberOf (ledgerStep r s l .answer)) ≡ true
+  unfolding ledgerStep
+  answer-passes r s l h = settled-passes (refusalOf r false s l) s l h
+
 -- a test p that 0 passes, and each number that a step on a layout with Q, a record or the ohms are refused by
 module _ (p : ℕ → Bool) (zero-passes : p 0 ≡ true) (Q : Layout → Type 0) (r : Room)
     (step-passes : (s : Step) (l : Layout) → Q l → (n : ℕ) → refusalOf r false s l ≡ some n → p n ≡ true)
     (next-keeps : (s : Step) (l : Layout) → Q l → refusalOf r false s l ≡ none → Q (next s l)) where
-  settled : (o : Option ℕ) (s : Step) (l : Layout) → ((n : ℕ) → o ≡ some n → p n ≡ true)
-      → p (numberOf (settle o (record { answer = says s l; state = next s l }) l .answer)) ≡ true
-  unfolding settle numberOf
-  settled (some n) s l h = h n refl
-  settled none s l h = ap p (line s .accepts l) ∙ zero-passes
-
-  answer-passes : (s : Step) (l : Layout) → Q l → p (numberOf (ledgerStep r s l .answer)) ≡ true
-  unfolding ledgerStep
-  answer-passes s l g = settled (refusalOf r false s l) s l (step-passes s l g)
-
   then-pass : (a : After Answer Layout) (b : After (List Answer) Layout) → p (numberOf (a .answer)) ≡ true
       → all p (map numberOf (b .answer)) ≡ true → all p (map numberOf (andThen a b .answer)) ≡ true
   unfolding andThen
@@ -60,7 +64,7 @@ module _ (p : ℕ → Bool) (zero-passes : p 0 ≡ true) (Q : Layout → Type 0)
   unfolding actAll
   steps-pass [] l g = refl
   steps-pass (s ∷ ss) l g =
-      then-pass (ledgerStep r s l) _ (answer-passes s l g)
+      then-pass (ledgerStep r s l) _ (answer-passes p zero-passes r s l (step-passes s l g))
       (steps-pass ss (ledgerStep r s l .state) (step-keeps Q r next-keeps s l g))
 
   record-passes : (o : Option ℕ) (e : Bool) (ss : List Step) (place : ℕ) (l : Layout) → Q l
@@ -83,7 +87,8 @@ module _ (p : ℕ → Bool) (zero-passes : p 0 ≡ true) (Q : Layout → Type 0)
       → (c : Call) (l : Layout) → Q l → all p (numbersIn (ledgerCall r c l .answer)) ≡ true
   unfolding ledgerCall reply
   call-passes h k (step s) l g =
-      unfold numbersIn answersIn in and-i {a = p (numberOf (ledgerStep r s l .answer))} (answer-passes s l g) refl
+      unfold numbersIn answersIn in
+      and-i {a = p (numberOf (ledgerStep r s l .answer))} (answer-passes p zero-passes r s l (step-passes s l g)) refl
   call-passes h k (runRecord bs at) l g = record-passes _ (isEnd bs at) (steps bs at) (recordEnd bs at) l g (h bs at)
   call-passes h k (ohms net i) l g = ohms-pass _ _ (k net i l)
 
@@ -107,13 +112,6 @@ pub not-among : (n : ℕ) (ns : List ℕ) → all (but n) ns ≡ true → among 
 unfolding among but
 not-among n ns h = none-of (eqb n) ns (λ k i. not-t (eqb n k) (of-all (but n) k ns h i))
 
--- a test that all numbers of a list pass is passed by each that is among them
-pub among-passes : (p : ℕ → Bool) (ns : List ℕ) (n : ℕ) → all p ns ≡ true → among n ns ≡ true → p n ≡ true
-unfolding among
-among-passes p ns n h k =
-    let r = of-any (eqb n) ns k in
-    ap p (eqb-true n (r .0) (r .2)) ∙ of-all p (r .0) ns h (r .1)
-
 -- ---- 13
 
 -- the first refusal that applies after those for what is lent, where the lists are long or p lets 12 pass
@@ -127,24 +125,22 @@ lent-passes p r rs short-passes own n e =
     subst (λ (k : ℕ). p k ≡ true) (Option·some-injective 12 n same) (short-passes t))
     (λ t. own n (rw t at e))
 
--- a number that a step's own refusals give is among those of the step, or 12
-pub own-number : (s : Step) (r : Room) (l : Layout) (n : ℕ) → first (refusals s r l) ≡ some n → but 12 n ≡ true
-    → among n (ownNumbers s) ≡ true
-unfolding among
-own-number s r l n e b =
-    in-any (eqb n) n (ownNumbers s)
+-- a number that a step's own refusals give passes a test that the numbers of the step pass, and 12 if it is given
+pub own-passes : (p : ℕ → Bool) (s : Step) (r : Room) (l : Layout) → all p (ownNumbers s) ≡ true
+    → (first (refusals s r l) ≡ some 12 → p 12 ≡ true) → (n : ℕ) → first (refusals s r l) ≡ some n → p n ≡ true
+unfolding but numbersFrom
+own-passes p s r l h twelve n e =
+    by-cases (ℕ-discrete 12 n)
+    (λ q. subst (λ (k : ℕ). p k ≡ true) q (twelve (e ∙ ap {A = ℕ} {B = Option ℕ} some (sym q))))
+    (λ q.
+    of-all p n (ownNumbers s) h
     (subst (In n) (line s .numbers r l)
-    (in-keep (but 12) n (numbersFrom (refusals s r l)) (unfold numbersFrom in first-in (refusals s r l) n e) b))
-    (eq-eqb n n refl)
+    (in-keep (but 12) n (numbersFrom (refusals s r l)) (first-in (refusals s r l) n e) (ap not (ne-eqb 12 n q)))))
 
 step-but-13 : (r : Room) (s : Step) (l : Layout) (n : ℕ) → refusalOf r false s l ≡ some n → but 13 n ≡ true
-unfolding refusalOf
+unfolding refusalOf but
 step-but-13 r s l =
-    lent-passes (but 13) r (refusals s r l) (λ _. unfold but in refl)
-    (λ n e.
-    both (but 12 n)
-    (λ b. among-passes (but 13) (ownNumbers s) n (line s .unbroken) (own-number s r l n e b))
-    (λ b. unfold but in rw (← (eqb-true 12 n (not-ff (eqb 12 n) (unfold but in b)))) refl))
+    lent-passes (but 13) r (refusals s r l) (λ _. refl) (own-passes (but 13) s r l (line s .unbroken) (λ _. refl))
 
 file-but-13 : (r : Room) (bs : List ℕ) (at n : ℕ) → first (wholeRefusals r false bs at) ≡ some n → but 13 n ≡ true
 unfolding wholeRefusals afterLent recordChecks but

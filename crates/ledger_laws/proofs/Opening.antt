@@ -1,12 +1,10 @@
 -- A record at place 0 on lists that hold anything: it ends the job with the ledger's reply, or it begins a foil.
-use Prim.Native.Nat.{ℕ, _/_, _%_, _^_}
+use Prim.Native.Nat.{ℕ}
 use native.Mathlib.Omega.{arith}
-use mathlib.Core.Path.{_≡_, refl, sym, ap, _∙_, subst}
+use mathlib.Core.Path.{_≡_, refl, sym, ap, _∙_}
 use mathlib.Core.Bool.{Bool, true, false, not, cond, _&&_, xor}
 use mathlib.Core.List.{List, [], _∷_}
 use mathlib.Core.Option.{Option, none, some}
-use lib.Dec.{eqb}
-use lib.ListN.{getD}
 use borrow.Author.Tests.{eqb-true}
 use Rattle.foil_spec.specs.Lists.{any}
 use Rattle.foil_spec.specs.Foil.{Layout, sizeOk, clearanceOk}
@@ -73,7 +71,8 @@ module _ (W H d : ℕ) (r : Room) (l : Layout) where
       go false true h = let q : k ≡ 2 = cc in rw q refl
       go false false h = absurd (let z : _≡_ {A = ℕ} 0 1 = cc in omega arith)
 
-  on-ledger : (k : ℕ) → refusalOf r false (newFoil W H d) l ≡ some k → ledgerStep r (newFoil W H d) l .answer ≡ refused k
+  on-ledger : (k : ℕ) → refusalOf r false (newFoil W H d) l ≡ some k
+      → ledgerStep r (newFoil W H d) l .answer ≡ refused k
   unfolding ledgerStep settle
   on-ledger k e = rw e refl
 

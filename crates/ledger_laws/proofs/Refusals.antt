@@ -65,7 +65,7 @@ module _ (r : Room) (s : Step) (l : Layout) where
   unfolding refusalOf afterLent first
   own-refused b e f = rw (e, f) refl
 
-  -- where it is not refused, the lists are long enough, what it reads keeps the rules, and none of its own refusals applies
+  -- where it is not refused, the lists are long enough, what it reads keeps the rules, and none of its own applies
   pub unrefused-long : (b : Bool) → refusalOf r b s l ≡ none → short r ≡ false
   unfolding refusalOf afterLent
   unrefused-long b e = no-rule (short r) 12 _ e

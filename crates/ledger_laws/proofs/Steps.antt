@@ -1,14 +1,14 @@
 -- Steps, records and calls on what a layout is stored in go as on the ledger.
 use Prim.Native.Nat.{ℕ}
-use mathlib.Core.Path.{_≡_, refl, ap, _∙_}
-use mathlib.Core.Bool.{Bool, true, false, not, cond, _&&_}
+use mathlib.Core.Path.{_≡_, refl, ap}
+use mathlib.Core.Bool.{Bool, true, false, cond}
 use mathlib.Core.List.{List, [], _∷_}
 use mathlib.Core.Option.{Option, none, some}
 use Rattle.foil_spec.specs.Foil.{Layout}
 use Rattle.foil_spec.specs.Ledger.{Room, Step, Answer, says, next, After, settle, refusalOf, ledgerStep}
-use Rattle.foil_spec.specs.Lent.{Lent, store, held, layoutOk, sound, stepOn}
+use Rattle.foil_spec.specs.Lent.{Lent, store, layoutOk, stepOn}
 use Rattle.foil_spec.specs.Job.{isEnd, steps, recordEnd}
-use Rattle.foil_spec.specs.Calls.{Call, step, runRecord, ohms, Reply, endsJob, andThen, actAll, actRecord}
+use Rattle.foil_spec.specs.Calls.{Call, step, runRecord, ohms, endsJob, andThen, actAll, actRecord}
 use Rattle.foil_spec.specs.Calls.{reply, ledgerCall, callOn}
 use Rattle.ledger_laws.proofs.Stored.{held-store, store-again, sound-store}
 use Rattle.ledger_laws.proofs.Kept.{step-kept}
@@ -55,7 +55,8 @@ module _ (r : Room) where
 
   -- steps whose first one goes as on the ledger, from whatever state n
   pub cons-are : (m n : Lent) (s : Step) (ss : List Step) (l : Layout) → stepOn r s n ≡ shown m (ledgerStep r s l)
-      → actAll (stepOn r) ss (store (ledgerStep r s l .state) m) ≡ shown m (actAll (ledgerStep r) ss (ledgerStep r s l .state))
+      → actAll (stepOn r) ss (store (ledgerStep r s l .state) m)
+      ≡ shown m (actAll (ledgerStep r) ss (ledgerStep r s l .state))
       → actAll (stepOn r) (s ∷ ss) n ≡ shown m (actAll (ledgerStep r) (s ∷ ss) l)
   unfolding actAll
   cons-are m n s ss l e later =

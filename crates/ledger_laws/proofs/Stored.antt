@@ -115,22 +115,21 @@ sound-store l m g =
       same-refl (store l m .strips),
     ) refl
 
-module _ (c : Lending) (m : Lent) (long-table : tableSize ≤ c .tableFront) (long-strips : stripsSize ≤ c .stripFront)
-    where
+module _ (c : Lending) (m : Lent) (ht : tableSize ≤ c .tableFront) (hs : stripsSize ≤ c .stripFront) where
   pub front-store : (l : Layout) → layoutOk l ≡ true → front c (store l m) ≡ store l (front c m)
   unfolding front store
   front-store l g =
       ap₂ (lent (boardOf l))
-      (take-written tableSize (each entryNumbers (l .entries)) (m .table) (entries-fit l g) (c .tableFront) long-table)
-      (take-written stripsSize (each stripNumbers (stripsOf l)) (m .strips) (strips-fit l g) (c .stripFront) long-strips)
+      (take-written tableSize (each entryNumbers (l .entries)) (m .table) (entries-fit l g) (c .tableFront) ht)
+      (take-written stripsSize (each stripNumbers (stripsOf l)) (m .strips) (strips-fit l g) (c .stripFront) hs)
 
   -- what was lent comes back, written, to lists that hold anything
   pub back-new : (l : Layout) → layoutOk l ≡ true → back c m (store l (front c m)) ≡ store l m
   unfolding front store back
   back-new l g =
       ap₂ (lent (boardOf l))
-      (written-back tableSize (each entryNumbers (l .entries)) (m .table) (entries-fit l g) (c .tableFront) long-table)
-      (written-back stripsSize (each stripNumbers (stripsOf l)) (m .strips) (strips-fit l g) (c .stripFront) long-strips)
+      (written-back tableSize (each entryNumbers (l .entries)) (m .table) (entries-fit l g) (c .tableFront) ht)
+      (written-back stripsSize (each stripNumbers (stripsOf l)) (m .strips) (strips-fit l g) (c .stripFront) hs)
 
   -- and to lists that hold a layout
   pub back-store : (l l′ : Layout) → layoutOk l ≡ true → layoutOk l′ ≡ true
@@ -139,7 +138,7 @@ module _ (c : Lending) (m : Lent) (long-table : tableSize ≤ c .tableFront) (lo
   back-store l l′ g g′ =
       ap₂ (lent (boardOf l′))
       (ap (λ (t : List ℕ). store l′ (front c m) .table ++ t)
-      (drop-past tableSize (each entryNumbers (l .entries)) (m .table) (entries-fit l g) (c .tableFront) long-table))
+      (drop-past tableSize (each entryNumbers (l .entries)) (m .table) (entries-fit l g) (c .tableFront) ht))
       (ap (λ (t : List ℕ). store l′ (front c m) .strips ++ t)
-      (drop-past stripsSize (each stripNumbers (stripsOf l)) (m .strips) (strips-fit l g) (c .stripFront) long-strips))
+      (drop-past stripsSize (each stripNumbers (stripsOf l)) (m .strips) (strips-fit l g) (c .stripFront) hs))
       ∙ back-new l′ g′

@@ -10,7 +10,7 @@ use Rattle.foil_spec.specs.Foil.{Layout}
 use Rattle.foil_spec.specs.Ledger.{Room, Step, Answer, After}
 use Rattle.foil_spec.specs.Lent.{Lent, stepOn}
 use Rattle.foil_spec.specs.Job.{steps}
-use Rattle.foil_spec.specs.Calls.{Call, step, runRecord, ohms, Reply, ran, ohmsReply, endsJob, andThen, actAll}
+use Rattle.foil_spec.specs.Calls.{Call, step, runRecord, ohms, ran, ohmsReply, endsJob, andThen, actAll}
 use Rattle.foil_spec.specs.Calls.{actRecord, reply, callOn, answersIn}
 use Rattle.foil_spec.specs.Sequence.{Lending, front, roomFor, lend}
 use Rattle.ledger_laws.specs.Moments.{Moment, momentOf, momentsOf, stepsRun, moments}
@@ -91,7 +91,8 @@ module _ (c : Lending) (m : Lent) where
   unfolding lend
   step-told l s e =
       one-call l
-      ∙ subst (λ (k : Call). stepAnswers (front c m) (c .output) l k ≡ answersIn (callOn r k (front c m) .answer)) (sym e)
+      ∙ subst
+      (λ (k : Call). stepAnswers (front c m) (c .output) l k ≡ answersIn (callOn r k (front c m) .answer)) (sym e)
       (of-step (front c m) (c .output) l s)
 
   -- a record that is not refused as a whole runs the steps that it answers

@@ -2,12 +2,12 @@
 use Prim.Native.Nat.{ℕ, _<_}
 use mathlib.Core.Path.{_≡_}
 use mathlib.Core.Bool.{Bool, true, false, not}
-use mathlib.Core.List.{List, [], map}
+use mathlib.Core.List.{List, map}
 use mathlib.Core.Option.{none, some}
 use lib.Dec.{eqb}
 use lib.ListN.{length}
-use Rattle.foil_spec.specs.Lists.{all, any, keep}
-use Rattle.foil_spec.specs.Foil.{Point, Layout}
+use Rattle.foil_spec.specs.Lists.{all, keep}
+use Rattle.foil_spec.specs.Foil.{Point, Layout, noFoil}
 use Rattle.foil_spec.specs.Ledger.{cornersOf, Room, cornerRoom, tooFine, Step, numberOf, next, says, Refusal, first}
 use Rattle.foil_spec.specs.Ledger.{reads, refusals}
 use Rattle.foil_spec.specs.Lent.{layoutOk}
@@ -23,9 +23,7 @@ numbersFrom rs = map (λ (c : Refusal). c .number) rs
 -- the numbers of a step's own refusals, whatever foil it is lent; 12 is for its output list and not counted
 unfoldable pub ownNumbers : Step → List ℕ
 ownNumbers s =
-    keep (but 12)
-    (numbersFrom (refusals s (record { table = 0; strips = 0; output = 0; limit = 0 })
-    (record { width = 0; height = 0; clearance = 0; entries = [] })))
+    keep (but 12) (numbersFrom (refusals s (record { table = 0; strips = 0; output = 0; limit = 0 }) noFoil))
 
 -- the step s on the ledger
 pub record Line (s : Step) : Type 0 where
@@ -39,6 +37,6 @@ pub record Line (s : Step) : Type 0 where
   -- it has the same numbers on every foil, and 13 is none of its own
   pub numbers : (r : Room) (l : Layout) → keep (but 12) (numbersFrom (refusals s r l)) ≡ ownNumbers s
   pub unbroken : all (but 13) (ownNumbers s) ≡ true
-  -- its own 12 is for want of corner places
+  -- its own 12 is for want of corner places, on a foil that it reads
   pub output : (r : Room) (l : Layout) → first (refusals s r l) ≡ some 12
-      → (S : Point) × (T : Point) × (cornerRoom r < length (cornersOf l S T))
+      → (reads s ≡ true) × (S : Point) × (T : Point) × (cornerRoom r < length (cornersOf l S T))

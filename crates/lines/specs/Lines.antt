@@ -1,5 +1,5 @@
 -- The lines that the job program writes, as bytes: a word, then numbers in decimal, parted by blanks.
-use Prim.Native.Nat.{ℕ, zero, suc, _+_, _*_, _/_, _%_}
+use Prim.Native.Nat.{ℕ, zero, suc, _+_, _/_, _%_}
 use Prim.Native.String.{String, [], _∷_}
 use Prim.Native.Char.{code}
 use mathlib.Core.Bool.{true, false}

@@ -4,10 +4,10 @@ use mathlib.Core.List.{List, [], _∷_, _++_}
 use mathlib.Core.Option.{none, some}
 use lib.ListN.{length}
 use Rattle.foil_spec.specs.Lists.{each}
-use Rattle.foil_spec.specs.Foil.{Layout}
+use Rattle.foil_spec.specs.Foil.{Layout, noFoil}
 use Rattle.foil_spec.specs.Ledger.{Step, newFoil, draw, lay, lift, lookUp, stripsOf}
-use Rattle.foil_spec.specs.Ledger.{Answer, numberOf, refused, accepted, laid, found, Room}
-use Rattle.foil_spec.specs.Job.{steps}
+use Rattle.foil_spec.specs.Ledger.{Answer, numberOf, refused, accepted, laid, found}
+use Rattle.foil_spec.specs.Job.{jobRoom, steps}
 use Rattle.foil_spec.specs.Calls.{runRecord, Reply, answered, ran, atEnd, measured, ledgerCall}
 use Rattle.lines.specs.Lines.{boardLine, patchLine, trackRefused, trackLaid, liftLine, stripLine, fileLine}
 
@@ -31,14 +31,6 @@ unfoldable pub stepLines : List Step → List Answer → List ℕ
 stepLines ss [] = []
 stepLines [] (a ∷ given) = []
 stepLines (s ∷ ss) (a ∷ given) = stepLine s a ++ stepLines ss given
-
--- the job program lends whole lists and 8,192 corner places
-unfoldable pub jobRoom : Room
-jobRoom = record { table = 128; strips = 4096; corners = 8192 }
-
--- no foil is begun yet
-unfoldable pub noFoil : Layout
-noFoil = record { width = 0; height = 0; clearance = 0; entries = [] }
 
 -- the lines of a record with these steps, its reply, which is never ohms, and what it left; `rest` gives those from the
 -- next place on

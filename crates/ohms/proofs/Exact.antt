@@ -11,19 +11,20 @@ use lib.Ieee.{Float, binary64, unlike, round, ofInt, add, mul, div}
 use lib.Ieee.Exact.{HasValue}
 use lib.Ieee.Scale.{round-same}
 use lib.Ieee.Back.{round-whole}
-use borrow.Author.Tests.{eqb-true, not-false, ltb-true, ltb-false, leb-true}
+use borrow.Author.Tests.{eqb-true, not-false, ltb-true, leb-true}
 use Rattle.foil_spec.specs.Lists.{any}
 use Rattle.foil_spec.specs.Foil.{sizeOk, entryOk}
-use Rattle.foil_spec.specs.Ledger.{ofNet, tooLong, first}
-use Rattle.foil_spec.specs.Lent.{Lent, held, sound, roomOf}
+use Rattle.foil_spec.specs.Limits.{maxEntries}
+use Rattle.foil_spec.specs.Ledger.{Room, ofNet, first, afterLent}
+use Rattle.foil_spec.specs.Lent.{Lent, held, sound}
 use Rattle.list_laws.proofs.Tests.{and-r, all-keep, parts}
 use Rattle.list_laws.proofs.Members.{of-any, of-all}
 use Rattle.ledger_laws.proofs.Refusals.{none-applies}
-use Rattle.ledger_laws.proofs.Kept.{Keeps, of-ok}
+use Rattle.ledger_laws.proofs.Rules.{Keeps, of-ok}
 use Rattle.ledger_laws.proofs.Sound.{of-sound}
 use Rattle.foil_spec.specs.Nets.{legsOf, netLength, netBends}
 use Rattle.foil_spec.specs.Ohms.{whole, sheetOk, bendOk, inkOk, formula, ohmsRefusals, ohmsOf}
-use Rattle.foil_spec.specs.Calls.{ohms, measured, ohmsReply, callOn}
+use Rattle.foil_spec.specs.Calls.{ohms, measured, ohmsReply, reply, callOn}
 use Rattle.ohms.specs.Exact.{widths, Named, squares, ExactOhms}
 use Rattle.foil_spec.specs.declared.Ink.{Ink}
 use Rattle.ohms.proofs.Floats.{mul-at, div-at, add-at, exact}
@@ -147,32 +148,31 @@ small-size : (n : ℕ) → sizeOk n ≡ true → n ≤ 4096
 unfolding sizeOk
 small-size n h = leb-true n 4096 (and-r (leb 1 n) (leb n 4096) h)
 
-module _ (net : ℕ) (i : Ink) (m : Lent) (x : Float) (w a b : ℕ)
-    (e : callOn (ohms net i) m .answer ≡ measured x) where
-  given : (first (ohmsRefusals net i (roomOf m) (not (sound m)) (held m)) ≡ none)
+module _ (r : Room) (net : ℕ) (i : Ink) (m : Lent) (x : Float) (w a b : ℕ)
+    (e : callOn r (ohms net i) m .answer ≡ measured x) where
+  given : (first (afterLent r (not (sound m)) (ohmsRefusals net i (held m))) ≡ none)
       × (formula (netLength net (held m)) (netBends net (held m)) i ≡ x)
-  unfolding callOn ohmsOf
+  unfolding callOn reply ohmsOf
   given =
-      of-reply (first (ohmsRefusals net i (roomOf m) (not (sound m)) (held m)))
+      of-reply (first (afterLent r (not (sound m)) (ohmsRefusals net i (held m))))
       (formula (netLength net (held m)) (netBends net (held m)) i) x e
 
   keeps : Keeps (held m)
-  unfolding ohmsRefusals
+  unfolding afterLent
   keeps =
       let g = given .0 in
       let f : not (sound m) ≡ false = search none-applies in
       of-ok (held m) (of-sound m (not-false (sound m) f) .kept)
 
   ink : inkOk i ≡ true
-  unfolding ohmsRefusals
+  unfolding afterLent ohmsRefusals
   ink =
       let g = given .0 in
       let f : not (inkOk i) ≡ false = search none-applies depth 9 in
       not-false (inkOk i) f
 
-  few : length (held m .entries) ≤ 128
-  unfolding tooLong
-  few = ltb-false 128 (length (held m .entries)) (keeps .long)
+  few : length (held m .entries) ≤ maxEntries
+  few = leb-true (length (held m .entries)) maxEntries (keeps .long)
 
   length-most : netLength net (held m) ≤ 1048320
   unfolding netLength legsOf
@@ -205,4 +205,4 @@ module _ (net : ℕ) (i : Ink) (m : Lent) (x : Float) (w a b : ℕ)
       (n .sheet .1))))
 
 pub exact-ohms : ExactOhms
-exact-ohms net i m x w a b e n = ohms-exact net i m x w a b e n
+exact-ohms r net i m x w a b e n = ohms-exact r net i m x w a b e n

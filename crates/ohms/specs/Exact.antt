@@ -7,6 +7,7 @@ use lib.Dec.{eqb}
 use lib.Ieee.{Float}
 use lib.Ieee.Exact.{HasValue}
 use Rattle.foil_spec.specs.Lists.{any}
+use Rattle.foil_spec.specs.Ledger.{Room}
 use Rattle.foil_spec.specs.Lent.{Lent, held}
 use Rattle.foil_spec.specs.Nets.{netLength, netBends}
 use Rattle.foil_spec.specs.Calls.{ohms, measured, callOn}
@@ -32,6 +33,6 @@ squares L w a B = L * 256 / w + a * B
 -- the ohms that are answered for such figures are those squares times b, in units of 1 / 65,536, with nothing rounded
 abbrev pub ExactOhms : Type 0
 ExactOhms =
-    (net : ℕ) (i : Ink) (m : Lent) (x : Float) (w a b : ℕ) → callOn (ohms net i) m .answer ≡ measured x
-    → Named i w a b
+    (r : Room) (net : ℕ) (i : Ink) (m : Lent) (x : Float) (w a b : ℕ)
+    → callOn r (ohms net i) m .answer ≡ measured x → Named i w a b
     → HasValue x false (squares (netLength net (held m)) w a (netBends net (held m)) * b) 65536

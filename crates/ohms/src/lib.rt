@@ -1,14 +1,13 @@
 // The resistance of a laid net, from the ink's three figures. A call that only reads: it has no
 // `requires`, and changes nothing.
 use booking::in_use;
-use foil::lists_short;
+use foil::Checked;
+use foil::lent_refusal;
 use foil_spec::Board;
 use foil_spec::Ink;
 use nets::measure;
-use state::is_sound;
 use state::net_ok;
 ghost use mathlib.Core.Path.{_≡_};
-ghost use mathlib.Core.List.{[]};
 ghost use Rattle.foil_spec.specs.Lent.{lent};
 ghost use Rattle.foil_spec.specs.Ohms.{inkOk, formula as formulaOf};
 ghost use Rattle.nets.specs.Measured.{Boxes};
@@ -22,13 +21,11 @@ pub enum Resistance {
 
 // The resistance of a net: (L / w + c * B) * R, for L steps and B bends.
 pub fn ohms(table: &[u16], strips: &[u16], board: Board, net: u16, ink: Ink) -> Resistance
-    ensures { λ r. ⌜ OhmsAnswered net ink (lent board (now (table .entry)) (now (strips .entry)) []) r ⌝ }
+    ensures { λ r. ⌜ OhmsAnswered net ink (lent board (now (table .entry)) (now (strips .entry))) r ⌝ }
 {
-    if lists_short(table, strips) {
-        return Resistance::Refused(12);
-    }
-    if !is_sound(table, strips, board) {
-        return Resistance::Refused(13);
+    let checked = lent_refusal(table, strips, board);
+    if let Checked::Refused(number) = checked {
+        return Resistance::Refused(number);
     }
     net_ohms(table, board.entries, net, ink)
 }

@@ -4,3 +4,4 @@ pub mod Seeds
 pub mod Choice
 pub mod Written
 pub mod Search
+pub mod Finding

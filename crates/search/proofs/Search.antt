@@ -1,25 +1,23 @@
 -- The labels say how many corners the first path of fewest bends has, and a walk takes them; or there is no path.
-use Prim.Native.Nat.{ℕ, _+_, _-_, _≤_, _<_}
+use Prim.Native.Nat.{ℕ, _+_, _-_, _*_, _≤_, _<_}
 use native.Mathlib.Omega.{arith}
 use mathlib.Core.Path.{_≡_, refl, sym, ap, _∙_, subst}
 use mathlib.Core.Bool.{Bool, true, false}
 use mathlib.Core.List.{List, [], _∷_}
 use mathlib.Core.Option.{Option, none, some}
 use lib.ListN.{getD, length}
-use borrow.Author.Tests.{ne-eqb}
-use Rattle.foil_spec.specs.Foil.{Point, point, free}
+use Rattle.foil_spec.specs.Foil.{Point, point}
 use Rattle.foil_spec.specs.Paths.{firstPath}
-use Rattle.foil_spec.specs.Ledger.{pathOf, noPath, cornersOf}
-use Rattle.foil_spec.specs.Lent.{layoutOf}
+use Rattle.zones.specs.Boxes.{boxFree}
+use Rattle.zones.proofs.Free.{not-covered}
 use Rattle.list_laws.proofs.Tests.{clash}
 use Rattle.reach.specs.Reach.{Reach, flip, TargetFree}
 use Rattle.reach.specs.Best.{PathD, Best, corners, At}
 use Rattle.reach.proofs.Greedy.{path-reach}
 use Rattle.reach.proofs.Best.{Fewest}
 use Rattle.reach.proofs.FirstPath.{best-first, none-first, fewest-first}
-use Rattle.grid.specs.Size.{area}
+use Rattle.grid.specs.Size.{stride}
 use Rattle.grid.specs.Lines.{Lines}
-use Rattle.grid.proofs.Board.{of-free-on}
 use Rattle.labels.specs.Line.{along, labelTop}
 use Rattle.labels.specs.Ink.{Lean}
 use Rattle.labels.specs.Pass.{Pass, Below}
@@ -33,7 +31,7 @@ use Rattle.labels.proofs.Meaning.{rounds-grounded, rounds-stuck}
 use Rattle.labels.proofs.First.{coords}
 use Rattle.search.specs.Grid.{Posed, Grid}
 use Rattle.search.specs.Choice.{Choosing, Choice, labelAt}
-use Rattle.search.specs.Search.{Labelling, Starts, nowhere, goes, Trails, turns, Searched}
+use Rattle.search.specs.Search.{Labelling, Starts, nowhere, goes, Trails, turns, pathCorners, Searched}
 use Rattle.search.specs.declared.Start.{Start}
 use Rattle.search.proofs.Grid.{level-faithful, upright-faithful}
 use Rattle.search.proofs.Seeds.{seeded-labels, seeded-inks, seeded-below, seeded-lean}
@@ -54,14 +52,14 @@ turns-are false cols rows i j (q ∷ qs) =
 turns-are true cols rows i j (q ∷ qs) =
     ap (λ (ps : List Point). point (getD cols i 0) (getD rows q 0) ∷ ps) (turns-are false cols rows i q qs)
 
-module _ {t : List ℕ} {n d w h : ℕ} {S T : Point} (P : Posed t n d w h S T) {cols rows el eu : List ℕ} {nc nr : ℕ}
-    (G : Grid t n d w h S T cols rows el eu nc nr) {i j : ℕ} {b : Bool} {l u wl wu : List ℕ}
-    (B : Labelling cols rows el eu nc nr S T i j b l u wl wu) where
+module _ {z : List ℕ} {n w h : ℕ} {S T : Point} (P : Posed z n w h S T) {cols rows kl ku : List ℕ} {nc nr : ℕ}
+    (G : Grid z n w h S T cols rows kl ku nc nr) {i j : ℕ} {b : Bool} {l u wl wu : List ℕ}
+    (B : Labelling cols rows kl ku nc nr S T i j b l u wl wu) where
   abbrev f : ℕ → ℕ → Bool
-  f = free (layoutOf w h d n t)
+  f = boxFree w h n z
 
   inside : (x y : ℕ) → f x y ≡ true → (x < w) × (y < h)
-  inside x y e = let r = of-free-on w h d n t false x y e in (r .0, r .1)
+  inside x y e = let r = not-covered w h n z x y e in (r .0, r .1)
 
   target-free : TargetFree f (At T)
   target-free x y e = rw (e .0, e .1) (P .t-free)
@@ -76,13 +74,15 @@ module _ {t : List ℕ} {n d w h : ℕ} {S T : Point} (P : Posed t n d w h S T) 
   start-free : f (start .x) (start .y) ≡ true
   start-free = rw (B .i-at, B .j-at) (P .s-free)
 
-  path-is : (o : Option (List Point)) → firstPath f w h start T ≡ o → pathOf (layoutOf w h d n t) S T ≡ o
-  unfolding pathOf layoutOf
+  -- the first path from S to T
+  abbrev path : Option (List Point)
+  path = firstPath f w h S T
+
+  path-is : (o : Option (List Point)) → firstPath f w h start T ≡ o → path ≡ o
   path-is o e = subst (λ (p : Point). firstPath f w h p T ≡ o) start-is e
 
-  corners-are : (cs : List Point) → firstPath f w h start T ≡ some cs → cornersOf (layoutOf w h d n t) S T ≡ cs
-  unfolding cornersOf
-  corners-are cs e = rw (path-is (some cs) e) refl
+  corners-are : (cs : List Point) → firstPath f w h start T ≡ some cs → pathCorners path ≡ cs
+  corners-are cs e = ap pathCorners (path-is (some cs) e)
 
   -- the lines of both axes, and the grid's faithfulness in both directions
   C : Lines cols nc
@@ -91,10 +91,10 @@ module _ {t : List ℕ} {n d w h : ℕ} {S T : Point} (P : Posed t n d w h S T) 
   R : Lines rows nr
   R = G .row-axis .fits
 
-  L : Faithful f (At T) cols nc rows nr el
+  L : Faithful f (At T) cols nc rows nr kl
   L = level-faithful G
 
-  U : Faithful (flip f) (flip (At T)) rows nr cols nc eu
+  U : Faithful (flip f) (flip (At T)) rows nr cols nc ku
   U = upright-faithful G
 
   -- the labels before the first round
@@ -122,32 +122,32 @@ module _ {t : List ℕ} {n d w h : ℕ} {S T : Point} (P : Posed t n d w h S T) 
   upright-low = seeded-below (B .u₀) (B .wu₀) (B .qu) (B .ti) (B .tj) nc nr (B .upright-seed) (C .few) (R .few)
 
   -- a round that changes nothing: there is no path
-  no-path : {v : ℕ} {wl₁ wu₁ : List ℕ} → Rounds el eu cols rows nc nr (B .l₀) (B .u₀) (B .wl₀) (B .wu₀) v l u wl₁ wu₁
+  no-path : {v : ℕ} {wl₁ wu₁ : List ℕ} → Rounds kl ku cols rows nc nr (B .l₀) (B .u₀) (B .wl₀) (B .wu₀) v l u wl₁ wu₁
       → along l j i ≡ 0 → along u i j ≡ 0
-      → Pass u el nr nc v l l → Pass l eu nc nr v u u
+      → Pass u kl nr nc v l l → Pass l ku nc nr v u u
       → (e : Bool) (ks : List ℕ) → PathD e ks f (At T) (start .x) (start .y) → ⊥
-  no-path r zl zu p q e ks path =
-      go e path (rounds-stuck target-free L U seeds level-low upright-low r p q (length ks))
+  no-path r zl zu p q e ks on =
+      go e on (rounds-stuck target-free L U seeds level-low upright-low r p q (length ks))
     where
       go : (e : Bool) → PathD e ks f (At T) (start .x) (start .y)
           → ((b : ℕ) → b < nr → (a : ℕ) → a < nc → along l b a ≡ 0
           → Reach (length ks) f (At T) (getD cols a 0) (getD rows b 0) → ⊥)
           × ((a : ℕ) → a < nc → (b : ℕ) → b < nr → along u a b ≡ 0
           → Reach (length ks) (flip f) (flip (At T)) (getD rows b 0) (getD cols a 0) → ⊥) → ⊥
-      go false path out =
-          out .0 j (B .j-in) i (B .i-in) zl (path-reach ks f (At T) (start .x) (start .y) path)
-      go true path out =
-          out .1 i (B .i-in) j (B .j-in) zu (path-reach ks (flip f) (flip (At T)) (start .y) (start .x) path)
+      go false on out =
+          out .0 j (B .j-in) i (B .i-in) zl (path-reach ks f (At T) (start .x) (start .y) on)
+      go true on out =
+          out .1 i (B .i-in) j (B .j-in) zu (path-reach ks (flip f) (flip (At T)) (start .y) (start .x) on)
 
   -- the start has a label, after rounds up to v
-  module _ {v : ℕ} (r : Rounds el eu cols rows nc nr (B .l₀) (B .u₀) (B .wl₀) (B .wu₀) v l u wl wu) where
+  module _ {v : ℕ} (r : Rounds kl ku cols rows nc nr (B .l₀) (B .u₀) (B .wl₀) (B .wu₀) v l u wl wu) where
     labelled : Labelled f (At T) cols nc rows nr (v - 1) l × Labelled (flip f) (flip (At T)) rows nr cols nc (v - 1) u
     labelled = rounds-labels target-free L U seeds r
 
     measured : Measured f (At T) cols nc rows nr l wl × Measured (flip f) (flip (At T)) rows nr cols nc u wu
     measured = rounds-inks target-free L U seeds seed-inks r
 
-    grounded : Grounded l u wl wu el cols nr nc × Grounded u l wu wl eu rows nc nr
+    grounded : Grounded l u wl wu kl cols nr nc × Grounded u l wu wl ku rows nc nr
     grounded = rounds-grounded level-low upright-low r
 
     lean : (1 ≤ v) × Lean nr nc l wl × Lean nc nr u wu
@@ -165,7 +165,7 @@ module _ {t : List ℕ} {n d w h : ℕ} {S T : Point} (P : Posed t n d w h S T) 
         let c = below .1 .le i (B .i-in) j (B .j-in) in
         (omega arith, omega arith)
 
-    fewest : (k : ℕ) (up : Bool) → Choice l u wl wu eu rows nr i j up → labelAt up l u i j ≡ k + 1
+    fewest : (k : ℕ) (up : Bool) → Choice l u wl wu ku rows nr i j up → labelAt up l u i j ≡ k + 1
         → Fewest f (At T) (start .x) (start .y) k
     unfolding labelAt
     fewest k false c e =
@@ -175,8 +175,8 @@ module _ {t : List ℕ} {n d w h : ℕ} {S T : Point} (P : Posed t n d w h S T) 
         fewest-upright target-free L U (R .rising) (labelled .0) (labelled .1) (measured .0) (measured .1)
         (grounded .1) (B .i-in) (B .j-in) (most .0) (most .1) k c e
 
-    best : (k : ℕ) (qs : List ℕ) (up : Bool) → Choice l u wl wu eu rows nr i j up → labelAt up l u i j ≡ k + 1
-        → Trails up l u wl wu el eu cols rows nc nr i j (k + 1) qs
+    best : (k : ℕ) (qs : List ℕ) (up : Bool) → Choice l u wl wu ku rows nr i j up → labelAt up l u i j ≡ k + 1
+        → Trails up l u wl wu kl ku cols rows nc nr i j (k + 1) qs
         → Best up (coordinates up cols rows qs) f (At T) (start .x) (start .y)
     unfolding labelAt Trails
     best k qs false c e tr =
@@ -186,9 +186,9 @@ module _ {t : List ℕ} {n d w h : ℕ} {S T : Point} (P : Posed t n d w h S T) 
         walk-upright target-free L U (R .rising) (labelled .0) (labelled .1) (measured .0) (measured .1)
         (grounded .1) (B .i-in) (B .j-in) (most .0) (most .1) k qs c e tr
 
-    takes : (k : ℕ) (qs : List ℕ) (up : Bool) → Choice l u wl wu eu rows nr i j up → labelAt up l u i j ≡ k + 1
-        → Trails up l u wl wu el eu cols rows nc nr i j (k + 1) qs
-        → start ∷ turns up cols rows i j qs ≡ cornersOf (layoutOf w h d n t) S T
+    takes : (k : ℕ) (qs : List ℕ) (up : Bool) → Choice l u wl wu ku rows nr i j up → labelAt up l u i j ≡ k + 1
+        → Trails up l u wl wu kl ku cols rows nc nr i j (k + 1) qs
+        → start ∷ turns up cols rows i j qs ≡ pathCorners path
     takes k qs up c e tr =
         ap (λ (ps : List Point). start ∷ ps) (turns-are up cols rows i j qs)
         ∙ sym
@@ -199,13 +199,13 @@ below-top : {m n v : ℕ} {lab : List ℕ} → v < labelTop → Below m n lab v 
 below-top l B = record { le = λ i li k lk. let b = B .le i li k lk in omega arith }
 
 -- What the choice is asked of, and what `labels` answers.
-module _ {t : List ℕ} {n d w h : ℕ} {S T : Point} (P : Posed t n d w h S T) {cols rows el eu : List ℕ} {nc nr : ℕ}
-    (G : Grid t n d w h S T cols rows el eu nc nr) {i j : ℕ} {l u wl wu : List ℕ} where
-  pub found-some : {b : Bool} → Labelling cols rows el eu nc nr S T i j b l u wl wu → b ≡ true
+module _ {z : List ℕ} {n w h : ℕ} {S T : Point} (P : Posed z n w h S T) {cols rows kl ku : List ℕ} {nc nr : ℕ}
+    (G : Grid z n w h S T cols rows kl ku nc nr) {i j : ℕ} {l u wl wu : List ℕ} where
+  pub found-some : {b : Bool} → Labelling cols rows kl ku nc nr S T i j b l u wl wu → b ≡ true
       → Choosing l u wl nr i j
   found-some {b} B e = go b (B .ended) e
     where
-      go : (b : Bool) → Ended el eu cols rows nc nr i j (B .l₀) (B .u₀) (B .wl₀) (B .wu₀) l u wl wu b → b ≡ true
+      go : (b : Bool) → Ended kl ku cols rows nc nr i j (B .l₀) (B .u₀) (B .wl₀) (B .wu₀) l u wl wu b → b ≡ true
           → Choosing l u wl nr i j
       go true (found m r p) e =
           let low = below P G B r .0 .le j (B .j-in) i (B .i-in) in
@@ -216,37 +216,35 @@ module _ {t : List ℕ} {n d w h : ℕ} {S T : Point} (P : Posed t n d w h S T) 
           }
       go false (stuck r zl zu p q) e = clash e refl
 
-module _ {t : List ℕ} {n d w h : ℕ} {S T : Point} (P : Posed t n d w h S T) {cols rows el eu : List ℕ} {nc nr : ℕ}
-    (G : Grid t n d w h S T cols rows el eu nc nr) {i j : ℕ} {l u wl wu : List ℕ} (ll : area ≤ length l)
-    (lu : area ≤ length u) (li : area ≤ length wl) (ui : area ≤ length wu) (le : area ≤ length el)
-    (ue : area ≤ length eu) where
-  searched-none : Labelling cols rows el eu nc nr S T i j false l u wl wu
-      → Searched (layoutOf w h d n t) S T cols rows el eu l u wl wu
+module _ {z : List ℕ} {n w h : ℕ} {S T : Point} (P : Posed z n w h S T) {cols rows kl ku : List ℕ} {nc nr : ℕ}
+    (G : Grid z n w h S T cols rows kl ku nc nr) {i j : ℕ} {l u wl wu : List ℕ} (ll : nr * stride ≤ length l)
+    (lu : nc * stride ≤ length u) (li : nr * stride ≤ length wl) (ui : nc * stride ≤ length wu)
+    (le : nr * stride ≤ length kl) (ue : nc * stride ≤ length ku) where
+  searched-none : Labelling cols rows kl ku nc nr S T i j false l u wl wu
+      → Searched (firstPath (boxFree w h n z) w h S T) cols rows kl ku l u wl wu
       (record { columns = nc; rows = nr; i = i; j = j; upright = false; corners = 0 })
-  unfolding cornersOf noPath
   searched-none B = go (B .ended)
     where
-      go : Ended el eu cols rows nc nr i j (B .l₀) (B .u₀) (B .wl₀) (B .wu₀) l u wl wu false
-          → Searched (layoutOf w h d n t) S T cols rows el eu l u wl wu
+      go : Ended kl ku cols rows nc nr i j (B .l₀) (B .u₀) (B .wl₀) (B .wu₀) l u wl wu false
+          → Searched (firstPath (boxFree w h n z) w h S T) cols rows kl ku l u wl wu
           (record { columns = nc; rows = nr; i = i; j = j; upright = false; corners = 0 })
       go (stuck r zl zu p q) =
           let e = path-is P G B none
           (none-first (f P G B) w h (inside P G B) (start P G B) T (no-path P G B r zl zu p q)) in
           record {
+            nowhere = λ zero. e;
             count = rw e refl;
-            none = rw e refl;
             ready = λ one. absurd (omega arith);
           }
 
-  searched-some : Labelling cols rows el eu nc nr S T i j true l u wl wu → (up : Bool)
-      → Choice l u wl wu eu rows nr i j up
-      → Searched (layoutOf w h d n t) S T cols rows el eu l u wl wu
+  searched-some : Labelling cols rows kl ku nc nr S T i j true l u wl wu → (up : Bool)
+      → Choice l u wl wu ku rows nr i j up
+      → Searched (firstPath (boxFree w h n z) w h S T) cols rows kl ku l u wl wu
       (record { columns = nc; rows = nr; i = i; j = j; upright = up; corners = labelAt up l u i j })
-  unfolding noPath
   searched-some B up c = go (B .ended)
     where
-      go : Ended el eu cols rows nc nr i j (B .l₀) (B .u₀) (B .wl₀) (B .wu₀) l u wl wu true
-          → Searched (layoutOf w h d n t) S T cols rows el eu l u wl wu
+      go : Ended kl ku cols rows nc nr i j (B .l₀) (B .u₀) (B .wl₀) (B .wu₀) l u wl wu true
+          → Searched (firstPath (boxFree w h n z) w h S T) cols rows kl ku l u wl wu
           (record { columns = nc; rows = nr; i = i; j = j; upright = up; corners = labelAt up l u i j })
       go (found m r p) =
           let one = choice-some up c in
@@ -255,8 +253,8 @@ module _ {t : List ℕ} {n d w h : ℕ} {S T : Point} (P : Posed t n d w h S T) 
           let q = fewest-first (f P G B) w h (inside P G B) (start P G B) T (start-free P G B)
           (labelAt up l u i j - 1) F in
           record {
+            nowhere = λ zero. absurd (omega arith);
             count = let k = ap length (corners-are P G B (q .0) (q .1)) in omega (arith, q .2);
-            none = rw (path-is P G B (some (q .0)) (q .1)) (sym (ne-eqb (labelAt up l u i j) 0 (omega arith)));
             ready = λ s. record {
               walkable = record {
                 sized = record {
@@ -282,11 +280,12 @@ module _ {t : List ℕ} {n d w h : ℕ} {S T : Point} (P : Posed t n d w h S T) 
               label = refl;
               takes = λ qs tr.
                   takes P G B r (labelAt up l u i j - 1) qs up c e
-                  (subst (λ (v : ℕ). Trails up l u wl wu el eu cols rows nc nr i j v qs) e tr);
+                  (subst (λ (v : ℕ). Trails up l u wl wu kl ku cols rows nc nr i j v qs) e tr);
             };
           }
 
-  pub searched : {b : Bool} {s : Start} → Labelling cols rows el eu nc nr S T i j b l u wl wu
-      → Starts l u wl wu eu rows nc nr i j b s → Searched (layoutOf w h d n t) S T cols rows el eu l u wl wu s
+  pub searched : {b : Bool} {s : Start} → Labelling cols rows kl ku nc nr S T i j b l u wl wu
+      → Starts l u wl wu ku rows nc nr i j b s
+      → Searched (firstPath (boxFree w h n z) w h S T) cols rows kl ku l u wl wu s
   searched B nowhere = searched-none B
   searched B (goes up c) = searched-some B up c

@@ -2,40 +2,46 @@
 use Prim.Native.Nat.{ℕ, zero, suc, _+_, _*_, _≤_, _<_}
 use native.Mathlib.Omega.{arith}
 use native.Mathlib.Decide.{decLt, ℕ-discrete}
-use mathlib.Core.Path.{_≡_, ap, _∙_, subst}
+use mathlib.Core.Path.{_≡_, refl, ap, _∙_, subst}
 use mathlib.Core.Bool.{Bool}
 use mathlib.Core.Logic.{_≢_}
 use mathlib.Core.List.{List}
-use lib.ListN.{getD, set, length, length-set}
+use lib.ListN.{getD, set, length, replicate, length-set}
 use lib.Seq.{getD-set-same, getD-set-other}
 use Rattle.reach.specs.Reach.{Reach, Within}
 use Rattle.grid.specs.Size.{stride, area}
 use Rattle.grid.specs.Lines.{Rising, Lines}
-use Rattle.grid.specs.Edges.{Filled}
 use Rattle.labels.specs.Line.{along}
 use Rattle.labels.specs.Ink.{Lean}
 use Rattle.labels.specs.Pass.{Below, Queued}
 use Rattle.labels.specs.Rounds.{Begun}
 use Rattle.labels.proofs.Runs.{zeros-set, zeros-le}
 use Rattle.labels.proofs.Meaning.{Says, Labelled, Measures, Measured}
-use Rattle.search.specs.Seeds.{Seeded}
+use Rattle.search.specs.Seeds.{Blank, Seeded}
+
+-- a fresh list has no label
+pub blank : (n p : ℕ) → _≡_ {A = ℕ} (getD (replicate n 0) p 0) 0
+blank zero p = refl
+blank (suc n) zero = refl
+blank (suc n) (suc p) = blank n p
 
 -- what `seed` leaves
-pub seeded : (lab₀ lab inks queue : List ℕ) (line k : ℕ) → line < stride → k < stride → area ≡ length lab
-    → area ≤ length inks → 2 * area ≤ length queue → Filled 0 area 0 lab₀ lab
+pub seeded : (lab inks queue : List ℕ) (line k : ℕ) → k < stride → line * stride + stride ≤ length lab
+    → line * stride + stride ≤ length inks → 2 ≤ length queue → Blank lab
     → Seeded (set lab (line * stride + k) 1) (set inks (line * stride + k) 0) (set (set queue 0 line) 1 k) line k
-seeded lab₀ lab inks queue line k ll lk l li lq F =
+seeded lab inks queue line k lk l li lq none =
     record {
       one = getD-set-same lab (line * stride + k) 1 0 (omega arith);
       ink = getD-set-same inks (line * stride + k) 0 0 (omega arith);
-      rest = λ p lp n. getD-set-other lab (line * stride + k) p 1 0 n ∙ F .inside p lp (omega arith);
+      rest = λ p n. getD-set-other lab (line * stride + k) p 1 0 n ∙ none p;
       queue-line =
           getD-set-other (set queue 0 line) 1 0 k 0 (omega arith) ∙ getD-set-same queue 0 line 0 (omega arith);
       queue-crossing = getD-set-same (set queue 0 line) 1 k 0 (omega (arith, length-set queue 0 line));
       room =
           let z = zeros-le lab in
-          let i = F .inside (line * stride + k) (omega arith) (omega arith) in
+          let i = none (line * stride + k) in
           let w = zeros-set lab (line * stride + k) 0 (omega arith) i in
+          let s = length-set lab (line * stride + k) 1 in
           omega arith;
     }
 
@@ -48,7 +54,7 @@ module _ (lab inks queue : List ℕ) (line k m n : ℕ) (S : Seeded lab inks que
     where
       place : Dec (a * stride + b ≡ line * stride + k) → (line ≡ a) × (k ≡ b)
       place (yes q) = (omega arith, omega arith)
-      place (no q) = absurd (let z = S .rest (a * stride + b) (omega arith) q in omega arith)
+      place (no q) = absurd (let z = S .rest (a * stride + b) q in omega arith)
 
   seeded-queue : line < m → k < n → Queued queue 0 1 m n lab 1
   seeded-queue ll lk =
@@ -66,7 +72,7 @@ module _ (lab inks queue : List ℕ) (line k m n : ℕ) (S : Seeded lab inks que
     where
       pick : (a b : ℕ) → a < m → b < n → Dec (a * stride + b ≡ line * stride + k) → along lab a b ≤ 1
       pick a b la lb (yes e) = omega (arith, S .one, ap (λ (p : ℕ). getD lab p 0) e)
-      pick a b la lb (no e) = omega (arith, S .rest (a * stride + b) (omega arith) e)
+      pick a b la lb (no e) = omega (arith, S .rest (a * stride + b) e)
 
   pub seeded-lean : Lean m n lab inks
   seeded-lean = record { le = λ a la b lb z. pick a b la lb z (ℕ-discrete (a * stride + b) (line * stride + k)) }
@@ -74,13 +80,14 @@ module _ (lab inks queue : List ℕ) (line k m n : ℕ) (S : Seeded lab inks que
       pick : (a b : ℕ) → a < m → b < n → along lab a b ≢ 0 → Dec (a * stride + b ≡ line * stride + k)
           → along inks a b ≤ 4095 * along lab a b
       pick a b la lb z (yes e) = omega (arith, S .ink, ap (λ (p : ℕ). getD inks p 0) e)
-      pick a b la lb z (no e) = absurd (z (S .rest (a * stride + b) (omega arith) e))
+      pick a b la lb z (no e) = absurd (z (S .rest (a * stride + b) e))
 
 -- both lists are seeded at the crossing (i, j)
 pub begun : {l u wl wu ql qu : List ℕ} {nc nr i j : ℕ} → nc ≤ stride → nr ≤ stride → i < nc → j < nr
-    → area ≡ length l → area ≡ length u → 2 * area ≤ length ql → 2 * area ≤ length qu
-    → Seeded l wl ql j i → Seeded u wu qu i j → Begun l u wl wu ql qu nc nr
-begun {l} {u} {wl} {wu} {ql} {qu} {nc} {nr} {i} {j} fc fr li lj al au bl bu L U =
+    → nr * stride ≤ length l → nc * stride ≤ length u → length l ≤ area → length u ≤ area
+    → 2 * length l ≤ length ql → 2 * length u ≤ length qu → Seeded l wl ql j i → Seeded u wu qu i j
+    → Begun l u wl wu ql qu nc nr
+begun {l} {u} {wl} {wu} {ql} {qu} {nc} {nr} {i} {j} fc fr li lj al au tl tu bl bu L U =
     record {
       level = seeded-queue l wl ql j i nr nc L fr fc lj li;
       upright = seeded-queue u wu qu i j nc nr U fc fr li lj;
@@ -94,8 +101,8 @@ begun {l} {u} {wl} {wu} {ql} {qu} {nc} {nr} {i} {j} fc fr li lj al au bl bu L U 
       upright-low = seeded-below u wu qu i j nc nr U fc fr;
       level-lean = seeded-lean l wl ql j i nr nc L fr fc;
       upright-lean = seeded-lean u wu qu i j nc nr U fc fr;
-      level-room = record { labels = omega arith; places = bl; left = L .room };
-      upright-room = record { labels = omega arith; places = bu; left = U .room };
+      level-room = record { labels = omega arith; few = tl; places = bl; left = L .room };
+      upright-room = record { labels = omega arith; few = tu; places = bu; left = U .room };
     }
 
 rising-same : {lines : List ℕ} {n : ℕ} → Rising lines n → (a b : ℕ) → a < n → b < n
@@ -116,7 +123,7 @@ module _ {f : ℕ → ℕ → Bool} {T : ℕ → ℕ → Type 0} {cross : List �
       → Says f T 0 (getD cross a 0) (getD lines b 0) (along lab b a)
   away b a lb la other =
       let few = C .few in
-      let none = S .rest (b * stride + a) (let r = L .few in omega arith) (λ e. other (omega arith)) in
+      let none = S .rest (b * stride + a) (λ e. other (omega arith)) in
       record {
         never = λ e k z r. reached k z r;
         reach = λ k e. absurd (omega arith);
@@ -158,10 +165,10 @@ module _ {f : ℕ → ℕ → Bool} {T : ℕ → ℕ → Type 0} {cross : List �
           → Measures f T (getD cross a 0) (getD lines b 0) (along lab b a) (along inks b a)
       pick b a lb la (no p) q =
           let few = C .few in
-          none b a (S .rest (b * stride + a) (let r = L .few in omega arith) (λ e. p (omega arith)))
+          none b a (S .rest (b * stride + a) (λ e. p (omega arith)))
       pick b a lb la (yes p) (no q) =
           let few = C .few in
-          none b a (S .rest (b * stride + a) (let r = L .few in omega arith) (λ e. q (omega arith)))
+          none b a (S .rest (b * stride + a) (λ e. q (omega arith)))
       pick b a lb la (yes p) (yes q) =
           let o : along lab b a ≡ 1 = rw (p, q) (S .one) in
           let i : along inks b a ≡ 0 = rw (p, q) (S .ink) in

@@ -67,8 +67,8 @@ turns-length false cols rows i j (q ∷ qs) = ap suc (turns-length true cols row
 turns-length true cols rows i j (q ∷ qs) = ap suc (turns-length false cols rows i q qs)
 
 -- the label of the way that the walk starts
-module _ {cs : List Point} {cols rows el eu l u wl wu : List ℕ} {s : Start}
-    (R : Ready cs cols rows el eu l u wl wu s) where
+module _ {cs : List Point} {cols rows kl ku l u wl wu : List ℕ} {s : Start}
+    (R : Ready cs cols rows kl ku l u wl wu s) where
   label-at : (up : Bool) → s .upright ≡ up → labelAt up l u (s .i) (s .j) ≡ s .corners
   label-at up e = subst (λ (up : Bool). labelAt up l u (s .i) (s .j) ≡ s .corners) e (R .label)
 
@@ -80,11 +80,11 @@ module _ {cs : List Point} {cols rows el eu l u wl wu : List ℕ} {s : Start}
   unfolding labelAt
   upright-label e = label-at true e
 
-module _ (cs : List Point) (cols rows el eu l u wl wu : List ℕ) (s : Start) (R : Ready cs cols rows el eu l u wl wu s)
+module _ (cs : List Point) (cols rows kl ku l u wl wu : List ℕ) (s : Start) (R : Ready cs cols rows kl ku l u wl wu s)
     (out out′ : List ℕ) (room : 2 * s .corners ≤ length out) where
   -- the first corner, and then those of the walk
   taken : (up : Bool) (qs : List ℕ) → s .upright ≡ up → s .corners ≡ length qs + 1
-      → Trails up l u wl wu el eu cols rows (s .columns) (s .rows) (s .i) (s .j) (s .corners) qs
+      → Trails up l u wl wu kl ku cols rows (s .columns) (s .rows) (s .i) (s .j) (s .corners) qs
       → out′ ≡ sets (put out 0 (getD cols (s .i) 0) (getD rows (s .j) 0)) 2
       (numbers (turns up cols rows (s .i) (s .j) qs))
       → Written cs out out′
@@ -98,18 +98,18 @@ module _ (cs : List Point) (cols rows el eu l u wl wu : List ℕ) (s : Start) (R
       ∙ written cs out (omega arith)
     where
       takes : (up : Bool) → s .upright ≡ up
-          → Trails up l u wl wu el eu cols rows (s .columns) (s .rows) (s .i) (s .j) (s .corners) qs
+          → Trails up l u wl wu kl ku cols rows (s .columns) (s .rows) (s .i) (s .j) (s .corners) qs
           → point (getD cols (s .i) 0) (getD rows (s .j) 0) ∷ turns up cols rows (s .i) (s .j) qs ≡ cs
       takes up e =
           subst
           (λ (up : Bool).
-          Trails up l u wl wu el eu cols rows (s .columns) (s .rows) (s .i) (s .j) (s .corners) qs
+          Trails up l u wl wu kl ku cols rows (s .columns) (s .rows) (s .i) (s .j) (s .corners) qs
           → point (getD cols (s .i) 0) (getD rows (s .j) 0) ∷ turns up cols rows (s .i) (s .j) qs ≡ cs)
           e (R .takes qs)
 
   pub level-written : {v r : ℕ} {mid : List ℕ} → s .upright ≡ false → v ≡ s .corners
       → mid ≡ put out 0 (getD cols (s .i) 0) (getD rows (s .j) 0)
-      → LevelWalk l u wl wu el eu cols rows (s .columns) (s .rows) (s .i) (s .j) v 1 mid out′ r → Written cs out out′
+      → LevelWalk l u wl wu kl ku cols rows (s .columns) (s .rows) (s .i) (s .j) v 1 mid out′ r → Written cs out out′
   unfolding Trails
   level-written {mid = mid} e ev em k =
       let t = rw ev at (k .trail) in
@@ -120,7 +120,7 @@ module _ (cs : List Point) (cols rows el eu l u wl wu : List ℕ) (s : Start) (R
 
   pub upright-written : {v r : ℕ} {mid : List ℕ} → s .upright ≡ true → v ≡ s .corners
       → mid ≡ put out 0 (getD cols (s .i) 0) (getD rows (s .j) 0)
-      → UprightWalk l u wl wu el eu cols rows (s .columns) (s .rows) (s .i) (s .j) v 1 mid out′ r → Written cs out out′
+      → UprightWalk l u wl wu kl ku cols rows (s .columns) (s .rows) (s .i) (s .j) v 1 mid out′ r → Written cs out out′
   unfolding Trails
   upright-written {mid = mid} e ev em k =
       let t = rw ev at (k .trail) in

@@ -15,20 +15,20 @@ pub record Choosing (l u wl : List ℕ) (nr i j : ℕ) : Type 0 where
 
 -- true is upright first; where both ways need as many segments, the inks decide, and where these are equal, the first
 -- stop of the upright one
-pub data Choice (l u wl wu eu rows : List ℕ) (nr i j : ℕ) : Bool → Type 0 where
+pub data Choice (l u wl wu ku rows : List ℕ) (nr i j : ℕ) : Bool → Type 0 where
   level-only : along l j i ≢ 0 → (along u i j ≡ 0) ⊎ (along l j i < along u i j)
-      → Choice l u wl wu eu rows nr i j false
+      → Choice l u wl wu ku rows nr i j false
   upright-only : along u i j ≢ 0 → (along l j i ≡ 0) ⊎ (along u i j < along l j i)
-      → Choice l u wl wu eu rows nr i j true
+      → Choice l u wl wu ku rows nr i j true
   level-less : along l j i ≢ 0 → along l j i ≡ along u i j → along wl j i < along wu i j
-      → Choice l u wl wu eu rows nr i j false
+      → Choice l u wl wu ku rows nr i j false
   upright-less : along l j i ≢ 0 → along l j i ≡ along u i j → along wu i j < along wl j i
-      → Choice l u wl wu eu rows nr i j true
-  here : along l j i ≡ 1 → along u i j ≡ 1 → Choice l u wl wu eu rows nr i j false
+      → Choice l u wl wu ku rows nr i j true
+  here : along l j i ≡ 1 → along u i j ≡ 1 → Choice l u wl wu ku rows nr i j false
   tie-level : (v r : ℕ) → 1 ≤ v → along l j i ≡ v + 1 → along u i j ≡ v + 1 → along wl j i ≡ along wu i j
-      → Stop l wl eu rows i nr j v (along wu i j) r → j ≤ r → Choice l u wl wu eu rows nr i j false
+      → Stop l wl ku rows i nr j v (along wu i j) r → j ≤ r → Choice l u wl wu ku rows nr i j false
   tie-upright : (v r : ℕ) → 1 ≤ v → along l j i ≡ v + 1 → along u i j ≡ v + 1 → along wl j i ≡ along wu i j
-      → Stop l wl eu rows i nr j v (along wu i j) r → r < j → Choice l u wl wu eu rows nr i j true
+      → Stop l wl ku rows i nr j v (along wu i j) r → r < j → Choice l u wl wu ku rows nr i j true
 
 -- the label of the chosen way
 unfoldable pub labelAt : Bool → List ℕ → List ℕ → ℕ → ℕ → ℕ

@@ -3,31 +3,34 @@ use Prim.Native.Nat.{ℕ, _*_, _≤_, _<_}
 use mathlib.Core.Path.{_≡_}
 use mathlib.Core.Bool.{Bool, true, false}
 use mathlib.Core.List.{List, [], _∷_, _++_}
-use lib.Dec.{eqb}
+use mathlib.Core.Option.{Option, none, Option·getD}
 use lib.ListN.{getD, length, drop}
 use Rattle.foil_spec.specs.Lists.{each}
-use Rattle.foil_spec.specs.Foil.{Point, point, Layout}
-use Rattle.foil_spec.specs.Ledger.{pathOf, noPath, cornersOf}
+use Rattle.foil_spec.specs.Foil.{Point, point}
 use Rattle.foil_spec.specs.Lent.{pointNumbers}
-use Rattle.grid.specs.Size.{area}
+use Rattle.grid.specs.Size.{stride, area}
 use Rattle.labels.specs.Rounds.{Ended}
 use Rattle.labels.specs.Walk.{Trail, Walkable}
-use Rattle.search.specs.Seeds.{Seeded}
+use Rattle.search.specs.Seeds.{Blank, Seeded}
 use Rattle.search.specs.Choice.{Choice, labelAt}
 use Rattle.search.specs.declared.Start.{Start}
 
--- the lists for the labels and inks have room
-pub record LabelRoom (l u wl wu ql qu : List ℕ) : Type 0 where
-  pub level : area ≡ length l
-  pub upright : area ≡ length u
-  pub level-inks : area ≤ length wl
-  pub upright-inks : area ≤ length wu
-  pub level-queue : 2 * area ≤ length ql
-  pub upright-queue : 2 * area ≤ length qu
+-- the lists for the labels and inks of nc columns and nr rows have room, and there is no label yet
+pub record LabelRoom (nc nr : ℕ) (l u wl wu ql qu : List ℕ) : Type 0 where
+  pub level : nr * stride ≤ length l
+  pub upright : nc * stride ≤ length u
+  pub level-few : length l ≤ area
+  pub upright-few : length u ≤ area
+  pub level-blank : Blank l
+  pub upright-blank : Blank u
+  pub level-inks : nr * stride ≤ length wl
+  pub upright-inks : nc * stride ≤ length wu
+  pub level-queue : 2 * length l ≤ length ql
+  pub upright-queue : 2 * length u ≤ length qu
 
 -- the crossing (i, j) of S and (ti, tj) of T, the labels l₀ and u₀ and inks wl₀ and wu₀ before the first round, and
 -- the rounds
-pub record Labelling (cols rows el eu : List ℕ) (nc nr : ℕ) (S T : Point) (i j : ℕ) (found : Bool)
+pub record Labelling (cols rows kl ku : List ℕ) (nc nr : ℕ) (S T : Point) (i j : ℕ) (found : Bool)
     (l u wl wu : List ℕ) : Type 0 where
   pub ti : ℕ
   pub tj : ℕ
@@ -47,20 +50,20 @@ pub record Labelling (cols rows el eu : List ℕ) (nc nr : ℕ) (S T : Point) (i
   pub tj-at : getD rows tj 0 ≡ T .y
   pub level-seed : Seeded l₀ wl₀ ql tj ti
   pub upright-seed : Seeded u₀ wu₀ qu ti tj
-  pub ended : Ended el eu cols rows nc nr i j l₀ u₀ wl₀ wu₀ l u wl wu found
+  pub ended : Ended kl ku cols rows nc nr i j l₀ u₀ wl₀ wu₀ l u wl wu found
 
 -- where a walk starts, if the crossing (i, j) was found to have a label
-pub data Starts (l u wl wu eu rows : List ℕ) (nc nr i j : ℕ) : Bool → Start → Type 0 where
-  nowhere : Starts l u wl wu eu rows nc nr i j false
+pub data Starts (l u wl wu ku rows : List ℕ) (nc nr i j : ℕ) : Bool → Start → Type 0 where
+  nowhere : Starts l u wl wu ku rows nc nr i j false
       (record { columns = nc; rows = nr; i = i; j = j; upright = false; corners = 0 })
-  goes : (up : Bool) → Choice l u wl wu eu rows nr i j up
-      → Starts l u wl wu eu rows nc nr i j true
+  goes : (up : Bool) → Choice l u wl wu ku rows nr i j up
+      → Starts l u wl wu ku rows nc nr i j true
       (record { columns = nc; rows = nr; i = i; j = j; upright = up; corners = labelAt up l u i j })
 
 -- the crossings of a walk from (i, j), whose label is v, the first segment level or, if up, upright
-unfoldable pub Trails : Bool → (l u wl wu el eu cols rows : List ℕ) (nc nr i j v : ℕ) → List ℕ → Type 0
-Trails false l u wl wu el eu cols rows nc nr i j v qs = Trail l u wl wu el eu cols rows nr nc j i v qs
-Trails true l u wl wu el eu cols rows nc nr i j v qs = Trail u l wu wl eu el rows cols nc nr i j v qs
+unfoldable pub Trails : Bool → (l u wl wu kl ku cols rows : List ℕ) (nc nr i j v : ℕ) → List ℕ → Type 0
+Trails false l u wl wu kl ku cols rows nc nr i j v qs = Trail l u wl wu kl ku cols rows nr nc j i v qs
+Trails true l u wl wu kl ku cols rows nc nr i j v qs = Trail u l wu wl ku kl rows cols nc nr i j v qs
 
 -- its corners after the first
 unfoldable pub turns : Bool → (cols rows : List ℕ) (i j : ℕ) → List ℕ → List Point
@@ -69,26 +72,38 @@ turns false cols rows i j (q ∷ qs) = point (getD cols q 0) (getD rows j 0) ∷
 turns true cols rows i j (q ∷ qs) = point (getD cols i 0) (getD rows q 0) ∷ turns false cols rows i q qs
 
 -- a walk can start, and whatever crossings it takes, its corners are cs
-pub record Ready (cs : List Point) (cols rows el eu l u wl wu : List ℕ) (s : Start) : Type 0 where
-  pub walkable : Walkable l u wl wu el eu cols rows (s .columns) (s .rows)
+pub record Ready (cs : List Point) (cols rows kl ku l u wl wu : List ℕ) (s : Start) : Type 0 where
+  pub walkable : Walkable l u wl wu kl ku cols rows (s .columns) (s .rows)
   pub i-in : s .i < s .columns
   pub j-in : s .j < s .rows
   pub some : 1 ≤ s .corners
   pub label : labelAt (s .upright) l u (s .i) (s .j) ≡ s .corners
   pub takes : (qs : List ℕ)
-      → Trails (s .upright) l u wl wu el eu cols rows (s .columns) (s .rows) (s .i) (s .j) (s .corners) qs
+      → Trails (s .upright) l u wl wu kl ku cols rows (s .columns) (s .rows) (s .i) (s .j) (s .corners) qs
       → point (getD cols (s .i) 0) (getD rows (s .j) 0) ∷ turns (s .upright) cols rows (s .i) (s .j) qs ≡ cs
 
--- what `labels` answers: how many corners the first path has, 0 where there is no path, and a walk takes them
-pub record Searched (b : Layout) (S T : Point) (cols rows el eu l u wl wu : List ℕ) (s : Start) : Type 0 where
-  pub count : s .corners ≡ length (cornersOf b S T)
-  pub none : noPath (pathOf b S T) ≡ eqb (s .corners) 0
-  pub ready : 1 ≤ s .corners → Ready (cornersOf b S T) cols rows el eu l u wl wu s
+-- the corners of a path, if there is one
+abbrev pub pathCorners : Option (List Point) → List Point
+pathCorners o = Option·getD o []
+
+-- what `labels` answers: how many corners the path o has, 0 where there is none, and a walk takes them
+pub record Searched (o : Option (List Point)) (cols rows kl ku l u wl wu : List ℕ) (s : Start) : Type 0 where
+  pub nowhere : s .corners ≡ 0 → o ≡ none
+  pub count : s .corners ≡ length (pathCorners o)
+  pub ready : 1 ≤ s .corners → Ready (pathCorners o) cols rows kl ku l u wl wu s
 
 -- the corners at the front of a list of numbers, and after them what stood there
 abbrev pub Written : List Point → List ℕ → List ℕ → Type 0
 Written cs out out′ = out′ ≡ each pointNumbers cs ++ drop (length (each pointNumbers cs)) out
 
 -- what `walk` writes: the corners for which it was ready
-pub record Walked (cols rows el eu l u wl wu : List ℕ) (s : Start) (out out′ : List ℕ) : Type 0 where
-  pub writes : (cs : List Point) → Ready cs cols rows el eu l u wl wu s → Written cs out out′
+pub record Walked (cols rows kl ku l u wl wu : List ℕ) (s : Start) (out out′ : List ℕ) : Type 0 where
+  pub writes : (cs : List Point) → Ready cs cols rows kl ku l u wl wu s → Written cs out out′
+
+-- what `first_path` answers: k counts the corners of the path o, 0 where there is none; they stand at the front of out,
+-- which is otherwise as it was, or, where they do not fit, out is as it was
+pub record Found (o : Option (List Point)) (out out′ : List ℕ) (k : ℕ) : Type 0 where
+  pub nowhere : k ≡ 0 → o ≡ none
+  pub count : k ≡ length (pathCorners o)
+  pub corners : k * 2 ≤ length out → Written (pathCorners o) out out′
+  pub untouched : length out < k * 2 → out′ ≡ out

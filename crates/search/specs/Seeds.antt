@@ -3,14 +3,18 @@ use Prim.Native.Nat.{ℕ, _+_, _*_, _≤_, _<_}
 use mathlib.Core.Path.{_≡_}
 use mathlib.Core.Logic.{_≢_}
 use mathlib.Core.List.{List}
-use lib.ListN.{getD}
-use Rattle.grid.specs.Size.{stride, area}
+use lib.ListN.{getD, length}
+use Rattle.grid.specs.Size.{stride}
 use Rattle.labels.specs.Line.{along}
 use Rattle.labels.specs.Pass.{zeros}
 
 -- x is among the first n lines
 abbrev pub Has : List ℕ → ℕ → ℕ → Type 0
 Has lines n x = (k : ℕ) × (k < n) × (getD lines k 0 ≡ x)
+
+-- no crossing has a label
+abbrev pub Blank : List ℕ → Type 0
+Blank lab = (p : ℕ) → getD lab p 0 ≡ 0
 
 -- r is the place of x among the first n lines
 pub record Placed (lines : List ℕ) (n x r : ℕ) : Type 0 where
@@ -21,7 +25,7 @@ pub record Placed (lines : List ℕ) (n x r : ℕ) : Type 0 where
 pub record Seeded (lab inks queue : List ℕ) (line k : ℕ) : Type 0 where
   pub one : along lab line k ≡ 1
   pub ink : along inks line k ≡ 0
-  pub rest : (p : ℕ) → p < area → p ≢ line * stride + k → getD lab p 0 ≡ 0
+  pub rest : (p : ℕ) → p ≢ line * stride + k → getD lab p 0 ≡ 0
   pub queue-line : getD queue 0 0 ≡ line
   pub queue-crossing : getD queue 1 0 ≡ k
-  pub room : 1 + zeros lab ≤ area
+  pub room : 1 + zeros lab ≤ length lab

@@ -1,15 +1,14 @@
 // The search for the first path of fewest bends and least length: the escape grid, its labels, and the walk put
 // together.
 //
-// The caller makes two calls. `labels` says how many corners the path has, so that the caller can decide whether there
-// is room for them, and `walk` then writes them. All work lists are lent: `level` and `upright` for the labels of the
-// grid's crossings in the two directions, `il` and `iu` for their inks (AREA places), `ql` and `qu` for their queues
-// (twice as many), `cols` and `rows` for the lines of the grid (STRIDE places), `el` and `eu` for the level and the
-// upright edges between its crossings (AREA places), and `mark` for marks on an axis (4,096 places).
+// The work lists of `labels` and `walk` are `level` and `upright` for the labels of the grid's crossings in the two
+// directions, `il` and `iu` for their inks, `kl` and `ku` for the level and the upright links between crossings (STRIDE
+// places for each line that there may be), `ql` and `qu` for queues of crossings (two numbers for each label), `cols`
+// and `rows` for the lines of the grid (STRIDE places), and `mark` for marks on an axis (4,096 places).
 use grid::AREA;
 use grid::STRIDE;
 use grid::collect;
-use grid::edges;
+use grid::links;
 use grid::mark_lines;
 use labels::level_step;
 use labels::put_corner;
@@ -22,14 +21,25 @@ ghost use mathlib.Core.List.{List};
 ghost use Prim.Native.Nat.{_+_, _*_, _≤_, _<_};
 ghost use lib.ListN.{length};
 ghost use Rattle.foil_spec.specs.Foil.{Point, point};
-ghost use Rattle.foil_spec.specs.Lent.{layoutOf};
-ghost use Rattle.grid.specs.Size.{stride, area};
+ghost use Rattle.foil_spec.specs.Paths.{firstPath};
+ghost use Rattle.zones.specs.Boxes.{boxFree, maxBoxes};
+ghost use Rattle.grid.specs.Size.{stride};
 ghost use Rattle.grid.specs.Lines.{Lines};
-ghost use Rattle.grid.specs.Edges.{Filled};
-ghost use Rattle.search.specs.Grid.{Posed, GridRoom, Axis, Grid};
-ghost use Rattle.search.specs.Seeds.{Has, Placed, Seeded};
+ghost use Rattle.search.specs.Grid.{mostLines, Posed, GridRoom, Axis, Grid};
+ghost use Rattle.search.specs.Seeds.{Has, Placed, Blank, Seeded};
 ghost use Rattle.search.specs.Choice.{Choosing, Choice};
-ghost use Rattle.search.specs.Search.{LabelRoom, Labelling, Starts, Ready, Searched, Walked};
+ghost use Rattle.search.specs.Search.{LabelRoom, Labelling, Starts, Ready, Searched, Walked, Found};
+
+// A queue of crossings has two numbers for each.
+const QUEUE: usize = 143648;
+
+// Up to so many boxes make few lines: 68 an axis. What is kept of their crossings is a quarter of AREA, which takes a
+// quarter of the time to fill.
+const FEW: usize = 32;
+
+const FEW_AREA: usize = 18224;
+
+const FEW_QUEUE: usize = 36448;
 
 // How many columns and rows the grid has.
 struct Size {
@@ -39,45 +49,43 @@ struct Size {
 
 // Where the first path begins: the start's column and row, whether the first segment is upright, and how many corners
 // the path has, 0 where there is no path.
-pub struct Start {
-    pub columns: usize,
-    pub rows: usize,
-    pub i: usize,
-    pub j: usize,
-    pub upright: bool,
-    pub corners: usize,
+struct Start {
+    columns: usize,
+    rows: usize,
+    i: usize,
+    j: usize,
+    upright: bool,
+    corners: usize,
 }
 
 // Collects the lines of the grid that cross one axis, with lines at p and q, and returns how many there are.
 fn axis(
     lines: &mut [u16],
     mark: &mut [u8],
-    table: &[u16],
-    count: usize,
-    d: usize,
+    boxes: &[u16],
+    n: usize,
     upright: bool,
     size: usize,
     p: usize,
     q: usize,
 ) -> usize
-    requires { ⌜ (count * 5 ≤ length (now table)) × (count ≤ 128) × (d ≤ 15) × (p < size) × (q < size) ⌝ }
+    requires { ⌜ (n * 5 ≤ length (now boxes)) × (n ≤ maxBoxes) × (p < size) × (q < size) ⌝ }
     requires { ⌜ (size ≤ 4096) × (4096 ≤ length (now mark)) × (stride ≤ length (now lines)) ⌝ }
-    ensures { λ r. ⌜ Axis (now (table .entry)) count d upright size p q (now (lines .exit)) r ⌝ }
+    ensures { λ r. ⌜ Axis (now (boxes .entry)) n upright size p q (now (lines .exit)) r ⌝ }
 {
-    mark_lines(mark, table, count, d, upright, size, p, q);
+    mark_lines(mark, boxes, n, upright, size, p, q);
     collect(lines, mark, size)
 }
 
-// Makes the escape grid of a board, with lines through both points: its columns, its rows, and the edges of both.
+// Makes the escape grid of a foil, with lines through both points: its columns, its rows, and the links of both.
 fn build(
     cols: &mut [u16],
     rows: &mut [u16],
-    el: &mut [u8],
-    eu: &mut [u8],
+    kl: &mut [u8],
+    ku: &mut [u8],
     mark: &mut [u8],
-    table: &[u16],
-    count: usize,
-    d: u16,
+    boxes: &[u16],
+    n: usize,
     w: u16,
     h: u16,
     sx: u16,
@@ -85,17 +93,16 @@ fn build(
     tx: u16,
     ty: u16,
 ) -> Size
-    requires { ⌜ Posed (now table) count d w h (point sx sy) (point tx ty) ⌝ }
-    requires { ⌜ GridRoom (now cols) (now rows) (now el) (now eu) (now mark) ⌝ }
-    ensures { λ r. ⌜ Grid (now (table .entry)) count d w h (point sx sy) (point tx ty)
-        (now (cols .exit)) (now (rows .exit)) (now (el .exit)) (now (eu .exit)) (r .columns) (r .rows) ⌝ }
+    requires { ⌜ Posed (now boxes) n w h (point sx sy) (point tx ty) ⌝ }
+    requires { ⌜ GridRoom n (now cols) (now rows) (now kl) (now ku) (now mark) ⌝ }
+    ensures { λ r. ⌜ Grid (now (boxes .entry)) n w h (point sx sy) (point tx ty)
+        (now (cols .exit)) (now (rows .exit)) (now (kl .exit)) (now (ku .exit)) (r .columns) (r .rows) ⌝ }
 {
     let nc = axis(
         cols,
         mark,
-        table,
-        count,
-        d as usize,
+        boxes,
+        n,
         false,
         w as usize,
         sx as usize,
@@ -104,16 +111,15 @@ fn build(
     let nr = axis(
         rows,
         mark,
-        table,
-        count,
-        d as usize,
+        boxes,
+        n,
         true,
         h as usize,
         sy as usize,
         ty as usize,
     );
-    edges(el, table, count, d as usize, false, rows, nr, cols, nc);
-    edges(eu, table, count, d as usize, true, cols, nc, rows, nr);
+    links(kl, boxes, n, false, rows, nr, cols, nc);
+    links(ku, boxes, n, true, cols, nc, rows, nr);
     Size {
         columns: nc,
         rows: nr,
@@ -135,25 +141,12 @@ fn index_of(lines: &[u16], n: usize, x: u16) -> usize
     n
 }
 
-// Takes all labels away.
-fn clear(labels: &mut [u32])
-    requires { ⌜ area ≤ length (now labels) ⌝ }
-    ensures { λ _. ⌜ Filled 0 area 0 (now (labels .entry)) (now (labels .exit)) ⌝ }
-{
-    let mut i = 0;
-    while i < AREA {
-        labels[i] = 0;
-        i += 1;
-    }
-}
-
-// Labels crossing k of a line 1, with the ink 0, and no other crossing; the queue begins with that crossing.
+// Labels crossing k of a line 1, with the ink 0, where there is no label yet; the queue begins with that crossing.
 fn seed(labels: &mut [u32], inks: &mut [u32], queue: &mut [u16], line: usize, k: usize)
-    requires { ⌜ (line < stride) × (k < stride) × (area ≡ length (now labels)) × (area ≤ length (now inks))
-        × (2 * area ≤ length (now queue)) ⌝ }
+    requires { ⌜ (line < stride) × (k < stride) × (line * stride + stride ≤ length (now labels))
+        × (line * stride + stride ≤ length (now inks)) × (2 ≤ length (now queue)) × Blank (now labels) ⌝ }
     ensures { λ _. ⌜ Seeded (now (labels .exit)) (now (inks .exit)) (now (queue .exit)) line k ⌝ }
 {
-    clear(labels);
     labels[line * STRIDE + k] = 1;
     inks[line * STRIDE + k] = 0;
     queue[0] = line as u16;
@@ -161,7 +154,7 @@ fn seed(labels: &mut [u32], inks: &mut [u32], queue: &mut [u16], line: usize, k:
 }
 
 // Where the first point is on the grid, and whether its crossing has a label.
-struct Found {
+struct Reached {
     i: usize,
     j: usize,
     found: bool,
@@ -175,8 +168,8 @@ fn label(
     iu: &mut [u32],
     ql: &mut [u16],
     qu: &mut [u16],
-    el: &[u8],
-    eu: &[u8],
+    kl: &[u8],
+    ku: &[u8],
     cols: &[u16],
     rows: &[u16],
     nc: usize,
@@ -185,11 +178,12 @@ fn label(
     sy: u16,
     tx: u16,
     ty: u16,
-) -> Found
-    requires { ⌜ (area ≤ length (now el)) × (area ≤ length (now eu)) × Lines (now cols) nc × Lines (now rows) nr ⌝ }
-    requires { ⌜ LabelRoom (now level) (now upright) (now il) (now iu) (now ql) (now qu) ⌝ }
+) -> Reached
+    requires { ⌜ (nr * stride ≤ length (now kl)) × (nc * stride ≤ length (now ku)) × Lines (now cols) nc
+        × Lines (now rows) nr ⌝ }
+    requires { ⌜ LabelRoom nc nr (now level) (now upright) (now il) (now iu) (now ql) (now qu) ⌝ }
     requires { ⌜ Has (now cols) nc sx × Has (now rows) nr sy × Has (now cols) nc tx × Has (now rows) nr ty ⌝ }
-    ensures { λ r. ⌜ Labelling (now (cols .entry)) (now (rows .entry)) (now (el .entry)) (now (eu .entry)) nc nr
+    ensures { λ r. ⌜ Labelling (now (cols .entry)) (now (rows .entry)) (now (kl .entry)) (now (ku .entry)) nc nr
         (point sx sy) (point tx ty) (r .i) (r .j) (r .found) (now (level .exit)) (now (upright .exit))
         (now (il .exit)) (now (iu .exit)) ⌝ }
 {
@@ -206,8 +200,8 @@ fn label(
         iu,
         ql,
         qu,
-        el,
-        eu,
+        kl,
+        ku,
         cols,
         rows,
         nc,
@@ -215,7 +209,7 @@ fn label(
         i,
         j,
     );
-    Found { i, j, found }
+    Reached { i, j, found }
 }
 
 // Whether the first path goes upright from the crossing of column i and row j, which has a label. Where both ways
@@ -225,18 +219,18 @@ fn starts_upright(
     upright: &[u32],
     il: &[u32],
     iu: &[u32],
-    eu: &[u8],
+    ku: &[u8],
     rows: &[u16],
     nr: usize,
     i: usize,
     j: usize,
 ) -> bool
-    requires { ⌜ Lines (now rows) nr × (i < stride) × (j < nr) × (area ≤ length (now level)) ⌝ }
-    requires { ⌜ (area ≤ length (now upright)) × (area ≤ length (now il)) × (area ≤ length (now iu))
-        × (area ≤ length (now eu)) ⌝ }
+    requires { ⌜ Lines (now rows) nr × (i < stride) × (j < nr) × (nr * stride ≤ length (now level)) ⌝ }
+    requires { ⌜ (i * stride + stride ≤ length (now upright)) × (nr * stride ≤ length (now il))
+        × (i * stride + stride ≤ length (now iu)) × (i * stride + stride ≤ length (now ku)) ⌝ }
     requires { ⌜ Choosing (now level) (now upright) (now il) nr i j ⌝ }
     ensures { λ r. ⌜ Choice (now (level .entry)) (now (upright .entry)) (now (il .entry)) (now (iu .entry))
-        (now (eu .entry)) (now (rows .entry)) nr i j r ⌝ }
+        (now (ku .entry)) (now (rows .entry)) nr i j r ⌝ }
 {
     let a = level[j * STRIDE + i];
     let b = upright[i * STRIDE + j];
@@ -263,7 +257,7 @@ fn starts_upright(
     if a == 1 {
         return false;
     }
-    if next_stop(level, il, eu, rows, i, nr, j, a - 1, t) < j {
+    if next_stop(level, il, ku, rows, i, nr, j, a - 1, t) < j {
         return true;
     }
     false
@@ -275,7 +269,7 @@ fn start_at(
     upright: &[u32],
     il: &[u32],
     iu: &[u32],
-    eu: &[u8],
+    ku: &[u8],
     rows: &[u16],
     nc: usize,
     nr: usize,
@@ -283,12 +277,12 @@ fn start_at(
     j: usize,
     found: bool,
 ) -> Start
-    requires { ⌜ Lines (now rows) nr × (i < stride) × (j < nr) × (area ≤ length (now level)) ⌝ }
-    requires { ⌜ (area ≤ length (now upright)) × (area ≤ length (now il)) × (area ≤ length (now iu))
-        × (area ≤ length (now eu)) ⌝ }
+    requires { ⌜ Lines (now rows) nr × (i < stride) × (j < nr) × (nr * stride ≤ length (now level)) ⌝ }
+    requires { ⌜ (i * stride + stride ≤ length (now upright)) × (nr * stride ≤ length (now il))
+        × (i * stride + stride ≤ length (now iu)) × (i * stride + stride ≤ length (now ku)) ⌝ }
     requires { ⌜ (found ≡ true → Choosing (now level) (now upright) (now il) nr i j) ⌝ }
     ensures { λ r. ⌜ Starts (now (level .entry)) (now (upright .entry)) (now (il .entry)) (now (iu .entry))
-        (now (eu .entry)) (now (rows .entry)) nc nr i j found r ⌝ }
+        (now (ku .entry)) (now (rows .entry)) nc nr i j found r ⌝ }
 {
     if !found {
         return Start {
@@ -300,7 +294,7 @@ fn start_at(
             corners: 0,
         };
     }
-    if starts_upright(level, upright, il, iu, eu, rows, nr, i, j) {
+    if starts_upright(level, upright, il, iu, ku, rows, nr, i, j) {
         return Start {
             columns: nc,
             rows: nr,
@@ -320,9 +314,9 @@ fn start_at(
     }
 }
 
-// Searches the first path of fewest bends between two free points of a board, and says how many corners it has: 0 where
-// there is no path. What it leaves in the lists is for `walk`; what they held before does not matter.
-pub fn labels(
+// Searches the first path of fewest bends between two free points of a foil, and says how many corners it has: 0 where
+// there is no path. What it leaves in the lists is for `walk`; before, the lists of labels hold zeros.
+fn labels(
     level: &mut [u32],
     upright: &mut [u32],
     il: &mut [u32],
@@ -331,12 +325,11 @@ pub fn labels(
     qu: &mut [u16],
     cols: &mut [u16],
     rows: &mut [u16],
-    el: &mut [u8],
-    eu: &mut [u8],
+    kl: &mut [u8],
+    ku: &mut [u8],
     mark: &mut [u8],
-    table: &[u16],
-    count: usize,
-    d: u16,
+    boxes: &[u16],
+    n: usize,
     w: u16,
     h: u16,
     sx: u16,
@@ -344,29 +337,14 @@ pub fn labels(
     tx: u16,
     ty: u16,
 ) -> Start
-    requires { ⌜ Posed (now table) count d w h (point sx sy) (point tx ty) ⌝ }
-    requires { ⌜ GridRoom (now cols) (now rows) (now el) (now eu) (now mark) ⌝ }
-    requires { ⌜ LabelRoom (now level) (now upright) (now il) (now iu) (now ql) (now qu) ⌝ }
-    ensures { λ r. ⌜ Searched (layoutOf w h d count (now (table .entry))) (point sx sy) (point tx ty)
-        (now (cols .exit)) (now (rows .exit)) (now (el .exit)) (now (eu .exit))
+    requires { ⌜ Posed (now boxes) n w h (point sx sy) (point tx ty) ⌝ }
+    requires { ⌜ GridRoom n (now cols) (now rows) (now kl) (now ku) (now mark) ⌝ }
+    requires { ⌜ LabelRoom (mostLines n) (mostLines n) (now level) (now upright) (now il) (now iu) (now ql) (now qu) ⌝ }
+    ensures { λ r. ⌜ Searched (firstPath (boxFree w h n (now (boxes .entry))) w h (point sx sy) (point tx ty))
+        (now (cols .exit)) (now (rows .exit)) (now (kl .exit)) (now (ku .exit))
         (now (level .exit)) (now (upright .exit)) (now (il .exit)) (now (iu .exit)) r ⌝ }
 {
-    let size = build(
-        cols,
-        rows,
-        el,
-        eu,
-        mark,
-        table,
-        count,
-        d,
-        w,
-        h,
-        sx,
-        sy,
-        tx,
-        ty,
-    );
+    let size = build(cols, rows, kl, ku, mark, boxes, n, w, h, sx, sy, tx, ty);
     let nc = size.columns;
     let nr = size.rows;
     let s = label(
@@ -376,8 +354,8 @@ pub fn labels(
         iu,
         ql,
         qu,
-        el,
-        eu,
+        kl,
+        ku,
         cols,
         rows,
         nc,
@@ -387,26 +365,26 @@ pub fn labels(
         tx,
         ty,
     );
-    start_at(level, upright, il, iu, eu, rows, nc, nr, s.i, s.j, s.found)
+    start_at(level, upright, il, iu, ku, rows, nc, nr, s.i, s.j, s.found)
 }
 
 // Writes the corners of the first path to the front of `out` and nothing else, from what `labels` left.
-pub fn walk(
+fn walk(
     out: &mut [u16],
     level: &[u32],
     upright: &[u32],
     il: &[u32],
     iu: &[u32],
-    el: &[u8],
-    eu: &[u8],
+    kl: &[u8],
+    ku: &[u8],
     cols: &[u16],
     rows: &[u16],
     s: Start,
 )
-    requires { ⌜ ((cs : List Point) × Ready cs (now cols) (now rows) (now el) (now eu) (now level) (now upright)
+    requires { ⌜ ((cs : List Point) × Ready cs (now cols) (now rows) (now kl) (now ku) (now level) (now upright)
         (now il) (now iu) s) ⌝ }
     requires { ⌜ 2 * s .corners ≤ length (now out) ⌝ }
-    ensures { λ _. ⌜ Walked (now (cols .entry)) (now (rows .entry)) (now (el .entry)) (now (eu .entry))
+    ensures { λ _. ⌜ Walked (now (cols .entry)) (now (rows .entry)) (now (kl .entry)) (now (ku .entry))
         (now (level .entry)) (now (upright .entry)) (now (il .entry)) (now (iu .entry)) s
         (now (out .entry)) (now (out .exit)) ⌝ }
 {
@@ -422,8 +400,8 @@ pub fn walk(
             upright,
             il,
             iu,
-            el,
-            eu,
+            kl,
+            ku,
             cols,
             rows,
             nc,
@@ -441,8 +419,8 @@ pub fn walk(
         upright,
         il,
         iu,
-        el,
-        eu,
+        kl,
+        ku,
         cols,
         rows,
         nc,
@@ -452,4 +430,191 @@ pub fn walk(
         level[j * STRIDE + i],
         1,
     );
+}
+
+// Searches the first path, and writes its corners where they fit.
+fn path_in(
+    out: &mut [u16],
+    level: &mut [u32],
+    upright: &mut [u32],
+    il: &mut [u32],
+    iu: &mut [u32],
+    ql: &mut [u16],
+    qu: &mut [u16],
+    cols: &mut [u16],
+    rows: &mut [u16],
+    kl: &mut [u8],
+    ku: &mut [u8],
+    mark: &mut [u8],
+    boxes: &[u16],
+    n: usize,
+    w: u16,
+    h: u16,
+    sx: u16,
+    sy: u16,
+    tx: u16,
+    ty: u16,
+) -> usize
+    requires { ⌜ Posed (now boxes) n w h (point sx sy) (point tx ty) ⌝ }
+    requires { ⌜ GridRoom n (now cols) (now rows) (now kl) (now ku) (now mark) ⌝ }
+    requires { ⌜ LabelRoom (mostLines n) (mostLines n) (now level) (now upright) (now il) (now iu) (now ql) (now qu) ⌝ }
+    ensures { λ r. ⌜ Found (firstPath (boxFree w h n (now (boxes .entry))) w h (point sx sy) (point tx ty))
+        (now (out .entry)) (now (out .exit)) r ⌝ }
+{
+    let start = labels(
+        level,
+        upright,
+        il,
+        iu,
+        ql,
+        qu,
+        cols,
+        rows,
+        kl,
+        ku,
+        mark,
+        boxes,
+        n,
+        w,
+        h,
+        sx,
+        sy,
+        tx,
+        ty,
+    );
+    let k = start.corners;
+    if k == 0 {
+        return 0;
+    }
+    if out.len() / 2 < k {
+        return k;
+    }
+    walk(out, level, upright, il, iu, kl, ku, cols, rows, start);
+    k
+}
+
+// The same, with lists for the lines of few boxes.
+fn path_among_few(
+    out: &mut [u16],
+    boxes: &[u16],
+    n: usize,
+    w: u16,
+    h: u16,
+    sx: u16,
+    sy: u16,
+    tx: u16,
+    ty: u16,
+) -> usize
+    requires { ⌜ Posed (now boxes) n w h (point sx sy) (point tx ty) × (n ≤ 32) ⌝ }
+    ensures { λ r. ⌜ Found (firstPath (boxFree w h n (now (boxes .entry))) w h (point sx sy) (point tx ty))
+        (now (out .entry)) (now (out .exit)) r ⌝ }
+{
+    let mut level = [0u32; FEW_AREA];
+    let mut upright = [0u32; FEW_AREA];
+    let mut il = [0u32; FEW_AREA];
+    let mut iu = [0u32; FEW_AREA];
+    let mut ql = [0u16; FEW_QUEUE];
+    let mut qu = [0u16; FEW_QUEUE];
+    let mut cols = [0u16; STRIDE];
+    let mut rows = [0u16; STRIDE];
+    let mut kl = [0u8; FEW_AREA];
+    let mut ku = [0u8; FEW_AREA];
+    let mut mark = [0u8; 4096];
+    path_in(
+        out,
+        &mut level,
+        &mut upright,
+        &mut il,
+        &mut iu,
+        &mut ql,
+        &mut qu,
+        &mut cols,
+        &mut rows,
+        &mut kl,
+        &mut ku,
+        &mut mark,
+        boxes,
+        n,
+        w,
+        h,
+        sx,
+        sy,
+        tx,
+        ty,
+    )
+}
+
+// The same, with lists for the lines of as many boxes as there may be.
+fn path_among_many(
+    out: &mut [u16],
+    boxes: &[u16],
+    n: usize,
+    w: u16,
+    h: u16,
+    sx: u16,
+    sy: u16,
+    tx: u16,
+    ty: u16,
+) -> usize
+    requires { ⌜ Posed (now boxes) n w h (point sx sy) (point tx ty) ⌝ }
+    ensures { λ r. ⌜ Found (firstPath (boxFree w h n (now (boxes .entry))) w h (point sx sy) (point tx ty))
+        (now (out .entry)) (now (out .exit)) r ⌝ }
+{
+    let mut level = [0u32; AREA];
+    let mut upright = [0u32; AREA];
+    let mut il = [0u32; AREA];
+    let mut iu = [0u32; AREA];
+    let mut ql = [0u16; QUEUE];
+    let mut qu = [0u16; QUEUE];
+    let mut cols = [0u16; STRIDE];
+    let mut rows = [0u16; STRIDE];
+    let mut kl = [0u8; AREA];
+    let mut ku = [0u8; AREA];
+    let mut mark = [0u8; 4096];
+    path_in(
+        out,
+        &mut level,
+        &mut upright,
+        &mut il,
+        &mut iu,
+        &mut ql,
+        &mut qu,
+        &mut cols,
+        &mut rows,
+        &mut kl,
+        &mut ku,
+        &mut mark,
+        boxes,
+        n,
+        w,
+        h,
+        sx,
+        sy,
+        tx,
+        ty,
+    )
+}
+
+// Searches the first path of fewest bends and least length between two points that the first n boxes leave free.
+// Answers how many corners it has, 0 where there is no path. Where they fit, they are written to the front of `out`,
+// and else nothing is.
+pub fn first_path(
+    out: &mut [u16],
+    boxes: &[u16],
+    n: usize,
+    w: u16,
+    h: u16,
+    sx: u16,
+    sy: u16,
+    tx: u16,
+    ty: u16,
+) -> usize
+    requires { ⌜ Posed (now boxes) n w h (point sx sy) (point tx ty) ⌝ }
+    ensures { λ r. ⌜ Found (firstPath (boxFree w h n (now (boxes .entry))) w h (point sx sy) (point tx ty))
+        (now (out .entry)) (now (out .exit)) r ⌝ }
+{
+    if n <= FEW {
+        return path_among_few(out, boxes, n, w, h, sx, sy, tx, ty);
+    }
+    path_among_many(out, boxes, n, w, h, sx, sy, tx, ty)
 }

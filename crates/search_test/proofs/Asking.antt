@@ -1,43 +1,47 @@
--- When the search can be asked for a path.
-use Prim.Native.Nat.{ℕ, _+_, _≤_, _<_}
+-- When the search can be asked for a path: the boxes of a board leave free what the test of its points has free.
+use Prim.Native.Nat.{ℕ, _≤_}
 use native.Mathlib.Omega.{arith}
-use mathlib.Core.Path.{_≡_}
-use mathlib.Core.Bool.{Bool, true, false}
+use mathlib.Core.Path.{_≡_, ap, _∙_}
+use mathlib.Core.Bool.{Bool, true, not}
 use mathlib.Core.List.{List}
 use lib.ListN.{length}
-use borrow.Author.Count.{below-more}
-use Rattle.foil_spec.specs.Foil.{Entry, point}
-use Rattle.foil_spec.specs.Lent.{entryAt}
-use Rattle.strips.proofs.Free.{free-at}
-use Rattle.grid.specs.Zones.{Boxes, extent}
+use borrow.Author.Tests.{lt-ltb}
+use Rattle.foil_spec.specs.Foil.{Entry, point, blocks, free}
+use Rattle.foil_spec.specs.Lent.{entryAt, layoutOf}
+use Rattle.list_laws.proofs.Tests.{and-i, not-f}
+use Rattle.list_laws.proofs.Members.{all-places}
+use Rattle.zones.specs.Boxes.{Zoned}
+use Rattle.zones.specs.Table.{Table}
 use Rattle.search.specs.Grid.{Posed}
 use Rattle.plain.specs.Free.{Unblocked}
-use Rattle.search_test.specs.Box.{Box}
+use Rattle.search_test.specs.Box.{AllBoxes}
 
-either-way : {e : Entry} → Box e → (upright : Bool) → extent upright e .from < extent upright e .to
-unfolding extent
-either-way b false = b .across
-either-way b true = b .down
+module _ {t : List ℕ} {n d w h : ℕ} where
+  pub table-of : 640 ≡ length t → n ≤ 128 → d ≤ 15 → w ≤ 4096 → h ≤ 4096 → AllBoxes w h n t → Table t n d w h
+  table-of len few small wide high ok =
+      record {
+        len = omega arith;
+        few = few;
+        small = small;
+        width = wide;
+        height = high;
+        x-order = λ k l. ok k l .across;
+        y-order = λ k l. ok k l .down;
+        x-end = λ k l. ok k l .right;
+        y-end = λ k l. ok k l .bottom;
+      }
 
-module _ (t : List ℕ) where
-  pub boxes-none : Boxes 0 t
-  boxes-none = record { wide = λ k l. absurd (omega arith) }
+  is-free : {x y : ℕ} → Unblocked t n d w h x y → free (layoutOf w h d n t) x y ≡ true
+  unfolding free layoutOf
+  is-free {x} {y} u =
+      and-i (and-i (lt-ltb x w (u .x-on)) (lt-ltb y h (u .y-on)))
+      (all-places (λ (e : Entry). not (blocks d e x y)) (entryAt t) n (λ k l. not-f (u .none k l)))
 
-  pub boxes-more : (i : ℕ) → Boxes i t → Box (entryAt t i) → Boxes (i + 1) t
-  boxes-more i all here = record { wide = below-more _ i (all .wide) (either-way here) }
-
-  -- a board and two free points on it are a question for the search
-  module _ (n d w h : ℕ) (sx sy tx ty : ℕ) where
-    pub posed : 640 ≡ length t → n ≤ 128 → d ≤ 15 → w ≤ 4096 → h ≤ 4096 → Boxes n t
-        → Unblocked t n d w h sx sy → Unblocked t n d w h tx ty → Posed t n d w h (point sx sy) (point tx ty)
-    posed len few near wide high boxes s g =
-        record {
-          table = omega arith;
-          few = few;
-          clearance = near;
-          wide = wide;
-          high = high;
-          boxes = boxes;
-          s-free = free-at w h d n t sx sy (s .x-on) (s .y-on) (s .none);
-          t-free = free-at w h d n t tx ty (g .x-on) (g .y-on) (g .none);
-        }
+  pub posed : {z : List ℕ} {c sx sy tx ty : ℕ} → Zoned (free (layoutOf w h d n t)) w h z c → Unblocked t n d w h sx sy
+      → Unblocked t n d w h tx ty → Posed z c w h (point sx sy) (point tx ty)
+  posed {sx = sx} {sy = sy} {tx = tx} {ty = ty} Z s g =
+      record {
+        boxes = Z .boxes;
+        s-free = ap (λ (f : ℕ → ℕ → Bool). f sx sy) (Z .same) ∙ is-free s;
+        t-free = ap (λ (f : ℕ → ℕ → Bool). f tx ty) (Z .same) ∙ is-free g;
+      }

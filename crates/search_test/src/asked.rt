@@ -1,38 +1,43 @@
 // The search, asked for a path on a board.
 use boards::Made;
-use foil_spec::Board;
+use foil_spec::entry_at;
+use zones::BOXES_SIZE;
+use zones::zones;
 ghost use mathlib.Core.Path.{_≡_};
 ghost use mathlib.Core.Bool.{true};
 ghost use Prim.Native.Nat.{_<_, _≤_};
 ghost use Rattle.foil_spec.specs.Lent.{entryAt};
 ghost use Rattle.boards.specs.Board.{OnBoard};
-ghost use Rattle.grid.specs.Zones.{Boxes};
-ghost use Rattle.search_test.specs.Box.{Box};
+ghost use Rattle.search_test.specs.Box.{Box, AllBoxes};
 
-// More corners than any path has: the answer where the points are not free or an entry covers nothing.
+// More corners than any path has: the answer where the points are not free or an entry is empty or off the board.
 const UNASKED: usize = 8192;
 
-// Whether entry i of the table covers something.
-fn box_ok(table: &[u16; 640], i: usize) -> bool
+// Whether entry i of the table is not empty and on a board of w by h.
+fn box_ok(table: &[u16; 640], i: usize, w: u16, h: u16) -> bool
     requires { ⌜ i < 128 ⌝ }
-    ensures { λ r. ⌜ (r ≡ true → Box (entryAt (now (table .entry)) i)) ⌝ }
+    ensures { λ r. ⌜ (r ≡ true → Box w h (entryAt (now (table .entry)) i)) ⌝ }
 {
-    if table[i * 5 + 3] <= table[i * 5 + 1] {
+    let e = entry_at(table, i);
+    if e.x1 <= e.x0 {
         return false;
     }
-    if table[i * 5 + 4] <= table[i * 5 + 2] {
+    if e.y1 <= e.y0 {
         return false;
     }
-    true
+    if w < e.x1 {
+        return false;
+    }
+    e.y1 <= h
 }
 
-// Whether each of the first n entries covers something.
-fn boxes_ok(table: &[u16; 640], n: usize) -> bool
+// Whether each of the first n entries is.
+fn boxes_ok(table: &[u16; 640], n: usize, w: u16, h: u16) -> bool
     requires { ⌜ n ≤ 128 ⌝ }
-    ensures { λ r. ⌜ (r ≡ true → Boxes n (now (table .entry))) ⌝ }
+    ensures { λ r. ⌜ (r ≡ true → AllBoxes w h n (now (table .entry))) ⌝ }
 {
     for i in 0..n {
-        if !box_ok(table, i) {
+        if !box_ok(table, i, w, h) {
             return false;
         }
     }
@@ -40,7 +45,7 @@ fn boxes_ok(table: &[u16; 640], n: usize) -> bool
 }
 
 // Writes the corners of the path that the search finds between two points of a board to the front of `out`, and answers
-// how many they are. The search is asked as a lay asks it, so of more than 129 corners none is written.
+// how many they are.
 pub(crate) fn first_path(
     out: &mut [u16; 8192],
     table: &[u16; 640],
@@ -56,7 +61,7 @@ pub(crate) fn first_path(
     let d = made.clearance;
     let w = made.width;
     let h = made.height;
-    if !boxes_ok(table, n) {
+    if !boxes_ok(table, n, w, h) {
         return UNASKED;
     }
     if !plain::is_free(table, n, d, w, h, sx, sy) {
@@ -65,12 +70,7 @@ pub(crate) fn first_path(
     if !plain::is_free(table, n, d, w, h, tx, ty) {
         return UNASKED;
     }
-    let board = Board {
-        width: w,
-        height: h,
-        clearance: d,
-        entries: n,
-        strips: 0,
-    };
-    tracks::find(out, table, board, sx, sy, tx, ty)
+    let mut boxes = [0u16; BOXES_SIZE];
+    let count = zones(&mut boxes, table, n, d, w, h);
+    search::first_path(out, &boxes, count, w, h, sx, sy, tx, ty)
 }

@@ -98,7 +98,8 @@ module _ (b : Board) (t s : List ℕ) where
       not-sound (λ k.
       let g = of-ok (held m) (k .kept) in
       clash
-      (let y : boardOk b ≡ true = simp (g .width, g .height, g .clearance, le-leb (b .entries) maxEntries (k .few)) in y)
+      (let y : boardOk b ≡ true =
+      simp (g .width, g .height, g .clearance, le-leb (b .entries) maxEntries (k .few)) in y)
       (sym e ∙ not-true r n))
 
   pub bad-entries : (r : Bool) → r ≡ all (entryOk (b .width) (b .height)) (map (entryAt t) (range 0 (b .entries)))

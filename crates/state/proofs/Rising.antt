@@ -1,5 +1,4 @@
 -- The strips of a sound state stand by y0, since they are the strips of its layout.
-use Prim.Native.Nat.{ℕ}
 use Rattle.foil_spec.specs.Foil.{free}
 use Rattle.foil_spec.specs.Ledger.{stripsOf}
 use Rattle.foil_spec.specs.Lent.{Lent, held}

@@ -128,7 +128,8 @@ module _ (f : ℕ → ℕ → Bool) (w h v z : ℕ) (ch : Change f h v z) where
           let i : bound v z b (finalAt k .x0) ≡ z = bound-in v z b (finalAt k .x0) (omega arith) in
           let i′ : bound v z x (finalAt k .x0) ≡ v = bound-out v z x (finalAt k .x0) (omega arith) in
           let g : z ≤ finalAt k .y1 =
-          grown f w h v z ch (columns (finalAt k)) (finalAt k .y0) (finalAt k .y1) (p .rows) (omega (arith, p .known-y1))
+          grown f w h v z ch (columns (finalAt k)) (finalAt k .y0) (finalAt k .y1) (p .rows)
+          (omega (arith, p .known-y1))
           (ap₂ (λ (p q : ℕ). isRunOf f w v p q) sa sb ∙ r) in
           record {
             lt = p .lt;
@@ -149,7 +150,8 @@ module _ (f : ℕ → ℕ → Bool) (w h v z : ℕ) (ch : Change f h v z) where
           the-same n =
               let p : Placed f w h v z x last (finalAt i) (curAt i) i = j .placed i l in
               let q : finalAt i .x0 ≡ a =
-              only (finalAt i .x0) (finalAt i .x1) (meets f w h v z ch x b xb last last (finalAt i) (curAt i) i p m n) m g .0 in
+              only (finalAt i .x0) (finalAt i .x1)
+              (meets f w h v z ch x b xb last last (finalAt i) (curAt i) i p m n) m g .0 in
               sym (p .latest (omega (arith, bound-out v z x (finalAt i .x0) m)))
               ∙ ap (λ (u : ℕ). getD last u 0) q
               ∙ sym ek
@@ -232,7 +234,8 @@ module _ (f : ℕ → ℕ → Bool) (w h v z : ℕ) (ch : Change f h v z) where
       new-placed =
           let st : Stop (λ u. isRunOf f w u a b) h v (until f w h (run a b) v) =
           stop-is-stop (λ u. isRunOf f w u a b) h v vh in
-          let g : z ≤ until f w h (run a b) v = grown f w h v z ch (run a b) v (until f w h (run a b) v) st (st .ge) r in
+          let g : z ≤ until f w h (run a b) v =
+          grown f w h v z ch (run a b) v (until f w h (run a b) v) st (st .ge) r in
           let i : bound v z b a ≡ z = bound-in v z b a ab in
           record {
             lt = ab;

@@ -12,11 +12,11 @@ ghost use Rattle.strips.specs.Rows.{Change};
 ghost use Rattle.strips.specs.Joining.{JoinsRow, Opened};
 ghost use Rattle.strips.specs.Told.{Told};
 ghost use Rattle.strips.specs.Built.{Listed};
-use foil_spec::MAX_STRIPS;
-use foil_spec::strip_at;
 use crate::rows::next_change;
 use crate::sweep::Swept;
 use crate::sweep::sweep;
+use foil_spec::MAX_STRIPS;
+use foil_spec::strip_at;
 
 // A column as an index.
 fn wide(x: u16) -> usize

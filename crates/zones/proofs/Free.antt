@@ -61,10 +61,6 @@ module _ (e : Entry) (x y : ℕ) where
   unfolding covers
   off-row b = and-no-r (inside (e .x0) (e .x1) x) _ b
 
-  pub of-covers : covers e x y ≡ true → (inside (e .x0) (e .x1) x ≡ true) × (inside (e .y0) (e .y1) y ≡ true)
-  unfolding covers
-  of-covers h = (and-l _ _ h, and-r (inside (e .x0) (e .x1) x) _ h)
-
 -- ---- all boxes of a table
 
 -- a test that agrees at the places from a on

@@ -65,9 +65,11 @@ same-length-2 c = search needs
 returns-2 : tie.Need-returns-2
 returns-2 c =
     let second = c .before .before in
-    let between = second .before .before .before in
+    let args = second .before .before in
+    let between = args .before in
     let first = between .before .before in
-    let known = first .before .before .before in
+    let told = first .before .before in
+    let known = told .before in
     let matched = known .before in
     let r = matched .before .before in
     let s = atStart (atZones r) in

@@ -15,39 +15,42 @@ Inv-loop labels₀ queue₀ line lo hi v q end₀ k₀ labels queue end k =
 abbrev μ-loop : tie.MeasureT-loop
 μ-loop labels₀ queue₀ line lo hi v q end₀ k₀ labels queue end k = hi - k
 
+-- back to the start, the loop's head and put_cell
+abbrev atStart : tie.After-put-cell-arg2 Inv-loop μ-loop → tie.Start Inv-loop μ-loop
+atStart c = c .before .before .before .before .before .before
+abbrev atLoop : tie.After-put-cell-arg2 Inv-loop μ-loop → tie.At-loop Inv-loop μ-loop
+atLoop c = c .before .before .before
+abbrev atPut : tie.After-slice-known4 Inv-loop μ-loop → tie.After-put-cell Inv-loop μ-loop
+atPut c = c .before .before .before .before
+
 loop-holds : tie.Need-loop-holds Inv-loop μ-loop
 loop-holds c = (omega arith, omega arith, pushed-none _ _ _ _ _ _)
 
 put-cell-requires : tie.Need-put-cell-requires Inv-loop μ-loop
 put-cell-requires c κs =
-    let at-loop = c .before .before .before in
-    let start = at-loop .before .before .before in
-    let pre = start .pre in
-    let k = at-loop .loop .k in
-    let inv = at-loop .loop .inv in
-    let same = inv .2 .run .high (start .args .line * stride + k) (omega arith) in
+    let pre = atStart c .pre in
+    let k = atLoop c .loop .k in
+    let inv = atLoop c .loop .inv in
+    let same = inv .2 .run .high (atStart c .args .line * stride + k) (omega arith) in
     let blank = same ∙ pre .5 .none k (inv .0) (omega arith) in
     (pre .0, omega arith, pre .3, pushed-room (pre .4) (inv .2), blank)
 
 add-k : tie.Need-add-k Inv-loop μ-loop
 add-k c = omega arith
-
 loop-less : tie.Need-loop-less Inv-loop μ-loop
 loop-less c = omega arith
 
 loop-again : tie.Need-loop-again Inv-loop μ-loop
 loop-again c =
-    let at-put = c .before .before .before .before in
-    let at-loop = at-put .before .before .before .before in
-    let pre = at-loop .before .before .before .pre in (
+    let pre = atStart (atPut c .before) .pre in (
       omega arith,
       omega arith,
-      pushed-more (pre .0) (omega arith) (omega arith) (pre .4) (at-loop .loop .inv .2) (at-put .put-cell .ensures),
+      pushed-more (pre .0) (omega arith) (omega arith) (pre .4) (atLoop (atPut c .before) .loop .inv .2)
+          (atPut c .put-cell .ensures),
     )
 
 same-length : tie.Need-same-length Inv-loop μ-loop
 same-length c = c .before .loop .inv .2 .run .size
-
 same-length-2 : tie.Need-same-length-2 Inv-loop μ-loop
 same-length-2 c = c .before .loop .inv .2 .size
 
@@ -56,15 +59,5 @@ returns c = pushed-done (omega arith) (c .before .loop .inv .2)
 
 pub push-blank-spec : {M : Type 1} → statement M
 push-blank-spec =
-    tie.close
-    (tie.spec
-    Inv-loop
-    μ-loop
-    loop-holds
-    put-cell-requires
-    add-k
-    loop-less
-    loop-again
-    same-length
-    same-length-2
-    returns)
+    tie.close (tie.spec Inv-loop μ-loop loop-holds put-cell-requires add-k loop-less loop-again same-length
+    same-length-2 returns)

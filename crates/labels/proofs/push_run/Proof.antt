@@ -13,34 +13,38 @@ Inv-loop labels₀ queue₀ line lo hi v q end₀ k₀ labels queue end k =
 abbrev μ-loop : tie.MeasureT-loop
 μ-loop labels₀ queue₀ line lo hi v q end₀ k₀ labels queue end k = hi - k
 
+-- back to the start, the loop's head and push_cell
+abbrev atStart : tie.After-push-cell-arg2 Inv-loop μ-loop → tie.Start Inv-loop μ-loop
+atStart c = c .before .before .before .before .before .before
+abbrev atLoop : tie.After-push-cell-arg2 Inv-loop μ-loop → tie.At-loop Inv-loop μ-loop
+atLoop c = c .before .before .before
+abbrev atPush : tie.After-slice-known4 Inv-loop μ-loop → tie.After-push-cell Inv-loop μ-loop
+atPush c = c .before .before .before .before
+
 loop-holds : tie.Need-loop-holds Inv-loop μ-loop
 loop-holds c = (omega arith, omega arith, pushed-none _ _ _ _ _ _)
 
 push-cell-requires : tie.Need-push-cell-requires Inv-loop μ-loop
 push-cell-requires c κs =
-    let at-loop = c .before .before .before in
-    let pre = at-loop .before .before .before .pre in
-    (pre .0, omega arith, pre .3, pushed-room (pre .4) (at-loop .loop .inv .2))
+    let pre = atStart c .pre in
+    (pre .0, omega arith, pre .3, pushed-room (pre .4) (atLoop c .loop .inv .2))
 
 add-k : tie.Need-add-k Inv-loop μ-loop
 add-k c = omega arith
-
 loop-less : tie.Need-loop-less Inv-loop μ-loop
 loop-less c = omega arith
 
 loop-again : tie.Need-loop-again Inv-loop μ-loop
 loop-again c =
-    let at-push = c .before .before .before .before in
-    let at-loop = at-push .before .before .before .before in
-    let pre = at-loop .before .before .before .pre in (
+    let pre = atStart (atPush c .before) .pre in (
       omega arith,
       omega arith,
-      pushed-more (pre .0) (omega arith) (omega arith) (pre .4) (at-loop .loop .inv .2) (at-push .push-cell .ensures),
+      pushed-more (pre .0) (omega arith) (omega arith) (pre .4) (atLoop (atPush c .before) .loop .inv .2)
+          (atPush c .push-cell .ensures),
     )
 
 same-length : tie.Need-same-length Inv-loop μ-loop
 same-length c = c .before .loop .inv .2 .run .size
-
 same-length-2 : tie.Need-same-length-2 Inv-loop μ-loop
 same-length-2 c = c .before .loop .inv .2 .size
 
@@ -49,15 +53,5 @@ returns c = pushed-done (omega arith) (c .before .loop .inv .2)
 
 pub push-run-spec : {M : Type 1} → statement M
 push-run-spec =
-    tie.close
-    (tie.spec
-    Inv-loop
-    μ-loop
-    loop-holds
-    push-cell-requires
-    add-k
-    loop-less
-    loop-again
-    same-length
-    same-length-2
-    returns)
+    tie.close (tie.spec Inv-loop μ-loop loop-holds push-cell-requires add-k loop-less loop-again same-length
+    same-length-2 returns)

@@ -1,5 +1,5 @@
 -- The queues are right before each round, and a round that goes on leaves fewer crossings without a label.
-use Prim.Native.Nat.{_+_, _-_}
+use Prim.Native.Nat.{_+_}
 use native.Mathlib.Omega.{arith}
 use mathlib.Core.Path.{_≡_, refl, _∙_}
 use mathlib.Core.Logic.{inl, inr}
@@ -26,48 +26,48 @@ abbrev μ-loop : tie.MeasureT-loop
     level upright il iu ql qu ahead behind v la lb ua ub =
     zeros level + zeros upright
 
+-- back to the start, to the round, to where neither label is found, and to what the two passes answered
+abbrev atStart : tie.After-shared-slice-known4 Inv-loop μ-loop → tie.Start Inv-loop μ-loop
+atStart c = c .before .before .before .before .before .before .before .before .before .before
+abbrev atLoop : tie.Else1 Inv-loop μ-loop → tie.At-loop Inv-loop μ-loop
+atLoop c = c .before .before
+abbrev notFound : tie.After-label-queue-arg6 Inv-loop μ-loop → tie.Else2 Inv-loop μ-loop
+notFound c = c .before .before .before .before .before .before .before .before
+abbrev inRound : tie.After-label-queue-arg6 Inv-loop μ-loop → tie.At-loop Inv-loop μ-loop
+inRound c = atLoop (notFound c .before .before)
+abbrev atFirst : tie.After-label-queue-arg12 Inv-loop μ-loop → tie.After-label-queue Inv-loop μ-loop
+atFirst c = c .before .before .before .before .before .before .before .before .before .before .before .before .before
+    .before .before .before
+abbrev atSecond : tie.After-behind4 Inv-loop μ-loop → tie.After-label-queue2 Inv-loop μ-loop
+atSecond c = c .before .before .before .before .before .before .before .before
+abbrev atRound : tie.After-behind4 Inv-loop μ-loop → tie.At-loop Inv-loop μ-loop
+atRound c = inRound (atFirst (atSecond c .before) .before)
+
 loop-holds : tie.Need-loop-holds Inv-loop μ-loop
-loop-holds c =
-    let pre = c .before .before .before .before .before .before .before .before .before .before .pre in
-    (refl, refl, refl, refl, refl, refl, refl, refl, going-start _ _ _ _ (pre .1))
+loop-holds c = (refl, refl, refl, refl, refl, refl, refl, refl, going-start _ _ _ _ (atStart c .pre .1))
 
 mul-if1 : tie.Need-mul-if1 Inv-loop μ-loop
-mul-if1 c =
-    let sized = c .before .before .before .before .before .before .before .before .before .before .before .pre .0 .0 in
-    omega (arith, sized .column-lines .few, sized .row-lines .few)
+mul-if1 c = omega (arith, atStart (c .before) .pre .0 .0)
 
 add-if1 : tie.Need-add-if1 Inv-loop μ-loop
-add-if1 c =
-    let sized = c .before .before .before .before .before .before .before .before .before .before .before .pre .0 .0 in
-    omega (arith, sized .column-lines .few, sized .row-lines .few)
+add-if1 c = omega (arith, atStart (c .before) .pre .0 .0)
 
 mul-if1-2 : tie.Need-mul-if1-2 Inv-loop μ-loop
-mul-if1-2 c =
-    let sized = c .before .before .before .before .before .before .before .before .before .before .before .pre .0 .0 in
-    omega (arith, sized .column-lines .few, sized .row-lines .few)
+mul-if1-2 c = omega (arith, atStart (c .before) .pre .0 .0)
 
 slice-read-if1 : tie.Need-slice-read-if1 Inv-loop μ-loop
-slice-read-if1 c =
-    let at-loop = c .before in
-    let sized = at-loop .before .before .before .before .before .before .before .before .before .before
-    .before .pre .0 .0 in
-    omega (arith, at-loop .loop .inv .8 .level-room .labels, sized .column-lines .few, sized .row-lines .few)
+slice-read-if1 c = omega (arith, c .before .loop .inv .8 .level-room, atStart (c .before .before) .pre .0 .0)
 
 same-length : tie.Need-same-length Inv-loop μ-loop
 same-length c = c .before .before .loop .inv .0
-
 same-length-2 : tie.Need-same-length-2 Inv-loop μ-loop
 same-length-2 c = c .before .before .loop .inv .1
-
 same-length-3 : tie.Need-same-length-3 Inv-loop μ-loop
 same-length-3 c = c .before .before .loop .inv .2
-
 same-length-4 : tie.Need-same-length-4 Inv-loop μ-loop
 same-length-4 c = c .before .before .loop .inv .3
-
 same-length-5 : tie.Need-same-length-5 Inv-loop μ-loop
 same-length-5 c = c .before .before .loop .inv .4
-
 same-length-6 : tie.Need-same-length-6 Inv-loop μ-loop
 same-length-6 c = c .before .before .loop .inv .5
 
@@ -78,66 +78,47 @@ returns c =
     found {v = at-loop .loop .v} (omega (arith, going .top)) (going .rounds) (inl (c .if1 .taken))
 
 mul-if2 : tie.Need-mul-if2 Inv-loop μ-loop
-mul-if2 c =
-    let sized = c .before .before .before .before .before .before .before .before .before .before .before
-    .before .before .pre .0 .0 in
-    omega (arith, sized .column-lines .few, sized .row-lines .few)
+mul-if2 c = omega (arith, atStart (atLoop c .before) .pre .0 .0)
 
 add-if2 : tie.Need-add-if2 Inv-loop μ-loop
-add-if2 c =
-    let sized = c .before .before .before .before .before .before .before .before .before .before .before
-    .before .before .pre .0 .0 in
-    omega (arith, sized .column-lines .few, sized .row-lines .few)
+add-if2 c = omega (arith, atStart (atLoop c .before) .pre .0 .0)
 
 mul-if2-2 : tie.Need-mul-if2-2 Inv-loop μ-loop
-mul-if2-2 c =
-    let sized = c .before .before .before .before .before .before .before .before .before .before .before
-    .before .before .pre .0 .0 in
-    omega (arith, sized .column-lines .few, sized .row-lines .few)
+mul-if2-2 c = omega (arith, atStart (atLoop c .before) .pre .0 .0)
 
 slice-read-if2 : tie.Need-slice-read-if2 Inv-loop μ-loop
 slice-read-if2 c =
-    let at-loop = c .before .before .before in
-    let sized = at-loop .before .before .before .before .before .before .before .before .before .before
-    .before .pre .0 .0 in
-    omega (arith, at-loop .loop .inv .8 .upright-room .labels, sized .column-lines .few, sized .row-lines .few)
+    let at-loop = atLoop (c .before) in
+    omega (arith, at-loop .loop .inv .8 .upright-room, atStart (at-loop .before) .pre .0 .0)
 
 same-length-7 : tie.Need-same-length-7 Inv-loop μ-loop
-same-length-7 c = c .before .before .before .before .loop .inv .0
-
+same-length-7 c = atLoop (c .before .before) .loop .inv .0
 same-length-8 : tie.Need-same-length-8 Inv-loop μ-loop
-same-length-8 c = c .before .before .before .before .loop .inv .1
-
+same-length-8 c = atLoop (c .before .before) .loop .inv .1
 same-length-9 : tie.Need-same-length-9 Inv-loop μ-loop
-same-length-9 c = c .before .before .before .before .loop .inv .2
-
+same-length-9 c = atLoop (c .before .before) .loop .inv .2
 same-length-10 : tie.Need-same-length-10 Inv-loop μ-loop
-same-length-10 c = c .before .before .before .before .loop .inv .3
-
+same-length-10 c = atLoop (c .before .before) .loop .inv .3
 same-length-11 : tie.Need-same-length-11 Inv-loop μ-loop
-same-length-11 c = c .before .before .before .before .loop .inv .4
-
+same-length-11 c = atLoop (c .before .before) .loop .inv .4
 same-length-12 : tie.Need-same-length-12 Inv-loop μ-loop
-same-length-12 c = c .before .before .before .before .loop .inv .5
+same-length-12 c = atLoop (c .before .before) .loop .inv .5
 
 returns-2 : tie.Need-returns-2 Inv-loop μ-loop
 returns-2 c =
-    let at-loop = c .before .before .before .before in
+    let at-loop = atLoop (c .before .before) in
     let going = at-loop .loop .inv .8 in
     found {v = at-loop .loop .v} (omega (arith, going .top)) (going .rounds) (inr (c .if2 .taken))
 
 slice-aggregate-label-queue : tie.Need-slice-aggregate-label-queue Inv-loop μ-loop
 slice-aggregate-label-queue c = search needs
-
 slice-aggregate-label-queue-2 : tie.Need-slice-aggregate-label-queue-2 Inv-loop μ-loop
 slice-aggregate-label-queue-2 c = search needs
 
 label-queue-requires : tie.Need-label-queue-requires Inv-loop μ-loop
 label-queue-requires c κs =
-    let at-loop = c .before .before .before .before .before .before .before .before .before .before .before .before in
-    let sized = at-loop .before .before .before .before .before .before .before .before .before .before
-    .before .pre .0 .0 in
-    let inv = at-loop .loop .inv in
+    let sized = atStart (inRound c .before) .pre .0 .0 in
+    let inv = inRound c .loop .inv in
     let going = inv .8 in (
       (
         sized .row-lines .few,
@@ -145,16 +126,21 @@ label-queue-requires c κs =
         going .pos,
         omega (arith, going .top),
         going .upright-order,
-        omega (arith, going .upright-room .left),
+        omega (arith, going .upright-room .left, going .upright-room .few),
       ),
       (
         (
-          going .upright-room .labels,
+          omega (arith, going .upright-room .labels),
           omega (arith, sized .upright-inks, inv .3),
           omega (arith, sized .level-inks, inv .2),
         ),
         (
-          (sized .level-edges, going .upright-room .places, omega (arith, inv .6), omega (arith, inv .7)),
+          (
+            sized .level-edges,
+            omega (arith, going .upright-room .places, going .upright-room .left),
+            omega (arith, inv .6),
+            omega (arith, inv .7),
+          ),
           ((going .level-room, going .upright-lean), (going .upright-queue, going .level-full)),
         ),
       ),
@@ -162,31 +148,25 @@ label-queue-requires c κs =
 
 slice-aggregate-label-queue-3 : tie.Need-slice-aggregate-label-queue-3 Inv-loop μ-loop
 slice-aggregate-label-queue-3 c = search needs
-
 slice-aggregate-label-queue-4 : tie.Need-slice-aggregate-label-queue-4 Inv-loop μ-loop
 slice-aggregate-label-queue-4 c = search needs
 
 label-queue-requires-2 : tie.Need-label-queue-requires-2 Inv-loop μ-loop
 label-queue-requires-2 c κs =
-    let at-first = c .before .before .before .before .before .before .before .before .before .before .before
-    .before .before .before .before .before in
-    let at-loop = at-first .before .before .before .before .before .before .before .before .before .before
-    .before .before .before in
-    let sized = at-loop .before .before .before .before .before .before .before .before .before .before
-    .before .pre .0 .0 in
-    let inv = at-loop .loop .inv in
+    let sized = atStart (inRound (atFirst c .before) .before) .pre .0 .0 in
+    let inv = inRound (atFirst c .before) .loop .inv in
     let going = inv .8 in
     let C = sized .column-lines in
     let R = sized .row-lines in
-    let first = at-first .label-queue .ensures in
-    let kept = at-first .label-queue .kept .1 .1 .1 in (
+    let first = atFirst c .label-queue .ensures in
+    let kept = atFirst c .label-queue .kept .1 .1 .1 in (
       (
         C .few,
         R,
         going .pos,
         omega (arith, going .top),
         going .level-order,
-        omega (arith, going .level-room .left),
+        omega (arith, going .level-room .left, going .level-room .few),
       ),
       (
         (
@@ -197,7 +177,7 @@ label-queue-requires-2 c κs =
         (
           (
             sized .upright-edges,
-            omega (arith, going .level-room .places, first .added .size),
+            omega (arith, going .level-room .places, going .level-room .left, first .added .size),
             omega (arith, inv .6, kept .0),
             omega (arith, inv .7, kept .1 .0),
           ),
@@ -208,129 +188,68 @@ label-queue-requires-2 c κs =
 
 add-if3 : tie.Need-add-if3 Inv-loop μ-loop
 add-if3 c =
-    let at-second = c .before .before .before .before .before .before .before .before in
-    let at-first = at-second .before .before .before .before .before .before .before .before .before .before
-    .before .before .before .before .before .before .before in
-    let at-loop = at-first .before .before .before .before .before .before .before .before .before .before
-    .before .before .before in
-    let going = at-loop .loop .inv .8 in
-    let level = passing-room (going .level-room) (at-first .label-queue .ensures) in
-    let upright = passing-room (going .upright-room) (at-second .label-queue2 .ensures) in
-    omega (arith, level .left, upright .left, going .level-room .left, going .upright-room .left)
+    let going = atRound c .loop .inv .8 in
+    let level = passing-room (going .level-room) (atFirst (atSecond c .before) .label-queue .ensures) in
+    let upright = passing-room (going .upright-room) (atSecond c .label-queue2 .ensures) in
+    omega (arith, level .left, upright .left, level .few, upright .few, going .level-room, going .upright-room)
 
 add-if3-2 : tie.Need-add-if3-2 Inv-loop μ-loop
 add-if3-2 c =
-    let at-second = c .before .before .before .before .before .before .before .before in
-    let at-first = at-second .before .before .before .before .before .before .before .before .before .before
-    .before .before .before .before .before .before .before in
-    let at-loop = at-first .before .before .before .before .before .before .before .before .before .before
-    .before .before .before in
-    let going = at-loop .loop .inv .8 in
-    let level = passing-room (going .level-room) (at-first .label-queue .ensures) in
-    let upright = passing-room (going .upright-room) (at-second .label-queue2 .ensures) in
-    omega (arith, level .left, upright .left, going .level-room .left, going .upright-room .left)
+    let going = atRound c .loop .inv .8 in
+    let level = passing-room (going .level-room) (atFirst (atSecond c .before) .label-queue .ensures) in
+    let upright = passing-room (going .upright-room) (atSecond c .label-queue2 .ensures) in
+    omega (arith, level .left, upright .left, level .few, upright .few, going .level-room, going .upright-room)
 
 same-length-13 : tie.Need-same-length-13 Inv-loop μ-loop
 same-length-13 c =
-    let at-second = c .before .before .before .before .before .before .before .before .before in
-    let at-first = at-second .before .before .before .before .before .before .before .before .before .before
-    .before .before .before .before .before .before .before in
-    let at-loop = at-first .before .before .before .before .before .before .before .before .before .before
-    .before .before .before in
-    at-first .label-queue .ensures .visited .size ∙ at-loop .loop .inv .0
+    atFirst (atSecond (c .before) .before) .label-queue .ensures .visited .size ∙ atRound (c .before) .loop .inv .0
 
 same-length-14 : tie.Need-same-length-14 Inv-loop μ-loop
-same-length-14 c =
-    let at-second = c .before .before .before .before .before .before .before .before .before in
-    let at-first = at-second .before .before .before .before .before .before .before .before .before .before
-    .before .before .before .before .before .before .before in
-    let at-loop = at-first .before .before .before .before .before .before .before .before .before .before
-    .before .before .before in
-    at-second .label-queue2 .ensures .visited .size ∙ at-loop .loop .inv .1
+same-length-14 c = atSecond (c .before) .label-queue2 .ensures .visited .size ∙ atRound (c .before) .loop .inv .1
 
 same-length-15 : tie.Need-same-length-15 Inv-loop μ-loop
 same-length-15 c =
-    let at-second = c .before .before .before .before .before .before .before .before .before in
-    let at-first = at-second .before .before .before .before .before .before .before .before .before .before
-    .before .before .before .before .before .before .before in
-    let at-loop = at-first .before .before .before .before .before .before .before .before .before .before
-    .before .before .before in
-    at-first .label-queue .ensures .inked .size ∙ at-loop .loop .inv .2
+    atFirst (atSecond (c .before) .before) .label-queue .ensures .inked .size ∙ atRound (c .before) .loop .inv .2
 
 same-length-16 : tie.Need-same-length-16 Inv-loop μ-loop
-same-length-16 c =
-    let at-second = c .before .before .before .before .before .before .before .before .before in
-    let at-first = at-second .before .before .before .before .before .before .before .before .before .before
-    .before .before .before .before .before .before .before in
-    let at-loop = at-first .before .before .before .before .before .before .before .before .before .before
-    .before .before .before in
-    at-second .label-queue2 .ensures .inked .size ∙ at-loop .loop .inv .3
+same-length-16 c = atSecond (c .before) .label-queue2 .ensures .inked .size ∙ atRound (c .before) .loop .inv .3
 
 same-length-17 : tie.Need-same-length-17 Inv-loop μ-loop
 same-length-17 c =
-    let at-second = c .before .before .before .before .before .before .before .before .before in
-    let at-first = at-second .before .before .before .before .before .before .before .before .before .before
-    .before .before .before .before .before .before .before in
-    let at-loop = at-first .before .before .before .before .before .before .before .before .before .before
-    .before .before .before in
-    at-first .label-queue .ensures .added .size ∙ at-loop .loop .inv .4
+    atFirst (atSecond (c .before) .before) .label-queue .ensures .added .size ∙ atRound (c .before) .loop .inv .4
 
 same-length-18 : tie.Need-same-length-18 Inv-loop μ-loop
-same-length-18 c =
-    let at-second = c .before .before .before .before .before .before .before .before .before in
-    let at-first = at-second .before .before .before .before .before .before .before .before .before .before
-    .before .before .before .before .before .before .before in
-    let at-loop = at-first .before .before .before .before .before .before .before .before .before .before
-    .before .before .before in
-    at-second .label-queue2 .ensures .added .size ∙ at-loop .loop .inv .5
+same-length-18 c = atSecond (c .before) .label-queue2 .ensures .added .size ∙ atRound (c .before) .loop .inv .5
 
 returns-3 : tie.Need-returns-3 Inv-loop μ-loop
 returns-3 c =
-    let at-second = c .before .before .before .before .before .before .before .before .before in
-    let at-first = at-second .before .before .before .before .before .before .before .before .before .before
-    .before .before .before .before .before .before .before in
-    let at-if2 = at-first .before .before .before .before .before .before .before .before .before in
+    let at-if2 = notFound (atFirst (atSecond (c .before) .before) .before) in
     let at-if1 = at-if2 .before .before in
-    let at-loop = at-if1 .before .before in
-    let sized = at-loop .before .before .before .before .before .before .before .before .before .before
-    .before .pre .0 .0 in
-    going-stuck (sized .column-lines) (sized .row-lines) (at-loop .loop .inv .8) (at-first .label-queue .ensures)
-    (at-second .label-queue2 .ensures) _ _ (c .if3 .taken) (at-if1 .if1 .left) (at-if2 .if2 .left)
+    let sized = atStart (atLoop at-if1 .before) .pre .0 .0 in
+    going-stuck (sized .column-lines) (sized .row-lines) (atLoop at-if1 .loop .inv .8)
+    (atFirst (atSecond (c .before) .before) .label-queue .ensures)
+    (atSecond (c .before) .label-queue2 .ensures) _ _ (c .if3 .taken) (at-if1 .if1 .left) (at-if2 .if2 .left)
 
 add-v : tie.Need-add-v Inv-loop μ-loop
-add-v c =
-    let at-second = c .before .before .before .before .before .before .before .before .before in
-    let at-first = at-second .before .before .before .before .before .before .before .before .before .before
-    .before .before .before .before .before .before .before in
-    let at-loop = at-first .before .before .before .before .before .before .before .before .before .before
-    .before .before .before in
-    omega (arith, at-loop .loop .inv .8 .top)
+add-v c = omega (arith, atRound (c .before) .loop .inv .8 .top)
 
 loop-less : tie.Need-loop-less Inv-loop μ-loop
 loop-less c =
-    let at-second = c .before .before .before .before .before .before .before .before .before in
-    let at-first = at-second .before .before .before .before .before .before .before .before .before .before
-    .before .before .before .before .before .before .before in
-    let at-loop = at-first .before .before .before .before .before .before .before .before .before .before
-    .before .before .before in
-    let first = at-first .label-queue .ensures in
-    let second = at-second .label-queue2 .ensures in
-    omega (arith, c .if3 .left, first .visited .count, first .added .grew, second .visited .count, second .added .grew)
+    let first = atFirst (atSecond (c .before) .before) .label-queue .ensures in
+    let second = atSecond (c .before) .label-queue2 .ensures in
+    omega (arith, c .if3 .left, first .visited .count, first .added .grew, second .visited .count,
+    second .added .grew)
 
 loop-again : tie.Need-loop-again Inv-loop μ-loop
 loop-again c =
-    let at-second = c .before .before .before .before .before .before .before .before .before in
-    let at-first = at-second .before .before .before .before .before .before .before .before .before .before
-    .before .before .before .before .before .before .before in
-    let at-loop = at-first .before .before .before .before .before .before .before .before .before .before
-    .before .before .before in
+    let at-second = atSecond (c .before) in
+    let at-first = atFirst (at-second .before) in
     let first = at-first .label-queue .ensures in
     let second = at-second .label-queue2 .ensures in
     let kept = at-first .label-queue .kept .1 .1 .1 in
     let kept2 = at-second .label-queue2 .kept .1 .1 .1 in
-    let sized = at-loop .before .before .before .before .before .before .before .before .before .before
-    .before .pre .0 .0 in
-    let inv = at-loop .loop .inv in (
+    let sized = atStart (atRound (c .before) .before) .pre .0 .0 in
+    let inv = atRound (c .before) .loop .inv in (
       first .visited .size ∙ inv .0,
       second .visited .size ∙ inv .1,
       first .inked .size ∙ inv .2,
@@ -344,48 +263,9 @@ loop-again c =
 
 pub rounds-spec : {M : Type 1} → statement M
 rounds-spec =
-    tie.close
-    (tie.spec
-    Inv-loop
-    μ-loop
-    loop-holds
-    mul-if1
-    add-if1
-    mul-if1-2
-    slice-read-if1
-    same-length
-    same-length-2
-    same-length-3
-    same-length-4
-    same-length-5
-    same-length-6
-    returns
-    mul-if2
-    add-if2
-    mul-if2-2
-    slice-read-if2
-    same-length-7
-    same-length-8
-    same-length-9
-    same-length-10
-    same-length-11
-    same-length-12
-    returns-2
-    slice-aggregate-label-queue
-    slice-aggregate-label-queue-2
-    label-queue-requires
-    slice-aggregate-label-queue-3
-    slice-aggregate-label-queue-4
-    label-queue-requires-2
-    add-if3
-    add-if3-2
-    same-length-13
-    same-length-14
-    same-length-15
-    same-length-16
-    same-length-17
-    same-length-18
-    returns-3
-    add-v
-    loop-less
-    loop-again)
+    tie.close (tie.spec Inv-loop μ-loop loop-holds mul-if1 add-if1 mul-if1-2 slice-read-if1 same-length same-length-2
+    same-length-3 same-length-4 same-length-5 same-length-6 returns mul-if2 add-if2 mul-if2-2 slice-read-if2
+    same-length-7 same-length-8 same-length-9 same-length-10 same-length-11 same-length-12 returns-2
+    slice-aggregate-label-queue slice-aggregate-label-queue-2 label-queue-requires slice-aggregate-label-queue-3
+    slice-aggregate-label-queue-4 label-queue-requires-2 add-if3 add-if3-2 same-length-13 same-length-14
+    same-length-15 same-length-16 same-length-17 same-length-18 returns-3 add-v loop-less loop-again)

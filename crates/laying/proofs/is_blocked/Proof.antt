@@ -1,13 +1,15 @@
 use mathlib.Core.Path.{sym, _∙_}
 use Rattle.foil_spec.specs.Foil.{point}
-use Rattle.foil.proofs.Looking.{strips-long, nowhere-blocked, somewhere-free}
+use Rattle.foil.proofs.Looking.{strips-long, rising, nowhere-blocked, somewhere-free}
 use borrow.Author.Needs.{needs}
 use Rattle.laying.proofs.is_blocked.Statement.{statement}
 use Rattle.laying.proofs.is_blocked.Tie as tie
 
 locate-requires : tie.Need-locate-requires
 locate-requires c κs =
-    strips-long _ _ _ (point (c .before .before .args .x) (c .before .before .args .y)) (c .before .before .pre .0)
+    let s = c .before .before in
+    let p = point (s .args .x) (s .args .y) in
+    (strips-long _ _ _ p (s .pre .0), rising _ _ _ p (s .pre .0))
 
 enum-told : tie.Need-enum-told
 enum-told c = search needs

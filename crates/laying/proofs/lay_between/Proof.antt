@@ -103,11 +103,11 @@ append-legs-requires c κs = (
       .ensures) (c .before .before .before .before .before .before .if3 .left),
 )
 
-slice-aggregate-book : tie.Need-slice-aggregate-book
-slice-aggregate-book c = search needs
+slice-aggregate-take-over : tie.Need-slice-aggregate-take-over
+slice-aggregate-take-over c = search needs
 
-book-requires : tie.Need-book-requires
-book-requires c κs = (
+take-over-requires : tie.Need-take-over-requires
+take-over-requires c κs = (
   laid-table _ _ _ _ _ _ _ (c .before .before .before .before .before .before .before .before .before .before
       .before .before .before .before .before .before .before .before .before .before .before .before .pre) _ _ _ (c
       .before .before .before .before .before .before .before .before .before .before .before .before .before .before
@@ -163,7 +163,7 @@ returns-4 c =
     _ (c .before .before .before .before .before .before .before .before .before .before .before .before .before
     .before .before .before .copy-front .ensures) (c .before .before .before .before .before .before .before .before
     .before .before .before .before .append-legs .ensures) _ _ _ (rw (c .before .enum-told .given .1) at (c .before
-    .before .before .before .before .before .before .book .ensures)) (c .refuse4 .ensures)
+    .before .before .before .before .before .before .take-over .ensures)) (c .refuse4 .ensures)
 
 slice-aggregate-copy-front-2 : tie.Need-slice-aggregate-copy-front-2
 slice-aggregate-copy-front-2 c = search needs
@@ -206,7 +206,7 @@ returns-5 c =
     .before .before .before .copy-front .ensures) (c .before .before .before .before .before .before .before .before
     .before .before .before .before .before .before .before .before .before .before .append-legs .ensures) _ _ _ _ _
     (c .bend-count .ensures) (rw (c .before .before .before .before .before .before .before .booked .given .1) at (c
-    .before .before .before .before .before .before .before .before .before .before .before .before .before .book
+    .before .before .before .before .before .before .before .before .before .before .before .before .before .take-over
     .ensures)) (c .before .before .before .copy-front2 .ensures)
 
 pub lay-between-spec : {M : Type 1} → statement M
@@ -231,8 +231,8 @@ lay-between-spec =
     slice-aggregate-append-legs
     slice-aggregate-append-legs-2
     append-legs-requires
-    slice-aggregate-book
-    book-requires
+    slice-aggregate-take-over
+    take-over-requires
     enum-known-booked
     enum-told
     refuse-requires-4

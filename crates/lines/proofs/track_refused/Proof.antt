@@ -7,10 +7,8 @@ use Rattle.lines.proofs.track_refused.Tie as tie
 
 slice-aggregate-net-line : tie.Need-slice-aggregate-net-line
 slice-aggregate-net-line c = search needs
-
 net-line-requires : tie.Need-net-line-requires
 net-line-requires c κs = omega arith
-
 same-length : tie.Need-same-length
 same-length c = omega arith
 
@@ -19,5 +17,4 @@ unfolding trackRefused
 returns c = (c .before .before .net-line .ensures .0, omega arith)
 
 pub track-refused-spec : {M : Type 1} → statement M
-track-refused-spec =
-    tie.close (tie.spec slice-aggregate-net-line net-line-requires same-length returns)
+track-refused-spec = tie.close (tie.spec slice-aggregate-net-line net-line-requires same-length returns)

@@ -13,18 +13,21 @@ Inv-loop table n net track₀ k₀ track k = (k ≤ n) × Measured table k net t
 abbrev μ-loop : tie.MeasureT-loop
 μ-loop table n net track₀ k₀ track k = n - k
 
+-- back to the start
+abbrev atStart : tie.In-loop Inv-loop μ-loop → tie.Start Inv-loop μ-loop
+atStart c = c .before .before .before
+
 loop-holds : tie.Need-loop-holds Inv-loop μ-loop
 loop-holds c = (omega arith, measured-none _ _ _ refl refl)
 
 with-entry-requires : tie.Need-with-entry-requires Inv-loop μ-loop
 with-entry-requires c κs = (
   (omega arith, omega arith),
-  (c .before .before .before .pre .box (c .before .loop .k) (omega arith), c .before .loop .inv .1),
+  (atStart c .pre .box (c .before .loop .k) (omega arith), c .before .loop .inv .1),
 )
 
 add-k : tie.Need-add-k Inv-loop μ-loop
 add-k c = omega arith
-
 loop-less : tie.Need-loop-less Inv-loop μ-loop
 loop-less c = omega arith
 
@@ -35,6 +38,4 @@ returns : tie.Need-returns Inv-loop μ-loop
 returns c = measured-done _ _ _ _ _ (omega arith) (c .before .loop .inv .0) (c .before .loop .inv .1)
 
 pub measure-spec : {M : Type 1} → statement M
-measure-spec =
-    tie.close
-    (tie.spec Inv-loop μ-loop loop-holds with-entry-requires add-k loop-less loop-again returns)
+measure-spec = tie.close (tie.spec Inv-loop μ-loop loop-holds with-entry-requires add-k loop-less loop-again returns)

@@ -16,6 +16,10 @@ Inv-loop table n d w h x y i₀ i = (i ≤ n) × ((k : ℕ) → k < i → blocks
 abbrev μ-loop : tie.MeasureT-loop
 μ-loop table n d w h x y i₀ i = n - i
 
+-- back to the loop's head
+abbrev atLoop : tie.Else3 Inv-loop μ-loop → tie.At-loop Inv-loop μ-loop
+atLoop c = c .before .before .before
+
 returns : tie.Need-returns Inv-loop μ-loop
 returns c = (λ e. absurd (true≢false (sym e)), λ e u. omega (arith, u .x-on))
 
@@ -36,14 +40,13 @@ returns-3 c = (
 
 add-i : tie.Need-add-i Inv-loop μ-loop
 add-i c = search needs
-
 loop-less : tie.Need-loop-less Inv-loop μ-loop
 loop-less c = search needs
 
 loop-again : tie.Need-loop-again Inv-loop μ-loop
 loop-again c = (
   omega arith,
-  below-more _ _ (c .before .before .before .loop .inv .1)
+  below-more _ _ (atLoop c .loop .inv .1)
       (sym (c .before .blocks-at .ensures) ∙ c .if3 .left),
 )
 
@@ -59,16 +62,5 @@ returns-4 c = (
 
 pub is-free-spec : {M : Type 1} → statement M
 is-free-spec =
-    tie.close
-    (tie.spec
-    Inv-loop
-    μ-loop
-    returns
-    returns-2
-    loop-holds
-    blocks-at-requires
-    returns-3
-    add-i
-    loop-less
-    loop-again
-    returns-4)
+    tie.close (tie.spec Inv-loop μ-loop returns returns-2 loop-holds blocks-at-requires returns-3 add-i loop-less
+    loop-again returns-4)

@@ -1,48 +1,63 @@
--- Columns and rows, and then their edges.
+-- Columns and rows, and then their links.
 use native.Mathlib.Omega.{arith}
 use borrow.Author.Needs.{needs}
-use Rattle.search.proofs.Grid.{posed-on}
+use Rattle.search.proofs.Grid.{axis-few, posed-on}
 use Rattle.search.proofs.build.Statement.{statement}
 use Rattle.search.proofs.build.Tie as tie
 
+-- back to the start, to the columns, and to the rows
+abbrev atStart : tie.After-axis-arg2 → tie.Start
+atStart c = c .before .before .before .before .before .before .before .before
+
+abbrev atColumns : tie.After-axis-arg4 → tie.After-axis
+atColumns c = c .before .before .before .before .before .before
+
+abbrev atRows : tie.After-links-arg3 → tie.After-axis2
+atRows c = c .before .before .before .before .before .before .before
+
+abbrev afterRows : tie.After-links-arg6 → tie.After-rows
+afterRows c = c .before .before .before .before .before .before .before .before .before .before .before .before
+
 axis-requires : tie.Need-axis-requires
 axis-requires c κs =
-    let start = c .before .before .before .before .before .before .before .before in
-    let on = posed-on (start .pre .0) in (
-      (omega arith, start .pre .0 .few, start .pre .0 .clearance, omega arith, omega arith),
-      (start .pre .0 .wide, omega arith, omega arith),
+    let boxes = atStart c .pre .0 .boxes in
+    let on = posed-on (atStart c .pre .0) in (
+      (boxes .len, boxes .few, on .0, on .2),
+      (boxes .width, atStart c .pre .1 .marks, atStart c .pre .1 .column-lines),
     )
 
 axis-requires-2 : tie.Need-axis-requires-2
 axis-requires-2 c κs =
-    let at-axis = c .before .before .before .before .before .before in
-    let start = at-axis .before .before .before .before .before .before .before .before .before in
+    let start = atStart (atColumns c .before) in
+    let boxes = start .pre .0 .boxes in
     let on = posed-on (start .pre .0) in (
-      (omega arith, start .pre .0 .few, start .pre .0 .clearance, omega arith, omega arith),
-      (start .pre .0 .high, omega (arith, at-axis .axis .kept .1 .0), omega arith),
+      (boxes .len, boxes .few, on .1, on .3),
+      (boxes .height, omega (arith, atColumns c .axis .kept .1 .0), start .pre .1 .row-lines),
     )
 
-edges-requires : tie.Need-edges-requires
-edges-requires c κs =
-    let at-rows = c .before .before .before .before .before .before .before in
-    let at-columns = at-rows .before .before .before .before .before .before .before in
-    let start = at-columns .before .before .before .before .before .before .before .before .before in
-    let cols = at-columns .axis .ensures .fits in
-    let rows = at-rows .axis2 .ensures .fits in (
-      (omega arith, start .pre .0 .clearance, start .pre .0 .boxes),
-      record { along = rows; across = cols; room = omega arith },
+links-requires : tie.Need-links-requires
+links-requires c κs =
+    let columns = atColumns (atRows c .before) in
+    let pre = atStart (columns .before) .pre in (
+      (_, _, pre .0 .boxes),
+      record {
+        along = atRows c .axis2 .ensures .fits;
+        across = columns .axis .ensures .fits;
+        room = omega (arith, pre .1 .level-links, axis-few (atRows c .axis2 .ensures));
+      },
     )
 
-edges-requires-2 : tie.Need-edges-requires-2
-edges-requires-2 c κs =
-    let at-edges = c .before .before .before .before .before in
-    let at-rows = at-edges .before .before .before .before .before .before .before .before in
-    let at-columns = at-rows .before .before .before .before .before .before .before in
-    let start = at-columns .before .before .before .before .before .before .before .before .before in
-    let cols = at-columns .axis .ensures .fits in
-    let rows = at-rows .axis2 .ensures .fits in (
-      (omega arith, start .pre .0 .clearance, start .pre .0 .boxes),
-      record { along = cols; across = rows; room = omega arith },
+links-requires-2 : tie.Need-links-requires-2
+links-requires-2 c κs =
+    let rows = afterRows c .before in
+    let columns = atColumns (rows .before) in
+    let pre = atStart (columns .before) .pre in (
+      (_, _, pre .0 .boxes),
+      record {
+        along = columns .axis .ensures .fits;
+        across = rows .axis2 .ensures .fits;
+        room = omega (arith, pre .1 .upright-links, axis-few (columns .axis .ensures));
+      },
     )
 
 same-length : tie.Need-same-length
@@ -65,15 +80,5 @@ returns c = search needs
 
 pub build-spec : {M : Type 1} → statement M
 build-spec =
-    tie.close
-    (tie.spec
-    axis-requires
-    axis-requires-2
-    edges-requires
-    edges-requires-2
-    same-length
-    same-length-2
-    same-length-3
-    same-length-4
-    same-length-5
-    returns)
+    tie.close (tie.spec axis-requires axis-requires-2 links-requires links-requires-2 same-length same-length-2
+    same-length-3 same-length-4 same-length-5 returns)

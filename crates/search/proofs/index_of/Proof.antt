@@ -13,6 +13,10 @@ Inv-loop lines n x k₀ k = (k ≤ n) × ((i : ℕ) → i < k → getD lines i 0
 abbrev μ-loop : tie.MeasureT-loop
 μ-loop lines n x k₀ k = n - k
 
+-- back to the loop's turn
+abbrev atLoop : tie.Else1 Inv-loop μ-loop → tie.At-loop Inv-loop μ-loop
+atLoop c = c .before .before .before
+
 loop-holds : tie.Need-loop-holds Inv-loop μ-loop
 loop-holds c = (omega arith, λ i l. absurd (omega arith))
 
@@ -32,7 +36,7 @@ loop-less : tie.Need-loop-less Inv-loop μ-loop
 loop-less c = omega arith
 
 loop-again : tie.Need-loop-again Inv-loop μ-loop
-loop-again c = (omega arith, below-more _ _ (c .before .before .before .loop .inv .1) (c .if1 .left))
+loop-again c = (omega arith, below-more _ _ (atLoop c .loop .inv .1) (c .if1 .left))
 
 returns-2 : tie.Need-returns-2 Inv-loop μ-loop
 returns-2 c =
@@ -41,15 +45,5 @@ returns-2 c =
 
 pub index-of-spec : {M : Type 1} → statement M
 index-of-spec =
-    tie.close
-    (tie.spec
-    Inv-loop
-    μ-loop
-    loop-holds
-    mul-if1
-    shared-slice-read-if1
-    returns
-    add-k
-    loop-less
-    loop-again
+    tie.close (tie.spec Inv-loop μ-loop loop-holds mul-if1 shared-slice-read-if1 returns add-k loop-less loop-again
     returns-2)

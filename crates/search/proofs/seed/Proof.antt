@@ -1,14 +1,10 @@
 -- One label, with its ink, and one crossing in the queue.
 use native.Mathlib.Omega.{arith}
-use mathlib.Core.Path.{sym, _∙_}
 use lib.ListN.{length-set}
 use borrow.Author.Needs.{needs}
 use Rattle.search.proofs.Seeds.{seeded}
 use Rattle.search.proofs.seed.Statement.{statement}
 use Rattle.search.proofs.seed.Tie as tie
-
-clear-requires : tie.Need-clear-requires
-clear-requires c κs = search needs
 
 mul-labels : tie.Need-mul-labels
 mul-labels c = search needs
@@ -44,7 +40,7 @@ cast-queue-2 : tie.Need-cast-queue-2
 cast-queue-2 c = search needs
 
 slice-write-queue-2 : tie.Need-slice-write-queue-2
-slice-write-queue-2 c = simp length-set (omega (arith, c .before .before .before .before .before .before .before .pre))
+slice-write-queue-2 c = simp length-set (omega (arith, c .pre))
 
 same-length : tie.Need-same-length
 same-length c = search needs
@@ -57,31 +53,11 @@ same-length-3 c = search needs
 
 returns : tie.Need-returns
 returns c =
-    let at-clear = c .before .before in
-    let start = at-clear .before .before .before .before .before in
-    let args = start .args in
-    let pre = start .pre in
-    seeded _ (at-clear .clear .last .0) (args .inks .now) (args .queue .now) _ _ (pre .0) (pre .1)
-    (pre .2 ∙ sym (at-clear .clear .kept .0)) (pre .3) (pre .4) (at-clear .clear .ensures)
+    seeded (c .args .labels .now) (c .args .inks .now) (c .args .queue .now) _ _ (c .pre .1) (c .pre .2) (c .pre .3)
+    (c .pre .4) (c .pre .5)
 
 pub seed-spec : {M : Type 1} → statement M
 seed-spec =
-    tie.close
-    (tie.spec
-    clear-requires
-    mul-labels
-    add-labels
-    mul-labels-2
-    slice-write-labels
-    mul-inks
-    add-inks
-    mul-inks-2
-    slice-write-inks
-    cast-queue
-    slice-write-queue
-    cast-queue-2
-    slice-write-queue-2
-    same-length
-    same-length-2
-    same-length-3
-    returns)
+    tie.close (tie.spec mul-labels add-labels mul-labels-2 slice-write-labels mul-inks add-inks mul-inks-2
+    slice-write-inks cast-queue slice-write-queue cast-queue-2 slice-write-queue-2 same-length same-length-2
+    same-length-3 returns)

@@ -8,13 +8,22 @@ use Rattle.search.proofs.Choice.{no-start, level-start, upright-start}
 use Rattle.search.proofs.start_at.Statement.{statement}
 use Rattle.search.proofs.start_at.Tie as tie
 
+-- back to the start, to where the crossing has a label, and to the choice
+abbrev atStart : tie.Else1 → tie.Start
+atStart c = c .before .before .before .before .before .before .before
+
+abbrev isFound : tie.After-shared-slice-known8 → tie.Else1
+isFound c = c .before .before .before
+
+abbrev atChoice : tie.After-shared-slice-known7 → tie.After-starts-upright
+atChoice c = c .before .before
+
 returns : tie.Need-returns
 returns c = no-start (not-t _ (c .if1 .taken))
 
 starts-upright-requires : tie.Need-starts-upright-requires
 starts-upright-requires c κs =
-    let start = c .before .before .before .before .before .before .before in
-    (start .pre .0, (start .pre .1 .0, start .pre .1 .1 (not-ff _ (c .if1 .left))))
+    (atStart c .pre .0, (atStart c .pre .1 .0, atStart c .pre .1 .1 (not-ff _ (c .if1 .left))))
 
 mul-t14 : tie.Need-mul-t14
 mul-t14 c = search needs
@@ -30,7 +39,7 @@ shared-slice-read-t18 c = search needs
 
 cast-t19 : tie.Need-cast-t19
 cast-t19 c =
-    let start = c .before .before .before .before .before .before .before .before .before .before in
+    let start = atStart (atChoice c .before) in
     omega (arith, c .shared-slice-known7 .given (start .args .i * stride + start .args .j))
 
 returns-2 : tie.Need-returns-2
@@ -53,7 +62,7 @@ shared-slice-read-t24 c = search needs
 
 cast-t25 : tie.Need-cast-t25
 cast-t25 c =
-    let start = c .before .before .before .before .before .before .before .before .before .before in
+    let start = atStart (isFound c) in
     omega (arith, c .shared-slice-known8 .given (start .args .j * stride + start .args .i))
 
 returns-3 : tie.Need-returns-3
@@ -64,19 +73,5 @@ returns-3 c =
 
 pub start-at-spec : {M : Type 1} → statement M
 start-at-spec =
-    tie.close
-    (tie.spec
-    returns
-    starts-upright-requires
-    mul-t14
-    add-t15
-    mul-t16
-    shared-slice-read-t18
-    cast-t19
-    returns-2
-    mul-t20
-    add-t21
-    mul-t22
-    shared-slice-read-t24
-    cast-t25
-    returns-3)
+    tie.close (tie.spec returns starts-upright-requires mul-t14 add-t15 mul-t16 shared-slice-read-t18 cast-t19
+    returns-2 mul-t20 add-t21 mul-t22 shared-slice-read-t24 cast-t25 returns-3)

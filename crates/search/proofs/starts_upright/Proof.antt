@@ -8,6 +8,19 @@ use Rattle.search.proofs.Choice.{choose-tie-upright, choose-tie-level}
 use Rattle.search.proofs.starts_upright.Statement.{statement}
 use Rattle.search.proofs.starts_upright.Tie as tie
 
+-- back to the start, and to where the level way has a label, both ways have one, and both need as many segments
+abbrev atStart : tie.After-shared-slice-known10 → tie.Start
+atStart c = c .before .before .before .before .before .before .before .before .before .before
+
+abbrev levelHas : tie.Else3 → tie.Else1
+levelHas c = c .before .before
+
+abbrev bothHave : tie.Else7 → tie.Else2
+bothHave c = c .before .before .before .before .before
+
+abbrev asMany : tie.Else6 → tie.Else4
+asMany c = c .before .before
+
 mul-a : tie.Need-mul-a
 mul-a c = search needs
 
@@ -57,8 +70,7 @@ shared-slice-read-t : tie.Need-shared-slice-read-t
 shared-slice-read-t c = search needs
 
 returns : tie.Need-returns
-returns c = choose-upright (c .before .before .before .before .before .before .before .before .before .before
-    .before .pre .1 .1 .some) (c .if1 .taken)
+returns c = choose-upright (atStart (c .before) .pre .1 .1 .some) (c .if1 .taken)
 
 returns-2 : tie.Need-returns-2
 returns-2 c = level-only (c .before .if1 .left) (inl (c .if2 .taken))
@@ -67,23 +79,22 @@ returns-3 : tie.Need-returns-3
 returns-3 c = upright-only (c .before .if2 .left) (inr (c .if3 .taken))
 
 returns-4 : tie.Need-returns-4
-returns-4 c = level-only (c .before .before .before .if1 .left) (inr (c .if4 .taken))
+returns-4 c = level-only (levelHas (c .before) .if1 .left) (inr (c .if4 .taken))
 
 returns-5 : tie.Need-returns-5
 returns-5 c =
-    let at-if4 = c .before in
-    let at-if3 = at-if4 .before in
-    choose-less-upright (at-if3 .before .before .if1 .left) (at-if3 .if3 .left) (at-if4 .if4 .left) (c .if5 .taken)
+    let at-if3 = c .before .before in
+    choose-less-upright (levelHas at-if3 .if1 .left) (at-if3 .if3 .left) (c .before .if4 .left) (c .if5 .taken)
 
 returns-6 : tie.Need-returns-6
 returns-6 c =
     let at-if4 = c .before .before in
-    let at-if3 = at-if4 .before in
-    choose-less-level (at-if3 .before .before .if1 .left) (at-if3 .if3 .left) (at-if4 .if4 .left) (c .if6 .taken)
+    choose-less-level (levelHas (at-if4 .before) .if1 .left) (at-if4 .before .if3 .left) (at-if4 .if4 .left)
+    (c .if6 .taken)
 
 returns-7 : tie.Need-returns-7
 returns-7 c =
-    let at-if4 = c .before .before .before in
+    let at-if4 = asMany (c .before) in
     here (c .if7 .taken) (omega (arith, c .if7 .taken, at-if4 .if4 .left, at-if4 .before .if3 .left))
 
 sub-next-stop : tie.Need-sub-next-stop
@@ -91,60 +102,32 @@ sub-next-stop c = omega arith
 
 next-stop-requires : tie.Need-next-stop-requires
 next-stop-requires c κs =
-    let at-if1 = c .before .before .before .before .before .before in
-    let pre = at-if1 .before .before .before .before .before .before .before .before .before .before .before .pre in
-    let choosing = pre .1 .1 in
-    let one = at-if1 .if1 .left in (
+    let pre = atStart (bothHave c .before .before) .pre in
+    let choosing = pre .1 .1 in (
       (pre .0 .1, pre .0 .0, pre .0 .2, omega (arith, choosing .top), pre .1 .0 .3),
-      (pre .0 .3, pre .1 .0 .1, choosing .low _ (omega (arith, one, c .if7 .left))),
+      (pre .0 .3, pre .1 .0 .1, choosing .low _ (omega (arith, bothHave c .before .if1 .left, c .if7 .left))),
     )
 
 returns-8 : tie.Need-returns-8
 returns-8 c =
     let at-if7 = c .before .before in
     let at-if6 = at-if7 .before in
-    let at-if4 = at-if6 .before .before in
+    let at-if4 = asMany at-if6 in
     let at-if3 = at-if4 .before in
-    choose-tie-upright (at-if3 .before .before .if1 .left) (at-if3 .if3 .left) (at-if4 .if4 .left) (at-if7 .if7 .left)
+    choose-tie-upright (levelHas at-if3 .if1 .left) (at-if3 .if3 .left) (at-if4 .if4 .left) (at-if7 .if7 .left)
     (at-if6 .before .if5 .left) (at-if6 .if6 .left) (c .before .next-stop .ensures) (c .if8 .taken)
 
 returns-9 : tie.Need-returns-9
 returns-9 c =
     let at-if7 = c .before .before in
     let at-if6 = at-if7 .before in
-    let at-if4 = at-if6 .before .before in
+    let at-if4 = asMany at-if6 in
     let at-if3 = at-if4 .before in
-    choose-tie-level (at-if3 .before .before .if1 .left) (at-if3 .if3 .left) (at-if4 .if4 .left) (at-if7 .if7 .left)
+    choose-tie-level (levelHas at-if3 .if1 .left) (at-if3 .if3 .left) (at-if4 .if4 .left) (at-if7 .if7 .left)
     (at-if6 .before .if5 .left) (at-if6 .if6 .left) (c .before .next-stop .ensures) (c .if8 .left)
 
 pub starts-upright-spec : {M : Type 1} → statement M
 starts-upright-spec =
-    tie.close
-    (tie.spec
-    mul-a
-    add-a
-    mul-a-2
-    shared-slice-read-a
-    mul-b
-    add-b
-    mul-b-2
-    shared-slice-read-b
-    mul-s
-    add-s
-    mul-s-2
-    shared-slice-read-s
-    mul-t
-    add-t
-    mul-t-2
-    shared-slice-read-t
-    returns
-    returns-2
-    returns-3
-    returns-4
-    returns-5
-    returns-6
-    returns-7
-    sub-next-stop
-    next-stop-requires
-    returns-8
-    returns-9)
+    tie.close (tie.spec mul-a add-a mul-a-2 shared-slice-read-a mul-b add-b mul-b-2 shared-slice-read-b mul-s add-s
+    mul-s-2 shared-slice-read-s mul-t add-t mul-t-2 shared-slice-read-t returns returns-2 returns-3 returns-4
+    returns-5 returns-6 returns-7 sub-next-stop next-stop-requires returns-8 returns-9)

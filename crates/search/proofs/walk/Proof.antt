@@ -6,6 +6,22 @@ use Rattle.search.proofs.Written.{level-label, upright-label, level-wri
 use Rattle.search.proofs.walk.Statement.{statement}
 use Rattle.search.proofs.walk.Tie as tie
 
+-- back to the start, to the first corner, and to where the walk goes upright or level
+abbrev atStart : tie.After-put-corner → tie.Start
+atStart c = c .before .before .before .before .before .before .before .before .before .before .before .before .before
+
+abbrev atFirst : tie.Then1 → tie.After-put-corner
+atFirst c = c .before .before .before
+
+abbrev firstWritten : tie.Else1 → tie.After-out
+firstWritten c = c .before .before
+
+abbrev goesUpright : tie.After-slice-known3 → tie.Then1
+goesUpright c = c .before .before .before .before .before
+
+abbrev goesLevel : tie.After-slice-known4 → tie.Else1
+goesLevel c = c .before .before .before .before .before
+
 mul-put-corner : tie.Need-mul-put-corner
 mul-put-corner c = search needs
 
@@ -35,19 +51,16 @@ shared-slice-read-upright-step c = search needs
 
 upright-step-requires : tie.Need-upright-step-requires
 upright-step-requires c κs =
-    let at-if = c .before .before in
-    let at-first = at-if .before .before .before in
-    let start = at-first .before .before .before .before .before .before .before .before .before .before .before
-    .before .before in
+    let start = atStart (atFirst (c .before .before)) in
     let ready = start .pre .0 .1 in
-    let label = upright-label ready (at-if .if1 .taken) in (
+    let label = upright-label ready (c .before .before .if1 .taken) in (
       ready .walkable,
       (
         ready .i-in,
         ready .j-in,
         omega (arith, label, ready .some),
         refl,
-        omega (arith, label, start .pre .1, at-first .put-corner .kept .0),
+        omega (arith, label, start .pre .1, atFirst (c .before .before) .put-corner .kept .0),
       ),
     )
 
@@ -56,15 +69,12 @@ same-length c = search needs
 
 returns : tie.Need-returns
 returns c =
-    let at-step = c .before .before in
-    let at-if = at-step .before .before .before in
-    let at-first = at-if .before .before .before in
-    let start = at-first .before .before .before .before .before .before .before .before .before .before .before
-    .before .before in
     record {
       writes = λ cs ready.
-          upright-written cs _ _ _ _ _ _ _ _ _ ready _ _ (start .pre .1) (at-if .if1 .taken)
-          (upright-label ready (at-if .if1 .taken)) (at-first .put-corner .ensures) (at-step .upright-step .ensures);
+          upright-written cs _ _ _ _ _ _ _ _ _ ready _ _ (atStart (atFirst (goesUpright c)) .pre .1)
+          (goesUpright c .if1 .taken)
+          (upright-label ready (goesUpright c .if1 .taken)) (atFirst (goesUpright c) .put-corner .ensures)
+          (c .before .before .upright-step .ensures);
     }
 
 mul-level-step : tie.Need-mul-level-step
@@ -81,19 +91,16 @@ shared-slice-read-level-step c = search needs
 
 level-step-requires : tie.Need-level-step-requires
 level-step-requires c κs =
-    let at-if = c .before .before in
-    let at-first = at-if .before .before .before in
-    let start = at-first .before .before .before .before .before .before .before .before .before .before .before
-    .before .before in
+    let start = atStart (firstWritten (c .before .before) .before) in
     let ready = start .pre .0 .1 in
-    let label = level-label ready (at-if .if1 .left) in (
+    let label = level-label ready (c .before .before .if1 .left) in (
       ready .walkable,
       (
         ready .i-in,
         ready .j-in,
         omega (arith, label, ready .some),
         refl,
-        omega (arith, label, start .pre .1, at-first .put-corner .kept .0),
+        omega (arith, label, start .pre .1, firstWritten (c .before .before) .before .put-corner .kept .0),
       ),
     )
 
@@ -102,37 +109,17 @@ same-length-2 c = search needs
 
 returns-2 : tie.Need-returns-2
 returns-2 c =
-    let at-step = c .before .before in
-    let at-if = at-step .before .before .before in
-    let at-first = at-if .before .before .before in
-    let start = at-first .before .before .before .before .before .before .before .before .before .before .before
-    .before .before in
     record {
       writes = λ cs ready.
-          level-written cs _ _ _ _ _ _ _ _ _ ready _ _ (start .pre .1) (at-if .if1 .left)
-          (level-label ready (at-if .if1 .left)) (at-first .put-corner .ensures) (at-step .level-step .ensures);
+          level-written cs _ _ _ _ _ _ _ _ _ ready _ _ (atStart (firstWritten (goesLevel c) .before) .pre .1)
+          (goesLevel c .if1 .left)
+          (level-label ready (goesLevel c .if1 .left)) (firstWritten (goesLevel c) .before .put-corner .ensures)
+          (c .before .before .level-step .ensures);
     }
 
 pub walk-spec : {M : Type 1} → statement M
 walk-spec =
-    tie.close
-    (tie.spec
-    mul-put-corner
-    shared-slice-read-put-corner
-    mul-put-corner-2
-    shared-slice-read-put-corner-2
-    put-corner-requires
-    mul-upright-step
-    add-upright-step
-    mul-upright-step-2
-    shared-slice-read-upright-step
-    upright-step-requires
-    same-length
-    returns
-    mul-level-step
-    add-level-step
-    mul-level-step-2
-    shared-slice-read-level-step
-    level-step-requires
-    same-length-2
-    returns-2)
+    tie.close (tie.spec mul-put-corner shared-slice-read-put-corner mul-put-corner-2 shared-slice-read-put-corner-2
+    put-corner-requires mul-upright-step add-upright-step mul-upright-step-2 shared-slice-read-upright-step
+    upright-step-requires same-length returns mul-level-step add-level-step mul-level-step-2
+    shared-slice-read-level-step level-step-requires same-length-2 returns-2)

@@ -1,9 +1,20 @@
+-- `state::board_ok` meets its contract, test by test.
 use mathlib.Core.Path.{sym, _∙_}
 use borrow.Author.Tests.{not-true, not-false}
 use Rattle.state.specs.Tests.{boardOk}
 use borrow.Author.Needs.{needs}
 use Rattle.state.proofs.board_ok.Statement.{statement}
 use Rattle.state.proofs.board_ok.Tie as tie
+
+-- back to size_ok, size_ok2 and where size_ok holds
+abbrev afterSizeOk : tie.After-size-ok2 → tie.After-size-ok
+afterSizeOk c = c .before .before
+
+abbrev afterSizeOk2 : tie.Then3 → tie.After-size-ok2
+afterSizeOk2 c = c .before .before .before
+
+abbrev sizeOk : tie.After-struct-known → tie.Else2
+sizeOk c = c .before .before .before
 
 size-ok-requires : tie.Need-size-ok-requires
 size-ok-requires c κs = search needs
@@ -19,7 +30,7 @@ returns-2 : tie.Need-returns-2
 unfolding boardOk
 returns-2 c =
     simp (
-      sym (c .before .before .before .size-ok .ensures) ∙ not-false _ (c .before .before .if1 .left),
+      sym (afterSizeOk (c .before) .size-ok .ensures) ∙ not-false _ (c .before .before .if1 .left),
       sym (c .before .size-ok2 .ensures) ∙ not-true _ (c .if2 .taken),
     )
 
@@ -30,9 +41,9 @@ returns-3 : tie.Need-returns-3
 unfolding boardOk
 returns-3 c =
     simp (
-      sym (c .before .before .before .before .before .size-ok .ensures) ∙ not-false _
-          (c .before .before .before .before .if1 .left),
-      sym (c .before .before .before .size-ok2 .ensures) ∙ not-false _ (c .before .before .if2 .left),
+      sym (afterSizeOk (afterSizeOk2 c) .size-ok .ensures) ∙ not-false _
+          (afterSizeOk2 c .before .if1 .left),
+      sym (afterSizeOk2 c .size-ok2 .ensures) ∙ not-false _ (c .before .before .if2 .left),
       sym (c .before .clearance-ok .ensures) ∙ not-true _ (c .if3 .taken),
     )
 
@@ -40,9 +51,9 @@ returns-4 : tie.Need-returns-4
 unfolding boardOk
 returns-4 c =
     simp (
-      sym (c .before .before .before .before .before .before .size-ok .ensures) ∙ not-false _
-          (c .before .before .before .before .before .if1 .left),
-      sym (c .before .before .before .before .size-ok2 .ensures) ∙ not-false _ (c .before .before .before .if2 .left),
+      sym (afterSizeOk (sizeOk c .before) .size-ok .ensures) ∙ not-false _
+          (sizeOk c .before .before .if1 .left),
+      sym (sizeOk c .before .size-ok2 .ensures) ∙ not-false _ (sizeOk c .if2 .left),
       sym (c .before .before .clearance-ok .ensures) ∙ not-false _ (c .before .if3 .left),
     )
 

@@ -1,12 +1,25 @@
+-- `state::is_sound` meets its contract: a test that fails shows that the state is not sound, all together that it is.
 use native.Mathlib.Omega.{arith}
 use mathlib.Core.Path.{sym, _∙_}
 use borrow.Author.Tests.{not-false}
 use Rattle.zones.proofs.Tables.{table-of}
 use Rattle.state.proofs.Checking.{short-table, short-strips, bad-board, bad-entries, bad-rest}
-use Rattle.state.proofs.Checking.{board-fits, shown, all-right}
+use Rattle.state.proofs.Checking.{BoardFits, board-fits, shown, all-right}
 use borrow.Author.Needs.{needs}
 use Rattle.state.proofs.is_sound.Statement.{statement}
 use Rattle.state.proofs.is_sound.Tie as tie
+
+-- back to the function's start, and to where the entries are ok
+abbrev atStart : tie.Else3 → tie.Start
+atStart c = c .before .before .before .before .before .before
+
+abbrev entriesOk : tie.Else5 → tie.Else4
+entriesOk c = c .before .before
+
+-- what the test of the record has shown
+fits : (c : tie.Else3)
+    → BoardFits (atStart c .args .board) (atStart c .args .table .now) (atStart c .args .strips .now)
+fits c = board-fits _ _ _ _ (c .before .board-ok .ensures) (c .if3 .left)
 
 returns : tie.Need-returns
 returns c = short-table _ _ _ (omega arith)
@@ -21,51 +34,34 @@ returns-3 : tie.Need-returns-3
 returns-3 c = bad-board _ _ _ _ (c .before .board-ok .ensures) (c .if3 .taken)
 
 entries-ok-requires : tie.Need-entries-ok-requires
-entries-ok-requires c κs =
-    let b = board-fits _ (c .before .before .before .before .before .before .args .table .now)
-    (c .before .before .before .before .before .before .args .strips .now) _ (c .before .board-ok .ensures)
-    (c .if3 .left) in omega (arith, b .few)
+entries-ok-requires c κs = omega (arith, fits c .few)
 
 returns-4 : tie.Need-returns-4
 returns-4 c = bad-entries _ _ _ _ (c .before .entries-ok .ensures) (c .if4 .taken)
 
 mul-zeros : tie.Need-mul-zeros
-mul-zeros c =
-    let b = board-fits _ (c .before .before .before .before .before .before .before .before .args .table .now)
-    (c .before .before .before .before .before .before .before .before .args .strips .now) _
-    (c .before .before .before .board-ok .ensures) (c .before .before .if3 .left) in
-    omega (arith, b .few)
+mul-zeros c = omega (arith, fits (c .before .before) .few)
 
 zeros-requires : tie.Need-zeros-requires
-zeros-requires c κs =
-    let b = board-fits _ (c .before .before .before .before .before .before .before .before .args .table .now)
-    (c .before .before .before .before .before .before .before .before .args .strips .now) _
-    (c .before .before .before .board-ok .ensures) (c .before .before .if3 .left) in
-    omega (arith, b .few)
+zeros-requires c κs = omega (arith, fits (c .before .before) .few)
 
 returns-5 : tie.Need-returns-5
 returns-5 c = bad-rest _ _ _ (c .before .zeros .result) (c .before .zeros .ensures) (c .if5 .taken)
 
 strips-ok-requires : tie.Need-strips-ok-requires
 strips-ok-requires c κs =
-    let b = board-fits _
-    (c .before .before .before .before .before .before .before .before .before .before .args .table .now)
-    (c .before .before .before .before .before .before .before .before .before .before .args .strips .now) _
-    (c .before .before .before .before .before .board-ok .ensures) (c .before .before .before .before .if3 .left) in (
+    let e = entriesOk c in
+    let b = fits (e .before .before) in (
       table-of _ _ _ _ _ (b .few) (omega (arith, b .few)) (b .small) (b .wide) (b .high)
-          (sym (c .before .before .before .entries-ok .ensures) ∙ not-false _ (c .before .before .if4 .left)),
+          (sym (e .before .entries-ok .ensures) ∙ not-false _ (e .if4 .left)),
       omega arith,
     )
 
 returns-6 : tie.Need-returns-6
 returns-6 c =
+    let e = entriesOk (c .before) in
     all-right _ _ _ (c .strips-ok .result)
-    (shown _ _ _ (omega arith) (board-fits _
-    (c .before .before .before .before .before .before .before .before .before .before .before .args .table .now)
-    (c .before .before .before .before .before .before .before .before .before .before .before .args .strips .now) _
-    (c .before .before .before .before .before .before .board-ok .ensures)
-    (c .before .before .before .before .before .if3 .left))
-    _ (c .before .before .before .before .entries-ok .ensures) (c .before .before .before .if4 .left)
+    (shown _ _ _ (omega arith) (fits (e .before .before)) _ (e .before .entries-ok .ensures) (e .if4 .left)
     (c .before .before .zeros .result) (c .before .before .zeros .ensures) (c .before .if5 .left))
     (c .strips-ok .ensures)
 

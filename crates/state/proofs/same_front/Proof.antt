@@ -1,3 +1,4 @@
+-- `state::same_front` meets its contract: the first i numbers are the same.
 use native.Mathlib.Omega.{arith}
 use Prim.Native.Nat.{_≤_, _-_}
 use Rattle.state.proofs.Fronts.{Agree, agree-none, agree-more, agree-all, agree-not}
@@ -9,6 +10,10 @@ Inv-loop a b n i₀ i = (i ≤ n) × Agree a b i
 
 abbrev μ-loop : tie.MeasureT-loop
 μ-loop a b n i₀ i = n - i
+
+-- back to the loop's head
+abbrev atLoop : tie.After-shared-slice-known2 Inv-loop μ-loop → tie.At-loop Inv-loop μ-loop
+atLoop c = c .before .before .before
 
 loop-holds : tie.Need-loop-holds Inv-loop μ-loop
 loop-holds c = (omega arith, agree-none _ _)
@@ -27,8 +32,8 @@ shared-slice-read-if1-2 c = omega arith
 
 returns : tie.Need-returns Inv-loop μ-loop
 returns c =
-    agree-not (c .before .before .before .before .before .args .a .now)
-    (c .before .before .before .before .before .args .b .now) (c .before .before .before .before .before .args .n)
+    agree-not (atLoop (c .before) .before .args .a .now)
+    (atLoop (c .before) .before .args .b .now) (atLoop (c .before) .before .args .n)
     (omega arith) (omega arith) _ (omega arith) (c .if1 .taken)
 
 add-i : tie.Need-add-i Inv-loop μ-loop
@@ -38,7 +43,7 @@ loop-less : tie.Need-loop-less Inv-loop μ-loop
 loop-less c = omega arith
 
 loop-again : tie.Need-loop-again Inv-loop μ-loop
-loop-again c = (omega arith, agree-more _ _ _ (c .if1 .left) (c .before .before .before .before .loop .inv .1))
+loop-again c = (omega arith, agree-more _ _ _ (c .if1 .left) (atLoop (c .before) .loop .inv .1))
 
 returns-2 : tie.Need-returns-2 Inv-loop μ-loop
 returns-2 c =

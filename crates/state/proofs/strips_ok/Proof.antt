@@ -42,7 +42,8 @@ returns c =
 
 returns-2 : tie.Need-returns-2
 returns-2 c =
-    let known = c .before .before .before in
+    let told = c .before .before in
+    let known = told .before in
     let matched = known .before in
     let r = matched .before .before in
     let q = rw (known .built .given .1) at (r .rebuild .ensures) in
@@ -57,7 +58,8 @@ same-front-requires c κs = search needs
 returns-3 : tie.Need-returns-3
 returns-3 c =
     let counted = c .before .before in
-    let known = counted .before .before .before in
+    let told = counted .before .before in
+    let known = told .before in
     let matched = known .before in
     let r = matched .before .before in
     let q = rw (known .built .given .1) at (r .rebuild .ensures) in

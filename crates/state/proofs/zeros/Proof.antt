@@ -1,3 +1,4 @@
+-- `state::zeros` meets its contract: the numbers before place i are zero.
 use native.Mathlib.Omega.{arith}
 use Prim.Native.Nat.{_≤_, _-_}
 use Rattle.state.specs.Tests.{Zeros}
@@ -10,6 +11,10 @@ Inv-loop list a b i₀ i = (a ≤ i) × (i ≤ b) × Zeros list a i
 
 abbrev μ-loop : tie.MeasureT-loop
 μ-loop list a b i₀ i = b - i
+
+-- back to the loop's head
+abbrev atLoop : tie.Else1 Inv-loop μ-loop → tie.At-loop Inv-loop μ-loop
+atLoop c = c .before .before .before
 
 loop-holds : tie.Need-loop-holds Inv-loop μ-loop
 loop-holds c = (omega arith, omega arith, zeros-none _ _)
@@ -30,7 +35,7 @@ loop-less : tie.Need-loop-less Inv-loop μ-loop
 loop-less c = omega arith
 
 loop-again : tie.Need-loop-again Inv-loop μ-loop
-loop-again c = (omega arith, omega arith, zeros-more _ _ _ (c .if1 .left) (c .before .before .before .loop .inv .2))
+loop-again c = (omega arith, omega arith, zeros-more _ _ _ (c .if1 .left) (atLoop c .loop .inv .2))
 
 returns-2 : tie.Need-returns-2 Inv-loop μ-loop
 returns-2 c = zeros-all _ _ _ _ (omega arith) (c .before .loop .inv .2)

@@ -17,6 +17,10 @@ Inv-loop list count x y k₀ k = (k ≤ count) × ((i : ℕ) → i < k → holds
 abbrev μ-loop : tie.MeasureT-loop
 μ-loop list count x y k₀ k = count - k
 
+-- back to the loop's head
+abbrev atLoop : tie.After-holds-at Inv-loop μ-loop → tie.At-loop Inv-loop μ-loop
+atLoop c = c .before .before
+
 loop-holds : tie.Need-loop-holds Inv-loop μ-loop
 loop-holds c = (omega arith, λ i l. absurd (omega arith))
 
@@ -32,7 +36,7 @@ loop-less c = omega arith
 loop-again : tie.Need-loop-again Inv-loop μ-loop
 loop-again c = (
   omega arith,
-  below-more _ _ (c .before .before .before .loop .inv .1) (sym (c .before .holds-at .ensures) ∙ c .if2 .left),
+  below-more _ _ (atLoop (c .before) .loop .inv .1) (sym (c .before .holds-at .ensures) ∙ c .if2 .left),
 )
 
 returns : tie.Need-returns Inv-loop μ-loop
@@ -40,7 +44,7 @@ returns c = sym (place-none _ _ _ (rw (c .if1 .taken) at (c .before .loop .inv .
 
 returns-2 : tie.Need-returns-2 Inv-loop μ-loop
 returns-2 c =
-    sym (place-at _ _ _ _ (omega arith) (c .before .before .before .loop .inv .1)
+    sym (place-at _ _ _ _ (omega arith) (atLoop (c .before) .loop .inv .1)
     (sym (c .before .holds-at .ensures) ∙ c .if2 .taken))
 
 pub locate-spec : {M : Type 1} → statement M

@@ -8,12 +8,25 @@ use Rattle.strips.proofs.rebuild.Tie as tie
 abbrev atStart : tie.After-ord3 → tie.Start
 atStart c = c .before .before .before .before .before .before .before .before
 
+-- back to the start from the order, to the order, to the rows joined, and to where there are not too many
+abbrev fromOrd : tie.After-ord → tie.Start
+fromOrd c = c .before .before .before
+
+abbrev afterOrder : tie.After-ord3 → tie.After-order
+afterOrder c = c .before .before .before .before
+
+abbrev afterJoinRows : tie.After-last2 → tie.After-join-rows
+afterJoinRows c = c .before .before .before
+
+abbrev inElse : tie.After-slice-known3 → tie.Else1
+inElse c = c .before .before .before .before
+
 slice-aggregate-order : tie.Need-slice-aggregate-order
 slice-aggregate-order c = omega arith
 
 order-requires : tie.Need-order-requires
 order-requires c κs =
-    let p = c .before .before .before .pre .0 in
+    let p = fromOrd c .pre .0 in
     omega (arith, p .few, p .len)
 
 slice-aggregate-join-rows : tie.Need-slice-aggregate-join-rows
@@ -26,7 +39,7 @@ join-rows-requires : tie.Need-join-rows-requires
 join-rows-requires c κs =
     let p = atStart c .pre in (
       p .0,
-      (c .before .before .before .before .order .ensures, omega (arith, p .1)),
+      (afterOrder c .order .ensures, omega (arith, p .1)),
     )
 
 same-length : tie.Need-same-length
@@ -34,7 +47,7 @@ same-length c = omega arith
 
 returns : tie.Need-returns
 returns c =
-    let j = c .before .before .before .before in
+    let j = afterJoinRows (c .before) in
     (omega (arith, j .join-rows .ensures .count, c .if1 .taken), j .join-rows .kept .0)
 
 mul-clear : tie.Need-mul-clear
@@ -48,9 +61,8 @@ same-length-2 c = omega arith
 
 returns-2 : tie.Need-returns-2
 returns-2 c =
-    let e = c .before .before .before .before in
-    let j = e .before .before .before .before in
-    rebuilt _ _ _ _ _ (j .join-rows .kept .0) (omega (arith, atStart (j .before) .pre .1)) (e .if1 .left)
+    let j = afterJoinRows (inElse c .before) in
+    rebuilt _ _ _ _ _ (j .join-rows .kept .0) (omega (arith, atStart (j .before) .pre .1)) (inElse c .if1 .left)
     (j .join-rows .ensures) (c .before .before .clear .ensures)
 
 pub rebuild-spec : {M : Type 1} → statement M

@@ -18,6 +18,9 @@ abbrev μ-loop : tie.MeasureT-loop
 abbrev atStart : tie.In-loop Inv-loop μ-loop → tie.Start Inv-loop μ-loop
 atStart c = c .before .before .before .before
 
+abbrev fromEnd : tie.After-loop Inv-loop μ-loop → tie.Start Inv-loop μ-loop
+fromEnd c = c .before .before .before .before
+
 abbrev atZone : tie.After-slice-known2 Inv-loop μ-loop → tie.After-zone-of Inv-loop μ-loop
 atZone c = c .before .before .before .before
 
@@ -76,7 +79,7 @@ same-length c = c .before .loop .inv .same
 
 returns : tie.Need-returns Inv-loop μ-loop
 returns c =
-    let s = c .before .before .before .before in
+    let s = fromEnd c in
     zoning-done _ _ _ _ _ _ _ _ (s .pre .0) (s .pre .1) (c .loop-test .left) (c .before .loop .inv)
 
 pub zones-spec : {M : Type 1} → statement M

@@ -14,6 +14,13 @@ atStart c = c .before .before .before .before
 abbrev atCorners : tie.After-larger → tie.After-corner-at2
 atCorners c = c .before .before .before .before
 
+-- back to larger and larger2
+abbrev atRight : tie.After-slice-known2 → tie.After-larger
+atRight c = c .before .before .before .before
+
+abbrev atBottom : tie.After-slice-known2 → tie.After-larger2
+atBottom c = c .before .before .before
+
 corner-at-requires : tie.Need-corner-at-requires
 corner-at-requires c κs = search needs
 
@@ -31,10 +38,15 @@ larger-requires c κs = search needs
 
 add-append : tie.Need-add-append
 add-append c =
-    let k = atCorners c in
-    let p = atStart k .pre .1 .1 in
-    omega (arith, c .larger .ensures, ap (λ (q : Point). q .x) (k .before .corner-at .ensures),
-      ap (λ (q : Point). q .x) (k .corner-at2 .ensures), p .0 .0, p .1 .0)
+    let p = atStart (atCorners c) .pre .1 .1 in
+    omega (
+      arith,
+      c .larger .ensures,
+      ap (λ (q : Point). q .x) (atCorners c .before .corner-at .ensures),
+      ap (λ (q : Point). q .x) (atCorners c .corner-at2 .ensures),
+      p .0 .0,
+      p .1 .0,
+    )
 
 larger-requires-2 : tie.Need-larger-requires-2
 larger-requires-2 c κs = search needs
@@ -43,8 +55,14 @@ add-append-2 : tie.Need-add-append-2
 add-append-2 c =
     let k = atCorners (c .before) in
     let p = atStart k .pre .1 .1 in
-    omega (arith, c .larger2 .ensures, ap (λ (q : Point). q .y) (k .before .corner-at .ensures),
-      ap (λ (q : Point). q .y) (k .corner-at2 .ensures), p .0 .1, p .1 .1)
+    omega (
+      arith,
+      c .larger2 .ensures,
+      ap (λ (q : Point). q .y) (k .before .corner-at .ensures),
+      ap (λ (q : Point). q .y) (k .corner-at2 .ensures),
+      p .0 .1,
+      p .1 .1,
+    )
 
 append-requires : tie.Need-append-requires
 append-requires c κs = search needs
@@ -54,12 +72,10 @@ same-length c = search needs
 
 returns : tie.Need-returns
 returns c =
-    let bottom = c .before .before .before in
-    let right = bottom .before in
-    let k = atCorners right in
+    let k = atCorners (atRight c) in
     leg-appended _ _ _ _ _ _ _ _ _ _ _ _ (k .before .corner-at .ensures) (k .corner-at2 .ensures)
-    (right .before .before .smaller .ensures) (right .before .smaller2 .ensures) (right .larger .ensures)
-    (bottom .larger2 .ensures) (c .before .before .append .ensures)
+    (atRight c .before .before .smaller .ensures) (atRight c .before .smaller2 .ensures) (atRight c .larger .ensures)
+    (atBottom c .larger2 .ensures) (c .before .before .append .ensures)
 
 pub append-leg-spec : {M : Type 1} → statement M
 append-leg-spec =

@@ -1,3 +1,4 @@
+-- `booking::rows::append` meets its contract: five stores put one entry after the others.
 use native.Mathlib.Omega.{arith}
 use lib.ListN.{length-set}
 use Rattle.booking.proofs.Filling.{appended}

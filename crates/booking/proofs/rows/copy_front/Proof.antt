@@ -1,3 +1,4 @@
+-- `booking::rows::copy_front` meets its contract: the first i numbers are copied.
 use native.Mathlib.Omega.{arith}
 use Prim.Native.Nat.{_-_}
 use Rattle.booking.proofs.Copying.{Copied, copied-none, copied-more, copied-all}

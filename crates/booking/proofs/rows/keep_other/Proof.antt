@@ -9,17 +9,23 @@ use Rattle.booking.proofs.rows.keep_other.Tie as tie
 abbrev atStart : tie.After-entry-at → tie.Start
 atStart c = c .before .before .before
 
+-- back to entry_at and where the test fails
+abbrev afterEntryAt : tie.After-append-arg → tie.After-entry-at
+afterEntryAt c = c .before .before .before
+
+abbrev atOther : tie.After-slice-known2 → tie.Else1
+atOther c = c .before .before .before .before
+
 entry-at-requires : tie.Need-entry-at-requires
 entry-at-requires c κs = search needs
 
 returns : tie.Need-returns
 returns c =
-    let r = c .before .before in
-    kept-skip _ _ _ _ (r .entry-at .ensures) _ _ (atStart r .pre .2) (c .if1 .taken)
+    kept-skip _ _ _ _ (c .before .before .entry-at .ensures) _ _ (atStart (c .before .before) .pre .2) (c .if1 .taken)
 
 append-requires : tie.Need-append-requires
 append-requires c κs =
-    let p = atStart (c .before .before .before) .pre in
+    let p = atStart (afterEntryAt c) .pre in
     (omega (arith, p .2 .few), kept-long _ _ _ _ _ (omega arith) (p .2))
 
 add-result : tie.Need-add-result
@@ -30,9 +36,7 @@ same-length c = search needs
 
 returns-2 : tie.Need-returns-2
 returns-2 c =
-    let other = c .before .before .before .before in
-    let r = other .before .before in
-    kept-more _ _ _ _ (r .entry-at .ensures) _ _ (atStart r .pre .2) _ (other .if1 .left)
+    kept-more _ _ _ _ (atOther c .before .before .entry-at .ensures) _ _ (atStart (atOther c .before .before) .pre .2) _ (atOther c .if1 .left)
     (c .before .before .append .ensures)
 
 pub keep-other-spec : {M : Type 1} → statement M

@@ -1,3 +1,4 @@
+-- `booking::rows::without` meets its contract: the rows have the entries of other nets, of those before place k.
 use mathlib.Core.Path.{_≡_, refl}
 use lib.ListN.{length}
 use native.Mathlib.Omega.{arith}
@@ -12,6 +13,10 @@ Inv-loop rows₀ table n net j₀ k₀ rows j k = (k ≤ n) × Kept rows table n
 
 abbrev μ-loop : tie.MeasureT-loop
 μ-loop rows₀ table n net j₀ k₀ rows j k = n - k
+
+-- back to the loop's head
+abbrev atLoop : tie.After-slice-known2 Inv-loop μ-loop → tie.At-loop Inv-loop μ-loop
+atLoop c = c .before .before .before .before .before
 
 loop-holds : tie.Need-loop-holds Inv-loop μ-loop
 loop-holds c = (omega arith, kept-none _ _ _ (c .before .before .pre .2), refl)
@@ -29,7 +34,7 @@ loop-again : tie.Need-loop-again Inv-loop μ-loop
 loop-again c = (
   omega arith,
   c .before .before .keep-other .ensures,
-  omega (arith, c .before .before .keep-other .kept .0, c .before .before .before .before .before .loop .inv .2),
+  omega (arith, c .before .before .keep-other .kept .0, atLoop c .loop .inv .2),
 )
 
 same-length : tie.Need-same-length Inv-loop μ-loop

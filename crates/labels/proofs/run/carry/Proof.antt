@@ -7,15 +7,16 @@ use Rattle.labels.proofs.Inks.{carried-stop}
 use Rattle.labels.proofs.run.carry.Statement.{statement}
 use Rattle.labels.proofs.run.carry.Tie as tie
 
+-- back to the start
+abbrev atStart : tie.After-shared-slice-known4 → tie.Start
+atStart c = c .before .before .before .before .before
+
 mul-if1 : tie.Need-mul-if1
 mul-if1 c = omega arith
-
 add-if1 : tie.Need-add-if1
 add-if1 c = omega arith
-
 mul-if1-2 : tie.Need-mul-if1-2
 mul-if1-2 c = omega arith
-
 shared-slice-read-if1 : tie.Need-shared-slice-read-if1
 shared-slice-read-if1 c = omega arith
 
@@ -24,21 +25,15 @@ returns c = record { no-farther = omega arith; no-more = λ e. absurd (c .if1 .t
 
 mul-lesser : tie.Need-mul-lesser
 mul-lesser c = omega arith
-
 add-lesser : tie.Need-add-lesser
 add-lesser c = omega arith
-
 mul-lesser-2 : tie.Need-mul-lesser-2
 mul-lesser-2 c = omega arith
-
 shared-slice-read-lesser : tie.Need-shared-slice-read-lesser
 shared-slice-read-lesser c = omega arith
 
 add-lesser-2 : tie.Need-add-lesser-2
-add-lesser-2 c =
-    let at-stop = c .before in
-    let pre = at-stop .before .before .before .before .pre in
-    omega (arith, pre .1 .1 (at-stop .if1 .left))
+add-lesser-2 c = omega (arith, atStart c .pre .1 .1 (c .before .if1 .left))
 
 lesser-requires : tie.Need-lesser-requires
 lesser-requires c κs = search needs
@@ -48,17 +43,5 @@ returns-2 c = carried-stop (c .before .before .if1 .left) (c .lesser .ensures)
 
 pub carry-spec : {M : Type 1} → statement M
 carry-spec =
-    tie.close
-    (tie.spec
-    mul-if1
-    add-if1
-    mul-if1-2
-    shared-slice-read-if1
-    returns
-    mul-lesser
-    add-lesser
-    mul-lesser-2
-    shared-slice-read-lesser
-    add-lesser-2
-    lesser-requires
-    returns-2)
+    tie.close (tie.spec mul-if1 add-if1 mul-if1-2 shared-slice-read-if1 returns mul-lesser add-lesser mul-lesser-2
+    shared-slice-read-lesser add-lesser-2 lesser-requires returns-2)

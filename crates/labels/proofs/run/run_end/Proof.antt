@@ -12,6 +12,10 @@ Inv-loop edge line n at hi₀ hi = (at < hi) × (hi ≤ n) × Linked edge line a
 abbrev μ-loop : tie.MeasureT-loop
 μ-loop edge line n at hi₀ hi = n - hi
 
+-- back to the loop's head
+abbrev atLoop : tie.After-shared-slice-known Inv-loop μ-loop → tie.At-loop Inv-loop μ-loop
+atLoop c = c .before .before
+
 add-hi : tie.Need-add-hi Inv-loop μ-loop
 add-hi c = omega arith
 
@@ -20,50 +24,33 @@ loop-holds c = (omega arith, omega arith, linked-first _ _ _)
 
 mul-if1 : tie.Need-mul-if1 Inv-loop μ-loop
 mul-if1 c = omega arith
-
 sub-if1 : tie.Need-sub-if1 Inv-loop μ-loop
 sub-if1 c = omega arith
-
 add-if1 : tie.Need-add-if1 Inv-loop μ-loop
 add-if1 c = omega arith
-
 shared-slice-read-if1 : tie.Need-shared-slice-read-if1 Inv-loop μ-loop
 shared-slice-read-if1 c = omega arith
 
 returns : tie.Need-returns Inv-loop μ-loop
 returns c =
-    let at-loop = c .before .before .before in
-    record { after = omega arith; le = omega arith; linked = at-loop .loop .inv .2; stop = λ z. c .if1 .taken }
+    record { after = omega arith; le = omega arith; linked = atLoop (c .before) .loop .inv .2; stop = λ z.
+    c .if1 .taken }
 
 add-hi-2 : tie.Need-add-hi-2 Inv-loop μ-loop
 add-hi-2 c = omega arith
-
 loop-less : tie.Need-loop-less Inv-loop μ-loop
 loop-less c = omega arith
 
 loop-again : tie.Need-loop-again Inv-loop μ-loop
 loop-again c =
-    let at-loop = c .before .before .before in
-    (omega arith, omega arith, linked-on _ _ _ _ (omega arith) (at-loop .loop .inv .2) (c .if1 .left))
+    (omega arith, omega arith, linked-on _ _ _ _ (omega arith) (atLoop (c .before) .loop .inv .2) (c .if1 .left))
 
 returns-2 : tie.Need-returns-2 Inv-loop μ-loop
 returns-2 c =
-    record { after = omega arith; le = omega arith; linked = c .before .loop .inv .2; stop = λ z. absurd (omega arith) }
+    record { after = omega arith; le = omega arith; linked = c .before .loop .inv .2; stop = λ z. absurd (omega arith)
+    }
 
 pub run-end-spec : {M : Type 1} → statement M
 run-end-spec =
-    tie.close
-    (tie.spec
-    Inv-loop
-    μ-loop
-    add-hi
-    loop-holds
-    mul-if1
-    sub-if1
-    add-if1
-    shared-slice-read-if1
-    returns
-    add-hi-2
-    loop-less
-    loop-again
-    returns-2)
+    tie.close (tie.spec Inv-loop μ-loop add-hi loop-holds mul-if1 sub-if1 add-if1 shared-slice-read-if1 returns
+    add-hi-2 loop-less loop-again returns-2)

@@ -6,7 +6,6 @@ use Rattle.labels.proofs.run.run_start.Tie as tie
 
 back-from-requires : tie.Need-back-from-requires
 back-from-requires c κs = search needs
-
 nearer-requires : tie.Need-nearer-requires
 nearer-requires c κs = search needs
 
@@ -14,9 +13,4 @@ returns : tie.Need-returns
 returns c = start-nearer (c .before .back-from .ensures) (c .nearer .ensures)
 
 pub run-start-spec : {M : Type 1} → statement M
-run-start-spec =
-    tie.close
-    (tie.spec
-    back-from-requires
-    nearer-requires
-    returns)
+run-start-spec = tie.close (tie.spec back-from-requires nearer-requires returns)

@@ -1,90 +1,42 @@
--- `search_test::asked::box_ok` meets its contract.
+-- `search_test::asked::box_ok` meets its contract: where no test has failed, the entry is not empty and on the board.
 use native.Mathlib.Omega.{arith}
 use mathlib.Core.Path.{sym}
 use mathlib.Core.Bool.{true≢false}
-use Rattle.foil_spec.specs.Lent.{entryAt}
-use borrow.Author.Needs.{needs}
+use borrow.Author.Tests.{leb-true}
 use Rattle.search_test.proofs.asked.box_ok.Statement.{statement}
 use Rattle.search_test.proofs.asked.box_ok.Tie as tie
 
-mul-if1 : tie.Need-mul-if1
-mul-if1 c = search needs
+-- back to the entry, and to where it has a width and a height
+abbrev atEntry : tie.Else3 → tie.After-entry-at
+atEntry c = c .before .before .before .before .before .before
 
-add-if1 : tie.Need-add-if1
-add-if1 c = search needs
+abbrev isWide : tie.Else3 → tie.Else1
+isWide c = c .before .before .before .before
 
-mul-if1-2 : tie.Need-mul-if1-2
-mul-if1-2 c = search needs
+abbrev isHigh : tie.Else3 → tie.Else2
+isHigh c = c .before .before
 
-element-copy-out-if1 : tie.Need-element-copy-out-if1
-element-copy-out-if1 c = search needs
-
-mul-if1-3 : tie.Need-mul-if1-3
-mul-if1-3 c = search needs
-
-add-if1-2 : tie.Need-add-if1-2
-add-if1-2 c = search needs
-
-mul-if1-4 : tie.Need-mul-if1-4
-mul-if1-4 c = search needs
-
-element-copy-out-if1-2 : tie.Need-element-copy-out-if1-2
-element-copy-out-if1-2 c = search needs
+entry-at-requires : tie.Need-entry-at-requires
+entry-at-requires c κs = omega (arith, c .entry-at-arg .given .0)
 
 returns : tie.Need-returns
 returns c = λ e. absurd (true≢false (sym e))
-
-mul-if2 : tie.Need-mul-if2
-mul-if2 c = search needs
-
-add-if2 : tie.Need-add-if2
-add-if2 c = search needs
-
-mul-if2-2 : tie.Need-mul-if2-2
-mul-if2-2 c = search needs
-
-element-copy-out-if2 : tie.Need-element-copy-out-if2
-element-copy-out-if2 c = search needs
-
-mul-if2-3 : tie.Need-mul-if2-3
-mul-if2-3 c = search needs
-
-add-if2-2 : tie.Need-add-if2-2
-add-if2-2 c = search needs
-
-mul-if2-4 : tie.Need-mul-if2-4
-mul-if2-4 c = search needs
-
-element-copy-out-if2-2 : tie.Need-element-copy-out-if2-2
-element-copy-out-if2-2 c = search needs
 
 returns-2 : tie.Need-returns-2
 returns-2 c = λ e. absurd (true≢false (sym e))
 
 returns-3 : tie.Need-returns-3
-unfolding entryAt
-returns-3 c = λ e. record { across = omega arith; down = omega arith }
+returns-3 c = λ e. absurd (true≢false (sym e))
+
+returns-4 : tie.Need-returns-4
+returns-4 c = λ e.
+    rw (← atEntry (c .before) .entry-at .ensures)
+    (record {
+      across = isWide (c .before) .if1 .left;
+      down = isHigh (c .before) .if2 .left;
+      right = c .before .if3 .left;
+      bottom = leb-true _ _ e;
+    })
 
 pub box-ok-spec : {M : Type 1} → statement M
-box-ok-spec =
-    tie.close
-    (tie.spec
-    mul-if1
-    add-if1
-    mul-if1-2
-    element-copy-out-if1
-    mul-if1-3
-    add-if1-2
-    mul-if1-4
-    element-copy-out-if1-2
-    returns
-    mul-if2
-    add-if2
-    mul-if2-2
-    element-copy-out-if2
-    mul-if2-3
-    add-if2-2
-    mul-if2-4
-    element-copy-out-if2-2
-    returns-2
-    returns-3)
+box-ok-spec = tie.close (tie.spec entry-at-requires returns returns-2 returns-3 returns-4)

@@ -1,23 +1,27 @@
--- `search_test::asked::boxes_ok` meets its contract: the entries up to i cover something.
-use Prim.Native.Nat.{ℕ, _≤_, _-_}
+-- `search_test::asked::boxes_ok` meets its contract: the entries up to i are not empty and on the board.
+use Prim.Native.Nat.{_≤_, _-_}
 use native.Mathlib.Omega.{arith}
-use mathlib.Core.Path.{_≡_, sym, subst}
+use mathlib.Core.Path.{sym}
 use mathlib.Core.Bool.{true≢false}
+use borrow.Author.Count.{below-more}
 use borrow.Author.Needs.{needs}
 use borrow.Author.Tests.{not-false}
-use Rattle.grid.specs.Zones.{Boxes}
-use Rattle.search_test.proofs.Asking.{boxes-none, boxes-more}
+use Rattle.search_test.specs.Box.{AllBoxes}
 use Rattle.search_test.proofs.asked.boxes_ok.Statement.{statement}
 use Rattle.search_test.proofs.asked.boxes_ok.Tie as tie
 
 abbrev Inv-loop : tie.InvT-loop
-Inv-loop table n i₀ i = (i ≤ n) × Boxes i table
+Inv-loop table n w h i₀ i = (i ≤ n) × AllBoxes w h i table
 
 abbrev μ-loop : tie.MeasureT-loop
-μ-loop table n i₀ i = n - i
+μ-loop table n w h i₀ i = n - i
+
+-- back to the loop's turn
+abbrev inLoop : tie.Else1 Inv-loop μ-loop → tie.At-loop Inv-loop μ-loop
+inLoop c = c .before .before .before
 
 loop-holds : tie.Need-loop-holds Inv-loop μ-loop
-loop-holds c = (omega arith, boxes-none _)
+loop-holds c = (omega arith, λ k l. absurd (omega arith))
 
 box-ok-requires : tie.Need-box-ok-requires Inv-loop μ-loop
 box-ok-requires c κs = search needs
@@ -34,24 +38,13 @@ loop-less c = search needs
 loop-again : tie.Need-loop-again Inv-loop μ-loop
 loop-again c = (
   omega arith,
-  boxes-more _ _ (c .before .before .before .loop .inv .1) (c .before .box-ok .ensures (not-false _ (c .if1 .left))),
+  below-more _ _ (inLoop c .loop .inv .1) (c .before .box-ok .ensures (not-false _ (c .if1 .left))),
 )
 
 returns-2 : tie.Need-returns-2 Inv-loop μ-loop
-returns-2 c e =
-    let all : c .before .loop .i ≡ c .before .before .args .n = omega arith in
-    subst (λ (k : ℕ). Boxes k (c .before .before .args .table .now)) all (c .before .loop .inv .1)
+returns-2 c e = λ k l. c .before .loop .inv .1 k (omega arith)
 
 pub boxes-ok-spec : {M : Type 1} → statement M
 boxes-ok-spec =
     tie.close
-    (tie.spec
-    Inv-loop
-    μ-loop
-    loop-holds
-    box-ok-requires
-    returns
-    add-i
-    loop-less
-    loop-again
-    returns-2)
+    (tie.spec Inv-loop μ-loop loop-holds box-ok-requires returns add-i loop-less loop-again returns-2)

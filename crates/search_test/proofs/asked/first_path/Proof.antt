@@ -1,10 +1,20 @@
 -- `search_test::asked::first_path` is safe and ends: the search is asked for a path between free points.
 use native.Mathlib.Omega.{arith}
 use borrow.Author.Tests.{not-false}
-use Rattle.search_test.proofs.Asking.{posed}
 use borrow.Author.Needs.{needs}
+use Rattle.search_test.proofs.Asking.{table-of, posed}
 use Rattle.search_test.proofs.asked.first_path.Statement.{statement}
 use Rattle.search_test.proofs.asked.first_path.Tie as tie
+
+-- back to where both points are free, to the test of the entries, and from the search to the zones
+abbrev bothFree : tie.After-zones-arg → tie.Else3
+bothFree c = c .before .before
+
+abbrev allBoxes : tie.Else3 → tie.Else1
+allBoxes c = c .before .before .before .before
+
+abbrev atZones : tie.After-boxes3 → tie.After-zones
+atZones c = c .before .before .before
 
 boxes-ok-requires : tie.Need-boxes-ok-requires
 boxes-ok-requires c κs = search needs
@@ -24,18 +34,26 @@ is-free-requires-2 c κs = search needs
 returns-3 : tie.Need-returns-3
 returns-3 c = search needs
 
-find-requires : tie.Need-find-requires
-find-requires c κs =
-    let last = c .before .before in
+slice-aggregate-zones : tie.Need-slice-aggregate-zones
+slice-aggregate-zones c = search needs
+
+zones-requires : tie.Need-zones-requires
+zones-requires c κs =
+    let boxes = allBoxes (bothFree c) in (
+      table-of (omega (arith, c .zones-arg .given .0)) (omega arith) (omega arith) (omega arith) (omega arith)
+          (boxes .before .boxes-ok .ensures (not-false _ (boxes .if1 .left))),
+      omega arith,
+    )
+
+slice-aggregate-first-path : tie.Need-slice-aggregate-first-path
+slice-aggregate-first-path c = search needs
+
+first-path-requires : tie.Need-first-path-requires
+first-path-requires c κs =
+    let last = bothFree (atZones c .before) in
     let first = last .before .before in
-    let boxes = first .before .before in
-    let question =
-    posed _ _ _ _ _ _ _ _ _ (omega (arith, c .find-arg2 .given .0))
-    (omega arith) (omega arith) (omega arith) (omega arith)
-    (boxes .before .boxes-ok .ensures (not-false _ (boxes .if1 .left)))
-    (first .before .is-free .ensures .0 (not-false _ (first .if2 .left)))
-    (last .before .is-free2 .ensures .0 (not-false _ (last .if3 .left))) in
-    (question, omega arith)
+    posed (atZones c .zones .ensures) (first .before .is-free .ensures .0 (not-false _ (first .if2 .left)))
+    (last .before .is-free2 .ensures .0 (not-false _ (last .if3 .left)))
 
 returns-4 : tie.Need-returns-4
 returns-4 c = search needs
@@ -50,5 +68,8 @@ first-path-spec =
     returns-2
     is-free-requires-2
     returns-3
-    find-requires
+    slice-aggregate-zones
+    zones-requires
+    slice-aggregate-first-path
+    first-path-requires
     returns-4)

@@ -1,3 +1,4 @@
+-- `state::limits::box_ok` meets its contract, comparison by comparison.
 use borrow.Author.Tests.{lt-ltb, le-ltb, lt-leb, le-leb}
 use Rattle.foil_spec.specs.Foil.{boxOk}
 use Rattle.state.proofs.limits.box_ok.Statement.{statement}

@@ -1,3 +1,4 @@
+-- `state::limits::clearance_ok` meets its contract.
 use mathlib.Core.Path.{refl}
 use Rattle.foil_spec.specs.Foil.{clearanceOk}
 use Rattle.state.proofs.limits.clearance_ok.Statement.{statement}

@@ -1,3 +1,4 @@
+-- `state::limits::net_ok` meets its contract, comparison by comparison.
 use borrow.Author.Tests.{lt-leb, le-leb}
 use Rattle.foil_spec.specs.Foil.{netOk}
 use Rattle.state.proofs.limits.net_ok.Statement.{statement}

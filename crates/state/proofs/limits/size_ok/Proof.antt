@@ -1,3 +1,4 @@
+-- `state::limits::size_ok` meets its contract, comparison by comparison.
 use borrow.Author.Tests.{lt-leb, le-leb}
 use Rattle.foil_spec.specs.Foil.{sizeOk}
 use Rattle.state.proofs.limits.size_ok.Statement.{statement}

@@ -27,11 +27,33 @@ atStart c = c .before .before .before .before .before .before
 abbrev inLoop : tie.After-known-told Inv-loop μ-loop → tie.In-loop Inv-loop μ-loop
 inLoop c = c .before .before .before .before
 
+abbrev atWide : tie.After-is-open Inv-loop μ-loop → tie.After-wide Inv-loop μ-loop
+atWide c = c .before .before .before
+
 abbrev atRun : tie.After-is-open Inv-loop μ-loop → tie.After-known-told Inv-loop μ-loop
-atRun c = c .before .before .before .before
+atRun c = atWide c .before
 
 abbrev notOpen : tie.After-slice-known4 Inv-loop μ-loop → tie.Else1 Inv-loop μ-loop
 notOpen c = c .before .before .before .before .before
+
+-- to these from other places: the head of the loop, no run, the arguments of calls, and the match of the run
+abbrev fromHead : tie.After-shared-slice-known2 Inv-loop μ-loop → tie.Start Inv-loop μ-loop
+fromHead c = c .before .before .before .before
+
+abbrev noRun : tie.After-enum-told Inv-loop μ-loop → tie.In-loop Inv-loop μ-loop
+noRun c = c .before .before .before
+
+abbrev fromArg : tie.After-is-open-arg Inv-loop μ-loop → tie.After-known-told Inv-loop μ-loop
+fromArg c = c .before .before .before
+
+abbrev fromPut : tie.After-put-arg Inv-loop μ-loop → tie.After-is-open Inv-loop μ-loop
+fromPut c = c .before .before .before
+
+abbrev hasRoom : tie.After-slice-known4 Inv-loop μ-loop → tie.Else2 Inv-loop μ-loop
+hasRoom c = c .before .before .before .before
+
+abbrev atMatch : tie.After-known-told Inv-loop μ-loop → tie.At-match-keys1 Inv-loop μ-loop
+atMatch c = c .before .before
 
 -- the run that the sweep found: from a up to b, and on from place i of the order
 abbrev a : tie.After-known-told Inv-loop μ-loop → ℕ
@@ -57,7 +79,7 @@ swept : (c : tie.After-known-told Inv-loop μ-loop)
     → Found (atStart (inLoop c)) (inLoop c .before .loop .x) (found (a c) (b c) (i c))
 swept c =
     subst (λ (r : Swept). Found (atStart (inLoop c)) (inLoop c .before .loop .x) r) (c .before .a .given .1)
-    (answered (c .before .before .before))
+    (answered (atMatch c .before))
 
 -- the run's first column is one of the list of last strips
 in-last : (c : tie.After-known-told Inv-loop μ-loop) → a c < length (inLoop c .before .loop .last)
@@ -79,17 +101,17 @@ GoesOn c k =
 
 opened : (c : tie.Then1 Inv-loop μ-loop)
     → GoesOn (c .before)
-    (getD (inLoop (atRun (c .before)) .before .loop .last) (c .before .before .before .before .wide .result) 0)
+    (getD (inLoop (atRun (c .before)) .before .loop .last) (atWide (c .before) .wide .result) 0)
 opened c = rw (c .if1 .taken) at (c .before .is-open .ensures)
 
 closed : (c : tie.Else1 Inv-loop μ-loop)
     → GoesOn (c .before) (getD (inLoop (atRun (c .before)) .before .loop .last) (a (atRun (c .before))) 0) → ⊥
 closed c =
-    rw (c .before .before .before .before .wide .ensures) at (rw (c .if1 .left) at (c .before .is-open .ensures))
+    rw (atWide (c .before) .wide .ensures) at (rw (c .if1 .left) at (c .before .is-open .ensures))
 
 loop-holds : tie.Need-loop-holds Inv-loop μ-loop
 loop-holds c =
-    let s = c .before .before .before .before in
+    let s = fromHead c in
     row-start _ _ _ _ _ _ _ _ _ _ (omega (arith, s .pre .1 .1 .0)) (s .pre .1 .1 .1)
     (omega (arith, s .pre .1 .1 .0))
 
@@ -112,14 +134,14 @@ enum-told : tie.Need-enum-told Inv-loop μ-loop
 enum-told c = omega arith
 
 same-length : tie.Need-same-length Inv-loop μ-loop
-same-length c = c .before .before .before .before .loop .inv .same-out
+same-length c = noRun c .before .loop .inv .same-out
 
 same-length-2 : tie.Need-same-length-2 Inv-loop μ-loop
-same-length-2 c = c .before .before .before .before .loop .inv .same-last
+same-length-2 c = noRun c .before .loop .inv .same-last
 
 returns : tie.Need-returns Inv-loop μ-loop
 returns c =
-    let l = c .before .before .before in
+    let l = noRun c in
     row-none _ _ _ _ _ _ _ _ _ _ (omega (arith, atStart l .pre .1 .1 .0)) (atStart l .pre .1 .1 .1) _ _ _ _ _
     (l .before .loop .inv)
     (subst (λ (r : Swept). Found (atStart l) (l .before .loop .x) r) (c .enum-told .given .1)
@@ -136,7 +158,7 @@ slice-read-k c = omega (arith, c .before .wide .ensures, in-last (c .before .bef
 
 is-open-requires : tie.Need-is-open-requires Inv-loop μ-loop
 is-open-requires c κs =
-    let l = inLoop (c .before .before .before) in
+    let l = inLoop (fromArg c) in
     omega (arith, l .before .loop .inv .small, l .before .loop .inv .same-out, atStart l .pre .1 .1 .0)
 
 mul-out : tie.Need-mul-out Inv-loop μ-loop
@@ -177,7 +199,7 @@ returns-2 c =
 
 put-requires : tie.Need-put-requires Inv-loop μ-loop
 put-requires c κs =
-    let l = inLoop (atRun (c .before .before .before)) in
+    let l = inLoop (atRun (fromPut c)) in
     omega (
       arith,
       c .before .if2 .left,
@@ -189,12 +211,12 @@ put-requires c κs =
 mul-last : tie.Need-mul-last Inv-loop μ-loop
 mul-last c =
     let o = notOpen c .before in
-    omega (arith, o .before .before .before .wide .ensures, in-last (atRun o))
+    omega (arith, atWide o .wide .ensures, in-last (atRun o))
 
 slice-write-last : tie.Need-slice-write-last Inv-loop μ-loop
 slice-write-last c =
     let o = notOpen c .before in
-    omega (arith, o .before .before .before .wide .ensures, in-last (atRun o))
+    omega (arith, atWide o .wide .ensures, in-last (atRun o))
 
 add-count : tie.Need-add-count Inv-loop μ-loop
 add-count c = omega (arith, inLoop (atRun (notOpen c .before)) .before .loop .inv .small)
@@ -210,7 +232,7 @@ loop-again c =
     let l = inLoop r in
     row-old _ _ _ _ _ _ _ _ _ _ (omega (arith, atStart l .pre .1 .1 .0)) (atStart l .pre .1 .1 .1) _ _ _ _ _
     (l .before .loop .inv) _ _ _ (swept r) _
-    (ap (λ (u : ℕ). getD (l .before .loop .last) u 0) (c .before .before .before .before .wide .ensures))
+    (ap (λ (u : ℕ). getD (l .before .loop .last) u 0) (atWide (c .before) .wide .ensures))
     (opened c) _ refl
 
 loop-less-2 : tie.Need-loop-less-2 Inv-loop μ-loop
@@ -225,10 +247,10 @@ loop-again-2 c =
     let l = inLoop r in
     row-new _ _ _ _ _ _ _ _ _ _ (omega (arith, atStart l .pre .1 .1 .0)) (atStart l .pre .1 .1 .1) _ _ _ _ _
     (l .before .loop .inv) _ _ _ (swept r) (closed (notOpen c))
-    (omega (arith, c .before .before .before .before .if2 .left, l .before .loop .inv .small)) _ _
+    (omega (arith, hasRoom c .if2 .left, l .before .loop .inv .small)) _ _
     (c .before .before .put .kept .0) (c .before .before .put .ensures)
     (ap (λ (u : ℕ). set (l .before .loop .last) u (l .before .loop .count))
-    (o .before .before .before .wide .ensures))
+    (atWide o .wide .ensures))
 
 same-length-5 : tie.Need-same-length-5 Inv-loop μ-loop
 same-length-5 c = c .before .loop .inv .same-out
@@ -238,7 +260,7 @@ same-length-6 c = c .before .loop .inv .same-last
 
 returns-3 : tie.Need-returns-3 Inv-loop μ-loop
 returns-3 c =
-    let s = c .before .before .before .before .before .before in
+    let s = fromHead (c .before .before) in
     row-end _ _ _ _ _ _ _ _ _ _ (omega (arith, s .pre .1 .1 .0)) (s .pre .1 .1 .1) _ _ _ _ _
     (c .before .loop .inv) (c .loop-test .left)
 

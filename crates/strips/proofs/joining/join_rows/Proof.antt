@@ -40,22 +40,27 @@ change : (c : tie.After-next-change Inv-loop μ-loop)
     (c .next-change .result)
 change c = c .next-change .ensures
 
+-- back to the start from the loop's head, and to the next change
+abbrev fromHead : tie.After-shared-slice-known2 Inv-loop μ-loop → tie.Start Inv-loop μ-loop
+fromHead c = c .before .before .before .before
+
+abbrev afterNextChange : tie.After-join-row-arg2 Inv-loop μ-loop → tie.After-next-change Inv-loop μ-loop
+afterNextChange c = c .before .before
+
 loop-holds : tie.Need-loop-holds Inv-loop μ-loop
-loop-holds c = (
-  omega arith,
-  refl,
-  joined-start _ _ _ _ _ (omega (arith, c .before .before .before .before .pre .0 .width, c .before .before .before .before .pre .1 .1)),
-)
+loop-holds c =
+    let p = fromHead c .pre in
+    (omega arith, refl, joined-start _ _ _ _ _ (omega (arith, p .0 .width, p .1 .1)))
 
 next-change-requires : tie.Need-next-change-requires Inv-loop μ-loop
 next-change-requires c κs = (atStart c .pre .0, omega (arith, c .loop-test .taken))
 
 join-row-requires : tie.Need-join-row-requires Inv-loop μ-loop
 join-row-requires c κs =
-    let l = c .before .before .before in
+    let l = afterNextChange c .before in
     let p = atStart l .pre in
     let j = l .before .loop .inv in
-    let e = c .before .before in
+    let e = afterNextChange c in
     (p .0, (p .1 .0, (omega (arith, p .1 .1, l .loop-test .taken, j .1, j .2 .small, j .2 .same), change e)))
 
 same-length : tie.Need-same-length Inv-loop μ-loop
@@ -76,14 +81,14 @@ returns c =
 
 loop-less : tie.Need-loop-less Inv-loop μ-loop
 loop-less c =
-    let n = joinedRow (c .before) .before .before .before in
+    let n = afterNextChange (joinedRow (c .before) .before) in
     omega (arith, change n .gt, change n .le, n .before .loop-test .taken)
 
 loop-again : tie.Need-loop-again Inv-loop μ-loop
 loop-again c =
     let r = joinedRow (c .before) in
     let j = inLoop r .before .loop .inv in (
-      change (r .before .before .before) .le,
+      change (afterNextChange (r .before)) .le,
       r .join-row .kept .1 .0 ∙ j .1,
       joined-next _ _ _ _ _ _ _ _ _ (r .join-row .ensures _ (joined-toward _ _ _ _ _ _ _ _ _ (j .2))) (c .if1 .left),
     )

@@ -39,11 +39,15 @@ fromRun c = c .before .before .before
 abbrev fromMove : tie.After-larger Inv-loop μ-loop Inv-scan μ-scan → tie.After-inside Inv-loop μ-loop Inv-scan μ-scan
 fromMove c = c .before .before .before .before
 
+abbrev inThen : tie.After-larger Inv-loop μ-loop Inv-scan μ-scan → tie.Then1 Inv-loop μ-loop Inv-scan μ-scan
+inThen c = c .before .before .before
+
 -- in the inner loop: j is a place of the order, a box stands there, and the row's end is not reached
 jlt : (c : tie.In-loop Inv-loop μ-loop Inv-scan μ-scan) → c .before .loop .j < atStart c .args .n
 jlt c = omega (arith, c .before .loop .inv .2 .jn, c .loop-test .left)
 
-klt : (c : tie.In-loop Inv-loop μ-loop Inv-scan μ-scan) → getD (atStart c .args .ord .now) (c .before .loop .j) 0 < atStart c .args .n
+klt : (c : tie.In-loop Inv-loop μ-loop Inv-scan μ-scan)
+    → getD (atStart c .args .ord .now) (c .before .loop .j) 0 < atStart c .args .n
 klt c = atStart c .pre .1 .0 .below _ (jlt c)
 
 atlt : (c : tie.In-loop Inv-loop μ-loop Inv-scan μ-scan) → c .before .loop .at < atStart c .args .w
@@ -130,7 +134,7 @@ scan-again c =
     let t = fromMove c in
     let l = inLoop t in
     sweeping-on _ _ _ _ _ _ _ _ (l .before .loop .inv .2) (jlt l) (klt l)
-    (on-row t _ (c .before .before .before .if1 .taken)) (omega (arith, x0-is t, c .before .if2 .left))
+    (on-row t _ (inThen c .if1 .taken)) (omega (arith, x0-is t, c .before .if2 .left))
     (atStart l .pre .0 .x-end _ (klt l)) _ (omega (arith, c .larger .ensures, x1-is t))
 
 add-j-2 : tie.Need-add-j-2 Inv-loop μ-loop Inv-scan μ-scan

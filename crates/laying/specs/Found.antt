@@ -1,0 +1,26 @@
+-- What a search for the first path between two points of a layout asks for, and what it answers.
+use Prim.Native.Nat.{ℕ, _*_, _≤_, _<_}
+use mathlib.Core.Path.{_≡_}
+use mathlib.Core.Bool.{true}
+use mathlib.Core.List.{List}
+use lib.Dec.{eqb}
+use lib.ListN.{length}
+use Rattle.foil_spec.specs.Foil.{Point, Layout, free}
+use Rattle.foil_spec.specs.Ledger.{pathOf, noPath, cornersOf}
+use Rattle.foil_spec.specs.Lent.{layoutOf}
+use Rattle.zones.specs.Table.{Table}
+use Rattle.search.specs.Search.{Written}
+
+-- the first n entries of a table, on a foil of w by h with clearance d, and two free points
+pub record Posed (t : List ℕ) (n d w h : ℕ) (S T : Point) : Type 0 where
+  pub table : Table t n d w h
+  pub s-free : free (layoutOf w h d n t) (S .x) (S .y) ≡ true
+  pub t-free : free (layoutOf w h d n t) (T .x) (T .y) ≡ true
+
+-- k counts the corners of the first path from S to T, 0 where there is none; up to 129 stand at the front of out, which
+-- is otherwise as it was, and as it was altogether where they do not fit
+pub record Found (l : Layout) (S T : Point) (out out′ : List ℕ) (k : ℕ) : Type 0 where
+  pub none : noPath (pathOf l S T) ≡ eqb k 0
+  pub count : k ≡ length (cornersOf l S T)
+  pub corners : 1 ≤ k → k ≤ 129 → Written (cornersOf l S T) out out′
+  pub untouched : length out < k * 2 → out′ ≡ out

@@ -1,0 +1,85 @@
+-- The lists hold what few boxes ask for.
+use native.Mathlib.Omega.{arith}
+use borrow.Author.Needs.{needs}
+use Rattle.search.proofs.Seeds.{blank}
+use Rattle.search.proofs.path_among_few.Statement.{statement}
+use Rattle.search.proofs.path_among_few.Tie as tie
+
+-- back to the start
+abbrev atStart : tie.After-mark → tie.Start
+atStart c = c .before .before .before .before .before .before .before .before .before .before .before .before .before
+    .before
+
+slice-aggregate-path-in : tie.Need-slice-aggregate-path-in
+slice-aggregate-path-in c = search needs
+
+slice-aggregate-path-in-2 : tie.Need-slice-aggregate-path-in-2
+slice-aggregate-path-in-2 c = search needs
+
+slice-aggregate-path-in-3 : tie.Need-slice-aggregate-path-in-3
+slice-aggregate-path-in-3 c = search needs
+
+slice-aggregate-path-in-4 : tie.Need-slice-aggregate-path-in-4
+slice-aggregate-path-in-4 c = search needs
+
+slice-aggregate-path-in-5 : tie.Need-slice-aggregate-path-in-5
+slice-aggregate-path-in-5 c = search needs
+
+slice-aggregate-path-in-6 : tie.Need-slice-aggregate-path-in-6
+slice-aggregate-path-in-6 c = search needs
+
+slice-aggregate-path-in-7 : tie.Need-slice-aggregate-path-in-7
+slice-aggregate-path-in-7 c = search needs
+
+slice-aggregate-path-in-8 : tie.Need-slice-aggregate-path-in-8
+slice-aggregate-path-in-8 c = search needs
+
+slice-aggregate-path-in-9 : tie.Need-slice-aggregate-path-in-9
+slice-aggregate-path-in-9 c = search needs
+
+slice-aggregate-path-in-10 : tie.Need-slice-aggregate-path-in-10
+slice-aggregate-path-in-10 c = search needs
+
+slice-aggregate-path-in-11 : tie.Need-slice-aggregate-path-in-11
+slice-aggregate-path-in-11 c = search needs
+
+path-in-requires : tie.Need-path-in-requires
+path-in-requires c κs =
+    let start = atStart c in
+    let few = start .pre .1 in (
+      start .pre .0,
+      (
+        record {
+          column-lines = omega arith;
+          row-lines = omega arith;
+          level-links = omega (arith, few);
+          upright-links = omega (arith, few);
+          marks = omega arith;
+        },
+        record {
+          level = omega (arith, few);
+          upright = omega (arith, few);
+          level-few = omega arith;
+          upright-few = omega arith;
+          level-blank = blank 18224;
+          upright-blank = blank 18224;
+          level-inks = omega (arith, few);
+          upright-inks = omega (arith, few);
+          level-queue = omega arith;
+          upright-queue = omega arith;
+        },
+      ),
+    )
+
+same-length : tie.Need-same-length
+same-length c = search needs
+
+returns : tie.Need-returns
+returns c = search needs
+
+pub path-among-few-spec : {M : Type 1} → statement M
+path-among-few-spec =
+    tie.close (tie.spec slice-aggregate-path-in slice-aggregate-path-in-2 slice-aggregate-path-in-3
+    slice-aggregate-path-in-4 slice-aggregate-path-in-5 slice-aggregate-path-in-6 slice-aggregate-path-in-7
+    slice-aggregate-path-in-8 slice-aggregate-path-in-9 slice-aggregate-path-in-10 slice-aggregate-path-in-11
+    path-in-requires same-length returns)

@@ -1,2 +1,0 @@
--- Laws that the proofs of the tracks use.
-pub mod Finding

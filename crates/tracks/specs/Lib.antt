@@ -1,2 +1,0 @@
--- What the contracts of the tracks cite.
-pub mod Found
