@@ -1,11 +1,12 @@
 -- Steps that are run one after the other, and those of one bit more.
-use Prim.Native.Nat.{ℕ, zero, suc, _+_}
+use Prim.Native.Nat.{ℕ, zero, suc, _+_, _≤_}
 use native.Mathlib.Omega.{arith}
-use native.Mathlib.Nat.{add-zero}
+use native.Mathlib.Numerals.{add-one}
 use mathlib.Core.Path.{_≡_, refl, sym, ap, _∙_}
 use mathlib.Core.Bool.{Bool, true, false, cond, _||_}
 use mathlib.Core.List.{List, [], _∷_, _++_, append-nil}
-use lib.ListN.{length, length-append}
+use lib.ListN.{length, drop, length-append, drop-of-length-le}
+use lib.Seq.{drop-at}
 use Rattle.foil_spec.specs.Lists.{range, consIf, any}
 use Rattle.foil_spec.specs.Ledger.{Step, Answer, Room, After}
 use Rattle.foil_spec.specs.Lent.{Lent, stepOn}
@@ -57,12 +58,19 @@ module _ {S : Type 0} (act : Step → S → After Answer S) where
 
 -- ---- the steps of one bit more
 
-range-last : (a n : ℕ) → range a (suc n) ≡ range a n ++ ((a + n) ∷ [])
-range-last a zero = ap (λ (k : ℕ). k ∷ []) (sym (add-zero a))
-range-last a (suc n) =
-    ap (λ (l : List ℕ). a ∷ l)
-    (range-last (suc a) n
-    ∙ ap (λ (k : ℕ). range (suc a) n ++ (k ∷ [])) (let e : suc a + n ≡ a + suc n = omega arith in e))
+range-append : (a n j : ℕ) → range a (n + j) ≡ range a n ++ range (a + n) j
+range-append a zero j =
+    let e : 0 + j ≡ j = omega arith in
+    let f : a ≡ a + 0 = omega arith in
+    ap (range a) e ∙ ap (λ (k : ℕ). range k j) f
+range-append a (suc n) j =
+    let e : suc n + j ≡ suc (n + j) = omega arith in
+    let f : suc a + n ≡ a + suc n = omega arith in
+    ap (range a) e ∙ ap (λ (l : List ℕ). a ∷ l) (range-append (suc a) n j ∙ ap (λ (k : ℕ). range (suc a) n ++ range k j) f)
+
+-- the bits below k, then j more
+pub range-split : (k j : ℕ) → range 0 (k + j) ≡ range 0 k ++ range k j
+range-split k j = range-append 0 k j ∙ ap (λ (i : ℕ). range 0 k ++ range i j) (let e : 0 + k ≡ k = omega arith in e)
 
 module _ (bs : List ℕ) (at : ℕ) where
   steps-append : (js ks : List ℕ) → stepsAt bs at (js ++ ks) ≡ stepsAt bs at js ++ stepsAt bs at ks
@@ -79,7 +87,7 @@ module _ (bs : List ℕ) (at : ℕ) where
   steps-more : (k : ℕ) → stepsAt bs at (range 0 (suc k))
       ≡ stepsAt bs at (range 0 k) ++ consIf (has bs at k) (stepAt bs at k) []
   steps-more k =
-      ap (stepsAt bs at) (range-last 0 k ∙ ap (λ (n : ℕ). range 0 k ++ (n ∷ [])) (let e : 0 + k ≡ k = omega arith in e))
+      ap (λ (n : ℕ). stepsAt bs at (range 0 n)) (sym (add-one k)) ∙ ap (stepsAt bs at) (range-split k 1)
       ∙ steps-append (range 0 k) (k ∷ []) ∙ unfold stepsAt in refl
 
   module _ (r : Room) (m : Lent) (k : ℕ) where
@@ -124,3 +132,42 @@ module _ (bs : List ℕ) (at : ℕ) where
       both (has bs at k)
       (λ o. rw (ran-more r m k o e, o) (simp length-append (omega arith)))
       (λ o. rw (ran-unset r m k o, o) (omega arith)))
+
+  -- there are never more answers than bits that are set
+  ran-few : (r : Room) (m : Lent) (k : ℕ) → length (ranTo r bs at k m .answer) ≤ setBelow (has bs at) k
+  unfolding setBelow
+  ran-few r m zero = unfold stepsAt actAll in omega arith
+  ran-few r m (suc k) =
+      both (any endsJob (ranTo r bs at k m .answer))
+      (λ e. rw (ran-ended r m k e) (omega (arith, ran-few r m k)))
+      (λ e.
+      both (has bs at k)
+      (λ o. rw (ran-more r m k o e, o) (simp length-append (omega (arith, ran-few r m k))))
+      (λ o. rw (ran-unset r m k o, o) (omega (arith, ran-few r m k))))
+
+  -- the answers from the one of bit k on, where it has one, are those of the bits from k on
+  pub ran-from : (r : Room) (m : Lent) (k j : ℕ) (x : Answer) (rest : List Answer)
+      → drop (setBelow (has bs at) k) (ranTo r bs at (k + j) m .answer) ≡ x ∷ rest
+      → (ranTo r bs at (k + j) m .answer ≡ ranTo r bs at k m .answer ++ (x ∷ rest))
+      × (actAll (stepOn r) (stepsAt bs at (range k j)) (ranTo r bs at k m .state) .answer ≡ x ∷ rest)
+  ran-from r m k j x rest h =
+      let xs : List Step = stepsAt bs at (range 0 k) in
+      let ys : List Step = stepsAt bs at (range k j) in
+      let split : ranTo r bs at (k + j) m ≡ actAll (stepOn r) (xs ++ ys) m =
+      ap (λ (ss : List Step). actAll (stepOn r) ss m)
+      (ap (stepsAt bs at) (range-split k j) ∙ steps-append (range 0 k) (range k j)) in
+      both (any endsJob (ranTo r bs at k m .answer))
+      (λ e.
+      let same = split ∙ acts-ended (stepOn r) xs ys m e in
+      let gone : drop (setBelow (has bs at) k) (ranTo r bs at (k + j) m .answer) ≡ [] =
+      ap (λ (a : After (List Answer) Lent). drop (setBelow (has bs at) k) (a .answer)) same
+      ∙ drop-of-length-le (ranTo r bs at k m .answer) (ran-few r m k) in
+      absurd (let z = ap length (sym gone ∙ h) in omega arith))
+      (λ e.
+      let later : List Answer = actAll (stepOn r) ys (ranTo r bs at k m .state) .answer in
+      let whole : ranTo r bs at (k + j) m .answer ≡ ranTo r bs at k m .answer ++ later =
+      ap (λ (a : After (List Answer) Lent). a .answer) (split ∙ acts-on (stepOn r) xs ys m e) in
+      let is : later ≡ x ∷ rest =
+      sym (drop-at (ranTo r bs at k m .answer) later (setBelow (has bs at) k) (ran-length r m k e))
+      ∙ ap (drop (setBelow (has bs at) k)) (sym whole) ∙ h in
+      (whole ∙ ap (λ (l : List Answer). ranTo r bs at k m .answer ++ l) is, is))

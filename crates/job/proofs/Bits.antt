@@ -28,7 +28,7 @@ ready-sound {bs} {at} {k} b h = b .fine (reads-later bs at k h)
 
 -- ---- the steps that write no corners
 
-still-output : (o : Option ℕ) (a : After Outcome Lent) (m : Lent) (out : List ℕ) → a .answer ≡ accepted
+pub still-output : (o : Option ℕ) (a : After Outcome Lent) (m : Lent) (out : List ℕ) → a .answer ≡ accepted
     → out ≡ outputAfter (settle o a m .answer) out
 unfolding settle outputAfter
 still-output none a m out e = rw e refl

@@ -4,7 +4,8 @@ pub mod Checking
 pub mod StaysSound
 pub mod Acting
 pub mod Ending
-pub mod Telling
+pub mod ByBit
 pub mod Bits
 pub mod Stepping
 pub mod Wholes
+pub mod Replies

@@ -28,7 +28,7 @@ use Rattle.job.specs.declared.Reply.the-variants.{Ran}
 use Rattle.job.specs.declared.running.Stepped.{Stepped}
 use Rattle.job.proofs.StaysSound.{steps-sound, first-sound}
 use Rattle.job.proofs.Acting.{ran-unset, ran-ended, ran-more, ran-length}
-use Rattle.job.proofs.Telling.{none-told, answers-more}
+use Rattle.job.proofs.ByBit.{none-told, answers-more}
 
 -- ---- before the first bit
 

@@ -40,6 +40,13 @@ toldAt on given k = cond (on k) (saidAt given (setBelow on k)) Nothing
 unfoldable pub byBit : (ℕ → Told) → Answers
 byBit f = record { board = f 0; patch = f 1; track = f 2; lift = f 3 }
 
+-- what bit k told, by its field
+unfoldable pub toldIn : Answers → ℕ → Told
+toldIn a zero = a .board
+toldIn a (suc zero) = a .patch
+toldIn a (suc (suc zero)) = a .track
+toldIn a (suc (suc (suc k))) = a .lift
+
 -- the answers of the steps that were run, in the fields of their bits
 unfoldable pub answersOf : (ℕ → Bool) → List Answer → Answers
 answersOf on given = byBit (toldAt on given)

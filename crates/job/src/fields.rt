@@ -8,7 +8,7 @@ ghost use Rattle.foil_spec.specs.Job.{mapBits, fieldCount, has as hasBit, field
 ghost use Rattle.job.specs.Parts.{Begun, Given};
 
 // How many bits a map byte may use.
-pub(crate) const MAP_BITS: usize = 4;
+pub const MAP_BITS: usize = 4;
 
 // Whether bit k of the map byte is set.
 pub(crate) fn has(bytes: &[u8], at: usize, k: usize) -> bool

@@ -5,6 +5,7 @@ mod running;
 
 use checks::lending_refusal;
 use checks::record_refusal;
+pub use fields::MAP_BITS;
 use fields::field;
 use foil::Answer;
 use foil::Checked;
@@ -12,11 +13,11 @@ use foil_spec::Board;
 use foil_spec::MAX_ENTRIES;
 use running::run_steps;
 ghost use mathlib.Core.Path.{_≡_};
-ghost use Prim.Native.Nat.{_≤_};
+ghost use Prim.Native.Nat.{_≤_, _<_};
 ghost use Rattle.foil_spec.specs.Limits.{maxEntries};
 ghost use Rattle.foil_spec.specs.Lent.{lent};
-ghost use Rattle.foil_spec.specs.Job.{field as fieldOf};
-ghost use Rattle.job.specs.Contract.{RecordIn, RecordDone};
+ghost use Rattle.foil_spec.specs.Job.{mapBits, field as fieldOf};
+ghost use Rattle.job.specs.Contract.{toldIn, RecordIn, RecordDone};
 ghost use Rattle.job.specs.Parts.{Given, refusedBy};
 
 // What a step of a record answered, if the record has that step and it was run.
@@ -31,6 +32,27 @@ pub struct Answers {
     pub patch: Told,
     pub track: Told,
     pub lift: Told,
+}
+
+// What the step of bit k told.
+pub fn told_by(answers: Answers, k: usize) -> Told
+    requires { ⌜ k < mapBits ⌝ }
+    ensures { λ r. ⌜ r ≡ toldIn answers k ⌝ }
+{
+    let board = answers.board;
+    let patch = answers.patch;
+    let track = answers.track;
+    let lift = answers.lift;
+    if k == 0 {
+        return board;
+    }
+    if k == 1 {
+        return patch;
+    }
+    if k == 2 {
+        return track;
+    }
+    lift
 }
 
 // The place of the next record; none where the job has ended.

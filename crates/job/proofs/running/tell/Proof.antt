@@ -1,5 +1,5 @@
 -- Each field is what its bit told, anew or before.
-use Rattle.job.proofs.Telling.{tell-all}
+use Rattle.job.proofs.ByBit.{tell-all}
 use borrow.Author.Needs.{needs}
 use Rattle.job.proofs.running.tell.Statement.{statement}
 use Rattle.job.proofs.running.tell.Tie as tie

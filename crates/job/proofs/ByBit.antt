@@ -10,9 +10,10 @@ use lib.Dec.{eqb}
 use borrow.Author.Tests.{eq-eqb, ne-eqb}
 use lib.ListN.{length}
 use Rattle.foil_spec.specs.Ledger.{Answer}
+use Rattle.foil_spec.specs.Job.{mapBits}
 use Rattle.foil.specs.Contract.{answerOf}
 use Rattle.list_laws.proofs.Tests.{both, lt-or-le}
-use Rattle.job.specs.Contract.{setBelow, saidAt, toldAt, byBit, answersOf}
+use Rattle.job.specs.Contract.{setBelow, saidAt, toldAt, byBit, toldIn, answersOf}
 use Rattle.job.specs.Parts.{toldMore, ToldMore}
 use Rattle.job.specs.declared.Told.{Told}
 use Rattle.job.specs.declared.Told.the-variants.{Nothing, Said}
@@ -91,3 +92,29 @@ pub tell-all : (a : Answers) (k : ℕ) (t b p c l : Told) → b ≡ cond (eqb 0 
     → ToldMore a k t (record { board = b; patch = p; track = c; lift = l })
 unfolding byBit toldMore
 tell-all a k t b p c l e f g h = record { is = λ d q. rw (e, f, g, h, q) refl }
+
+-- ---- a bit's field
+
+pub told-in : (on : ℕ → Bool) (given : List Answer) (k : ℕ) → k < mapBits → toldIn (answersOf on given) k ≡ toldAt on given k
+unfolding toldIn answersOf byBit
+told-in on given zero h = refl
+told-in on given (suc zero) h = refl
+told-in on given (suc (suc zero)) h = refl
+told-in on given (suc (suc (suc zero))) h = refl
+told-in on given (suc (suc (suc (suc k)))) h = absurd (omega arith)
+
+pub in-board : (a : Answers) (k : ℕ) → k ≡ 0 → a .board ≡ toldIn a k
+unfolding toldIn
+in-board a k e = rw e refl
+
+pub in-patch : (a : Answers) (k : ℕ) → k ≡ 1 → a .patch ≡ toldIn a k
+unfolding toldIn
+in-patch a k e = rw e refl
+
+pub in-track : (a : Answers) (k : ℕ) → k ≡ 2 → a .track ≡ toldIn a k
+unfolding toldIn
+in-track a k e = rw e refl
+
+pub in-lift : (a : Answers) (k : ℕ) → k ≡ 3 → a .lift ≡ toldIn a k
+unfolding toldIn
+in-lift a k e = rw e refl
