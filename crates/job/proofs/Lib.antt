@@ -1,8 +1,11 @@
 -- Laws that the proofs of a record use.
 pub mod Places
 pub mod Checking
-pub mod Corners
+pub mod StaysSound
+pub mod Acting
+pub mod Ending
+pub mod ByBit
+pub mod Bits
 pub mod Stepping
-pub mod Steps
 pub mod Wholes
 pub mod Replies

@@ -3,13 +3,13 @@ use Prim.Native.Nat.{ℕ, zero, suc, _+_, _*_, _≤_, _<_}
 use native.Mathlib.Omega.{arith}
 use native.Mathlib.Numerals.{add-one}
 use mathlib.Core.Path.{_≡_, refl, sym, ap, _∙_}
-use mathlib.Core.Bool.{Bool, true, false, cond, not, _&&_}
+use mathlib.Core.Bool.{Bool, true, false, cond}
 use mathlib.Core.Logic.{⊎-elim}
 use mathlib.Core.List.{List}
-use borrow.Author.Tests.{not-false}
-use Rattle.foil_spec.specs.Job.{fieldCount, has, fieldsAt, recordEnd}
-use Rattle.list_laws.proofs.Tests.{and-l, lt-or-le}
-use Rattle.job.specs.Parts.{Whole, Given}
+use Rattle.foil_spec.specs.Job.{mapBits, fieldCount, has, fieldsAt, recordEnd}
+use Rattle.foil_spec.specs.Lent.{Lent}
+use Rattle.list_laws.proofs.Tests.{lt-or-le}
+use Rattle.job.specs.Parts.{Whole, Given, BitReady}
 
 pub count-small : (k : ℕ) → fieldCount k ≤ 5
 unfolding fieldCount
@@ -47,7 +47,7 @@ module _ (bs : List ℕ) (at : ℕ) where
       (lt-or-le k (suc j))
 
   -- the numbers of a bit that is set are among the bytes
-  pub field-given : Whole bs at → (k i : ℕ) → k < 4 → i < fieldCount k → has bs at k ≡ true → Given bs at k i
+  pub field-given : Whole bs at → (k i : ℕ) → k < mapBits → i < fieldCount k → has bs at k ≡ true → Given bs at k i
   unfolding fieldsAt recordEnd
   field-given w k i l s h =
       let g : fieldsAt bs at k + 2 * fieldCount k ≡ fieldsAt bs at (suc k) = rw h refl in
@@ -55,11 +55,11 @@ module _ (bs : List ℕ) (at : ℕ) where
         begun = w .begun;
         bit = l;
         few = omega (arith, count-small k);
-        there = omega (arith, fields-rise (suc k) 4 (omega arith), w .ends);
+        there = omega (arith, fields-rise (suc k) mapBits (omega arith), w .ends);
       }
 
-  -- so are those of a bit whose step is run
-  pub field-there : Whole bs at → (k i : ℕ) → k < 4 → i < fieldCount k → (e go : Bool) → go ≡ (has bs at k && e)
-      → not go ≡ false → Given bs at k i
-  field-there w k i l s e go q n =
-      field-given w k i l s (and-l (has bs at k) e (sym q ∙ not-false go n))
+  -- so are those of the bit whose step may be run
+  pub field-ready : {k : ℕ} {m : Lent} → BitReady bs at k m → (j i : ℕ) → k ≡ j → i < fieldCount j → Given bs at j i
+  field-ready {k} {m} b j i e l =
+      let q : j < mapBits = omega (arith, b .bit) in
+      field-given (b .whole) j i q l (ap (has bs at) (sym e) ∙ b .set)

@@ -1,35 +1,36 @@
 -- What a reply says of its record: which checks it has passed, which bits its answers come from, and where the
--- corners of its track stand.
-use Prim.Native.Nat.{ℕ, _/_, _≤_}
+-- corners of a track stand.
+use Prim.Native.Nat.{ℕ, zero, suc, _+_, _/_, _≤_}
 use native.Mathlib.Omega.{arith}
-use mathlib.Core.Path.{_≡_, refl, sym, ap, _∙_, subst, subst₂}
-use mathlib.Core.Bool.{Bool, true, false, cond, not, _&&_, xor}
-use mathlib.Core.List.{List, [], _∷_}
+use mathlib.Core.Path.{_≡_, refl, sym, ap, _∙_, subst}
+use mathlib.Core.Bool.{Bool, true, false, cond, not, _&&_, and-true, xor}
+use mathlib.Core.List.{List, [], _∷_, _++_}
+use mathlib.Core.Logic.{_⊎_, inl, inr, ⊎-elim}
 use mathlib.Core.Option.{Option, none, some}
 use lib.Dec.{leb, ltb, eqb}
-use lib.ListN.{length}
+use lib.ListN.{length, drop}
 use borrow.Author.Tests.{ltb-false, leb-false}
-use Rattle.foil_spec.specs.Lists.{consIf}
-use Rattle.foil_spec.specs.Foil.{Point}
-use Rattle.foil_spec.specs.Ledger.{Step, lay, Answer, laid, numberOf, _⇒_, first, After}
-use Rattle.foil_spec.specs.Ledger.{Refusal, short, refusals}
-use Rattle.foil_spec.specs.Lent.{Lent, held, sound, roomOf, cornersAfter, finish, stepOn}
-use Rattle.foil_spec.specs.Job.{has, isEnd, recordEnd, steps, recordChecks}
+use Rattle.foil_spec.specs.Lists.{range}
+use Rattle.foil_spec.specs.Limits.{maxBytes}
+use Rattle.foil_spec.specs.Foil.{Point, Layout}
+use Rattle.foil_spec.specs.Ledger.{Step, lay, Answer, accepted, laid, numberOf, says, first, After, settle}
+use Rattle.foil_spec.specs.Ledger.{Refusal, Room, cornerRoom, cornersOf, afterLent, refusals}
+use Rattle.foil_spec.specs.Lent.{Lent, held, sound, stepOn, overFront, outputAfter, cornersIn}
+use Rattle.foil_spec.specs.Job.{has, isEnd, recordEnd, stepAt, stepsAt, steps, recordChecks}
 use Rattle.foil_spec.specs.Calls.{Reply as Outcome, answered, ran, atEnd, measured, runRecord, endsJob, andThen, actAll}
-use Rattle.foil_spec.specs.Calls.{actRecord, tooLarge, callOn}
-use Rattle.ledger_laws.proofs.Refusals.{none-applies}
-use Rattle.list_laws.proofs.Tests.{not-ff}
-use Rattle.ledger_laws.proofs.Lay.{laid-fits}
+use Rattle.foil_spec.specs.Calls.{actRecord, tooLarge, wholeRefusals, reply, callOn, outputAll}
+use Rattle.list_laws.proofs.Tests.{both, not-ff}
+use Rattle.ledger_laws.proofs.Refusals.{none-applies, unrefused-own}
+use Rattle.ledger_laws.proofs.CornerLists.{corners-read}
+use Rattle.ledger_laws.proofs.Lay.{laid-on}
 use Rattle.ledger_laws.proofs.Opening.{end-no-board}
-use Rattle.foil.specs.declared.Answer.{Answer as Answered}
-use Rattle.job.specs.Contract.{toldAt, restAfter, answersOf, nextOf, replyOf}
-use Rattle.job.specs.Parts.{Whole, boardStep, patchStep, trackStep, liftStep, stepIf, endedAfter}
-use Rattle.job.specs.declared.Told.the-variants.{Said}
+use Rattle.job.specs.Contract.{setBelow, answersOf, nextOf, replyOf}
+use Rattle.job.specs.Parts.{Whole, ranTo}
 use Rattle.job.specs.declared.Answers.{Answers}
 use Rattle.job.specs.declared.Next.{Next}
 use Rattle.job.specs.declared.Reply.the-variants.{Refused, Ran, AtEnd}
-use Rattle.job.proofs.Corners.{Still, step-corners}
-use Rattle.job.proofs.Steps.{left, met, same-left}
+use Rattle.job.proofs.Acting.{ran-from}
+use Rattle.job.proofs.Bits.{still-output}
 
 -- ---- which reply it is
 
@@ -85,36 +86,31 @@ module _ {S : Type 0} (act : Step → S → After Answer S) where
   met-end on none true ss p s h = (refl, refl)
   met-end on none false ss p s h = absurd (let z : _≡_ {A = ℕ} 0 1 = cc in omega arith)
 
-module _ (bs : List ℕ) (at : ℕ) (m : Lent) where
+module _ (r : Room) (bs : List ℕ) (at : ℕ) (m : Lent) where
   abbrev checks : List Refusal
-  checks =
-      (tooLarge bs ⇒ 18)
-      ∷ (short (roomOf m) ⇒ 12)
-      ∷ (not (eqb at 0) && not (sound m) ⇒ 13)
-      ∷ recordChecks bs at
+  checks = wholeRefusals r (not (sound m)) bs at
 
   -- a record whose steps were run, and what it left
   pub record Stepped (given : List Answer) : Type 0 where
     pub whole : Whole bs at
-    pub answers : given ≡ actAll stepOn (steps bs at) m .answer
-    pub state : callOn (runRecord bs at) m .state ≡ actAll stepOn (steps bs at) m .state
+    pub answers : given ≡ actAll (stepOn r) (steps bs at) m .answer
+    pub state : callOn r (runRecord bs at) m .state ≡ actAll (stepOn r) (steps bs at) m .state
 
   whole-record : first checks ≡ none → isEnd bs at ≡ false → Whole bs at
-  unfolding recordChecks tooLarge
+  unfolding wholeRefusals afterLent recordChecks tooLarge
   whole-record e f =
-      let large : ltb 60000 (length bs) ≡ false = search none-applies in
+      let large : ltb maxBytes (length bs) ≡ false = search none-applies in
       let there : leb (length bs) at ≡ false = search none-applies depth 9 in
       let ends : (not (isEnd bs at) && ltb (length bs) (recordEnd bs at)) ≡ false = search none-applies depth 12 in
       record {
-        begun = record { there = leb-false (length bs) at there; few = ltb-false 60000 (length bs) large };
+        begun = record { there = leb-false (length bs) at there; few = ltb-false maxBytes (length bs) large };
         ends = ltb-false (length bs) (recordEnd bs at) (rw f at ends);
       }
 
-  pub stepped : (given : List Answer) (n : Option ℕ) → callOn (runRecord bs at) m .answer ≡ ran given n
-      → Stepped given
-  unfolding callOn actRecord
+  pub stepped : (given : List Answer) (n : Option ℕ) → callOn r (runRecord bs at) m .answer ≡ ran given n → Stepped given
+  unfolding callOn reply actRecord
   stepped given n h =
-      let a = ran-all stepOn (first checks) (isEnd bs at) (steps bs at) (recordEnd bs at) m given n h in
+      let a = ran-all (stepOn r) (first checks) (isEnd bs at) (steps bs at) (recordEnd bs at) m given n h in
       record {
         whole = whole-record (a .unrefused) (a .not-end);
         answers = a .answers;
@@ -123,9 +119,9 @@ module _ (bs : List ℕ) (at : ℕ) (m : Lent) where
 
   -- a place at which the end mark was met is not 0, so that 13 was tried, and nothing is changed
   pub record Ended : Type 0 where
-    pub answer : callOn (runRecord bs at) m .answer ≡ atEnd
+    pub answer : callOn r (runRecord bs at) m .answer ≡ atEnd
     pub fine : sound m ≡ true
-    pub state : callOn (runRecord bs at) m .state ≡ m
+    pub state : callOn r (runRecord bs at) m .state ≡ m
 
   later-place : first (recordChecks bs at) ≡ none → isEnd bs at ≡ true → eqb at 0 ≡ false
   unfolding recordChecks xor
@@ -137,122 +133,180 @@ module _ (bs : List ℕ) (at : ℕ) (m : Lent) where
       go true q = q
       go false q = refl
 
-  pub ended : (on : ℕ → Bool) → AtEnd ≡ replyOf on (callOn (runRecord bs at) m .answer) → Ended
-  unfolding callOn actRecord
+  pub ended : (on : ℕ → Bool) → AtEnd ≡ replyOf on (callOn r (runRecord bs at) m .answer) → Ended
+  unfolding callOn reply actRecord wholeRefusals afterLent
   ended on h =
-      let a = met-end stepOn on (first checks) (isEnd bs at) (steps bs at) (recordEnd bs at) m h in
+      let a = met-end (stepOn r) on (first checks) (isEnd bs at) (steps bs at) (recordEnd bs at) m h in
       let e = a .0 in
       let checked : first (recordChecks bs at) ≡ none = search none-applies depth 9 in
-      let broken : (not (eqb at 0) && not (sound m)) ≡ false = search none-applies depth 9 in
-      let tried : not (sound m) ≡ false = rw (later-place checked (a .1)) at broken in
+      let broken : (not (sound m) && not (eqb at 0)) ≡ false = search none-applies depth 9 in
+      let tried : not (sound m) ≡ false = rw (later-place checked (a .1), and-true (not (sound m))) at broken in
       record { answer = rw (a .0, a .1) refl; fine = not-ff (sound m) tried; state = rw (a .0, a .1) refl }
-
--- ---- the bits that its answers come from
-
--- a bit that told something is set
-pub told-bit : (b : Bool) (given : List Answer) (x : Answered) → toldAt b given ≡ Said x → b ≡ true
-unfolding toldAt
-told-bit true given x e = refl
-told-bit false given x e = absurd (let z : _≡_ {A = ℕ} 0 1 = cc in omega arith)
 
 -- ---- the corner list
 
--- where a step was answered a, its corners fit the list, and stand at its front afterwards
-pub record Tracked (a : Answer) (ks ks′ : List ℕ) : Type 0 where
-  pub fits : (cs : List Point) (n : ℕ) → a ≡ laid cs n → length cs ≤ length ks / 2
-  pub front : ks′ ≡ cornersAfter a ks
+-- where a step was answered a, its corners fit an output list of so many numbers, and stand at the front of out
+pub record Tracked (a : Answer) (room : ℕ) (out : List ℕ) : Type 0 where
+  pub fits : (cs : List Point) (n : ℕ) → a ≡ laid cs n → length cs ≤ room / 2
+  pub front : (cs : List Point) (n : ℕ) → a ≡ laid cs n → cornersIn out (length cs) ≡ cs
 
-tracked-as : {a : Answer} {ks ks′ js js′ : List ℕ} → Tracked a ks ks′ → ks ≡ js → ks′ ≡ js′ → Tracked a js js′
-tracked-as {a} t e f = subst₂ (Tracked a) e f t
+settled-still : (o : Option ℕ) (a : After Answer Lent) (m : Lent) (cs : List Point) (n : ℕ) → a .answer ≡ accepted
+    → settle o a m .answer ≡ laid cs n → ⊥
+unfolding settle
+settled-still none a m cs n e h = let z : _≡_ {A = ℕ} 0 1 = cc in omega arith
+settled-still (some k) a m cs n e h = let z : _≡_ {A = ℕ} 0 1 = cc in omega arith
 
-still-corners : (c : Step) → Still c → (m : Lent) → stepOn c m .state .corners ≡ m .corners
-still-corners c u m = ap (λ a. a .state .corners) (step-corners c u (m .board) (m .table) (m .strips) (m .corners))
-
-still-if : (go : Bool) (c : Step) → Still c → (m : Lent) → stepIf go c m .state .corners ≡ m .corners
-unfolding stepIf
-still-if true c u m = still-corners c u m
-still-if false c u m = refl
-
-finish-corners : (o : Option ℕ) (c : Step) (m : Lent)
-    → finish o c m .state .corners ≡ cornersAfter (finish o c m .answer) (m .corners)
-unfolding finish cornersAfter
-finish-corners (some n) c m = refl
-finish-corners none c m = refl
-
-lay-tracked : (net : ℕ) (S T : Point) (m : Lent)
-    → Tracked (stepOn (lay net S T) m .answer) (m .corners) (stepOn (lay net S T) m .state .corners)
+-- a step that writes no corners answers none
+still-laid : (r : Room) (c : Step) (m : Lent) → ((l : Layout) → says c l ≡ accepted) → (cs : List Point) (n : ℕ)
+    → stepOn r c m .answer ≡ laid cs n → ⊥
 unfolding stepOn
-lay-tracked net S T m =
-    record {
-      fits = λ cs n e. unfold roomOf in laid-fits m net S T cs n e;
-      front = finish-corners (first (refusals (lay net S T) (roomOf m) (not (sound m)) (held m))) (lay net S T) m;
-    }
+still-laid r c m still cs n h = settled-still _ _ m cs n (still (held m)) h
 
--- the answer of the first step stands first
-head-is : (c : Step) (cs : List Step) (m : Lent) (a : Answer) (l : List Answer)
-    → actAll stepOn (c ∷ cs) m .answer ≡ a ∷ l → stepOn c m .answer ≡ a
+still-same : (r : Room) (c : Step) (m : Lent) (out : List ℕ) → ((l : Layout) → says c l ≡ accepted)
+    → outputAfter (stepOn r c m .answer) out ≡ out
+unfolding stepOn
+still-same r c m out still = sym (still-output _ _ m out (still (held m)))
+
+lay-fits : (r : Room) (m : Lent) (net : ℕ) (S T : Point) (cs : List Point) (n : ℕ)
+    → stepOn r (lay net S T) m .answer ≡ laid cs n → length cs ≤ r .output / 2
+unfolding refusals cornerRoom
+lay-fits r m net S T cs n h =
+    let a = laid-on r m net S T cs n h in
+    let own = unrefused-own r (lay net S T) (held m) (not (sound m)) (a .unrefused) in
+    let f : ltb (r .output / 2) (length (cornersOf (held m) S T)) ≡ false = search none-applies depth 12 in
+    omega (arith, ltb-false (r .output / 2) (length (cornersOf (held m) S T)) f, ap length (a .corners))
+
+outputs-append : (xs ys : List Answer) (out : List ℕ) → outputAll (xs ++ ys) out ≡ outputAll ys (outputAll xs out)
+unfolding outputAll
+outputs-append [] ys out = refl
+outputs-append (x ∷ xs) ys out = outputs-append xs ys (outputAfter x out)
+
+-- what the first of some steps answered, and what the others did
+record Heads (r : Room) (c : Step) (ss : List Step) (m : Lent) (x : Answer) (rest : List Answer) : Type 0 where
+  is : stepOn r c m .answer ≡ x
+  later : (rest ≡ []) ⊎ (rest ≡ actAll (stepOn r) ss (stepOn r c m .state) .answer)
+
+heads : (r : Room) (c : Step) (ss : List Step) (m : Lent) (x : Answer) (rest : List Answer)
+    → actAll (stepOn r) (c ∷ ss) m .answer ≡ x ∷ rest → Heads r c ss m x rest
 unfolding actAll andThen
-head-is c cs m a l h = go (endsJob (stepOn c m .answer)) h
+heads r c ss m x rest h = go (endsJob (stepOn r c m .answer)) h
   where
     go : (t : Bool)
         → cond {A = After (List Answer) Lent} t
-        (record { answer = stepOn c m .answer ∷ []; state = stepOn c m .state })
+        (record { answer = stepOn r c m .answer ∷ []; state = stepOn r c m .state })
         (record {
-          answer = stepOn c m .answer ∷ actAll stepOn cs (stepOn c m .state) .answer;
-          state = actAll stepOn cs (stepOn c m .state) .state;
+          answer = stepOn r c m .answer ∷ actAll (stepOn r) ss (stepOn r c m .state) .answer;
+          state = actAll (stepOn r) ss (stepOn r c m .state) .state;
         }) .answer
-        ≡ a ∷ l → stepOn c m .answer ≡ a
-    go true k = cc
-    go false k = cc
+        ≡ x ∷ rest → Heads r c ss m x rest
+    go true k = record { is = cc; later = inl cc }
+    go false k = record { is = cc; later = inr cc }
 
--- a lay that is met among the steps that are left, before one that takes no corner list
-lay-met : (e : Bool) (net : ℕ) (S T : Point) (on : Bool) (c : Step) → Still c → (m : Lent) (a : Answer)
-    (l : List Answer) → left e (lay net S T ∷ consIf on c []) m .answer ≡ a ∷ l
-    → Tracked a (m .corners) (left e (lay net S T ∷ consIf on c []) m .state .corners)
-unfolding left stepIf
-lay-met true net S T on c u m a l h = absurd (let z : _≡_ {A = ℕ} 0 1 = cc in omega arith)
-lay-met false net S T on c u m a l h =
-    let laid-now = met true false (lay net S T) (consIf on c []) m in
-    let m′ : Lent = stepOn (lay net S T) m .state in
-    let e′ : Bool = endedAfter false (some (stepOn (lay net S T) m .answer)) in
-    let last = met on e′ c [] m′ in
-    let m″ : Lent = stepIf (on && not e′) c m′ .state in
-    let e″ : Bool = endedAfter e′ (stepIf (on && not e′) c m′ .answer) in
-    let same : left false (lay net S T ∷ consIf on c []) m .state .corners ≡ m′ .corners =
-    ap (λ (n : Lent). n .corners) (laid-now .state ∙ last .state ∙ same-left e″ m″)
-    ∙ still-if (on && not e′) c u m′ in
-    subst (λ (x : Answer). Tracked x (m .corners) (left false (lay net S T ∷ consIf on c []) m .state .corners))
-    (head-is (lay net S T) (consIf on c []) m a l h)
-    (rw same (lay-tracked net S T m))
+quiet-first : (r : Room) (c : Step) (ss : List Step) (m : Lent) (out : List ℕ)
+    → outputAfter (stepOn r c m .answer) out ≡ out
+    → outputAll (actAll (stepOn r) ss (stepOn r c m .state) .answer) out ≡ out
+    → outputAll (actAll (stepOn r) (c ∷ ss) m .answer) out ≡ out
+unfolding actAll andThen outputAll
+quiet-first r c ss m out same later = go (endsJob (stepOn r c m .answer))
+  where
+    rest : After (List Answer) Lent
+    rest = actAll (stepOn r) ss (stepOn r c m .state)
 
--- a step that takes no corner list is met among the steps that are left: the others go on from lists with the same one
-record Quiet (on e : Bool) (c : Step) (cs : List Step) (m : Lent) : Type 0 where
-  over : Bool
-  lists : Lent
-  rest : restAfter on (left e (consIf on c cs) m .answer) ≡ left over cs lists .answer
-  state : left e (consIf on c cs) m .state ≡ left over cs lists .state
-  corners : lists .corners ≡ m .corners
+    go : (t : Bool)
+        → outputAll (cond {A = After (List Answer) Lent} t
+        (record { answer = stepOn r c m .answer ∷ []; state = stepOn r c m .state })
+        (record { answer = stepOn r c m .answer ∷ rest .answer; state = rest .state }) .answer) out ≡ out
+    go true = same
+    go false = ap (outputAll (rest .answer)) same ∙ later
 
-quiet : (on e : Bool) (c : Step) → Still c → (cs : List Step) (m : Lent) → Quiet on e c cs m
-quiet on e c u cs m =
-    let x = met on e c cs m in
-    record { over = _; lists = _; rest = x .rest; state = x .state; corners = still-if (on && not e) c u m }
+module _ (r : Room) (bs : List ℕ) (at : ℕ) where
+  lifts : (i : ℕ) (l : Layout) → says (stepAt bs at (suc (suc (suc i)))) l ≡ accepted
+  unfolding stepAt says
+  lifts i l = refl
 
--- the record's lay, if it was answered
-pub track-left : (bs : List ℕ) (at : ℕ) (m : Lent) (a : Answer) (l : List Answer) → has bs at 2 ≡ true
-    → restAfter (has bs at 1) (restAfter (has bs at 0) (actAll stepOn (steps bs at) m .answer)) ≡ a ∷ l
-    → Tracked a (m .corners) (actAll stepOn (steps bs at) m .state .corners)
-unfolding steps left
-track-left bs at m a l on h =
-    let from-3 : List Step = consIf (has bs at 3) (liftStep bs at) [] in
-    let from-2 : List Step = consIf (has bs at 2) (trackStep bs at) from-3 in
-    let x = quiet (has bs at 0) false (boardStep bs at) tt (consIf (has bs at 1) (patchStep bs at) from-2) m in
-    let y = quiet (has bs at 1) (x .over) (patchStep bs at) tt from-2 (x .lists) in
-    let lays : from-2 ≡ trackStep bs at ∷ from-3 = rw on refl in
-    let told : left (y .over) (trackStep bs at ∷ from-3) (y .lists) .answer ≡ a ∷ l =
-    ap (λ (ss : List Step). left (y .over) ss (y .lists) .answer) (sym lays)
-    ∙ sym (ap (restAfter (has bs at 1)) (x .rest) ∙ y .rest) ∙ h in
-    let t = lay-met (y .over) _ _ _ (has bs at 3) (liftStep bs at) tt (y .lists) a l told in
-    let all : actAll stepOn (steps bs at) m .state ≡ left (y .over) (trackStep bs at ∷ from-3) (y .lists) .state =
-    x .state ∙ y .state ∙ ap (λ (ss : List Step). left (y .over) ss (y .lists) .state) lays in
-    tracked-as t (y .corners ∙ x .corners) (ap (λ (n : Lent). n .corners) (sym all))
+  -- the bits after the track's write no corners
+  quiet : (i j : ℕ) (m : Lent) (out : List ℕ)
+      → outputAll (actAll (stepOn r) (stepsAt bs at (range (suc (suc (suc i))) j)) m .answer) out ≡ out
+  unfolding stepsAt
+  quiet i zero m out = unfold actAll outputAll in refl
+  quiet i (suc j) m out =
+      let c : Step = stepAt bs at (suc (suc (suc i))) in
+      both (has bs at (suc (suc (suc i))))
+      (λ set.
+      rw set
+      (quiet-first r c (stepsAt bs at (range (suc (suc (suc (suc i)))) j)) m out (still-same r c m out (lifts i))
+      (quiet (suc i) j (stepOn r c m .state) out)))
+      (λ unset. rw unset (quiet (suc i) j m out))
+
+  module _ (m : Lent) (out : List ℕ) (k j : ℕ) (x : Answer) (rest : List Answer) (set : has bs at k ≡ true)
+      (h : drop (setBelow (has bs at) k) (ranTo r bs at (k + suc j) m .answer) ≡ x ∷ rest) where
+    abbrev before : Lent
+    before = ranTo r bs at k m .state
+
+    abbrev later-steps : List Step
+    later-steps = stepsAt bs at (range (suc k) j)
+
+    abbrev Done : Type 0
+    Done = Tracked x (r .output) (outputAll (ranTo r bs at (k + suc j) m .answer) out)
+
+    whole : ranTo r bs at (k + suc j) m .answer ≡ ranTo r bs at k m .answer ++ (x ∷ rest)
+    whole = ran-from bs at r m k (suc j) x rest h .0
+
+    met : Heads r (stepAt bs at k) later-steps before x rest
+    unfolding stepsAt
+    met = heads r (stepAt bs at k) later-steps before x rest (rw set at (ran-from bs at r m k (suc j) x rest h .1))
+
+    still : ((l : Layout) → says (stepAt bs at k) l ≡ accepted) → Done
+    still s =
+        record {
+          fits = λ cs n e. absurd (still-laid r (stepAt bs at k) before s cs n (met .is ∙ e));
+          front = λ cs n e. absurd (still-laid r (stepAt bs at k) before s cs n (met .is ∙ e));
+        }
+
+    -- what was written before does not matter, and nothing is written after
+    only-last : (i : ℕ) → k ≡ suc (suc i)
+        → outputAll (ranTo r bs at (k + suc j) m .answer) out ≡ outputAfter x (outputAll (ranTo r bs at k m .answer) out)
+    only-last i e =
+        ap (λ (given : List Answer). outputAll given out) whole
+        ∙ outputs-append (ranTo r bs at k m .answer) (x ∷ rest) out ∙ unfold outputAll in nothing
+        (outputAfter x (outputAll (ranTo r bs at k m .answer) out))
+      where
+        nothing : (o : List ℕ) → outputAll rest o ≡ o
+        nothing o =
+            ⊎-elim
+            (λ (q : rest ≡ []). rw q (unfold outputAll in refl))
+            (λ (q : rest ≡ actAll (stepOn r) later-steps (stepOn r (stepAt bs at k) before .state) .answer).
+            rw q
+            (subst (λ (n : ℕ). outputAll
+            (actAll (stepOn r) (stepsAt bs at (range (suc n) j)) (stepOn r (stepAt bs at k) before .state) .answer) o ≡ o)
+            (sym e) (quiet i j (stepOn r (stepAt bs at k) before .state) o)))
+            (met .later)
+
+    lay-front : (i : ℕ) → k ≡ suc (suc i) → (cs : List Point) (n : ℕ) → x ≡ laid cs n
+        → cornersIn (outputAll (ranTo r bs at (k + suc j) m .answer) out) (length cs) ≡ cs
+    unfolding outputAfter overFront
+    lay-front i e cs n q =
+        ap (λ (o : List ℕ). cornersIn o (length cs)) (only-last i e)
+        ∙ subst (λ (y : Answer). cornersIn (outputAfter y (outputAll (ranTo r bs at k m .answer) out)) (length cs) ≡ cs) (sym q)
+        (corners-read cs _)
+
+    laid-bit : (c : Step) → stepAt bs at k ≡ c → (net : ℕ) (S T : Point) → c ≡ lay net S T → (cs : List Point) (n : ℕ)
+        → x ≡ laid cs n → length cs ≤ r .output / 2
+    laid-bit c e net S T f cs n q =
+        lay-fits r before net S T cs n
+        (ap (λ (s : Step). stepOn r s before .answer) (sym (e ∙ f)) ∙ met .is ∙ q)
+
+    by-bit : (i : ℕ) → k ≡ i → Done
+    unfolding stepAt
+    by-bit zero e = still (λ l. rw e (unfold says in refl))
+    by-bit (suc zero) e = still (λ l. rw e (unfold says in refl))
+    by-bit (suc (suc zero)) e =
+        record {
+          fits = laid-bit (stepAt bs at 2) (ap (stepAt bs at) e) _ _ _ refl;
+          front = lay-front 0 e;
+        }
+    by-bit (suc (suc (suc i))) e = still (λ l. rw e (unfold says in refl))
+
+    -- the corners of the answer of a bit that is set, of the bits up to k + j
+    pub bit-tracked : Done
+    bit-tracked = by-bit k refl

@@ -1,13 +1,15 @@
--- What the contract of a record says: reply, board and lists are what the definitions give.
-use Prim.Native.Nat.{ℕ}
+-- What the contract of a record says: reply, board, lists and corner list are what the definitions give.
+use Prim.Native.Nat.{ℕ, zero, suc, _+_}
 use mathlib.Core.Path.{_≡_}
-use mathlib.Core.Bool.{Bool, true, false}
+use mathlib.Core.Bool.{Bool, cond}
 use mathlib.Core.List.{List, [], _∷_}
 use mathlib.Core.Option.{Option, none, some}
-use Rattle.foil_spec.specs.Ledger.{Answer, numberOf}
-use Rattle.foil_spec.specs.Lent.{Lent}
+use lib.ListN.{length}
+use Rattle.foil_spec.specs.Limits.{maxEntries}
+use Rattle.foil_spec.specs.Ledger.{Answer, numberOf, After}
+use Rattle.foil_spec.specs.Lent.{Lent, roomIn}
 use Rattle.foil_spec.specs.Job.{has}
-use Rattle.foil_spec.specs.Calls.{runRecord, callOn, answered, ran, atEnd, measured}
+use Rattle.foil_spec.specs.Calls.{runRecord, callOn, answered, ran, atEnd, measured, outputBy}
 use Rattle.foil_spec.specs.Calls.{Reply as Outcome}
 use Rattle.foil.specs.Contract.{answerOf}
 use Rattle.job.specs.declared.Told.{Told}
@@ -19,27 +21,35 @@ use Rattle.job.specs.declared.Reply.{Reply}
 use Rattle.job.specs.declared.Reply.the-variants.{Refused, Ran, AtEnd}
 use Rattle.job.specs.declared.Replied.{Replied}
 
--- what a bit's step told: the first of the answers that are left, where the bit is set
-unfoldable pub toldAt : Bool → List Answer → Told
-toldAt true (a ∷ l) = Said (answerOf a)
-toldAt true [] = Nothing
-toldAt false l = Nothing
+-- how many bits below k are set; `on` says which are
+unfoldable pub setBelow : (ℕ → Bool) → ℕ → ℕ
+setBelow on zero = 0
+setBelow on (suc k) = setBelow on k + cond (on k) 1 0
 
--- the answers that are left after it
-unfoldable pub restAfter : Bool → List Answer → List Answer
-restAfter true (a ∷ l) = l
-restAfter true [] = []
-restAfter false l = l
+-- answer i of a list, if it has so many
+unfoldable pub saidAt : List Answer → ℕ → Told
+saidAt [] i = Nothing
+saidAt (a ∷ given) zero = Said (answerOf a)
+saidAt (a ∷ given) (suc i) = saidAt given i
 
--- the answers in the places of their bits; `on` says which bits are set
+-- what the step of bit k told, by the answers of the steps that were run
+unfoldable pub toldAt : (ℕ → Bool) → List Answer → ℕ → Told
+toldAt on given k = cond (on k) (saidAt given (setBelow on k)) Nothing
+
+-- what each bit told, in the field of the bit
+unfoldable pub byBit : (ℕ → Told) → Answers
+byBit f = record { board = f 0; patch = f 1; track = f 2; lift = f 3 }
+
+-- what bit k told, by its field
+unfoldable pub toldIn : Answers → ℕ → Told
+toldIn a zero = a .board
+toldIn a (suc zero) = a .patch
+toldIn a (suc (suc zero)) = a .track
+toldIn a (suc (suc (suc k))) = a .lift
+
+-- the answers of the steps that were run, in the fields of their bits
 unfoldable pub answersOf : (ℕ → Bool) → List Answer → Answers
-answersOf on l =
-    record {
-      board = toldAt (on 0) l;
-      patch = toldAt (on 1) (restAfter (on 0) l);
-      track = toldAt (on 2) (restAfter (on 1) (restAfter (on 0) l));
-      lift = toldAt (on 3) (restAfter (on 2) (restAfter (on 1) (restAfter (on 0) l)));
-    }
+answersOf on given = byBit (toldAt on given)
 
 -- the next place, if there is one
 unfoldable pub nextOf : Option ℕ → Next
@@ -49,14 +59,23 @@ nextOf none = Nowhere
 -- document 01's number and values for each case of a record's reply, which is never ohms; `on` says which bits are set
 unfoldable pub replyOf : (ℕ → Bool) → Outcome → Reply
 replyOf on (answered a) = Refused (numberOf a)
-replyOf on (ran l n) = Ran (answersOf on l) (nextOf n)
+replyOf on (ran given n) = Ran (answersOf on given) (nextOf n)
 replyOf on atEnd = AtEnd
 replyOf on (measured x) = AtEnd
 
--- the record at a place was lent m, answered r, and left the table t, the strips s and the corner list ks
-pub record RecordDone (bs : List ℕ) (at : ℕ) (m : Lent) (r : Replied) (t s ks : List ℕ) : Type 0 where
-  pub reply : r .reply ≡ replyOf (has bs at) (callOn (runRecord bs at) m .answer)
-  pub board : r .board ≡ callOn (runRecord bs at) m .state .board
-  pub table : t ≡ callOn (runRecord bs at) m .state .table
-  pub strips : s ≡ callOn (runRecord bs at) m .state .strips
-  pub corners : ks ≡ callOn (runRecord bs at) m .state .corners
+-- the reply, the record, the table t and the strips s are those of a, and the output list is out after that reply
+pub record Replies (on : ℕ → Bool) (a : After Outcome Lent) (out : List ℕ) (r : Replied) (t s out′ : List ℕ) : Type 0 where
+  pub reply : r .reply ≡ replyOf on (a .answer)
+  pub board : r .board ≡ a .state .board
+  pub table : t ≡ a .state .table
+  pub strips : s ≡ a .state .strips
+  pub output : out′ ≡ outputBy (a .answer) out
+
+-- the record at a place was lent m and the corner list out, on a foil of so many entries at most
+abbrev pub RecordIn : ℕ → List ℕ → ℕ → Lent → List ℕ → Replied → List ℕ → List ℕ → List ℕ → Type 0
+RecordIn limit bs at m out r t s out′ =
+    Replies (has bs at) (callOn (roomIn limit m (length out)) (runRecord bs at) m) out r t s out′
+
+-- the same on a foil that may fill its table
+abbrev pub RecordDone : List ℕ → ℕ → Lent → List ℕ → Replied → List ℕ → List ℕ → List ℕ → Type 0
+RecordDone bs at m out r t s out′ = RecordIn maxEntries bs at m out r t s out′

@@ -1,33 +1,35 @@
 -- What the contracts of a record's parts say.
 use Prim.Native.Nat.{ℕ, _+_, _*_, _≤_, _<_}
 use mathlib.Core.Path.{_≡_}
-use mathlib.Core.Bool.{Bool, true, false, not, _&&_}
+use mathlib.Core.Bool.{Bool, true, false, cond, not}
 use mathlib.Core.List.{List, [], _∷_}
 use mathlib.Core.Option.{Option, none, some}
 use lib.Dec.{eqb}
 use lib.ListN.{length}
-use Rattle.foil_spec.specs.Foil.{point}
-use Rattle.foil_spec.specs.Ledger.{Step, newFoil, draw, lay, lift, Answer, Refusal, _⇒_, first, short, After}
-use Rattle.foil_spec.specs.Lent.{Lent, lent, sound, roomOf, stepOn}
-use Rattle.foil_spec.specs.Job.{has, fieldsAt, recordEnd, field, steps}
-use Rattle.foil_spec.specs.Calls.{Reply as Outcome, endsJob, actRecord, tooLarge}
+use Rattle.foil_spec.specs.Lists.{range, any}
+use Rattle.foil_spec.specs.Limits.{tableSize, stripsSize, maxBytes}
+use Rattle.foil_spec.specs.Ledger.{Step, Answer, first, reads, Room, short, After}
+use Rattle.foil_spec.specs.Lent.{Lent, lent, sound, roomIn, stepOn}
+use Rattle.foil_spec.specs.Job.{mapBits, has, fieldsAt, recordEnd, stepAt, stepsAt, steps}
+use Rattle.foil_spec.specs.Calls.{endsJob, actAll, actRecord, wholeRefusals, outputAll}
 use Rattle.foil_spec.specs.declared.Board.{Board}
 use Rattle.foil.specs.Contract.{answerOf}
 use Rattle.foil.specs.declared.Answer.{Answer as Answered}
-use Rattle.foil.specs.declared.Done.{Done}
-use Rattle.job.specs.Contract.{replyOf}
+use Rattle.foil.specs.declared.lent.Checked.{Checked}
+use Rattle.foil.specs.declared.lent.Checked.the-variants as checked
+use Rattle.job.specs.Contract.{byBit, answersOf, Replies}
 use Rattle.job.specs.declared.Told.{Told}
-use Rattle.job.specs.declared.Told.the-variants.{Nothing, Said}
+use Rattle.job.specs.declared.Answers.{Answers}
 use Rattle.job.specs.declared.Reply.the-variants.{Refused as RefusedWhole}
 use Rattle.job.specs.declared.Replied.{Replied}
-use Rattle.job.specs.declared.checks.Checked.{Checked}
-use Rattle.job.specs.declared.checks.Checked.the-variants.{Passed, Refused}
 use Rattle.job.specs.declared.running.Stepped.{Stepped}
+
+-- ---- the fields
 
 -- bytes that are not too many, and a place among them
 pub record Begun (bs : List ℕ) (at : ℕ) : Type 0 where
   pub there : at < length bs
-  pub few : length bs ≤ 60000
+  pub few : length bs ≤ maxBytes
 
 -- a record all of whose fields are among the bytes
 pub record Whole (bs : List ℕ) (at : ℕ) : Type 0 where
@@ -37,23 +39,29 @@ pub record Whole (bs : List ℕ) (at : ℕ) : Type 0 where
 -- number i of the fields of bit k is among the bytes
 pub record Given (bs : List ℕ) (at k i : ℕ) : Type 0 where
   pub begun : Begun bs at
-  pub bit : k < 4
+  pub bit : k < mapBits
   pub few : i < 5
   pub there : fieldsAt bs at k + 2 * i + 2 ≤ length bs
 
+-- ---- the checks
+
 -- whether checks are passed, by the number of the first that is not
 unfoldable pub checkedOf : Option ℕ → Checked
-checkedOf none = Passed
-checkedOf (some n) = Refused n
+checkedOf none = checked.Passed
+checkedOf (some n) = checked.Refused n
 
--- the checks before the record itself is looked at
-unfoldable pub fileChecks : List ℕ → ℕ → Lent → List Refusal
-fileChecks bs at m =
-    (tooLarge bs ⇒ 18) ∷ (short (roomOf m) ⇒ 12) ∷ (not (eqb at 0) && not (sound m) ⇒ 13) ∷ []
+-- what is known of the bytes and of what is lent where 18, 12 and 13 do not refuse the record at a place
+pub record Lends (bs : List ℕ) (at : ℕ) (m : Lent) : Type 0 where
+  pub few : length bs ≤ maxBytes
+  pub table : tableSize ≤ length (m .table)
+  pub strips : stripsSize ≤ length (m .strips)
+  pub fine : (at ≡ 0 → ⊥) → sound m ≡ true
 
--- the answer of those checks, whatever corner list is lent
-pub record FileChecked (bs : List ℕ) (at : ℕ) (b : Board) (t s : List ℕ) (r : Checked) : Type 0 where
-  pub is : (ks : List ℕ) → r ≡ checkedOf (first (fileChecks bs at (lent b t s ks)))
+-- r says that they do not, or the number that refuses the record
+pub record LendingChecked (bs : List ℕ) (at : ℕ) (m : Lent) (r : Checked) : Type 0 where
+  pub passed : r ≡ checked.Passed → Lends bs at m
+  pub refused : (n : ℕ) → r ≡ checked.Refused n → (limit output : ℕ)
+      → first (wholeRefusals (roomIn limit m output) (not (sound m)) bs at) ≡ some n
 
 -- a record that is refused as a whole
 abbrev pub refusedBy : ℕ → Board → Replied
@@ -61,74 +69,63 @@ refusedBy n b = record { reply = RefusedWhole n; board = b }
 
 -- ---- the steps
 
--- the step of each bit of the record at a place
-module _ (bs : List ℕ) (at : ℕ) where
-  abbrev pub boardStep : Step
-  boardStep = newFoil (field bs at 0 0) (field bs at 0 1) (field bs at 0 2)
+-- the steps of a record may be run on m: its fields are among the bytes, the lists are long enough, and the foil keeps
+-- the rules unless the record begins one
+pub record Ready (bs : List ℕ) (at : ℕ) (m : Lent) : Type 0 where
+  pub whole : Whole bs at
+  pub table : tableSize ≤ length (m .table)
+  pub strips : stripsSize ≤ length (m .strips)
+  pub fine : has bs at 0 ≡ false → sound m ≡ true
 
-  abbrev pub patchStep : Step
-  patchStep = draw (field bs at 1 0) (field bs at 1 1) (field bs at 1 2) (field bs at 1 3)
+-- the step of bit k, which is set, may be run on m
+pub record BitReady (bs : List ℕ) (at k : ℕ) (m : Lent) : Type 0 where
+  pub whole : Whole bs at
+  pub bit : k < mapBits
+  pub set : has bs at k ≡ true
+  pub table : tableSize ≤ length (m .table)
+  pub strips : stripsSize ≤ length (m .strips)
+  pub fine : reads (stepAt bs at k) ≡ true → sound m ≡ true
 
-  abbrev pub trackStep : Step
-  trackStep =
-      lay (field bs at 2 0) (point (field bs at 2 1) (field bs at 2 2)) (point (field bs at 2 3) (field bs at 2 4))
+-- the same if it is set and the job has not ended
+pub record MayRun (bs : List ℕ) (at k : ℕ) (ended : Bool) (m : Lent) : Type 0 where
+  pub begun : Begun bs at
+  pub bit : k < mapBits
+  pub ready : has bs at k ≡ true → ended ≡ false → BitReady bs at k m
 
-  abbrev pub liftStep : Step
-  liftStep = lift (field bs at 3 0)
+-- the steps of the bits below k, run in the room r on m
+abbrev pub ranTo : Room → List ℕ → ℕ → ℕ → Lent → After (List Answer) Lent
+ranTo r bs at k m = actAll (stepOn r) (stepsAt bs at (range 0 k)) m
 
--- a step of a record, if it is to be run
-unfoldable pub stepIf : Bool → Step → Lent → After (Option Answer) Lent
-stepIf true c m = record { answer = some (stepOn c m .answer); state = stepOn c m .state }
-stepIf false c m = record { answer = none; state = m }
+-- they were run, and m was lent with the output list out: they left d, the table t, the strips s and the output list
+-- out′
+pub record RanTo (r : Room) (bs : List ℕ) (at k : ℕ) (m : Lent) (out : List ℕ) (d : Stepped) (t s out′ : List ℕ)
+    : Type 0 where
+  pub answers : d .answers ≡ answersOf (has bs at) (ranTo r bs at k m .answer)
+  pub ended : d .ended ≡ any endsJob (ranTo r bs at k m .answer)
+  pub state : lent (d .board) t s ≡ ranTo r bs at k m .state
+  pub output : out′ ≡ outputAll (ranTo r bs at k m .answer) out
 
--- what it told, if it was run
-unfoldable pub toldOf : Option Answer → Told
-toldOf none = Nothing
-toldOf (some a) = Said (answerOf a)
+-- bit k was run after the bits below it had left d, t, s and out: with it the bits up to k have left d′, t′, s′ and out′
+pub record GoesOn (limit : ℕ) (bs : List ℕ) (at k : ℕ) (d : Stepped) (t s out : List ℕ) (d′ : Stepped)
+    (t′ s′ out′ : List ℕ) : Type 0 where
+  pub is : (r : Room) (m : Lent) (o : List ℕ) → short r ≡ false → r .limit ≡ limit → r .output ≡ length out
+      → RanTo r bs at k m o d t s out → RanTo r bs at (k + 1) m o d′ t′ s′ out′
 
--- whether the job has ended after it; e says whether it had before
-unfoldable pub endedAfter : Bool → Option Answer → Bool
-endedAfter e none = e
-endedAfter e (some a) = endsJob a
+-- bit k told t, each other bit what it told before
+unfoldable pub toldMore : (ℕ → Told) → ℕ → Told → ℕ → Told
+toldMore f k t j = cond (eqb j k) t (f j)
+
+-- the answers r are a, where bit k told t
+pub record ToldMore (a : Answers) (k : ℕ) (t : Told) (r : Answers) : Type 0 where
+  pub is : (f : ℕ → Told) → a ≡ byBit f → r ≡ byBit (toldMore f k t)
 
 -- r says whether the answer of a step ends the job
 pub record Ends (a : Answered) (r : Bool) : Type 0 where
   pub is : (o : Answer) → a ≡ answerOf o → r ≡ endsJob o
 
--- after a step that is not run
-abbrev pub skipped : Stepped → Stepped
-skipped before = record { told = Nothing; ended = before .ended; board = before .board }
-
--- after a step that was run
-pub record Ran (d : Done) (r : Stepped) : Type 0 where
-  pub told : r .told ≡ Said (d .answer)
-  pub ended : Ends (d .answer) (r .ended)
-  pub board : r .board ≡ d .board
-
--- step c, to be run if `go`, was lent t, s and ks after a step that left `before`; it left r, t′, s′ and ks′
-pub record Went (go : Bool) (c : Step) (before : Stepped) (t s ks : List ℕ) (r : Stepped) (t′ s′ ks′ : List ℕ)
-    : Type 0 where
-  pub told : r .told ≡ toldOf (stepIf go c (lent (before .board) t s ks) .answer)
-  pub ended : r .ended ≡ endedAfter (before .ended) (stepIf go c (lent (before .board) t s ks) .answer)
-  pub board : r .board ≡ stepIf go c (lent (before .board) t s ks) .state .board
-  pub table : t′ ≡ stepIf go c (lent (before .board) t s ks) .state .table
-  pub strips : s′ ≡ stepIf go c (lent (before .board) t s ks) .state .strips
-  pub corners : ks′ ≡ stepIf go c (lent (before .board) t s ks) .state .corners
-
--- the same of a step that takes no corner list: whatever one is lent, it stays as it is
-pub record Apart (go : Bool) (c : Step) (before : Stepped) (t s : List ℕ) (r : Stepped) (t′ s′ : List ℕ)
-    : Type 0 where
-  pub is : (ks : List ℕ) → Went go c before t s ks r t′ s′ ks
-
--- a reply, and what is left of what was lent, are those of a
-pub record Replies (on : ℕ → Bool) (a : After Outcome Lent) (r : Replied) (t s ks : List ℕ) : Type 0 where
-  pub reply : r .reply ≡ replyOf on (a .answer)
-  pub board : r .board ≡ a .state .board
-  pub table : t ≡ a .state .table
-  pub strips : s ≡ a .state .strips
-  pub corners : ks ≡ a .state .corners
-
--- the steps of the record at a place were run on m
-abbrev pub StepsDone : List ℕ → ℕ → Lent → Replied → List ℕ → List ℕ → List ℕ → Type 0
-StepsDone bs at m r t s ks =
-    Replies (has bs at) (actRecord stepOn none false (steps bs at) (recordEnd bs at) m) r t s ks
+-- the steps of the record at a place were run on m and the output list out, on a foil of so many entries at most
+abbrev pub StepsDone : ℕ → List ℕ → ℕ → Lent → List ℕ → Replied → List ℕ → List ℕ → List ℕ → Type 0
+StepsDone limit bs at m out r t s out′ =
+    Replies (has bs at)
+    (actRecord (stepOn (roomIn limit m (length out))) none false (steps bs at) (recordEnd bs at) m)
+    out r t s out′

@@ -1,58 +1,55 @@
 // The checks of a record, in their order.
+use crate::fields::MAP_BITS;
 use crate::fields::fields_at;
 use crate::fields::has;
+use foil::Checked;
+use foil::lent_refusal;
 use foil::lists_short;
 use foil_spec::Board;
-use state::is_sound;
+use foil_spec::MAX_BYTES;
 ghost use mathlib.Core.Path.{_≡_};
 ghost use mathlib.Core.Bool.{xor};
 ghost use Prim.Native.Nat.{_≤_, _<_};
 ghost use lib.Dec.{eqb};
 ghost use lib.ListN.{length};
+ghost use Rattle.foil_spec.specs.Limits.{maxBytes};
 ghost use Rattle.foil_spec.specs.Ledger.{first};
+ghost use Rattle.foil_spec.specs.Lent.{lent};
 ghost use Rattle.foil_spec.specs.Job.{has as hasBit, recordChecks};
-ghost use Rattle.job.specs.Parts.{checkedOf, FileChecked};
-
-// Whether checks are passed, or the number of the first that is not.
-pub enum Checked {
-    Passed,
-    Refused(u8),
-}
+ghost use Rattle.job.specs.Parts.{checkedOf, LendingChecked};
 
 // The checks before the record itself is looked at: 18, 12 and, unless the place is 0, 13.
-pub(crate) fn file_refusal(
+pub(crate) fn lending_refusal(
     table: &[u16],
     strips: &[u16],
     board: Board,
     bytes: &[u8],
     at: usize,
 ) -> Checked
-    ensures { λ r. ⌜ FileChecked (now (bytes .entry)) at board (now (table .entry)) (now (strips .entry)) r ⌝ }
+    ensures { λ r. ⌜ LendingChecked (now (bytes .entry)) at
+        (lent board (now (table .entry)) (now (strips .entry))) r ⌝ }
 {
-    if 60000 < bytes.len() {
+    if MAX_BYTES < bytes.len() {
         return Checked::Refused(18);
+    }
+    if at != 0 {
+        return lent_refusal(table, strips, board);
     }
     if lists_short(table, strips) {
         return Checked::Refused(12);
-    }
-    if at == 0 {
-        return Checked::Passed;
-    }
-    if !is_sound(table, strips, board) {
-        return Checked::Refused(13);
     }
     Checked::Passed
 }
 
 // The checks of the record at a place.
 pub(crate) fn record_refusal(bytes: &[u8], at: usize) -> Checked
-    requires { ⌜ length (now bytes) ≤ 60000 ⌝ }
+    requires { ⌜ length (now bytes) ≤ maxBytes ⌝ }
     ensures { λ r. ⌜ r ≡ checkedOf (first (recordChecks (now (bytes .entry)) at)) ⌝ }
 {
     if bytes.len() <= at {
         return Checked::Refused(14);
     }
-    if 15 < bytes[at] {
+    if 1 << MAP_BITS <= bytes[at] {
         return Checked::Refused(15);
     }
     if board_misplaced(bytes, at) {
@@ -64,7 +61,7 @@ pub(crate) fn record_refusal(bytes: &[u8], at: usize) -> Checked
         }
         return Checked::Passed;
     }
-    if bytes.len() < fields_at(bytes, at, 4) {
+    if bytes.len() < fields_at(bytes, at, MAP_BITS) {
         return Checked::Refused(14);
     }
     Checked::Passed

@@ -4,12 +4,15 @@ ghost use mathlib.Core.Path.{_≡_};
 ghost use mathlib.Core.Bool.{cond};
 ghost use Prim.Native.Nat.{_*_, _≤_, _<_};
 ghost use lib.ListN.{length};
-ghost use Rattle.foil_spec.specs.Job.{fieldCount, has as hasBit, fieldsAt, field as fieldOf};
+ghost use Rattle.foil_spec.specs.Job.{mapBits, fieldCount, has as hasBit, fieldsAt, field as fieldOf};
 ghost use Rattle.job.specs.Parts.{Begun, Given};
+
+// How many bits a map byte may use.
+pub const MAP_BITS: usize = 4;
 
 // Whether bit k of the map byte is set.
 pub(crate) fn has(bytes: &[u8], at: usize, k: usize) -> bool
-    requires { ⌜ (at < length (now bytes)) × (k < 4) ⌝ }
+    requires { ⌜ (at < length (now bytes)) × (k < mapBits) ⌝ }
     ensures { λ r. ⌜ r ≡ hasBit (now (bytes .entry)) at k ⌝ }
 {
     (bytes[at] >> k) % 2 == 1
@@ -17,7 +20,7 @@ pub(crate) fn has(bytes: &[u8], at: usize, k: usize) -> bool
 
 // How many bytes the fields of bit k take: two for each number.
 fn field_bytes(bytes: &[u8], at: usize, k: usize) -> usize
-    requires { ⌜ (at < length (now bytes)) × (k < 4) ⌝ }
+    requires { ⌜ (at < length (now bytes)) × (k < mapBits) ⌝ }
     ensures { λ r. ⌜ r ≡ cond (hasBit (now (bytes .entry)) at k) (2 * fieldCount k) 0 ⌝ }
 {
     if !has(bytes, at, k) {
@@ -27,10 +30,10 @@ fn field_bytes(bytes: &[u8], at: usize, k: usize) -> usize
     2 * counts[k]
 }
 
-// Where the fields of bit k begin, or would begin; the place after the record where k is 4.
+// Where the fields of bit k begin, or would begin; the place after the record where k is MAP_BITS.
 pub(crate) fn fields_at(bytes: &[u8], at: usize, k: usize) -> usize
     requires { ⌜ Begun (now bytes) at ⌝ }
-    requires { ⌜ k ≤ 4 ⌝ }
+    requires { ⌜ k ≤ mapBits ⌝ }
     ensures { λ r. ⌜ r ≡ fieldsAt (now (bytes .entry)) at k ⌝ }
 {
     let mut place = at + 1;

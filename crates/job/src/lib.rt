@@ -3,17 +3,21 @@ mod checks;
 mod fields;
 mod running;
 
-use checks::Checked;
-use checks::file_refusal;
+use checks::lending_refusal;
 use checks::record_refusal;
+pub use fields::MAP_BITS;
 use fields::field;
 use foil::Answer;
+use foil::Checked;
 use foil_spec::Board;
+use foil_spec::MAX_ENTRIES;
 use running::run_steps;
 ghost use mathlib.Core.Path.{_≡_};
+ghost use Prim.Native.Nat.{_≤_, _<_};
+ghost use Rattle.foil_spec.specs.Limits.{maxEntries};
 ghost use Rattle.foil_spec.specs.Lent.{lent};
-ghost use Rattle.foil_spec.specs.Job.{field as fieldOf};
-ghost use Rattle.job.specs.Contract.{RecordDone};
+ghost use Rattle.foil_spec.specs.Job.{mapBits, field as fieldOf};
+ghost use Rattle.job.specs.Contract.{toldIn, RecordIn, RecordDone};
 ghost use Rattle.job.specs.Parts.{Given, refusedBy};
 
 // What a step of a record answered, if the record has that step and it was run.
@@ -28,6 +32,27 @@ pub struct Answers {
     pub patch: Told,
     pub track: Told,
     pub lift: Told,
+}
+
+// What the step of bit k told.
+pub fn told_by(answers: Answers, k: usize) -> Told
+    requires { ⌜ k < mapBits ⌝ }
+    ensures { λ r. ⌜ r ≡ toldIn answers k ⌝ }
+{
+    let board = answers.board;
+    let patch = answers.patch;
+    let track = answers.track;
+    let lift = answers.lift;
+    if k == 0 {
+        return board;
+    }
+    if k == 1 {
+        return patch;
+    }
+    if k == 2 {
+        return track;
+    }
+    lift
 }
 
 // The place of the next record; none where the job has ended.
@@ -60,11 +85,30 @@ pub fn run_record(
     at: usize,
 ) -> Replied
     ensures { λ r. ⌜ RecordDone (now (bytes .entry)) at
-        (lent board (now (table .entry)) (now (strips .entry)) (now (corners .entry)))
+        (lent board (now (table .entry)) (now (strips .entry))) (now (corners .entry))
         r (now (table .exit)) (now (strips .exit)) (now (corners .exit)) ⌝ }
 {
-    let whole = file_refusal(table, strips, board, bytes, at);
-    if let Checked::Refused(number) = whole {
+    run_record_in(table, strips, corners, board, MAX_ENTRIES, bytes, at)
+}
+
+// Runs the record on a foil that may have so many entries. What is lent is checked once, before its
+// steps.
+pub fn run_record_in(
+    table: &mut [u16],
+    strips: &mut [u16],
+    corners: &mut [u16],
+    board: Board,
+    limit: usize,
+    bytes: &[u8],
+    at: usize,
+) -> Replied
+    requires { ⌜ limit ≤ maxEntries ⌝ }
+    ensures { λ r. ⌜ RecordIn limit (now (bytes .entry)) at
+        (lent board (now (table .entry)) (now (strips .entry))) (now (corners .entry))
+        r (now (table .exit)) (now (strips .exit)) (now (corners .exit)) ⌝ }
+{
+    let lending = lending_refusal(table, strips, board, bytes, at);
+    if let Checked::Refused(number) = lending {
         return refuse(number, board);
     }
     let checked = record_refusal(bytes, at);
@@ -77,7 +121,7 @@ pub fn run_record(
             board,
         };
     }
-    run_steps(table, strips, corners, board, bytes, at)
+    run_steps(table, strips, corners, board, limit, bytes, at)
 }
 
 // A record that is refused as a whole; the board's record stays as it is.

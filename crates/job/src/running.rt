@@ -1,34 +1,38 @@
-// The steps of a record that has passed its checks, in bit order. A step that is refused by 1 or 2 ends
-// the job, and none is run after it.
+// The steps of a record that has passed its checks, bit by bit. A step that is refused by 1 or 2 ends
+// the job, and none is run after it. The foil keeps the rules before every step but the board's, so that
+// no step checks it again.
 use crate::Answers;
 use crate::Next;
 use crate::Replied;
 use crate::Reply;
 use crate::Told;
+use crate::fields::MAP_BITS;
 use crate::fields::field;
 use crate::fields::fields_at;
 use crate::fields::has;
 use foil::Answer;
 use foil::Done;
-use foil::draw;
-use foil::lift;
-use foil::new_foil;
+use foil::draw_in;
+use foil::lift_in;
+use foil::new_foil_in;
 use foil_spec::Board;
-use laying::lay;
+use laying::lay_in;
 ghost use mathlib.Core.Path.{_≡_};
-ghost use mathlib.Core.Bool.{cond, not, _&&_};
+ghost use mathlib.Core.Bool.{true, false, cond, not, _&&_};
 ghost use mathlib.Core.Option.{none, some};
-ghost use Prim.Native.Nat.{_<_};
+ghost use Prim.Native.Nat.{_<_, _≤_};
+ghost use lib.Dec.{eqb};
 ghost use lib.ListN.{length};
+ghost use Rattle.foil_spec.specs.Limits.{maxEntries};
 ghost use Rattle.foil_spec.specs.Lent.{lent};
-ghost use Rattle.foil_spec.specs.Job.{has as hasBit};
+ghost use Rattle.foil_spec.specs.Job.{mapBits, has as hasBit, stepAt};
+ghost use Rattle.foil.specs.Contract.{OutputIn};
 ghost use Rattle.job.specs.Contract.{nextOf};
-ghost use Rattle.job.specs.Parts.{Whole, boardStep, patchStep, trackStep, liftStep};
-ghost use Rattle.job.specs.Parts.{StepsDone, Went, Apart, Ran, Ends, skipped};
+ghost use Rattle.job.specs.Parts.{Ready, MayRun, BitReady, StepsDone, GoesOn, ToldMore, Ends};
 
-// What a step told, whether the job has ended, and the board's record after the step.
+// What the steps told so far, whether the job has ended, and the board's record after them.
 struct Stepped {
-    told: Told,
+    answers: Answers,
     ended: bool,
     board: Board,
 }
@@ -39,166 +43,147 @@ pub(crate) fn run_steps(
     strips: &mut [u16],
     corners: &mut [u16],
     board: Board,
+    limit: usize,
     bytes: &[u8],
     at: usize,
 ) -> Replied
-    requires { ⌜ Whole (now bytes) at ⌝ }
-    ensures { λ r. ⌜ StepsDone (now (bytes .entry)) at
-        (lent board (now (table .entry)) (now (strips .entry)) (now (corners .entry)))
+    requires { ⌜ Ready (now bytes) at (lent board (now table) (now strips)) ⌝ }
+    requires { ⌜ limit ≤ maxEntries ⌝ }
+    ensures { λ r. ⌜ StepsDone limit (now (bytes .entry)) at
+        (lent board (now (table .entry)) (now (strips .entry))) (now (corners .entry))
         r (now (table .exit)) (now (strips .exit)) (now (corners .exit)) ⌝ }
 {
-    let start = Stepped {
-        told: Told::Nothing,
+    let mut so_far = Stepped {
+        answers: Answers {
+            board: Told::Nothing,
+            patch: Told::Nothing,
+            track: Told::Nothing,
+            lift: Told::Nothing,
+        },
         ended: false,
         board,
     };
-    let begun = board_step(table, strips, start, bytes, at);
-    let drawn = patch_step(table, strips, begun, bytes, at);
-    let laid = track_step(table, strips, corners, drawn, bytes, at);
-    let lifted = lift_step(table, strips, laid, bytes, at);
-    let board_told = begun.told;
-    let patch_told = drawn.told;
-    let track_told = laid.told;
-    let lift_told = lifted.told;
-    let answers = Answers {
-        board: board_told,
-        patch: patch_told,
-        track: track_told,
-        lift: lift_told,
-    };
-    let next = next_place(lifted.ended, fields_at(bytes, at, 4));
-    let left = lifted.board;
+    let mut k = 0;
+    while k < MAP_BITS {
+        so_far = run_bit(table, strips, corners, so_far, limit, bytes, at, k);
+        k += 1;
+    }
+    let answers = so_far.answers;
+    let next = next_place(so_far.ended, fields_at(bytes, at, MAP_BITS));
+    let left = so_far.board;
     Replied {
         reply: Reply::Ran(answers, next),
         board: left,
     }
 }
 
-// Begins the foil, where bit 0 is set.
-fn board_step(
-    table: &mut [u16],
-    strips: &mut [u16],
-    before: Stepped,
-    bytes: &[u8],
-    at: usize,
-) -> Stepped
-    requires { ⌜ Whole (now bytes) at ⌝ }
-    ensures { λ r. ⌜ Apart (hasBit (now (bytes .entry)) at 0 && not (before .ended))
-        (boardStep (now (bytes .entry)) at)
-        before (now (table .entry)) (now (strips .entry)) r (now (table .exit)) (now (strips .exit)) ⌝ }
-{
-    if !runs(bytes, at, 0, before) {
-        return skip(before);
-    }
-    let w = field(bytes, at, 0, 0);
-    let h = field(bytes, at, 0, 1);
-    let d = field(bytes, at, 0, 2);
-    after(new_foil(table, strips, before.board, w, h, d))
-}
-
-// Draws the patch, where bit 1 is set.
-fn patch_step(
-    table: &mut [u16],
-    strips: &mut [u16],
-    before: Stepped,
-    bytes: &[u8],
-    at: usize,
-) -> Stepped
-    requires { ⌜ Whole (now bytes) at ⌝ }
-    ensures { λ r. ⌜ Apart (hasBit (now (bytes .entry)) at 1 && not (before .ended))
-        (patchStep (now (bytes .entry)) at)
-        before (now (table .entry)) (now (strips .entry)) r (now (table .exit)) (now (strips .exit)) ⌝ }
-{
-    if !runs(bytes, at, 1, before) {
-        return skip(before);
-    }
-    let x0 = field(bytes, at, 1, 0);
-    let y0 = field(bytes, at, 1, 1);
-    let x1 = field(bytes, at, 1, 2);
-    let y1 = field(bytes, at, 1, 3);
-    after(draw(table, strips, before.board, x0, y0, x1, y1))
-}
-
-// Lays the track, where bit 2 is set.
-fn track_step(
+// Runs the step of bit k after those of the bits below it, if the record has it and the job has not
+// ended.
+fn run_bit(
     table: &mut [u16],
     strips: &mut [u16],
     corners: &mut [u16],
     before: Stepped,
+    limit: usize,
     bytes: &[u8],
     at: usize,
+    k: usize,
 ) -> Stepped
-    requires { ⌜ Whole (now bytes) at ⌝ }
-    ensures { λ r. ⌜ Went (hasBit (now (bytes .entry)) at 2 && not (before .ended))
-        (trackStep (now (bytes .entry)) at)
+    requires { ⌜ MayRun (now bytes) at k (before .ended) (lent (before .board) (now table) (now strips)) ⌝ }
+    requires { ⌜ limit ≤ maxEntries ⌝ }
+    ensures { λ r. ⌜ GoesOn limit (now (bytes .entry)) at k
         before (now (table .entry)) (now (strips .entry)) (now (corners .entry))
         r (now (table .exit)) (now (strips .exit)) (now (corners .exit)) ⌝ }
 {
-    if !runs(bytes, at, 2, before) {
-        return skip(before);
+    if !runs(bytes, at, k, before.ended) {
+        return before;
     }
-    let net = field(bytes, at, 2, 0);
-    let sx = field(bytes, at, 2, 1);
-    let sy = field(bytes, at, 2, 2);
-    let tx = field(bytes, at, 2, 3);
-    let ty = field(bytes, at, 2, 4);
-    after(lay(table, strips, corners, before.board, net, sx, sy, tx, ty))
+    let done = step_of(table, strips, corners, before.board, limit, bytes, at, k);
+    let answer = done.answer;
+    let left = done.board;
+    Stepped {
+        answers: tell(before.answers, k, Told::Said(answer)),
+        ended: ends_job(answer),
+        board: left,
+    }
 }
 
-// Lifts the net, where bit 3 is set.
-fn lift_step(
+// Does the step of bit k, which is set: one arm a bit.
+fn step_of(
     table: &mut [u16],
     strips: &mut [u16],
-    before: Stepped,
+    corners: &mut [u16],
+    board: Board,
+    limit: usize,
     bytes: &[u8],
     at: usize,
-) -> Stepped
-    requires { ⌜ Whole (now bytes) at ⌝ }
-    ensures { λ r. ⌜ Apart (hasBit (now (bytes .entry)) at 3 && not (before .ended))
-        (liftStep (now (bytes .entry)) at)
-        before (now (table .entry)) (now (strips .entry)) r (now (table .exit)) (now (strips .exit)) ⌝ }
+    k: usize,
+) -> Done
+    requires { ⌜ BitReady (now bytes) at k (lent board (now table) (now strips)) ⌝ }
+    requires { ⌜ limit ≤ maxEntries ⌝ }
+    ensures { λ r. ⌜ OutputIn (stepAt (now (bytes .entry)) at k) limit
+        (lent board (now (table .entry)) (now (strips .entry))) (now (corners .entry))
+        r (now (table .exit)) (now (strips .exit)) (now (corners .exit)) ⌝ }
 {
-    if !runs(bytes, at, 3, before) {
-        return skip(before);
+    if k == 0 {
+        let w = field(bytes, at, 0, 0);
+        let h = field(bytes, at, 0, 1);
+        let d = field(bytes, at, 0, 2);
+        return new_foil_in(table, strips, board, w, h, d);
     }
-    let net = field(bytes, at, 3, 0);
-    after(lift(table, strips, before.board, net))
+    if k == 1 {
+        let x0 = field(bytes, at, 1, 0);
+        let y0 = field(bytes, at, 1, 1);
+        let x1 = field(bytes, at, 1, 2);
+        let y1 = field(bytes, at, 1, 3);
+        return draw_in(table, strips, board, limit, x0, y0, x1, y1);
+    }
+    if k == 2 {
+        let net = field(bytes, at, 2, 0);
+        let sx = field(bytes, at, 2, 1);
+        let sy = field(bytes, at, 2, 2);
+        let tx = field(bytes, at, 2, 3);
+        let ty = field(bytes, at, 2, 4);
+        return lay_in(table, strips, corners, board, limit, net, sx, sy, tx, ty);
+    }
+    lift_in(table, strips, board, field(bytes, at, 3, 0))
+}
+
+// The answers, where bit k told this: one line a bit.
+fn tell(answers: Answers, k: usize, told: Told) -> Answers
+    ensures { λ r. ⌜ ToldMore answers k told r ⌝ }
+{
+    let board = answers.board;
+    let patch = answers.patch;
+    let track = answers.track;
+    let lift = answers.lift;
+    Answers {
+        board: newer(0, board, k, told),
+        patch: newer(1, patch, k, told),
+        track: newer(2, track, k, told),
+        lift: newer(3, lift, k, told),
+    }
+}
+
+// What a bit told, where bit k has told this since.
+fn newer(bit: usize, before: Told, k: usize, told: Told) -> Told
+    ensures { λ r. ⌜ r ≡ cond (eqb bit k) told before ⌝ }
+{
+    if bit == k {
+        return told;
+    }
+    before
 }
 
 // Whether the step of bit k is run: the record has it, and the job has not ended.
-fn runs(bytes: &[u8], at: usize, k: usize, before: Stepped) -> bool
-    requires { ⌜ (at < length (now bytes)) × (k < 4) ⌝ }
-    ensures { λ r. ⌜ r ≡ (hasBit (now (bytes .entry)) at k && not (before .ended)) ⌝ }
+fn runs(bytes: &[u8], at: usize, k: usize, ended: bool) -> bool
+    requires { ⌜ (at < length (now bytes)) × (k < mapBits) ⌝ }
+    ensures { λ r. ⌜ r ≡ (hasBit (now (bytes .entry)) at k && not ended) ⌝ }
 {
     if !has(bytes, at, k) {
         return false;
     }
-    !before.ended
-}
-
-// After a step that is not run.
-fn skip(before: Stepped) -> Stepped
-    ensures { λ r. ⌜ r ≡ skipped before ⌝ }
-{
-    let board = before.board;
-    Stepped {
-        told: Told::Nothing,
-        ended: before.ended,
-        board,
-    }
-}
-
-// After a step that was run.
-fn after(done: Done) -> Stepped
-    ensures { λ r. ⌜ Ran done r ⌝ }
-{
-    let answer = done.answer;
-    let board = done.board;
-    Stepped {
-        told: Told::Said(answer),
-        ended: ends_job(answer),
-        board,
-    }
+    !ended
 }
 
 // Whether an answer is a refusal by 1 or 2.

@@ -1,3 +1,4 @@
+-- Each return is the first of the checks that is not passed, or none is left.
 use Rattle.job.proofs.Checking.{no-byte, unknown, misplaced, end-early, end-last, cut-short, complete}
 use borrow.Author.Needs.{needs}
 use Rattle.job.proofs.checks.record_refusal.Statement.{statement}
@@ -5,6 +6,12 @@ use Rattle.job.proofs.checks.record_refusal.Tie as tie
 
 returns : tie.Need-returns
 returns c = no-byte _ _ (c .if1 .taken)
+
+cast-if2 : tie.Need-cast-if2
+cast-if2 c = search needs
+
+shl-if2 : tie.Need-shl-if2
+shl-if2 c = search needs
 
 shared-slice-read-if2 : tie.Need-shared-slice-read-if2
 shared-slice-read-if2 c = search needs
@@ -64,6 +71,8 @@ record-refusal-spec =
     tie.close
     (tie.spec
     returns
+    cast-if2
+    shl-if2
     shared-slice-read-if2
     returns-2
     board-misplaced-requires

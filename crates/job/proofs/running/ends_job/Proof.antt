@@ -1,4 +1,5 @@
-use Rattle.job.proofs.Stepping.{no-refusal, ends-other, ends-1, ends-2}
+-- The answer is a refusal by 1, by 2, or neither.
+use Rattle.job.proofs.Ending.{no-refusal, ends-other, ends-1, ends-2}
 use borrow.Author.Needs.{needs}
 use Rattle.job.proofs.running.ends_job.Statement.{statement}
 use Rattle.job.proofs.running.ends_job.Tie as tie

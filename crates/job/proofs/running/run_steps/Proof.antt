@@ -1,96 +1,79 @@
+-- After the bits below k, what they have left is what the definitions give for them.
+use Prim.Native.Nat.{_-_, _≤_}
 use native.Mathlib.Omega.{arith}
+use mathlib.Core.Path.{_≡_, refl}
+use lib.ListN.{length}
+use Rattle.foil_spec.specs.Lent.{lent, roomIn}
+use Rattle.foil_spec.specs.Job.{mapBits}
+use Rattle.job.specs.Parts.{RanTo}
+use Rattle.job.proofs.Stepping.{ran-none, bit-ready, next-bit, steps-done}
 use borrow.Author.Needs.{needs}
-use Rattle.job.proofs.Steps.{steps-done}
 use Rattle.job.proofs.running.run_steps.Statement.{statement}
 use Rattle.job.proofs.running.run_steps.Tie as tie
 
-board-step-requires : tie.Need-board-step-requires
-board-step-requires c κs = c .before .before .before .before .before .before .pre
+abbrev Inv-loop : tie.InvT-loop
+Inv-loop table₀ strips₀ corners₀ limit bytes at so-far₀ k₀ table strips corners so-far k =
+    (k ≤ mapBits) × (length table ≡ length table₀) × (length strips ≡ length strips₀) × (length corners ≡ length corners₀)
+    × RanTo (roomIn limit (lent (so-far₀ .board) table₀ strips₀) (length corners₀)) bytes at k
+    (lent (so-far₀ .board) table₀ strips₀) corners₀ so-far table strips corners
 
-patch-step-requires : tie.Need-patch-step-requires
-patch-step-requires c κs =
-    c .before .before .before .before .before .before .before .before .before .before
-    .before .before .before .pre
+abbrev μ-loop : tie.MeasureT-loop
+μ-loop table₀ strips₀ corners₀ limit bytes at so-far₀ k₀ table strips corners so-far k = mapBits - k
 
-track-step-requires : tie.Need-track-step-requires
-track-step-requires c κs =
-    c .before .before .before .before .before .before .before .before .before .before
-    .before .before .before .before .before .before .before .before .before .before .before .pre
+loop-holds : tie.Need-loop-holds Inv-loop μ-loop
+loop-holds c = (omega arith, refl, refl, refl, ran-none _ _ _ _ _ _ _)
 
-lift-step-requires : tie.Need-lift-step-requires
-lift-step-requires c κs =
-    c .before .before .before .before .before .before .before .before .before .before
-    .before .before .before .before .before .before .before .before .before .before .before .before .before
-    .before .before .before .before .before .before .before .pre
-
-fields-at-requires : tie.Need-fields-at-requires
-fields-at-requires c κs = (
-  c .before .before .before .before .before .before .before .before .before .before .before .before .before
-      .before .before .before .before .before .before .before .before .before .before .before .before .before
-      .before .before .before .before .before .before .before .before .before .pre .begun,
-  omega arith,
+run-bit-requires : tie.Need-run-bit-requires Inv-loop μ-loop
+run-bit-requires c κs = (
+  bit-ready _ _ _ _ _ (c .before .before .before .before .before .before .before .before .before .pre .0) _ _ _ _ _ (c .before .before .before .before .loop .inv .4) (omega arith) (c .before .before .before .before .loop .inv .1) (c .before .before .before .before .loop .inv .2),
+  c .before .before .before .before .before .before .before .before .before .pre .1,
 )
 
-next-place-requires : tie.Need-next-place-requires
+add-k : tie.Need-add-k Inv-loop μ-loop
+add-k c = omega arith
+
+loop-less : tie.Need-loop-less Inv-loop μ-loop
+loop-less c = omega arith
+
+loop-again : tie.Need-loop-again Inv-loop μ-loop
+loop-again c = (
+  omega arith,
+  omega (arith, c .before .before .before .before .before .before .run-bit .kept .0, c .before .before .before .before .before .before .before .before .before .before .before .loop .inv .1),
+  omega (arith, c .before .before .before .before .before .before .run-bit .kept .1 .0, c .before .before .before .before .before .before .before .before .before .before .before .loop .inv .2),
+  omega (arith, c .before .before .before .before .before .before .run-bit .kept .1 .1 .0, c .before .before .before .before .before .before .before .before .before .before .before .loop .inv .3),
+  next-bit _ _ _ _ _ (c .before .before .before .before .before .before .before .before .before .before .before .before .before .before .before .before .pre .0) _ _ _ _ _ _ _ _ _ (c .before .before .before .before .before .before .run-bit .ensures) (c .before .before .before .before .before .before .before .before .before .before .before .loop .inv .3) (c .before .before .before .before .before .before .before .before .before .before .before .loop .inv .4),
+)
+
+fields-at-requires : tie.Need-fields-at-requires Inv-loop μ-loop
+fields-at-requires c κs = (c .before .before .before .before .before .before .before .pre .0 .whole .begun, omega arith)
+
+next-place-requires : tie.Need-next-place-requires Inv-loop μ-loop
 next-place-requires c κs = search needs
 
-same-length : tie.Need-same-length
-same-length c =
-    omega (
-      arith,
-      c .before .before .before .before .before .before .before .lift-step .kept .0,
-      c .before .before .before .before .before .before .before .before .before .before .before .before
-          .before .before .before .before .track-step .kept .0,
-      c .before .before .before .before .before .before .before .before .before .before .before .before
-          .before .before .before .before .before .before .before .before .before .before .before .before
-          .patch-step .kept .0,
-      c .before .before .before .before .before .before .before .before .before .before .before .before
-          .before .before .before .before .before .before .before .before .before .before .before .before
-          .before
-          .before .before .before .before .before .before .board-step .kept .0,
-    )
+same-length : tie.Need-same-length Inv-loop μ-loop
+same-length c = omega (arith, c .before .before .before .before .before .loop .inv .1)
 
-same-length-2 : tie.Need-same-length-2
-same-length-2 c =
-    omega (
-      arith,
-      c .before .before .before .before .before .before .before .lift-step .kept .1 .0,
-      c .before .before .before .before .before .before .before .before .before .before .before .before
-          .before .before .before .before .track-step .kept .1 .0,
-      c .before .before .before .before .before .before .before .before .before .before .before .before
-          .before .before .before .before .before .before .before .before .before .before .before .before
-          .patch-step .kept .1 .0,
-      c .before .before .before .before .before .before .before .before .before .before .before .before
-          .before .before .before .before .before .before .before .before .before .before .before .before
-          .before
-          .before .before .before .before .before .before .board-step .kept .1 .0,
-    )
+same-length-2 : tie.Need-same-length-2 Inv-loop μ-loop
+same-length-2 c = omega (arith, c .before .before .before .before .before .loop .inv .2)
 
-same-length-3 : tie.Need-same-length-3
-same-length-3 c = search needs
+same-length-3 : tie.Need-same-length-3 Inv-loop μ-loop
+same-length-3 c = omega (arith, c .before .before .before .before .before .loop .inv .3)
 
-returns : tie.Need-returns
-returns c =
-    steps-done _ _ _ _ _ _ _ _ _ _ _ _ _ _ _ _ _ _ _
-    (c .before .before .before .before .before .before .before .before .before .before .before .before .before
-    .before .before .before .before .before .before .before .before .before .before .before .before .before
-    .before .before .before .before .before .board-step .ensures)
-    (c .before .before .before .before .before .before .before .before .before .before .before .before .before
-    .before .before .before .before .before .before .before .before .before .before .before .patch-step
-    .ensures)
-    (c .before .before .before .before .before .before .before .before .before .before .before .before .before
-    .before .before .before .track-step .ensures)
-    (c .before .before .before .before .before .before .before .lift-step .ensures)
-    _ (c .before .before .fields-at .ensures) _ (c .before .next-place .ensures)
+returns : tie.Need-returns Inv-loop μ-loop
+returns c = let last : c .before .before .before .before .before .loop .k ≡ mapBits = omega (arith, c .before .before .before .before .before .loop .inv .0) in
+    steps-done _ _ _ _ _ _ _ _ _ _ (c .before .before .before .before .before .loop .inv .4) last _ (c .before .before .fields-at .ensures) _ (c .before .next-place .ensures)
 
 pub run-steps-spec : {M : Type 1} → statement M
 run-steps-spec =
     tie.close
     (tie.spec
-    board-step-requires
-    patch-step-requires
-    track-step-requires
-    lift-step-requires
+    Inv-loop
+    μ-loop
+    loop-holds
+    run-bit-requires
+    add-k
+    loop-less
+    loop-again
     fields-at-requires
     next-place-requires
     same-length

@@ -1,0 +1,68 @@
+-- Steps on a foil that keeps the rules leave one that does, and so does a new foil, whatever was lent, unless it ends
+-- the job.
+use Prim.Native.Nat.{ℕ}
+use mathlib.Core.Path.{_≡_, refl, sym, ap, _∙_}
+use mathlib.Core.Bool.{Bool, true, false, not, _||_, or-true}
+use mathlib.Core.List.{List, _∷_}
+use mathlib.Core.Option.{Option, none, some}
+use Rattle.foil_spec.specs.Lists.{all, any}
+use Rattle.foil_spec.specs.Foil.{Layout}
+use Rattle.foil_spec.specs.Ledger.{Room, short, Step, newFoil, Answer, refused, Refusal, reads, refusals, first}
+use Rattle.foil_spec.specs.Ledger.{After, refusalOf, settle, ledgerStep}
+use Rattle.foil_spec.specs.Lent.{Lent, held, sound, stepOn}
+use Rattle.foil_spec.specs.Calls.{endsJob, andThen, actAll}
+use Rattle.list_laws.proofs.Tests.{both, clash}
+use Rattle.ledger_laws.proofs.Refusals.{first-passes, own-refused}
+use Rattle.ledger_laws.proofs.Stored.{sound-store}
+use Rattle.ledger_laws.proofs.Sound.{of-sound, sound-store-is}
+use Rattle.ledger_laws.proofs.Kept.{steps-kept}
+use Rattle.ledger_laws.proofs.Steps.{shown, steps-are}
+use Rattle.ledger_laws.proofs.Lending.{new-refusal, new-is, new-state}
+
+module _ (r : Room) where
+  pub steps-sound : (ss : List Step) (m : Lent) → sound m ≡ true → sound (actAll (stepOn r) ss m .state) ≡ true
+  unfolding shown
+  steps-sound ss m g =
+      let k = of-sound m g in
+      ap (λ (x : Lent). sound (actAll (stepOn r) ss x .state)) (sym (sound-store-is m k))
+      ∙ ap (λ (a : After (List Answer) Lent). sound (a .state)) (steps-are r ss (held m) m (k .kept))
+      ∙ sound-store (actAll (ledgerStep r) ss (held m) .state) m (steps-kept r ss (held m) (k .kept))
+
+  module _ (W H d : ℕ) (m : Lent) (long : short r ≡ false) where
+    abbrev new : Step
+    new = newFoil W H d
+
+    refusal-ends : all (λ (c : Refusal). not (c .applies) || endsJob (refused (c .number))) (refusals new r (held m)) ≡ true
+    unfolding refusals endsJob
+    refusal-ends = simp or-true
+
+    accepted-new : refusalOf r false new (held m) ≡ none → sound (stepOn r new m .state) ≡ true
+    unfolding shown
+    accepted-new e =
+        ap (λ (a : After Answer Lent). sound (a .state)) (new-is W H d r (held m) e m)
+        ∙ sound-store (ledgerStep r new (held m) .state) m (new-state W H d r (held m) e)
+
+    refused-new : (n : ℕ) → refusalOf r false new (held m) ≡ some n → endsJob (stepOn r new m .answer) ≡ true
+    unfolding stepOn settle reads
+    refused-new n e =
+        rw (new-refusal W H d r (held m) (not (sound m)) (held m), e)
+        (first-passes (λ (k : ℕ). endsJob (refused k)) (refusals new r (held m)) refusal-ends n
+        (sym (own-refused r new (held m) false long refl) ∙ e))
+
+    -- a new foil that does not end the job
+    pub begun-sound : endsJob (stepOn r new m .answer) ≡ false → sound (stepOn r new m .state) ≡ true
+    begun-sound h = go (refusalOf r false new (held m)) refl
+      where
+        go : (o : Option ℕ) → refusalOf r false new (held m) ≡ o → sound (stepOn r new m .state) ≡ true
+        go none e = accepted-new e
+        go (some n) e = clash (refused-new n e) h
+
+  -- steps of which the first is a new foil and none ends the job
+  pub first-sound : (W H d : ℕ) (ss : List Step) (m : Lent) → short r ≡ false
+      → any endsJob (actAll (stepOn r) (newFoil W H d ∷ ss) m .answer) ≡ false
+      → sound (actAll (stepOn r) (newFoil W H d ∷ ss) m .state) ≡ true
+  unfolding actAll andThen
+  first-sound W H d ss m long h =
+      both (endsJob (stepOn r (newFoil W H d) m .answer))
+      (λ e. clash (rw (e, e) refl) h)
+      (λ e. rw e (steps-sound ss (stepOn r (newFoil W H d) m .state) (begun-sound W H d m long e)))

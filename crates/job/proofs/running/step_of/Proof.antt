@@ -1,0 +1,152 @@
+-- Each arm reads the fields of its bit and does its step.
+use native.Mathlib.Omega.{arith}
+use mathlib.Core.Path.{_≡_}
+use Rattle.foil_spec.specs.Job.{fieldCount}
+use Rattle.job.proofs.Places.{field-ready}
+use Rattle.job.proofs.Bits.{ready-sound, does-board, does-patch, does-track, does-lift}
+use borrow.Author.Needs.{needs}
+use Rattle.job.proofs.running.step_of.Statement.{statement}
+use Rattle.job.proofs.running.step_of.Tie as tie
+
+field-requires : tie.Need-field-requires
+unfolding fieldCount
+field-requires c κs = field-ready _ _ (c .before .before .before .before .before .pre .0) 0 0 (c .if1 .taken) (omega arith)
+
+field-requires-2 : tie.Need-field-requires-2
+unfolding fieldCount
+field-requires-2 c κs = field-ready _ _ (c .before .before .before .before .before .before .pre .0) 0 1 (c .before .if1 .taken) (omega arith)
+
+field-requires-3 : tie.Need-field-requires-3
+unfolding fieldCount
+field-requires-3 c κs = field-ready _ _ (c .before .before .before .before .before .before .before .pre .0) 0 2 (c .before .before .if1 .taken) (omega arith)
+
+new-foil-in-requires : tie.Need-new-foil-in-requires
+new-foil-in-requires c κs = search needs
+
+same-length : tie.Need-same-length
+same-length c = search needs
+
+same-length-2 : tie.Need-same-length-2
+same-length-2 c = search needs
+
+returns : tie.Need-returns
+returns c = does-board _ _ _ _ _ _ _ _ _ (c .before .before .before .before .before .before .before .before .before .before .if1 .taken) _ _ _ (c .before .before .before .before .before .before .before .before .before .field .ensures) (c .before .before .before .before .before .before .before .before .field2 .ensures)
+    (c .before .before .before .before .before .before .before .field3 .ensures) (c .before .before .before .before .new-foil-in .ensures)
+
+field-requires-4 : tie.Need-field-requires-4
+unfolding fieldCount
+field-requires-4 c κs = field-ready _ _ (c .before .before .before .before .before .before .pre .0) 1 0 (c .if2 .taken) (omega arith)
+
+field-requires-5 : tie.Need-field-requires-5
+unfolding fieldCount
+field-requires-5 c κs = field-ready _ _ (c .before .before .before .before .before .before .before .pre .0) 1 1 (c .before .if2 .taken) (omega arith)
+
+field-requires-6 : tie.Need-field-requires-6
+unfolding fieldCount
+field-requires-6 c κs = field-ready _ _ (c .before .before .before .before .before .before .before .before .pre .0) 1 2 (c .before .before .if2 .taken) (omega arith)
+
+field-requires-7 : tie.Need-field-requires-7
+unfolding fieldCount
+field-requires-7 c κs = field-ready _ _ (c .before .before .before .before .before .before .before .before .before .pre .0) 1 3 (c .before .before .before .if2 .taken) (omega arith)
+
+draw-in-requires : tie.Need-draw-in-requires
+draw-in-requires c κs = (ready-sound (c .before .before .before .before .before .before .before .before .before .before .before .before .pre .0) (c .before .before .before .before .before .before .before .if1 .left), c .before .before .before .before .before .before .before .before .before .before .before .before .pre .1)
+
+same-length-3 : tie.Need-same-length-3
+same-length-3 c = search needs
+
+same-length-4 : tie.Need-same-length-4
+same-length-4 c = search needs
+
+returns-2 : tie.Need-returns-2
+returns-2 c = does-patch _ _ _ _ _ _ _ _ _ (c .before .before .before .before .before .before .before .before .before .before .before .if2 .taken) _ _ _ _ (c .before .before .before .before .before .before .before .before .before .before .field4 .ensures) (c .before .before .before .before .before .before .before .before .before .field5 .ensures)
+    (c .before .before .before .before .before .before .before .before .field6 .ensures) (c .before .before .before .before .before .before .before .field7 .ensures) (c .before .before .before .before .draw-in .ensures)
+
+field-requires-8 : tie.Need-field-requires-8
+unfolding fieldCount
+field-requires-8 c κs = field-ready _ _ (c .before .before .before .before .before .before .before .pre .0) 2 0 (c .if3 .taken) (omega arith)
+
+field-requires-9 : tie.Need-field-requires-9
+unfolding fieldCount
+field-requires-9 c κs = field-ready _ _ (c .before .before .before .before .before .before .before .before .pre .0) 2 1 (c .before .if3 .taken) (omega arith)
+
+field-requires-10 : tie.Need-field-requires-10
+unfolding fieldCount
+field-requires-10 c κs = field-ready _ _ (c .before .before .before .before .before .before .before .before .before .pre .0) 2 2 (c .before .before .if3 .taken) (omega arith)
+
+field-requires-11 : tie.Need-field-requires-11
+unfolding fieldCount
+field-requires-11 c κs = field-ready _ _ (c .before .before .before .before .before .before .before .before .before .before .pre .0) 2 3 (c .before .before .before .if3 .taken) (omega arith)
+
+field-requires-12 : tie.Need-field-requires-12
+unfolding fieldCount
+field-requires-12 c κs = field-ready _ _ (c .before .before .before .before .before .before .before .before .before .before .before .pre .0) 2 4 (c .before .before .before .before .if3 .taken) (omega arith)
+
+lay-in-requires : tie.Need-lay-in-requires
+lay-in-requires c κs = (ready-sound (c .before .before .before .before .before .before .before .before .before .before .before .before .before .before .before .pre .0) (c .before .before .before .before .before .before .before .before .before .before .if1 .left), c .before .before .before .before .before .before .before .before .before .before .before .before .before .before .before .pre .1)
+
+same-length-5 : tie.Need-same-length-5
+same-length-5 c = search needs
+
+same-length-6 : tie.Need-same-length-6
+same-length-6 c = search needs
+
+same-length-7 : tie.Need-same-length-7
+same-length-7 c = search needs
+
+returns-3 : tie.Need-returns-3
+returns-3 c = does-track _ _ _ _ _ _ _ _ _ _ (c .before .before .before .before .before .before .before .before .before .before .before .before .before .before .before .if3 .taken) _ _ _ _ _ (c .before .before .before .before .before .before .before .before .before .before .before .before .before .before .field8 .ensures) (c .before .before .before .before .before .before .before .before .before .before .before .before .before .field9 .ensures)
+    (c .before .before .before .before .before .before .before .before .before .before .before .before .field10 .ensures) (c .before .before .before .before .before .before .before .before .before .before .before .field11 .ensures) (c .before .before .before .before .before .before .before .before .before .before .field12 .ensures) (c .before .before .before .before .before .before .lay-in .ensures)
+
+field-requires-13 : tie.Need-field-requires-13
+unfolding fieldCount
+field-requires-13 c κs = let e : c .before .before .before .before .before .before .before .before .before .args .k ≡ 3 = omega (arith, c .before .before .before .before .before .before .before .before .before .pre .0 .bit, c .before .before .before .before .if1 .left, c .before .before .before .if2 .left, c .before .before .if3 .left) in
+    field-ready _ _ (c .before .before .before .before .before .before .before .before .before .pre .0) 3 0 e (omega arith)
+
+lift-in-requires : tie.Need-lift-in-requires
+lift-in-requires c κs = ready-sound (c .before .before .before .before .before .before .before .before .before .before .pre .0) (c .before .before .before .before .before .if1 .left)
+
+same-length-8 : tie.Need-same-length-8
+same-length-8 c = search needs
+
+same-length-9 : tie.Need-same-length-9
+same-length-9 c = search needs
+
+returns-4 : tie.Need-returns-4
+returns-4 c = let e : c .before .before .before .before .before .before .before .before .before .before .before .before .before .before .before .args .k ≡ 3 = omega (arith, c .before .before .before .before .before .before .before .before .before .before .before .before .before .before .before .pre .0 .bit, c .before .before .before .before .before .before .before .before .before .before .if1 .left, c .before .before .before .before .before .before .before .before .before .if2 .left, c .before .before .before .before .before .before .before .before .if3 .left) in
+    does-lift _ _ _ _ _ _ _ _ _ e _ (c .before .before .before .before .before .field13 .ensures) (c .before .before .before .before .lift-in .ensures)
+
+pub step-of-spec : {M : Type 1} → statement M
+step-of-spec =
+    tie.close
+    (tie.spec
+    field-requires
+    field-requires-2
+    field-requires-3
+    new-foil-in-requires
+    same-length
+    same-length-2
+    returns
+    field-requires-4
+    field-requires-5
+    field-requires-6
+    field-requires-7
+    draw-in-requires
+    same-length-3
+    same-length-4
+    returns-2
+    field-requires-8
+    field-requires-9
+    field-requires-10
+    field-requires-11
+    field-requires-12
+    lay-in-requires
+    same-length-5
+    same-length-6
+    same-length-7
+    returns-3
+    field-requires-13
+    lift-in-requires
+    same-length-8
+    same-length-9
+    returns-4)
