@@ -19,7 +19,7 @@ use Rattle.path_laws.proofs.FirstPath.{of-path}
 use Rattle.path_laws.proofs.Laws.{gives-first, gives-none}
 use Rattle.reach.proofs.Corners.{either-path}
 use Rattle.reach.proofs.Bends.{bends-most}
-use Rattle.ledger_laws.proofs.Legs.{free-inside}
+use Rattle.zones.proofs.Free.{free-inside}
 use Rattle.ledger_laws.proofs.Sound.{of-sound}
 use Rattle.ledger_laws.proofs.Lay.{laid-on, first-laid, laid-unbroken}
 use Rattle.bend_bound.specs.Bound.{bendBound, FewestBends, TrackBends, JoinedBends, LaidBends}

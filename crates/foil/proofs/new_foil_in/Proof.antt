@@ -1,5 +1,4 @@
 -- `foil::new_foil_in` tests the sizes and the clearance, and takes an empty table over.
-use native.Mathlib.Omega.{arith}
 use mathlib.Core.Path.{sym, _∙_}
 use borrow.Author.Tests.{not-false}
 use Rattle.foil.proofs.Beginning.{no-rows, bare-table, no-width, no-height, no-clearance, begun}
