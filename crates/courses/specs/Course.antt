@@ -1,5 +1,6 @@
--- Courses, segments one after the other to a target, over any test f of free points (x first, then y) and any targets T. A level segment goes along
--- a row; an upright one is a level one of the flipped board, so that each notion is defined for one direction only.
+-- Courses, segments one after the other to a target, over any test f of free points (x first, then y) and any targets
+-- T. A level segment goes along a row; an upright one is a level one of the flipped board, so that each notion is
+-- defined for one direction only.
 use Prim.Native.Nat.{ℕ, zero, suc, _+_, _-_, _≤_, _<_, min, max}
 use mathlib.Core.Path.{_≡_}
 use mathlib.Core.Bool.{Bool, true, false}
