@@ -10,7 +10,8 @@ use lib.ListN.{replicate}
 use borrow.Author.Tests.{leb-true, not-true, not-false}
 use Rattle.foil_spec.specs.Limits.{tableSize}
 use Rattle.foil_spec.specs.Foil.{sizeOk, clearanceOk}
-use Rattle.foil_spec.specs.Ledger.{Room, short, newFoil, next, says, first, reads, refusals, afterLent, settle, refusalOf}
+use Rattle.foil_spec.specs.Ledger.{Room, short, newFoil, next, says, first, reads, refusals, afterLent, settle}
+use Rattle.foil_spec.specs.Ledger.{refusalOf}
 use Rattle.foil_spec.specs.Lent.{lent, store, written, layoutOf, sound, held, stepOn}
 use Rattle.foil_spec.specs.declared.Board.{Board}
 use Rattle.list_laws.proofs.Tests.{parts}

@@ -1,5 +1,5 @@
 -- The bits of a record, one after the other: what the bits below one have left, that bit goes on from.
-use Prim.Native.Nat.{ℕ, zero, suc, _+_, _≤_, _<_}
+use Prim.Native.Nat.{ℕ, zero, suc, _+_, _<_}
 use native.Mathlib.Omega.{arith}
 use native.Mathlib.Numerals.{add-one}
 use mathlib.Core.Path.{_≡_, refl, sym, ap, _∙_, subst}
@@ -9,8 +9,7 @@ use mathlib.Core.Option.{none, some}
 use borrow.Author.Tests.{not-true, not-false}
 use lib.ListN.{length}
 use Rattle.foil_spec.specs.Lists.{range, any}
-use Rattle.foil_spec.specs.Limits.{tableSize, stripsSize}
-use Rattle.foil_spec.specs.Ledger.{Step, Answer, reads, Room, short, After}
+use Rattle.foil_spec.specs.Ledger.{Step, Answer, reads, Room, short}
 use Rattle.foil_spec.specs.Lent.{Lent, lent, sound, roomIn, stepOn, outputAfter}
 use Rattle.foil_spec.specs.Job.{mapBits, has, fieldsAt, recordEnd, stepAt, stepsAt, steps}
 use Rattle.foil_spec.specs.Calls.{endsJob, actAll, actRecord, answersIn, outputAll, outputBy}

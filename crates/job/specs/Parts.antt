@@ -2,13 +2,13 @@
 use Prim.Native.Nat.{ℕ, _+_, _*_, _≤_, _<_}
 use mathlib.Core.Path.{_≡_}
 use mathlib.Core.Bool.{Bool, true, false, cond, not}
-use mathlib.Core.List.{List, [], _∷_}
+use mathlib.Core.List.{List}
 use mathlib.Core.Option.{Option, none, some}
 use lib.Dec.{eqb}
 use lib.ListN.{length}
 use Rattle.foil_spec.specs.Lists.{range, any}
 use Rattle.foil_spec.specs.Limits.{tableSize, stripsSize, maxBytes}
-use Rattle.foil_spec.specs.Ledger.{Step, Answer, first, reads, Room, short, After}
+use Rattle.foil_spec.specs.Ledger.{Answer, first, reads, Room, short, After}
 use Rattle.foil_spec.specs.Lent.{Lent, lent, sound, roomIn, stepOn}
 use Rattle.foil_spec.specs.Job.{mapBits, has, fieldsAt, recordEnd, stepAt, stepsAt, steps}
 use Rattle.foil_spec.specs.Calls.{endsJob, actAll, actRecord, wholeRefusals, outputAll}
