@@ -5,6 +5,9 @@ mod strip_lines;
 
 use answers::put_answers;
 use foil_spec::Board;
+use foil_spec::CORNERS_SIZE;
+use foil_spec::STRIPS_SIZE;
+use foil_spec::TABLE_SIZE;
 use job::Next;
 use job::Reply;
 use job::run_record;
@@ -16,6 +19,9 @@ ghost use Rattle.foil_spec.specs.Lent.{lent};
 ghost use Rattle.job.specs.declared.Next.the-variants.{Nowhere};
 ghost use Rattle.job_report.specs.Report.{RecordReported};
 
+// How many bytes the lines of a record may take.
+pub const OUT_SIZE: usize = 131072;
+
 // How many bytes a record's lines take, the place of the next record, and the board's record after it.
 pub struct Reported {
     pub size: usize,
@@ -26,16 +32,16 @@ pub struct Reported {
 // Runs the record that begins at place `at` of the job file's bytes, on lists as long as document 01 asks
 // and with 8,192 corner places, and writes its lines to the front of `out`.
 pub fn report_record(
-    out: &mut [u8; 131072],
-    table: &mut [u16; 640],
-    strips: &mut [u16; 16384],
-    corners: &mut [u16; 16384],
+    out: &mut [u8; OUT_SIZE],
+    table: &mut [u16; TABLE_SIZE],
+    strips: &mut [u16; STRIPS_SIZE],
+    corners: &mut [u16; CORNERS_SIZE],
     board: Board,
     bytes: &[u8],
     at: usize,
 ) -> Reported
     ensures { λ r. ⌜ RecordReported (now (bytes .entry)) at
-        (lent board (now (table .entry)) (now (strips .entry)) (now (corners .entry)))
+        (lent board (now (table .entry)) (now (strips .entry))) (now (corners .entry))
         (now (out .entry)) (now (out .exit)) r
         (now (table .exit)) (now (strips .exit)) (now (corners .exit)) ⌝ }
     ensures { λ r. ⌜ r .size ≤ 131072 ⌝ }
