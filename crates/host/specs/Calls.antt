@@ -1,7 +1,7 @@
 -- What the calls over structs have done: the same as the calls on numbers, `stepOn` of the table's numbers.
 use Prim.Native.Nat.{ℕ}
 use mathlib.Core.Path.{_≡_}
-use mathlib.Core.List.{List, []}
+use mathlib.Core.List.{List}
 use Rattle.foil_spec.specs.Lists.{each}
 use Rattle.foil_spec.specs.Foil.{Point, Entry}
 use Rattle.foil_spec.specs.Ledger.{Step}
@@ -11,7 +11,7 @@ use Rattle.foil_spec.specs.declared.Board.{Board}
 use Rattle.foil_spec.specs.declared.Ink.{Ink}
 use Rattle.foil.specs.declared.Answer.{Answer}
 use Rattle.foil.specs.declared.Answer.the-variants.{Refused, Accepted, Laid, Found}
-use Rattle.foil.specs.Contract.{StepDone, Looked}
+use Rattle.foil.specs.Contract.{StepDone, OutputDone, Looked}
 use Rattle.ohms.specs.Contract.{OhmsAnswered}
 use Rattle.ohms.specs.declared.Resistance.{Resistance}
 use Rattle.ohms.specs.declared.Resistance.the-variants.{Refused as RefusedOhms, Ohms}
@@ -21,19 +21,25 @@ use Rattle.host.specs.declared.flat.OhmsSaid.{OhmsSaid}
 use Rattle.host.specs.declared.flat.Left.{Left}
 use Rattle.host.specs.Flats.{entriesOf}
 
--- a step on the table es: board, strips and corner list were b, s and ks; it answered a and left b′, es′, s′ and ks′
-abbrev pub HostDone : Step → Board → List Entry → List ℕ → List ℕ → Answer → Board → List Entry → List ℕ → List ℕ
+-- a step on the table es: board and strips were b and s; it answered a and left b′, es′ and s′
+abbrev pub HostDone : Step → Board → List Entry → List ℕ → Answer → Board → List Entry → List ℕ → Type 0
+HostDone c b es s a b′ es′ s′ =
+    StepDone c (lent b (each entryNumbers es) s) (record { answer = a; board = b′ }) (each entryNumbers es′) s′
+
+-- the same of a step with an output list, which was out and is left as out′
+abbrev pub HostWrote : Step → Board → List Entry → List ℕ → List ℕ → Answer → Board → List Entry → List ℕ → List ℕ
     → Type 0
-HostDone c b es s ks a b′ es′ s′ ks′ =
-    StepDone c (lent b (each entryNumbers es) s ks) (record { answer = a; board = b′ }) (each entryNumbers es′) s′ ks′
+HostWrote c b es s out a b′ es′ s′ out′ =
+    OutputDone c (lent b (each entryNumbers es) s) out (record { answer = a; board = b′ }) (each entryNumbers es′) s′
+    out′
 
 -- a look up of p on the table es, which it only reads, answered a
 abbrev pub HostLooked : Point → Board → List Entry → List ℕ → Answer → Type 0
-HostLooked p b es s a = Looked p (lent b (each entryNumbers es) s []) a
+HostLooked p b es s a = Looked p (lent b (each entryNumbers es) s) a
 
 -- the ohms of a net were asked of the table es, which is only read, and r was answered
 abbrev pub HostOhms : ℕ → Ink → Board → List Entry → List ℕ → Resistance → Type 0
-HostOhms net i b es s r = OhmsAnswered net i (lent b (each entryNumbers es) s []) r
+HostOhms net i b es s r = OhmsAnswered net i (lent b (each entryNumbers es) s) r
 
 -- ---- answers as numbers
 
@@ -44,39 +50,25 @@ saidOf Accepted = record { number = 0; corners = 0; bends = 0; place = 0 }
 saidOf (Laid k n) = record { number = 0; corners = k; bends = n; place = 0 }
 saidOf (Found k) = record { number = 0; corners = 0; bends = 0; place = k }
 
--- a step whose answer is told by its numbers
-pub record StepTold (c : Step) (b : Board) (es : List Entry) (s ks : List ℕ) (r : Said) (b′ : Board) (es′ : List Entry)
-    (s′ ks′ : List ℕ) : Type 0 where
-  pub answer : Answer
-  pub said : r ≡ saidOf answer
-  pub done : HostDone c b es s ks answer b′ es′ s′ ks′
-
--- a look up whose answer is told by its numbers
-pub record LookTold (p : Point) (b : Board) (es : List Entry) (s : List ℕ) (r : Said) : Type 0 where
-  pub answer : Answer
-  pub said : r ≡ saidOf answer
-  pub looked : HostLooked p b es s answer
-
 -- the number of a refusal, 0 for none, and the ohms, 0 where they are refused
 unfoldable pub ohmsSaid : Resistance → OhmsSaid
 ohmsSaid (RefusedOhms n) = record { number = n; ohms = whole 0 }
 ohmsSaid (Ohms x) = record { number = 0; ohms = x }
 
--- ohms that are told by these two numbers
-pub record OhmsTold (net : ℕ) (i : Ink) (b : Board) (es : List Entry) (s : List ℕ) (r : OhmsSaid) : Type 0 where
-  pub answer : Resistance
-  pub said : r ≡ ohmsSaid answer
-  pub ohms : HostOhms net i b es s answer
+-- r says, by `say`, an answer for which P holds
+pub record ToldBy {A B : Type 0} (say : A → B) (P : A → Type 0) (r : B) : Type 0 where
+  pub answer : A
+  pub said : r ≡ say answer
+  pub holds : P answer
 
--- ---- what the thin functions leave
+-- ---- what the calls on the table's numbers leave
 
--- a step on the table es left r, es′, s′ and ks′
-pub record ThinDone (c : Step) (b : Board) (es : List Entry) (s ks : List ℕ) (r : Left) (es′ : List Entry)
-    (s′ ks′ : List ℕ) : Type 0 where
-  pub said : r .said ≡ saidOf (r .answer)
-  pub done : HostDone c b es s ks (r .answer) (r .board) es′ s′ ks′
-
--- the same of the table's numbers by value, whose places stay as many
-pub record FlatDone (c : Step) (b : Board) (t : Flat) (s ks : List ℕ) (r : Left) (s′ ks′ : List ℕ) : Type 0 where
+-- a step on the table's numbers by value, whose places stay as many, left r and s′
+pub record FlatDone (c : Step) (b : Board) (t : Flat) (s : List ℕ) (r : Left) (s′ : List ℕ) : Type 0 where
   pub places : r .table .len ≡ t .len
-  pub thin : ThinDone c b (entriesOf t) s ks r (entriesOf (r .table)) s′ ks′
+  pub done : HostDone c b (entriesOf t) s (r .answer) (r .board) (entriesOf (r .table)) s′
+
+-- the same of a step with an output list
+pub record FlatWrote (c : Step) (b : Board) (t : Flat) (s out : List ℕ) (r : Left) (s′ out′ : List ℕ) : Type 0 where
+  pub places : r .table .len ≡ t .len
+  pub done : HostWrote c b (entriesOf t) s out (r .answer) (r .board) (entriesOf (r .table)) s′ out′

@@ -3,13 +3,14 @@ use Prim.Native.Nat.{ℕ, zero, suc, _+_, _*_, min}
 use mathlib.Core.List.{List, map}
 use lib.ListN.{length, set, getD, replicate}
 use Rattle.foil_spec.specs.Lists.{range}
+use Rattle.foil_spec.specs.Limits.{maxEntries, tableSize}
 use Rattle.foil_spec.specs.Foil.{Entry, entry}
 use Rattle.foil_spec.specs.Lent.{entryAt}
 use Rattle.host.specs.declared.flat.Flat.{Flat}
 
 -- no entry, for a table of n places
 unfoldable pub zeros : ℕ → Flat
-zeros n = record { at = replicate 640 0; len = n }
+zeros n = record { at = replicate tableSize 0; len = n }
 
 -- five numbers from place k on
 unfoldable pub setFive : List ℕ → ℕ → Entry → List ℕ
@@ -22,7 +23,7 @@ withEntry f i e = record { at = setFive (f .at) (i * 5) e; len = f .len }
 
 -- how many places are lent on of a table of n: its first 128
 abbrev pub placesLent : ℕ → ℕ
-placesLent n = min n 128
+placesLent n = min n maxEntries
 
 -- how many numbers these are
 unfoldable pub numbersLent : ℕ → ℕ

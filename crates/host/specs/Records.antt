@@ -27,7 +27,7 @@ use Rattle.host.specs.Calls.{saidOf}
 abbrev pub HostRan : List ℕ → ℕ → Board → List Entry → List ℕ → List ℕ → Reply → Board → List Entry → List ℕ
     → List ℕ → Type 0
 HostRan bs at b es s ks r b′ es′ s′ ks′ =
-    RecordDone bs at (lent b (each entryNumbers es) s ks) (record { reply = r; board = b′ }) (each entryNumbers es′)
+    RecordDone bs at (lent b (each entryNumbers es) s) ks (record { reply = r; board = b′ }) (each entryNumbers es′)
     s′ ks′
 
 -- ---- replies as numbers
@@ -71,23 +71,10 @@ recordSaidOf (Refused n) = ranSaid n false noAnswers Nowhere
 recordSaidOf (HasRun given next) = ranSaid 0 false given next
 recordSaidOf AtEnd = ranSaid 0 true noAnswers Nowhere
 
--- a record whose reply is told by its numbers
-pub record RecordTold (bs : List ℕ) (at : ℕ) (b : Board) (es : List Entry) (s ks : List ℕ) (r : RecordSaid)
-    (b′ : Board) (es′ : List Entry) (s′ ks′ : List ℕ) : Type 0 where
-  pub reply : Reply
-  pub said : r ≡ recordSaidOf reply
-  pub done : HostRan bs at b es s ks reply b′ es′ s′ ks′
+-- ---- what a record on the table's numbers leaves
 
--- ---- what the thin functions leave
-
--- a record on the table es left r, es′, s′ and ks′
-pub record ThinRan (bs : List ℕ) (at : ℕ) (b : Board) (es : List Entry) (s ks : List ℕ) (r : Ran) (es′ : List Entry)
-    (s′ ks′ : List ℕ) : Type 0 where
-  pub said : r .said ≡ recordSaidOf (r .reply)
-  pub done : HostRan bs at b es s ks (r .reply) (r .board) es′ s′ ks′
-
--- the same of the table's numbers by value, whose places stay as many
+-- a record on the table's numbers by value, whose places stay as many, left r, s′ and ks′
 pub record FlatRan (bs : List ℕ) (at : ℕ) (b : Board) (t : Flat) (s ks : List ℕ) (r : Ran) (s′ ks′ : List ℕ)
     : Type 0 where
   pub places : r .table .len ≡ t .len
-  pub thin : ThinRan bs at b (entriesOf t) s ks r (entriesOf (r .table)) s′ ks′
+  pub done : HostRan bs at b (entriesOf t) s ks (r .reply) (r .board) (entriesOf (r .table)) s′ ks′

@@ -1,18 +1,25 @@
-// The calls for programs in C, under plain names: an answer is told by its numbers.
-use crate::flat;
+// The calls for programs in C, under plain names: each is the call in Rattle, its answer told by its
+// numbers.
+use crate::draw;
 use crate::flat::OhmsSaid;
 use crate::flat::Said;
+use crate::flat::ohms_said;
+use crate::flat::said_of;
+use crate::lay;
+use crate::lift;
+use crate::look_up;
+use crate::new_foil;
+use crate::ohms;
 use crate::records::RecordSaid;
-use crate::table;
-use crate::table::load;
+use crate::records::record_said_of;
+use crate::run_record;
 use foil_spec::Board;
 use foil_spec::Entry;
 use foil_spec::Ink;
-ghost use mathlib.Core.List.{[]};
 ghost use Rattle.foil_spec.specs.Foil.{point};
 ghost use Rattle.foil_spec.specs.Ledger.{newFoil, draw as draws, lay as lays, lift as lifts};
-ghost use Rattle.host.specs.Calls.{StepTold, LookTold, OhmsTold};
-ghost use Rattle.host.specs.Records.{RecordTold};
+ghost use Rattle.host.specs.Calls.{ToldBy, saidOf, ohmsSaid, HostDone, HostWrote, HostLooked, HostOhms};
+ghost use Rattle.host.specs.Records.{recordSaidOf, HostRan};
 
 // Begins a foil of w by h with clearance d: an empty table, and one strip, the whole foil.
 #[no_mangle]
@@ -24,14 +31,12 @@ pub extern "C" fn foil_new_foil(
     h: u16,
     d: u16,
 ) -> Said
-    ensures { λ r. ⌜ StepTold (newFoil w h d)
-        (now (board .entry)) (now (table .entry)) (now (strips .entry)) []
-        r (now (board .exit)) (now (table .exit)) (now (strips .exit)) [] ⌝ }
+    ensures { λ r. ⌜ ToldBy saidOf (λ a. HostDone (newFoil w h d)
+        (now (board .entry)) (now (table .entry)) (now (strips .entry))
+        a (now (board .exit)) (now (table .exit)) (now (strips .exit))) r ⌝ }
 {
-    let b = *board;
-    let out = table::clear(table, strips, b, w, h, d);
-    *board = out.board;
-    out.said
+    let answer = new_foil(board, table, strips, w, h, d);
+    said_of(answer)
 }
 
 // Draws a patch: appends an entry of net 0.
@@ -45,14 +50,12 @@ pub extern "C" fn foil_draw(
     x1: u16,
     y1: u16,
 ) -> Said
-    ensures { λ r. ⌜ StepTold (draws x0 y0 x1 y1)
-        (now (board .entry)) (now (table .entry)) (now (strips .entry)) []
-        r (now (board .exit)) (now (table .exit)) (now (strips .exit)) [] ⌝ }
+    ensures { λ r. ⌜ ToldBy saidOf (λ a. HostDone (draws x0 y0 x1 y1)
+        (now (board .entry)) (now (table .entry)) (now (strips .entry))
+        a (now (board .exit)) (now (table .exit)) (now (strips .exit))) r ⌝ }
 {
-    let b = *board;
-    let out = table::append(table, strips, b, x0, y0, x1, y1);
-    *board = out.board;
-    out.said
+    let answer = draw(board, table, strips, x0, y0, x1, y1);
+    said_of(answer)
 }
 
 // Lays a track of the net from (sx, sy) to (tx, ty): writes its corners to the front of the corner
@@ -69,14 +72,12 @@ pub extern "C" fn foil_lay(
     tx: u16,
     ty: u16,
 ) -> Said
-    ensures { λ r. ⌜ StepTold (lays net (point sx sy) (point tx ty))
+    ensures { λ r. ⌜ ToldBy saidOf (λ a. HostWrote (lays net (point sx sy) (point tx ty))
         (now (board .entry)) (now (table .entry)) (now (strips .entry)) (now (corners .entry))
-        r (now (board .exit)) (now (table .exit)) (now (strips .exit)) (now (corners .exit)) ⌝ }
+        a (now (board .exit)) (now (table .exit)) (now (strips .exit)) (now (corners .exit))) r ⌝ }
 {
-    let b = *board;
-    let out = table::append_track(table, strips, corners, b, net, sx, sy, tx, ty);
-    *board = out.board;
-    out.said
+    let answer = lay(board, table, strips, corners, net, sx, sy, tx, ty);
+    said_of(answer)
 }
 
 // Lifts a net: takes out all its entries, the rest keeping their order.
@@ -87,14 +88,12 @@ pub extern "C" fn foil_lift(
     strips: &mut [u16],
     net: u16,
 ) -> Said
-    ensures { λ r. ⌜ StepTold (lifts net)
-        (now (board .entry)) (now (table .entry)) (now (strips .entry)) []
-        r (now (board .exit)) (now (table .exit)) (now (strips .exit)) [] ⌝ }
+    ensures { λ r. ⌜ ToldBy saidOf (λ a. HostDone (lifts net)
+        (now (board .entry)) (now (table .entry)) (now (strips .entry))
+        a (now (board .exit)) (now (table .exit)) (now (strips .exit))) r ⌝ }
 {
-    let b = *board;
-    let out = table::lift(table, strips, b, net);
-    *board = out.board;
-    out.said
+    let answer = lift(board, table, strips, net);
+    said_of(answer)
 }
 
 // Looks a point up: the place of the one strip that holds it. Nothing is changed.
@@ -106,11 +105,11 @@ pub extern "C" fn foil_look_up(
     x: u16,
     y: u16,
 ) -> Said
-    ensures { λ r. ⌜ LookTold (point x y) (now (board .entry)) (now (table .entry)) (now (strips .entry)) r ⌝ }
+    ensures { λ r. ⌜ ToldBy saidOf (λ a. HostLooked (point x y)
+        (now (board .entry)) (now (table .entry)) (now (strips .entry)) a) r ⌝ }
 {
-    let b = *board;
-    let t = load(table);
-    flat::look_up_told(strips, t, b, x, y)
+    let answer = look_up(board, table, strips, x, y);
+    said_of(answer)
 }
 
 // The ohms of a net. Nothing is changed.
@@ -122,11 +121,11 @@ pub extern "C" fn foil_ohms(
     net: u16,
     ink: Ink,
 ) -> OhmsSaid
-    ensures { λ r. ⌜ OhmsTold net ink (now (board .entry)) (now (table .entry)) (now (strips .entry)) r ⌝ }
+    ensures { λ r. ⌜ ToldBy ohmsSaid (λ a. HostOhms net ink
+        (now (board .entry)) (now (table .entry)) (now (strips .entry)) a) r ⌝ }
 {
-    let b = *board;
-    let t = load(table);
-    flat::ohms_told(strips, t, b, net, ink)
+    let answer = ohms(board, table, strips, net, ink);
+    ohms_said(answer)
 }
 
 // Runs the record that begins at place `at` of a job file's bytes.
@@ -139,12 +138,10 @@ pub extern "C" fn foil_run_record(
     bytes: &[u8],
     at: usize,
 ) -> RecordSaid
-    ensures { λ r. ⌜ RecordTold (now (bytes .entry)) at
+    ensures { λ r. ⌜ ToldBy recordSaidOf (λ a. HostRan (now (bytes .entry)) at
         (now (board .entry)) (now (table .entry)) (now (strips .entry)) (now (corners .entry))
-        r (now (board .exit)) (now (table .exit)) (now (strips .exit)) (now (corners .exit)) ⌝ }
+        a (now (board .exit)) (now (table .exit)) (now (strips .exit)) (now (corners .exit))) r ⌝ }
 {
-    let b = *board;
-    let out = table::run_record(table, strips, corners, bytes, b, at);
-    *board = out.board;
-    out.said
+    let reply = run_record(board, table, strips, corners, bytes, at);
+    record_said_of(reply)
 }

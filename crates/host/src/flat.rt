@@ -4,19 +4,20 @@ use foil::Done;
 use foil_spec::Board;
 use foil_spec::Entry;
 use foil_spec::Ink;
+use foil_spec::MAX_ENTRIES;
+use foil_spec::TABLE_SIZE;
 use ohms::Resistance;
 ghost use mathlib.Core.Path.{_≡_};
-ghost use mathlib.Core.List.{[]};
 ghost use Rattle.foil_spec.specs.Foil.{point};
 ghost use Rattle.foil_spec.specs.Ledger.{newFoil, draw as draws, lay as lays, lift as lifts};
 ghost use Rattle.foil_spec.specs.Lent.{entryAt};
 ghost use Rattle.strips.specs.Told.{Told};
 ghost use Rattle.host.specs.Flats.{zeros, withEntry, placesLent, numbersLent, entriesOf};
-ghost use Rattle.host.specs.Calls.{saidOf, ohmsSaid, FlatDone, HostLooked, LookTold, HostOhms, OhmsTold};
+ghost use Rattle.host.specs.Calls.{saidOf, ohmsSaid, FlatDone, FlatWrote, HostLooked, HostOhms};
 
 // The first 128 places of a lent table as numbers, five a place, and how many places are lent.
 pub struct Flat {
-    pub at: [u16; 640],
+    pub at: [u16; TABLE_SIZE],
     pub len: usize,
 }
 
@@ -37,19 +38,18 @@ pub struct OhmsSaid {
     pub ohms: f64,
 }
 
-// What a call leaves: the board's record, its answer, the table's numbers, and the answer as numbers.
+// What a call leaves: the board's record, its answer, and the table's numbers.
 pub struct Left {
     pub board: Board,
     pub answer: Answer,
     pub table: Flat,
-    pub said: Said,
 }
 
 // No entry, for a lent table of n places.
 pub fn empty(n: usize) -> Flat
     ensures { λ r. ⌜ r ≡ zeros n ⌝ }
 {
-    let a = [0; 640];
+    let a = [0; TABLE_SIZE];
     Flat { at: a, len: n }
 }
 
@@ -57,13 +57,14 @@ pub fn empty(n: usize) -> Flat
 pub fn put(f: Flat, i: usize, e: Entry) -> Flat
     ensures { λ r. ⌜ r ≡ withEntry f i e ⌝ }
 {
-    if i < 128 {
+    if i < MAX_ENTRIES {
+        let k = i * 5;
         let mut a = f.at;
-        a[i * 5] = e.net;
-        a[i * 5 + 1] = e.x0;
-        a[i * 5 + 2] = e.y0;
-        a[i * 5 + 3] = e.x1;
-        a[i * 5 + 4] = e.y1;
+        a[k] = e.net;
+        a[k + 1] = e.x0;
+        a[k + 2] = e.y0;
+        a[k + 3] = e.x1;
+        a[k + 4] = e.y1;
         Flat { at: a, len: f.len }
     } else {
         f
@@ -74,14 +75,15 @@ pub fn put(f: Flat, i: usize, e: Entry) -> Flat
 pub fn pick(f: Flat, i: usize) -> Entry
     ensures { λ r. ⌜ r ≡ entryAt (f .at) i ⌝ }
 {
-    if i < 128 {
+    if i < MAX_ENTRIES {
+        let k = i * 5;
         let a = f.at;
         Entry {
-            net: a[i * 5],
-            x0: a[i * 5 + 1],
-            y0: a[i * 5 + 2],
-            x1: a[i * 5 + 3],
-            y1: a[i * 5 + 4],
+            net: a[k],
+            x0: a[k + 1],
+            y0: a[k + 2],
+            x1: a[k + 3],
+            y1: a[k + 4],
         }
     } else {
         Entry {
@@ -117,7 +119,7 @@ pub fn same(a: Entry, b: Entry) -> bool
 pub fn places_lent(n: usize) -> usize
     ensures { λ r. ⌜ r ≡ placesLent n ⌝ }
 {
-    if n < 128 { n } else { 128 }
+    if n < MAX_ENTRIES { n } else { MAX_ENTRIES }
 }
 
 // How many numbers these places have, five each.
@@ -153,12 +155,11 @@ pub fn said_of(answer: Answer) -> Said
 }
 
 // What a call on the table's numbers has left.
-fn leave(done: Done, at: [u16; 640], len: usize) -> Left
+fn leave(done: Done, at: [u16; TABLE_SIZE], len: usize) -> Left
     ensures { λ r. ⌜ r ≡ record {
       board = done .board;
       answer = done .answer;
       table = record { at = at; len = len };
-      said = saidOf (done .answer);
     } ⌝ }
 {
     let board = done.board;
@@ -167,13 +168,12 @@ fn leave(done: Done, at: [u16; 640], len: usize) -> Left
         board,
         answer,
         table: Flat { at, len },
-        said: said_of(answer),
     }
 }
 
 // Begins a foil.
-pub fn new_foil(strips: &mut [u16], t: Flat, b: Board, w: u16, h: u16, d: u16) -> Left
-    ensures { λ r. ⌜ FlatDone (newFoil w h d) b t (now (strips .entry)) [] r (now (strips .exit)) [] ⌝ }
+pub fn new_foil(b: Board, t: Flat, strips: &mut [u16], w: u16, h: u16, d: u16) -> Left
+    ensures { λ r. ⌜ FlatDone (newFoil w h d) b t (now (strips .entry)) r (now (strips .exit)) ⌝ }
 {
     let mut a = t.at;
     let n = numbers_lent(t.len);
@@ -182,8 +182,8 @@ pub fn new_foil(strips: &mut [u16], t: Flat, b: Board, w: u16, h: u16, d: u16) -
 }
 
 // Draws a patch.
-pub fn draw(strips: &mut [u16], t: Flat, b: Board, x0: u16, y0: u16, x1: u16, y1: u16) -> Left
-    ensures { λ r. ⌜ FlatDone (draws x0 y0 x1 y1) b t (now (strips .entry)) [] r (now (strips .exit)) [] ⌝ }
+pub fn draw(b: Board, t: Flat, strips: &mut [u16], x0: u16, y0: u16, x1: u16, y1: u16) -> Left
+    ensures { λ r. ⌜ FlatDone (draws x0 y0 x1 y1) b t (now (strips .entry)) r (now (strips .exit)) ⌝ }
 {
     let mut a = t.at;
     let n = numbers_lent(t.len);
@@ -193,17 +193,17 @@ pub fn draw(strips: &mut [u16], t: Flat, b: Board, x0: u16, y0: u16, x1: u16, y1
 
 // Lays a track.
 pub fn lay(
+    b: Board,
+    t: Flat,
     strips: &mut [u16],
     corners: &mut [u16],
-    t: Flat,
-    b: Board,
     net: u16,
     sx: u16,
     sy: u16,
     tx: u16,
     ty: u16,
 ) -> Left
-    ensures { λ r. ⌜ FlatDone (lays net (point sx sy) (point tx ty)) b t
+    ensures { λ r. ⌜ FlatWrote (lays net (point sx sy) (point tx ty)) b t
         (now (strips .entry)) (now (corners .entry)) r (now (strips .exit)) (now (corners .exit)) ⌝ }
 {
     let mut a = t.at;
@@ -213,8 +213,8 @@ pub fn lay(
 }
 
 // Lifts a net.
-pub fn lift(strips: &mut [u16], t: Flat, b: Board, net: u16) -> Left
-    ensures { λ r. ⌜ FlatDone (lifts net) b t (now (strips .entry)) [] r (now (strips .exit)) [] ⌝ }
+pub fn lift(b: Board, t: Flat, strips: &mut [u16], net: u16) -> Left
+    ensures { λ r. ⌜ FlatDone (lifts net) b t (now (strips .entry)) r (now (strips .exit)) ⌝ }
 {
     let mut a = t.at;
     let n = numbers_lent(t.len);
@@ -223,7 +223,7 @@ pub fn lift(strips: &mut [u16], t: Flat, b: Board, net: u16) -> Left
 }
 
 // Looks a point up.
-pub fn look_up(strips: &[u16], t: Flat, b: Board, x: u16, y: u16) -> Answer
+pub fn look_up(b: Board, t: Flat, strips: &[u16], x: u16, y: u16) -> Answer
     ensures { λ r. ⌜ HostLooked (point x y) b (entriesOf t) (now (strips .entry)) r ⌝ }
 {
     let a = t.at;
@@ -231,16 +231,8 @@ pub fn look_up(strips: &[u16], t: Flat, b: Board, x: u16, y: u16) -> Answer
     foil::look_up(&a[..n], strips, b, x, y)
 }
 
-// Looks a point up, and tells the answer by its numbers.
-pub fn look_up_told(strips: &[u16], t: Flat, b: Board, x: u16, y: u16) -> Said
-    ensures { λ r. ⌜ LookTold (point x y) b (entriesOf t) (now (strips .entry)) r ⌝ }
-{
-    let answer = look_up(strips, t, b, x, y);
-    said_of(answer)
-}
-
 // The ohms of a net.
-pub fn ohms(strips: &[u16], t: Flat, b: Board, net: u16, ink: Ink) -> Resistance
+pub fn ohms(b: Board, t: Flat, strips: &[u16], net: u16, ink: Ink) -> Resistance
     ensures { λ r. ⌜ HostOhms net ink b (entriesOf t) (now (strips .entry)) r ⌝ }
 {
     let a = t.at;
@@ -248,16 +240,8 @@ pub fn ohms(strips: &[u16], t: Flat, b: Board, net: u16, ink: Ink) -> Resistance
     ohms::ohms(&a[..n], strips, b, net, ink)
 }
 
-// The ohms of a net, told by two numbers.
-pub fn ohms_told(strips: &[u16], t: Flat, b: Board, net: u16, ink: Ink) -> OhmsSaid
-    ensures { λ r. ⌜ OhmsTold net ink b (entriesOf t) (now (strips .entry)) r ⌝ }
-{
-    let answer = ohms(strips, t, b, net, ink);
-    ohms_said(answer)
-}
-
 // The numbers of an answer for ohms.
-fn ohms_said(answer: Resistance) -> OhmsSaid
+pub fn ohms_said(answer: Resistance) -> OhmsSaid
     ensures { λ r. ⌜ r ≡ ohmsSaid answer ⌝ }
 {
     match answer {

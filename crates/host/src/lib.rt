@@ -13,10 +13,9 @@ use foil_spec::Ink;
 use job::Reply;
 use ohms::Resistance;
 use table::load;
-ghost use mathlib.Core.List.{[]};
 ghost use Rattle.foil_spec.specs.Foil.{point};
 ghost use Rattle.foil_spec.specs.Ledger.{newFoil, draw as draws, lay as lays, lift as lifts};
-ghost use Rattle.host.specs.Calls.{HostDone, HostLooked, HostOhms};
+ghost use Rattle.host.specs.Calls.{HostDone, HostWrote, HostLooked, HostOhms};
 ghost use Rattle.host.specs.Records.{HostRan};
 
 // Begins a foil of w by h with clearance d: an empty table, and one strip, the whole foil.
@@ -29,11 +28,11 @@ pub fn new_foil(
     d: u16,
 ) -> Answer
     ensures { λ r. ⌜ HostDone (newFoil w h d)
-        (now (board .entry)) (now (table .entry)) (now (strips .entry)) []
-        r (now (board .exit)) (now (table .exit)) (now (strips .exit)) [] ⌝ }
+        (now (board .entry)) (now (table .entry)) (now (strips .entry))
+        r (now (board .exit)) (now (table .exit)) (now (strips .exit)) ⌝ }
 {
     let b = *board;
-    let out = table::clear(table, strips, b, w, h, d);
+    let out = table::clear(b, table, strips, w, h, d);
     *board = out.board;
     out.answer
 }
@@ -49,11 +48,11 @@ pub fn draw(
     y1: u16,
 ) -> Answer
     ensures { λ r. ⌜ HostDone (draws x0 y0 x1 y1)
-        (now (board .entry)) (now (table .entry)) (now (strips .entry)) []
-        r (now (board .exit)) (now (table .exit)) (now (strips .exit)) [] ⌝ }
+        (now (board .entry)) (now (table .entry)) (now (strips .entry))
+        r (now (board .exit)) (now (table .exit)) (now (strips .exit)) ⌝ }
 {
     let b = *board;
-    let out = table::append(table, strips, b, x0, y0, x1, y1);
+    let out = table::append(b, table, strips, x0, y0, x1, y1);
     *board = out.board;
     out.answer
 }
@@ -71,12 +70,12 @@ pub fn lay(
     tx: u16,
     ty: u16,
 ) -> Answer
-    ensures { λ r. ⌜ HostDone (lays net (point sx sy) (point tx ty))
+    ensures { λ r. ⌜ HostWrote (lays net (point sx sy) (point tx ty))
         (now (board .entry)) (now (table .entry)) (now (strips .entry)) (now (corners .entry))
         r (now (board .exit)) (now (table .exit)) (now (strips .exit)) (now (corners .exit)) ⌝ }
 {
     let b = *board;
-    let out = table::append_track(table, strips, corners, b, net, sx, sy, tx, ty);
+    let out = table::append_track(b, table, strips, corners, net, sx, sy, tx, ty);
     *board = out.board;
     out.answer
 }
@@ -84,11 +83,11 @@ pub fn lay(
 // Lifts a net: takes out all its entries, the rest keeping their order.
 pub fn lift(board: &mut Board, table: &mut [Entry], strips: &mut [u16], net: u16) -> Answer
     ensures { λ r. ⌜ HostDone (lifts net)
-        (now (board .entry)) (now (table .entry)) (now (strips .entry)) []
-        r (now (board .exit)) (now (table .exit)) (now (strips .exit)) [] ⌝ }
+        (now (board .entry)) (now (table .entry)) (now (strips .entry))
+        r (now (board .exit)) (now (table .exit)) (now (strips .exit)) ⌝ }
 {
     let b = *board;
-    let out = table::lift(table, strips, b, net);
+    let out = table::lift(b, table, strips, net);
     *board = out.board;
     out.answer
 }
@@ -99,7 +98,7 @@ pub fn look_up(board: &Board, table: &[Entry], strips: &[u16], x: u16, y: u16) -
 {
     let b = *board;
     let t = load(table);
-    flat::look_up(strips, t, b, x, y)
+    flat::look_up(b, t, strips, x, y)
 }
 
 // The ohms of a net. Nothing is changed.
@@ -108,7 +107,7 @@ pub fn ohms(board: &Board, table: &[Entry], strips: &[u16], net: u16, ink: Ink) 
 {
     let b = *board;
     let t = load(table);
-    flat::ohms(strips, t, b, net, ink)
+    flat::ohms(b, t, strips, net, ink)
 }
 
 // Runs the record that begins at place `at` of a job file's bytes.
@@ -125,7 +124,7 @@ pub fn run_record(
         r (now (board .exit)) (now (table .exit)) (now (strips .exit)) (now (corners .exit)) ⌝ }
 {
     let b = *board;
-    let out = table::run_record(table, strips, corners, bytes, b, at);
+    let out = table::run_record(b, table, strips, corners, bytes, at);
     *board = out.board;
     out.reply
 }

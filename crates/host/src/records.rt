@@ -4,6 +4,7 @@ use crate::flat::Said;
 use crate::flat::numbers_lent;
 use crate::flat::said_of;
 use foil_spec::Board;
+use foil_spec::TABLE_SIZE;
 use job::Answers;
 use job::Next;
 use job::Replied;
@@ -34,12 +35,11 @@ pub struct RecordSaid {
     pub next: usize,
 }
 
-// What a record leaves: the board's record, its reply, the table's numbers, and the reply as numbers.
+// What a record leaves: the board's record, its reply, and the table's numbers.
 pub struct Ran {
     pub board: Board,
     pub reply: Reply,
     pub table: Flat,
-    pub said: RecordSaid,
 }
 
 // No numbers.
@@ -127,7 +127,7 @@ fn run(answers: Answers, next: Next) -> RecordSaid
 }
 
 // The numbers of a reply.
-fn record_said_of(reply: Reply) -> RecordSaid
+pub fn record_said_of(reply: Reply) -> RecordSaid
     ensures { λ r. ⌜ r ≡ recordSaidOf reply ⌝ }
 {
     match reply {
@@ -138,12 +138,11 @@ fn record_said_of(reply: Reply) -> RecordSaid
 }
 
 // What a record on the table's numbers has left.
-fn leave(done: Replied, at: [u16; 640], len: usize) -> Ran
+fn leave(done: Replied, at: [u16; TABLE_SIZE], len: usize) -> Ran
     ensures { λ r. ⌜ r ≡ record {
       board = done .board;
       reply = done .reply;
       table = record { at = at; len = len };
-      said = recordSaidOf (done .reply);
     } ⌝ }
 {
     let board = done.board;
@@ -152,17 +151,16 @@ fn leave(done: Replied, at: [u16; 640], len: usize) -> Ran
         board,
         reply,
         table: Flat { at, len },
-        said: record_said_of(reply),
     }
 }
 
 // Runs the record at a place of the bytes.
 pub fn run_record(
+    b: Board,
+    t: Flat,
     strips: &mut [u16],
     corners: &mut [u16],
     bytes: &[u8],
-    t: Flat,
-    b: Board,
     at: usize,
 ) -> Ran
     ensures { λ r. ⌜ FlatRan (now (bytes .entry)) at b t (now (strips .entry)) (now (corners .entry))

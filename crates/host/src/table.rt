@@ -13,12 +13,11 @@ use crate::records::Ran;
 use foil_spec::Board;
 use foil_spec::Entry;
 ghost use mathlib.Core.Path.{_≡_};
-ghost use mathlib.Core.List.{[]};
 ghost use Rattle.foil_spec.specs.Foil.{point};
 ghost use Rattle.foil_spec.specs.Ledger.{newFoil, draw as draws, lay as lays, lift as lifts};
 ghost use Rattle.host.specs.Flats.{frontOf, overFront};
-ghost use Rattle.host.specs.Calls.{ThinDone};
-ghost use Rattle.host.specs.Records.{ThinRan};
+ghost use Rattle.host.specs.Calls.{HostDone, HostWrote};
+ghost use Rattle.host.specs.Records.{HostRan};
 
 // Takes the numbers of a table's first 128 places out; the places after them are not even read.
 pub fn load(table: &[Entry]) -> Flat
@@ -55,12 +54,12 @@ pub fn store(table: &mut [Entry], f: Flat)
 }
 
 // Empties the table: a foil begins.
-pub fn clear(table: &mut [Entry], strips: &mut [u16], b: Board, w: u16, h: u16, d: u16) -> Left
-    ensures { λ r. ⌜ ThinDone (newFoil w h d) b (now (table .entry)) (now (strips .entry)) []
-        r (now (table .exit)) (now (strips .exit)) [] ⌝ }
+pub fn clear(b: Board, table: &mut [Entry], strips: &mut [u16], w: u16, h: u16, d: u16) -> Left
+    ensures { λ r. ⌜ HostDone (newFoil w h d) b (now (table .entry)) (now (strips .entry))
+        (r .answer) (r .board) (now (table .exit)) (now (strips .exit)) ⌝ }
 {
     let t = load(table);
-    let out = flat::new_foil(strips, t, b, w, h, d);
+    let out = flat::new_foil(b, t, strips, w, h, d);
     let u = out.table;
     store(table, u);
     out
@@ -68,19 +67,19 @@ pub fn clear(table: &mut [Entry], strips: &mut [u16], b: Board, w: u16, h: u16, 
 
 // Appends a patch: an entry of net 0 at the first unused place.
 pub fn append(
+    b: Board,
     table: &mut [Entry],
     strips: &mut [u16],
-    b: Board,
     x0: u16,
     y0: u16,
     x1: u16,
     y1: u16,
 ) -> Left
-    ensures { λ r. ⌜ ThinDone (draws x0 y0 x1 y1) b (now (table .entry)) (now (strips .entry)) []
-        r (now (table .exit)) (now (strips .exit)) [] ⌝ }
+    ensures { λ r. ⌜ HostDone (draws x0 y0 x1 y1) b (now (table .entry)) (now (strips .entry))
+        (r .answer) (r .board) (now (table .exit)) (now (strips .exit)) ⌝ }
 {
     let t = load(table);
-    let out = flat::draw(strips, t, b, x0, y0, x1, y1);
+    let out = flat::draw(b, t, strips, x0, y0, x1, y1);
     let u = out.table;
     store(table, u);
     out
@@ -88,34 +87,34 @@ pub fn append(
 
 // Appends a track: an entry for each leg.
 pub fn append_track(
+    b: Board,
     table: &mut [Entry],
     strips: &mut [u16],
     corners: &mut [u16],
-    b: Board,
     net: u16,
     sx: u16,
     sy: u16,
     tx: u16,
     ty: u16,
 ) -> Left
-    ensures { λ r. ⌜ ThinDone (lays net (point sx sy) (point tx ty)) b
+    ensures { λ r. ⌜ HostWrote (lays net (point sx sy) (point tx ty)) b
         (now (table .entry)) (now (strips .entry)) (now (corners .entry))
-        r (now (table .exit)) (now (strips .exit)) (now (corners .exit)) ⌝ }
+        (r .answer) (r .board) (now (table .exit)) (now (strips .exit)) (now (corners .exit)) ⌝ }
 {
     let t = load(table);
-    let out = flat::lay(strips, corners, t, b, net, sx, sy, tx, ty);
+    let out = flat::lay(b, t, strips, corners, net, sx, sy, tx, ty);
     let u = out.table;
     store(table, u);
     out
 }
 
 // Lifts a net's entries out.
-pub fn lift(table: &mut [Entry], strips: &mut [u16], b: Board, net: u16) -> Left
-    ensures { λ r. ⌜ ThinDone (lifts net) b (now (table .entry)) (now (strips .entry)) []
-        r (now (table .exit)) (now (strips .exit)) [] ⌝ }
+pub fn lift(b: Board, table: &mut [Entry], strips: &mut [u16], net: u16) -> Left
+    ensures { λ r. ⌜ HostDone (lifts net) b (now (table .entry)) (now (strips .entry))
+        (r .answer) (r .board) (now (table .exit)) (now (strips .exit)) ⌝ }
 {
     let t = load(table);
-    let out = flat::lift(strips, t, b, net);
+    let out = flat::lift(b, t, strips, net);
     let u = out.table;
     store(table, u);
     out
@@ -123,19 +122,19 @@ pub fn lift(table: &mut [Entry], strips: &mut [u16], b: Board, net: u16) -> Left
 
 // Runs a record of a job file on the table.
 pub fn run_record(
+    b: Board,
     table: &mut [Entry],
     strips: &mut [u16],
     corners: &mut [u16],
     bytes: &[u8],
-    b: Board,
     at: usize,
 ) -> Ran
-    ensures { λ r. ⌜ ThinRan (now (bytes .entry)) at b
+    ensures { λ r. ⌜ HostRan (now (bytes .entry)) at b
         (now (table .entry)) (now (strips .entry)) (now (corners .entry))
-        r (now (table .exit)) (now (strips .exit)) (now (corners .exit)) ⌝ }
+        (r .reply) (r .board) (now (table .exit)) (now (strips .exit)) (now (corners .exit)) ⌝ }
 {
     let t = load(table);
-    let out = records::run_record(strips, corners, bytes, t, b, at);
+    let out = records::run_record(b, t, strips, corners, bytes, at);
     let u = out.table;
     store(table, u);
     out

@@ -13,11 +13,9 @@ use Rattle.foil_spec.specs.Ledger.{lay, inUse, offFoil, blocked, first, refusal
 use Rattle.foil_spec.specs.Lent.{Lent, lent, entryAt, layoutOf, held, sound}
 use Rattle.foil_spec.specs.declared.Board.{Board}
 use Rattle.list_laws.proofs.Tests.{or-l, or-r, not-ff}
-use Rattle.ledger_laws.proofs.Sound.{of-sound, sound-long}
 use Rattle.foil.specs.Contract.{OutputIn, refusedBy}
 use Rattle.foil.specs.declared.Done.{Done}
 use Rattle.foil.proofs.Giving.{own-wrote}
-use Rattle.foil.proofs.Limits.{held-limits}
 use Rattle.laying.specs.Points.{OffFoil, ReadyToLay}
 
 -- ---- whether a point is off the foil
@@ -49,9 +47,6 @@ module _ (b : Board) (t s ks : List ℕ) (net : ℕ) (S T : Point) (limit : ℕ)
   -- what the call is to give where it is refused: all stays as it is
   abbrev Refused : Done → Type 0
   Refused r = OutputIn (lay net S T) limit m ks r t s ks
-
-  pub entries-long : b .entries * 5 ≤ length t
-  entries-long = omega (arith, sound-long m y .table, held-limits b t s (of-sound m y) .few)
 
   module _ (o : Bool) (o-is : o ≡ netOk net) where
     pub no-net : not o ≡ true → (r : Done) → r ≡ refusedBy 4 b → Refused r

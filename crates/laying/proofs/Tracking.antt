@@ -14,7 +14,7 @@ use Rattle.foil_spec.specs.Limits.{maxEntries, tableSize, stripsSize}
 use Rattle.foil_spec.specs.Foil.{Point, Layout, entryOk, free}
 use Rattle.foil_spec.specs.Paths.{at, bends}
 use Rattle.foil_spec.specs.Ledger.{lay, pathOf, noPath, cornersOf, legs, Room, short, cornerRoom, tooLong, tooFine}
-use Rattle.foil_spec.specs.Ledger.{next, says, _⇒_, first, settle, refusalOf}
+use Rattle.foil_spec.specs.Ledger.{next, says, _⇒_, first, After, settle, refusalOf, Answer, laid}
 use Rattle.foil_spec.specs.Lent.{Lent, lent, store, pointNumbers, overFront, entryAt, layoutOf, held, sound, stepOn}
 use Rattle.foil_spec.specs.Lent.{outputAfter}
 use Rattle.foil_spec.specs.declared.Board.{Board}
@@ -30,7 +30,7 @@ use Rattle.zones.proofs.Tables.{table-of}
 use Rattle.booking.specs.Rows.{rowsOf}
 use Rattle.booking.specs.Booked.{Stored, Unchanged}
 use Rattle.booking.specs.Legs.{Corners, Legs}
-use Rattle.foil.specs.Contract.{answerOf, OutputIn, refusedBy}
+use Rattle.foil.specs.Contract.{answerOf, Gave, OutputIn, refusedBy}
 use Rattle.foil.specs.declared.Answer.the-variants.{Laid}
 use Rattle.foil.specs.declared.Done.{Done}
 use Rattle.foil.proofs.Giving.{wrote-refused}
@@ -246,13 +246,18 @@ module _ (b : Board) (t s ks : List ℕ) (net : ℕ) (S T : Point) (limit : ℕ)
                 let unrefused : refusalOf room (not (sound m)) (lay net S T) l ≡ none =
                 from-11 room long is out ∙ rw (d .fine) refl in
                 let e : n ≡ length cs - 2 = n-is ∙ ap (λ (j : ℕ). j - 2) (found .count) in
-                rw unrefused
-                (record {
-                  gave = record {
-                    answer = λ i. Laid (found .count i) (e i);
-                    board = d .board;
-                    table = d .table;
-                    strips = d .strips;
-                  };
-                  output = q ∙ copied-corners cs _ path k (found .count) path-is ks;
-                })
+                let o : stepOn room (lay net S T) m
+                ≡ record { answer = laid cs (bends cs); state = store (next (lay net S T) l) m } = rw unrefused refl in
+                record {
+                  gave =
+                      subst (λ (a : After Answer Lent). Gave a (record { answer = Laid k n; board = after }) t′ s′) (sym o)
+                      (record {
+                        answer = λ i. Laid (found .count i) (e i);
+                        board = d .board;
+                        table = d .table;
+                        strips = d .strips;
+                      });
+                  output =
+                      q ∙ copied-corners cs _ path k (found .count) path-is ks
+                      ∙ sym (ap (λ (a : After Answer Lent). outputAfter (a .answer) ks) o);
+                }

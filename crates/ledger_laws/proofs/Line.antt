@@ -1,5 +1,5 @@
 -- Each step of the ledger keeps what lists of calls ask of it.
-use Prim.Native.Nat.{ℕ, suc, min, _≤_, _<_}
+use Prim.Native.Nat.{ℕ, suc, _/_, min, _≤_, _<_}
 use native.Mathlib.Omega.{arith}
 use mathlib.Core.Path.{_≡_, refl, sym, ap, _∙_}
 use mathlib.Core.Bool.{Bool, true, false, not, _&&_, _||_, or-true, true≢false}
@@ -120,6 +120,16 @@ lay-12 net S T r l e =
     (λ t. ltb-true (cornerRoom r) (length (cornersOf l S T)) t)
     (λ t. absurd (no-12 _ (simp (t, or-true)) e))
 
+-- ---- rooms with as much output and the same limit
+
+same-long : (r r′ : Room) (l : Layout) → r .limit ≡ r′ .limit → tooLong r l ≡ tooLong r′ l
+unfolding tooLong
+same-long r r′ l f = ap (λ (n : ℕ). ltb (min maxEntries n) (length (l .entries))) f
+
+same-corners : (r r′ : Room) → r .output ≡ r′ .output → cornerRoom r ≡ cornerRoom r′
+unfolding cornerRoom
+same-corners r r′ e = ap (λ (n : ℕ). n / 2) e
+
 -- ---- the lines
 
 module _ (W H d : ℕ) where
@@ -148,6 +158,8 @@ module _ (W H d : ℕ) where
     accepts = λ l. refl;
     numbers = λ r l. refl;
     unbroken = refl;
+    of-room = λ r r′ l e f. refl;
+    blind = λ z r l l′. (refl, refl, refl);
     output = λ r l h. absurd (no-12 _ (simp or-true) h);
   }
 
@@ -164,6 +176,8 @@ draw-line x0 y0 x1 y1 = record {
   accepts = λ l. refl;
   numbers = λ r l. refl;
   unbroken = refl;
+  of-room = λ r r′ l e f. rw (same-long r r′ _ f) refl;
+  blind = λ z. absurd (true≢false z);
   output = λ r l h. absurd (no-12 _ (simp or-true) h);
 }
 
@@ -178,6 +192,8 @@ lay-line net S T = record {
   accepts = λ l. refl;
   numbers = λ r l. refl;
   unbroken = refl;
+  of-room = λ r r′ l e f. rw (same-long r r′ _ f, same-corners r r′ e) refl;
+  blind = λ z. absurd (true≢false z);
   output = λ r l h. (refl, S, T, lay-12 net S T r l h);
 }
 
@@ -189,6 +205,8 @@ lift-line net = record {
   accepts = λ l. refl;
   numbers = λ r l. refl;
   unbroken = refl;
+  of-room = λ r r′ l e f. refl;
+  blind = λ z. absurd (true≢false z);
   output = λ r l h. absurd (no-12 _ (simp or-true) h);
 }
 
@@ -200,6 +218,8 @@ look-line p = record {
   accepts = λ l. refl;
   numbers = λ r l. refl;
   unbroken = refl;
+  of-room = λ r r′ l e f. refl;
+  blind = λ z. absurd (true≢false z);
   output = λ r l h. absurd (no-12 _ (simp or-true) h);
 }
 

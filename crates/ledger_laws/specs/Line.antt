@@ -37,6 +37,12 @@ pub record Line (s : Step) : Type 0 where
   -- it has the same numbers on every foil, and 13 is none of its own
   pub numbers : (r : Room) (l : Layout) → keep (but 12) (numbersFrom (refusals s r l)) ≡ ownNumbers s
   pub unbroken : all (but 13) (ownNumbers s) ≡ true
+  -- of the room its own refusals ask for the output and the limit alone
+  pub of-room : (r r′ : Room) (l : Layout) → r .output ≡ r′ .output → r .limit ≡ r′ .limit
+      → refusals s r l ≡ refusals s r′ l
+  -- a step that reads nothing of the foil is the same on every foil
+  pub blind : reads s ≡ false → (r : Room) (l l′ : Layout)
+      → (refusals s r l ≡ refusals s r l′) × (says s l ≡ says s l′) × (next s l ≡ next s l′)
   -- its own 12 is for want of corner places, on a foil that it reads
   pub output : (r : Room) (l : Layout) → first (refusals s r l) ≡ some 12
       → (reads s ≡ true) × (S : Point) × (T : Point) × (cornerRoom r < length (cornersOf l S T))

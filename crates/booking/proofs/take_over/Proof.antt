@@ -48,7 +48,8 @@ returns c =
 copy-front-requires : tie.Need-copy-front-requires
 copy-front-requires c κs =
     let s = atStart (atZones (fromKnown (c .before))) in
-    (omega arith, rows-long (s .args .n) (s .args .rows .now) (s .pre .0 .few) (s .pre .1 .0))
+    let l = rows-long (s .args .n) (s .args .rows .now) (s .pre .0 .few) (s .pre .1 .0) in
+    (omega arith, omega (arith, l))
 
 slice-aggregate-copy-front : tie.Need-slice-aggregate-copy-front
 slice-aggregate-copy-front c = search needs

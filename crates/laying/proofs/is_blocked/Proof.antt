@@ -1,15 +1,18 @@
+-- `laying::is_blocked` says whether no strip holds the point.
 use mathlib.Core.Path.{sym, _∙_}
+use Rattle.ledger_laws.proofs.Sound.{of-sound}
 use Rattle.foil_spec.specs.Foil.{point}
-use Rattle.foil.proofs.Looking.{strips-long, rising, nowhere-blocked, somewhere-free}
+use Rattle.state.proofs.Rising.{by-row-of}
+use Rattle.foil.proofs.Looking.{strips-long, nowhere-blocked, somewhere-free}
 use borrow.Author.Needs.{needs}
 use Rattle.laying.proofs.is_blocked.Statement.{statement}
 use Rattle.laying.proofs.is_blocked.Tie as tie
 
 locate-requires : tie.Need-locate-requires
-locate-requires c κs =
-    let s = c .before .before in
-    let p = point (s .args .x) (s .args .y) in
-    (strips-long _ _ _ p (s .pre .0), rising _ _ _ p (s .pre .0))
+locate-requires c κs = (
+  strips-long _ _ _ (point (c .before .before .args .x) (c .before .before .args .y)) (c .before .before .pre .0),
+  by-row-of _ (of-sound _ (c .before .before .pre .0)),
+)
 
 enum-told : tie.Need-enum-told
 enum-told c = search needs
@@ -18,16 +21,17 @@ enum-told-2 : tie.Need-enum-told-2
 enum-told-2 c = search needs
 
 returns : tie.Need-returns
-returns c =
-    nowhere-blocked _ _ _ _ (c .before .before .before .before .before .pre .0)
-    (c .before .before .before .before .before .pre .1 .0) (c .before .before .before .before .before .pre .1 .1)
-    (sym (c .before .before .locate .ensures) ∙ c .enum-told2 .given .1)
+returns c = nowhere-blocked _ _ _ _ (c .before .before .before .before .before .pre .0) (c .before .before .before .before .before .pre .1 .0) (c .before .before .before .before .before .pre .1 .1) (sym (c .before .before .locate .ensures) ∙ c .enum-told2 .given .1)
 
 returns-2 : tie.Need-returns-2
-returns-2 c =
-    somewhere-free _ _ _ _ (c .before .before .before .before .before .pre .0)
-    (c .before .before .before .before .before .pre .1 .0) (c .before .before .before .before .before .pre .1 .1) _
-    (sym (c .before .before .locate .ensures) ∙ c .enum-told .given .1)
+returns-2 c = somewhere-free _ _ _ _ (c .before .before .before .before .before .pre .0) (c .before .before .before .before .before .pre .1 .0) (c .before .before .before .before .before .pre .1 .1) _ (sym (c .before .before .locate .ensures) ∙ c .enum-told .given .1)
 
 pub is-blocked-spec : {M : Type 1} → statement M
-is-blocked-spec = tie.close (tie.spec locate-requires enum-told enum-told-2 returns returns-2)
+is-blocked-spec =
+    tie.close
+    (tie.spec
+    locate-requires
+    enum-told
+    enum-told-2
+    returns
+    returns-2)

@@ -4,10 +4,6 @@ use borrow.Author.Needs.{needs}
 use Rattle.ohms.proofs.ohms.Statement.{statement}
 use Rattle.ohms.proofs.ohms.Tie as tie
 
--- the check, from the place where it is passed
-abbrev atCheck : tie.After-enum-told → tie.After-lent-refusal
-atCheck c = c .before .before
-
 lent-refusal-requires : tie.Need-lent-refusal-requires
 lent-refusal-requires c κs = search needs
 
@@ -22,12 +18,12 @@ enum-told : tie.Need-enum-told
 enum-told c = search needs
 
 net-ohms-requires : tie.Need-net-ohms-requires
-net-ohms-requires c κs = boxes _ _ _ (rw (c .before .enum-told .given .1) at (atCheck (c .before) .lent-refusal .ensures))
+net-ohms-requires c κs = boxes _ _ _ (rw (c .enum-told .given .1) at (c .before .before .lent-refusal .ensures))
 
 returns-2 : tie.Need-returns-2
 returns-2 c =
     answered-by _ _ _ _ _
-    (rw (c .before .before .enum-told .given .1) at (atCheck (c .before .before) .lent-refusal .ensures)) _
+    (rw (c .before .enum-told .given .1) at (c .before .before .before .lent-refusal .ensures)) _
     (c .net-ohms .ensures)
 
 pub ohms-spec : {M : Type 1} → statement M

@@ -1,9 +1,8 @@
+-- 640 zeros are zeros at every place.
 use borrow.Author.Needs.{needs}
 use Rattle.host.specs.Flats.{zeros}
 use Rattle.host.proofs.flat.empty.Statement.{statement}
 use Rattle.host.proofs.flat.empty.Tie as tie
-use Rattle.host.proofs.flat.empty.Reads as reads
-use Rattle.host.proofs.flat.empty.Lts as lts
 
 returns : tie.Need-returns
 unfolding zeros

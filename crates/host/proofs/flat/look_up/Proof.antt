@@ -1,36 +1,37 @@
+-- The numbers that are lent on say what the entries are, so that the answer is theirs.
 use borrow.Author.Needs.{needs}
+use mathlib.Core.Path.{_≡_}
 use native.Mathlib.Omega.{arith}
-use lib.ListN.{length-take}
+use lib.ListN.{length, length-take}
 use Rattle.host.specs.Flats.{numbersLent}
 use Rattle.host.proofs.Flats.{full}
 use Rattle.host.proofs.Tables.{flat-looked}
 use Rattle.host.proofs.flat.look_up.Statement.{statement}
 use Rattle.host.proofs.flat.look_up.Tie as tie
-use Rattle.host.proofs.flat.look_up.Reads as reads
-use Rattle.host.proofs.flat.look_up.Lts as lts
-use Rattle.foil.proofs.look_up.Reads as look-up-reads
-use Rattle.host.proofs.flat.numbers_lent.Reads as numbers-lent-reads
+
+-- back to the start
+abbrev atStart : tie.After-numbers-lent → tie.Start
+atStart c = c .before .before .before
+
+whole : (c : tie.Start) → length (c .args .t .at) ≡ 640
+whole c = full (c .args .t) (c .good .1 .0)
 
 numbers-lent-requires : tie.Need-numbers-lent-requires
 numbers-lent-requires c κs = search needs
 
 array-share-prefix-a : tie.Need-array-share-prefix-a
 unfolding numbersLent
-array-share-prefix-a c = omega (
-  arith,
-  c .numbers-lent .ensures,
-  full (c .before .before .before .args .t) (c
-      .before .before .before .good .1 .0),
-)
+array-share-prefix-a c = omega (arith, c .numbers-lent .ensures, whole (atStart c))
 
 slice-aggregate-look-up : tie.Need-slice-aggregate-look-up
 unfolding numbersLent
 slice-aggregate-look-up c =
+    let d = c .before in
     omega (
       arith,
-      c .before .numbers-lent .ensures,
-      full (c .before .before .before .before .args .t) (c .before .before .before .before .good .1 .0),
-      length-take (c .before .numbers-lent .result) (c .before .before .before .before .args .t .at),
+      d .numbers-lent .ensures,
+      whole (atStart d),
+      length-take (d .numbers-lent .result) (atStart d .args .t .at),
     )
 
 look-up-requires : tie.Need-look-up-requires
@@ -38,9 +39,8 @@ look-up-requires c κs = search needs
 
 returns : tie.Need-returns
 returns c =
-    flat-looked _ _ _ _ _ _
-    (full (c .before .before .before .before .before .args .t) (c .before .before .before .before .before .good .1
-    .0)) (c .before .before .numbers-lent .ensures) (c .look-up .ensures)
+    let lent = c .before .before in
+    flat-looked _ _ _ _ _ _ (whole (atStart lent)) (lent .numbers-lent .ensures) (c .look-up .ensures)
 
 pub look-up-spec : {M : Type 1} → statement M
 look-up-spec =

@@ -6,59 +6,47 @@ use Rattle.host.proofs.Flats.{put-past, full}
 use Rattle.host.proofs.flat.put.Statement.{statement}
 use Rattle.host.proofs.flat.put.Tie as tie
 
+mul-k : tie.Need-mul-k
+mul-k c = search needs
+
 mul-a : tie.Need-mul-a
 mul-a c = search needs
-
-mul-a-2 : tie.Need-mul-a-2
-mul-a-2 c = search needs
 
 array-write-a : tie.Need-array-write-a
 array-write-a c = search needs
 
-mul-a-3 : tie.Need-mul-a-3
-mul-a-3 c = search needs
-
 add-a : tie.Need-add-a
 add-a c = search needs
 
-mul-a-4 : tie.Need-mul-a-4
-mul-a-4 c = search needs
+mul-a-2 : tie.Need-mul-a-2
+mul-a-2 c = search needs
 
 array-write-a-2 : tie.Need-array-write-a-2
 array-write-a-2 c = search needs
 
-mul-a-5 : tie.Need-mul-a-5
-mul-a-5 c = search needs
-
 add-a-2 : tie.Need-add-a-2
 add-a-2 c = search needs
 
-mul-a-6 : tie.Need-mul-a-6
-mul-a-6 c = search needs
+mul-a-3 : tie.Need-mul-a-3
+mul-a-3 c = search needs
 
 array-write-a-3 : tie.Need-array-write-a-3
 array-write-a-3 c = search needs
 
-mul-a-7 : tie.Need-mul-a-7
-mul-a-7 c = search needs
-
 add-a-3 : tie.Need-add-a-3
 add-a-3 c = search needs
 
-mul-a-8 : tie.Need-mul-a-8
-mul-a-8 c = search needs
+mul-a-4 : tie.Need-mul-a-4
+mul-a-4 c = search needs
 
 array-write-a-4 : tie.Need-array-write-a-4
 array-write-a-4 c = search needs
 
-mul-a-9 : tie.Need-mul-a-9
-mul-a-9 c = search needs
-
 add-a-4 : tie.Need-add-a-4
 add-a-4 c = search needs
 
-mul-a-10 : tie.Need-mul-a-10
-mul-a-10 c = search needs
+mul-a-5 : tie.Need-mul-a-5
+mul-a-5 c = search needs
 
 array-write-a-5 : tie.Need-array-write-a-5
 array-write-a-5 c = search needs
@@ -74,24 +62,20 @@ pub put-spec : {M : Type 1} → statement M
 put-spec =
     tie.close
     (tie.spec
+    mul-k
     mul-a
-    mul-a-2
     array-write-a
-    mul-a-3
     add-a
-    mul-a-4
+    mul-a-2
     array-write-a-2
-    mul-a-5
     add-a-2
-    mul-a-6
+    mul-a-3
     array-write-a-3
-    mul-a-7
     add-a-3
-    mul-a-8
+    mul-a-4
     array-write-a-4
-    mul-a-9
     add-a-4
-    mul-a-10
+    mul-a-5
     array-write-a-5
     returns
     returns-2)

@@ -1,10 +1,9 @@
+-- Each case of the answer has its numbers.
 use borrow.Author.Needs.{needs}
 use mathlib.Core.Path.{sym, ap}
 use Rattle.host.specs.Calls.{saidOf}
 use Rattle.host.proofs.flat.said_of.Statement.{statement}
 use Rattle.host.proofs.flat.said_of.Tie as tie
-use Rattle.host.proofs.flat.said_of.Reads as reads
-use Rattle.host.proofs.flat.said_of.Lts as lts
 
 enum-known-answer : tie.Need-enum-known-answer
 enum-known-answer c = search needs

@@ -1,11 +1,9 @@
+-- No step was run, so that each has the numbers of nothing.
 use borrow.Author.Needs.{needs}
-use mathlib.Core.Bool.{true, false}
+use mathlib.Core.Bool.{false}
 use Rattle.host.specs.Records.{stepSaidOf, goesOn, placeNext, ranSaid}
 use Rattle.host.proofs.records.not_run.Statement.{statement}
 use Rattle.host.proofs.records.not_run.Tie as tie
-use Rattle.host.proofs.records.not_run.Reads as reads
-use Rattle.host.proofs.records.not_run.Lts as lts
-use Rattle.host.proofs.records.nothing_said.Reads as nothing-said-reads
 
 nothing-said-requires : tie.Need-nothing-said-requires
 nothing-said-requires c κs = search needs

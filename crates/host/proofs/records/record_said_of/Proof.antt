@@ -1,12 +1,9 @@
+-- Each case of the reply has its numbers.
 use borrow.Author.Needs.{needs}
 use mathlib.Core.Path.{sym, ap, _∙_}
 use Rattle.host.specs.Records.{recordSaidOf}
 use Rattle.host.proofs.records.record_said_of.Statement.{statement}
 use Rattle.host.proofs.records.record_said_of.Tie as tie
-use Rattle.host.proofs.records.record_said_of.Reads as reads
-use Rattle.host.proofs.records.record_said_of.Lts as lts
-use Rattle.host.proofs.records.not_run.Reads as not-run-reads
-use Rattle.host.proofs.records.run.Reads as run-reads
 
 enum-known-reply : tie.Need-enum-known-reply
 enum-known-reply c = search needs

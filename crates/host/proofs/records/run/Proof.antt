@@ -1,12 +1,10 @@
+-- Each step has its numbers, and there is a next place or there is none.
 use borrow.Author.Needs.{needs}
 use mathlib.Core.Path.{sym, ap}
-use mathlib.Core.Bool.{true, false}
+use mathlib.Core.Bool.{false}
 use Rattle.host.specs.Records.{goesOn, placeNext, ranSaid}
 use Rattle.host.proofs.records.run.Statement.{statement}
 use Rattle.host.proofs.records.run.Tie as tie
-use Rattle.host.proofs.records.run.Reads as reads
-use Rattle.host.proofs.records.run.Lts as lts
-use Rattle.host.proofs.records.step_said_of.Reads as step-said-of-reads
 
 step-said-of-requires : tie.Need-step-said-of-requires
 step-said-of-requires c κs = search needs
@@ -26,16 +24,24 @@ enum-known-next c = search needs
 enum-told : tie.Need-enum-told
 enum-told c = search needs
 
+-- back to the numbers of the lift, the last of the four, and from there to those of the patch
+abbrev lifted : tie.After-next → tie.After-step-said-of4
+lifted c = c .before .before
+
+abbrev patched : tie.After-step-said-of4 → tie.After-step-said-of2
+patched c = c .before .before
+
 returns : tie.Need-returns
 unfolding ranSaid goesOn placeNext
 returns c =
+    let d = c .before .before in
     λ i. record {
       number = 0;
       end = false;
-      board = c .before .before .before .before .before .step-said-of .ensures i;
-      patch = c .before .before .before .before .step-said-of2 .ensures i;
-      track = c .before .before .before .step-said-of3 .ensures i;
-      lift = c .before .before .step-said-of4 .ensures i;
+      board = patched d .before .step-said-of .ensures i;
+      patch = patched d .step-said-of2 .ensures i;
+      track = d .before .step-said-of3 .ensures i;
+      lift = d .step-said-of4 .ensures i;
       more = sym (ap goesOn (c .enum-told .given .1)) i;
       next = sym (ap placeNext (c .enum-told .given .1)) i;
     }
@@ -43,13 +49,14 @@ returns c =
 returns-2 : tie.Need-returns-2
 unfolding ranSaid goesOn placeNext
 returns-2 c =
+    let d = lifted (c .before) in
     λ i. record {
       number = 0;
       end = false;
-      board = c .before .before .before .before .before .before .step-said-of .ensures i;
-      patch = c .before .before .before .before .before .step-said-of2 .ensures i;
-      track = c .before .before .before .before .step-said-of3 .ensures i;
-      lift = c .before .before .before .step-said-of4 .ensures i;
+      board = patched d .before .step-said-of .ensures i;
+      patch = patched d .step-said-of2 .ensures i;
+      track = d .before .step-said-of3 .ensures i;
+      lift = d .step-said-of4 .ensures i;
       more = sym (ap goesOn (c .before .next .given .1)) i;
       next = sym (ap placeNext (c .before .next .given .1)) i;
     }

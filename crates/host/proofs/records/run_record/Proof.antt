@@ -1,39 +1,46 @@
+-- The record does on the numbers that are lent on what it does on the entries that they say.
 use borrow.Author.Needs.{needs}
+use mathlib.Core.Path.{_≡_}
 use native.Mathlib.Omega.{arith}
-use lib.ListN.{length-take}
+use lib.ListN.{length, length-take}
 use Rattle.host.specs.Flats.{numbersLent}
 use Rattle.host.proofs.Flats.{full}
 use Rattle.host.proofs.Running.{flat-ran}
 use Rattle.host.proofs.records.run_record.Statement.{statement}
 use Rattle.host.proofs.records.run_record.Tie as tie
-use Rattle.host.proofs.records.run_record.Reads as reads
-use Rattle.host.proofs.records.run_record.Lts as lts
-use Rattle.host.proofs.flat.numbers_lent.Reads as numbers-lent-reads
-use Rattle.host.proofs.records.leave.Reads as leave-reads
-use Rattle.job.proofs.run_record.Reads as run-record-reads
+
+-- back to the start, to how many numbers are lent on, to the call, and to the numbers that it left
+abbrev atStart : tie.After-numbers-lent → tie.Start
+atStart c = c .before .before .before .before .before
+
+abbrev lentOn : tie.After-run-record → tie.After-numbers-lent
+lentOn c = c .before .before .before .before
+
+abbrev called : tie.After-a3 → tie.After-run-record
+called c = c .before
+
+abbrev leftBy : tie.After-leave → tie.After-a3
+leftBy c = c .before .before .before .before .before
+
+whole : (c : tie.Start) → length (c .args .t .at) ≡ 640
+whole c = full (c .args .t) (c .good .1 .0)
 
 numbers-lent-requires : tie.Need-numbers-lent-requires
 numbers-lent-requires c κs = search needs
 
 array-borrow-prefix-a : tie.Need-array-borrow-prefix-a
 unfolding numbersLent
-array-borrow-prefix-a c =
-    omega (
-      arith,
-      c .numbers-lent .ensures,
-      full (c .before .before .before .before .before .args .t) (c .before
-          .before .before .before .before .good .1 .1 .1 .0),
-    )
+array-borrow-prefix-a c = omega (arith, c .numbers-lent .ensures, whole (atStart c))
 
 slice-aggregate-run-record : tie.Need-slice-aggregate-run-record
 unfolding numbersLent
 slice-aggregate-run-record c =
+    let d = c .before in
     omega (
       arith,
-      c .before .numbers-lent .ensures,
-      full (c .before .before .before .before .before .before .args .t) (c .before .before .before .before .before
-          .before .good .1 .1 .1 .0),
-      length-take (c .before .numbers-lent .result) (c .before .before .before .before .before .before .args .t .at),
+      d .numbers-lent .ensures,
+      whole (atStart d),
+      length-take (d .numbers-lent .result) (atStart d .args .t .at),
     )
 
 run-record-requires : tie.Need-run-record-requires
@@ -50,13 +57,10 @@ same-length-2 c = search needs
 
 returns : tie.Need-returns
 returns c =
-    flat-ran _ _ _ _ _ _ _ _ _ _ _ _
-    (full (c .before .before .before .before .before .before .before .before .before .before .before .before
-    .before .before .before .args .t) (c .before .before .before .before .before .before .before .before .before
-    .before .before .before .before .before .before .good .1 .1 .1 .0))
-    (c .before .before .before .before .before .before .before .before .before .before .numbers-lent .ensures)
-    (c .before .before .before .before .before .a3 .given)
-    (c .before .before .before .before .before .before .run-record .ensures) (c .leave .ensures)
+    let d = leftBy c in
+    let lent = lentOn (called d) in
+    flat-ran _ _ _ _ _ _ _ _ _ _ _ _ (whole (atStart lent)) (lent .numbers-lent .ensures) (d .a3 .given)
+    (called d .run-record .ensures) (c .leave .ensures)
 
 pub run-record-spec : {M : Type 1} → statement M
 run-record-spec =

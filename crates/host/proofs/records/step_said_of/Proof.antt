@@ -1,13 +1,10 @@
+-- A step that was run has the numbers of its answer, any other those of nothing.
 use borrow.Author.Needs.{needs}
 use mathlib.Core.Path.{sym, ap, _∙_}
 use mathlib.Core.Bool.{true, false}
 use Rattle.host.specs.Records.{stepSaidOf}
 use Rattle.host.proofs.records.step_said_of.Statement.{statement}
 use Rattle.host.proofs.records.step_said_of.Tie as tie
-use Rattle.host.proofs.records.step_said_of.Reads as reads
-use Rattle.host.proofs.records.step_said_of.Lts as lts
-use Rattle.host.proofs.flat.said_of.Reads as said-of-reads
-use Rattle.host.proofs.records.nothing_said.Reads as nothing-said-reads
 
 enum-known-told : tie.Need-enum-known-told
 enum-known-told c = search needs

@@ -1,0 +1,95 @@
+-- The types that the calls over structs take and give by value: each value is plain, and one machine value.
+use mathlib.Core.List.{[], _∷_}
+use denote.Laws.{Is}
+use denote.Struct.Laws as LL
+use Rattle.host.specs.declared.flat.Left.{Left}
+use Rattle.host.specs.declared.records.Ran.{Ran}
+use Rattle.host.proofs.Walks.{ByValue, of-struct, of-enum}
+use Rattle.foil_spec.proofs.Board as board
+use Rattle.foil_spec.proofs.Board.Laws as board′
+use Rattle.foil_spec.proofs.Entry as entry
+use Rattle.foil_spec.proofs.Entry.Laws as entry′
+use Rattle.foil_spec.proofs.Ink as ink
+use Rattle.foil_spec.proofs.Ink.Laws as ink′
+use Rattle.foil.proofs.Answer as answer
+use Rattle.foil.proofs.Answer.Laws as answer′
+use Rattle.job.proofs.Reply as reply
+use Rattle.job.proofs.Reply.Laws as reply′
+use Rattle.ohms.proofs.Resistance as resistance
+use Rattle.ohms.proofs.Resistance.Laws as resistance′
+use Rattle.host.proofs.flat.Flat as flat
+use Rattle.host.proofs.flat.Flat.Laws as flat′
+use Rattle.host.proofs.flat.Said as said
+use Rattle.host.proofs.flat.Said.Laws as said′
+use Rattle.host.proofs.flat.OhmsSaid as ohms-said
+use Rattle.host.proofs.flat.OhmsSaid.Laws as ohms-said′
+use Rattle.host.proofs.flat.Left as left
+use Rattle.host.proofs.flat.Left.Laws as left′
+use Rattle.host.proofs.records.Ran as ran
+use Rattle.host.proofs.records.Ran.Laws as ran′
+use Rattle.host.proofs.records.RecordSaid as record-said
+use Rattle.host.proofs.records.RecordSaid.Laws as record-said′
+
+abbrev pub a-Board : ByValue board.the-row
+a-Board = of-struct board.the-type board′.the-laws board′.the-plain
+
+abbrev pub an-Entry : ByValue entry.the-row
+an-Entry = of-struct entry.the-type entry′.the-laws entry′.the-plain
+
+abbrev pub an-Ink : ByValue ink.the-row
+an-Ink = of-struct ink.the-type ink′.the-laws ink′.the-plain
+
+abbrev pub a-Flat : ByValue flat.the-row
+a-Flat = of-struct flat.the-type flat′.the-laws flat′.the-plain
+
+-- ---- answers
+
+abbrev pub an-Answer : ByValue answer.the-row
+an-Answer = of-enum answer.the-type answer′.the-laws answer′.the-plain tt
+
+abbrev pub a-Reply : ByValue reply.the-row
+a-Reply = of-enum reply.the-type reply′.the-laws reply′.the-plain tt
+
+abbrev pub a-Resistance : ByValue resistance.the-row
+a-Resistance = of-enum resistance.the-type resistance′.the-laws resistance′.the-plain tt
+
+abbrev pub a-Said : ByValue said.the-row
+a-Said = of-struct said.the-type said′.the-laws said′.the-plain
+
+abbrev pub an-OhmsSaid : ByValue ohms-said.the-row
+an-OhmsSaid = of-struct ohms-said.the-type ohms-said′.the-laws ohms-said′.the-plain
+
+abbrev pub a-RecordSaid : ByValue record-said.the-row
+a-RecordSaid = of-struct record-said.the-type record-said′.the-laws record-said′.the-plain
+
+-- ---- what a call leaves, and its parts
+
+abbrev pub a-Left : ByValue left.the-row
+a-Left = of-struct left.the-type left′.the-laws left′.the-plain
+
+abbrev pub a-Ran : ByValue ran.the-row
+a-Ran = of-struct ran.the-type ran′.the-laws ran′.the-plain
+
+pub left-board : (r : Left) → Is left.the-row r (a-Left .val r ∷ [])
+    → Is board.the-row (r .board) (a-Board .val (r .board) ∷ [])
+left-board r is = LL.owed left.the-type left′.the-laws r _ is .0
+
+pub left-answer : (r : Left) → Is left.the-row r (a-Left .val r ∷ [])
+    → Is answer.the-row (r .answer) (an-Answer .val (r .answer) ∷ [])
+left-answer r is = LL.owed left.the-type left′.the-laws r _ is .1 .0
+
+pub left-table : (r : Left) → Is left.the-row r (a-Left .val r ∷ [])
+    → Is flat.the-row (r .table) (a-Flat .val (r .table) ∷ [])
+left-table r is = LL.owed left.the-type left′.the-laws r _ is .1 .1 .0
+
+pub ran-board : (r : Ran) → Is ran.the-row r (a-Ran .val r ∷ [])
+    → Is board.the-row (r .board) (a-Board .val (r .board) ∷ [])
+ran-board r is = LL.owed ran.the-type ran′.the-laws r _ is .0
+
+pub ran-answer : (r : Ran) → Is ran.the-row r (a-Ran .val r ∷ [])
+    → Is reply.the-row (r .reply) (a-Reply .val (r .reply) ∷ [])
+ran-answer r is = LL.owed ran.the-type ran′.the-laws r _ is .1 .0
+
+pub ran-table : (r : Ran) → Is ran.the-row r (a-Ran .val r ∷ [])
+    → Is flat.the-row (r .table) (a-Flat .val (r .table) ∷ [])
+ran-table r is = LL.owed ran.the-type ran′.the-laws r _ is .1 .1 .0
