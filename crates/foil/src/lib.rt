@@ -169,7 +169,13 @@ fn add_entry(
     let mut rows = [0u16; TABLE_SIZE];
     copy_front(&mut rows, table, TABLE_SIZE);
     append(
-        &mut rows, n, entry.net, entry.x0, entry.y0, entry.x1, entry.y1,
+        &mut rows,
+        n,
+        entry.net,
+        entry.x0,
+        entry.y0,
+        entry.x1,
+        entry.y1,
     );
     settle(table, strips, &rows, n + 1, board)
 }

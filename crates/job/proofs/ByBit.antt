@@ -8,10 +8,11 @@ use mathlib.Core.Logic.{by-cases, ⊎-elim}
 use native.Mathlib.Decide.{ℕ-discrete}
 use lib.Dec.{eqb}
 use borrow.Author.Tests.{eq-eqb, ne-eqb}
-use lib.ListN.{length}
+use lib.ListN.{length, drop}
 use Rattle.foil_spec.specs.Ledger.{Answer}
 use Rattle.foil_spec.specs.Job.{mapBits}
 use Rattle.foil.specs.Contract.{answerOf}
+use Rattle.foil.specs.declared.Answer.{Answer as Answered}
 use Rattle.list_laws.proofs.Tests.{both, lt-or-le}
 use Rattle.job.specs.Contract.{setBelow, saidAt, toldAt, byBit, toldIn, answersOf}
 use Rattle.job.specs.Parts.{toldMore, ToldMore}
@@ -92,6 +93,47 @@ pub tell-all : (a : Answers) (k : ℕ) (t b p c l : Told) → b ≡ cond (eqb 0 
     → ToldMore a k t (record { board = b; patch = p; track = c; lift = l })
 unfolding byBit toldMore
 tell-all a k t b p c l e f g h = record { is = λ d q. rw (e, f, g, h, q) refl }
+
+-- ---- the answer that a bit told
+
+pub said-none : (given : List Answer) (i : ℕ) → drop i given ≡ [] → saidAt given i ≡ Nothing
+unfolding saidAt
+said-none [] i e = refl
+said-none (x ∷ given) zero e = absurd (let z = ap length e in omega arith)
+said-none (x ∷ given) (suc i) e = said-none given i e
+
+pub said-here : (given : List Answer) (i : ℕ) (x : Answer) (rest : List Answer) → drop i given ≡ x ∷ rest
+    → saidAt given i ≡ Said (answerOf x)
+unfolding saidAt
+said-here [] zero x rest e = absurd (let z = ap length e in omega arith)
+said-here [] (suc i) x rest e = absurd (let z = ap length e in omega arith)
+said-here (y ∷ given) zero x rest e = let q : y ≡ x = cc in ap (λ (z : Answer). Said (answerOf z)) q
+said-here (y ∷ given) (suc i) x rest e = said-here given i x rest e
+
+-- it is the first of those that are left after the bits below
+pub record SaidBy (on : ℕ → Bool) (given : List Answer) (k : ℕ) (y : Answered) : Type 0 where
+  pub set : on k ≡ true
+  pub answer : Answer
+  pub rest : List Answer
+  pub from : drop (setBelow on k) given ≡ answer ∷ rest
+  pub is : answerOf answer ≡ y
+
+said-by : (given : List Answer) (i : ℕ) (y : Answered) → saidAt given i ≡ Said y
+    → (x : Answer) × (rest : List Answer) × (drop i given ≡ x ∷ rest) × (answerOf x ≡ y)
+unfolding saidAt
+said-by [] i y e = absurd (let z : _≡_ {A = ℕ} 0 1 = cc in omega arith)
+said-by (x ∷ given) zero y e = (x, given, refl, cc)
+said-by (x ∷ given) (suc i) y e = said-by given i y e
+
+pub told-by : (on : ℕ → Bool) (given : List Answer) (k : ℕ) (y : Answered) → toldAt on given k ≡ Said y
+    → SaidBy on given k y
+unfolding toldAt
+told-by on given k y e =
+    both (on k)
+    (λ o.
+    let s = said-by given (setBelow on k) y (rw o at e) in
+    record { set = o; answer = s .0; rest = s .1; from = s .2; is = s .3 })
+    (λ o. absurd (let f : Nothing ≡ Said y = rw o at e in let z : _≡_ {A = ℕ} 0 1 = cc in omega arith))
 
 -- ---- a bit's field
 

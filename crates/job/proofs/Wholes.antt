@@ -53,50 +53,50 @@ unbroken bs at m l =
 -- ---- the record's own checks
 
 module _ (bs : List ℕ) (at : ℕ) (q : Checked) (q-is : q ≡ checkedOf (first (recordChecks bs at))) (checked : q ≡ Passed)
-    where
-  passed : first (recordChecks bs at) ≡ none
-  passed = checked-none _ (sym checked ∙ q-is)
+  where
+    passed : first (recordChecks bs at) ≡ none
+    passed = checked-none _ (sym checked ∙ q-is)
 
-  pub there : at < length bs
-  unfolding recordChecks
-  there =
-      let e = passed in
-      let h : leb (length bs) at ≡ false = search none-applies in
-      leb-false (length bs) at h
-
-  -- the first record has a board
-  board-first : at ≡ 0 → has bs at 0 ≡ true
-  unfolding recordChecks xor
-  board-first z =
-      let e = passed in
-      let h : xor (eqb at 0) (has bs at 0) ≡ false = search none-applies in
-      only (has bs at 0) (rw (eq-eqb at 0 z) at h)
-    where
-      only : (t : Bool) → xor true t ≡ false → t ≡ true
-      only true x = refl
-      only false x = clash refl x
-
-  module _ (more : getD bs at 0 ≡ 0 → ⊥) where
-    not-end : isEnd bs at ≡ false
-    unfolding isEnd mapByte
-    not-end = ne-eqb (getD bs at 0) 0 more
-
-    pub ready : (m : Lent) → Lends bs at m → Ready bs at m
+    pub there : at < length bs
     unfolding recordChecks
-    ready m l =
+    there =
         let e = passed in
-        let h : (not (isEnd bs at) && ltb (length bs) (recordEnd bs at)) ≡ false = search none-applies depth 9 in
-        record {
-          whole =
-              record {
-                begun = record { there = there; few = l .few };
-                ends = ltb-false (length bs) (recordEnd bs at) (rw not-end at h);
-              };
-          table = l .table;
-          strips = l .strips;
-          fine = λ unset.
-              by-cases (ℕ-discrete at 0) (λ z. clash (board-first z) unset) (λ ne. l .fine ne);
-        }
+        let h : leb (length bs) at ≡ false = search none-applies in
+        leb-false (length bs) at h
+
+    -- the first record has a board
+    board-first : at ≡ 0 → has bs at 0 ≡ true
+    unfolding recordChecks xor
+    board-first z =
+        let e = passed in
+        let h : xor (eqb at 0) (has bs at 0) ≡ false = search none-applies in
+        only (has bs at 0) (rw (eq-eqb at 0 z) at h)
+      where
+        only : (t : Bool) → xor true t ≡ false → t ≡ true
+        only true x = refl
+        only false x = clash refl x
+
+    module _ (more : getD bs at 0 ≡ 0 → ⊥) where
+      not-end : isEnd bs at ≡ false
+      unfolding isEnd mapByte
+      not-end = ne-eqb (getD bs at 0) 0 more
+
+      pub ready : (m : Lent) → Lends bs at m → Ready bs at m
+      unfolding recordChecks
+      ready m l =
+          let e = passed in
+          let h : (not (isEnd bs at) && ltb (length bs) (recordEnd bs at)) ≡ false = search none-applies depth 9 in
+          record {
+            whole =
+                record {
+                  begun = record { there = there; few = l .few };
+                  ends = ltb-false (length bs) (recordEnd bs at) (rw not-end at h);
+                };
+            table = l .table;
+            strips = l .strips;
+            fine = λ unset.
+                by-cases (ℕ-discrete at 0) (λ z. clash (board-first z) unset) (λ ne. l .fine ne);
+          }
 
 -- ---- the returns
 

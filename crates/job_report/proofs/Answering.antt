@@ -1,60 +1,34 @@
 -- The lines of a record's steps by the answers of the code are those by the answers of the definitions.
-use Prim.Native.Nat.{ℕ, _*_, _/_, _≤_}
+use Prim.Native.Nat.{ℕ, zero, suc, _+_, _-_, _*_, _/_, _≤_, _<_}
 use native.Mathlib.Omega.{arith}
 use mathlib.Core.Path.{_≡_, refl, sym, ap, ap₂, _∙_}
-use mathlib.Core.Bool.{Bool, true, false}
-use mathlib.Core.List.{List, [], _∷_, _++_, append-nil, append-assoc}
-use mathlib.Core.Option.{Option}
+use mathlib.Core.Bool.{true, cond}
+use mathlib.Core.List.{List, [], _∷_, _++_}
 use lib.ListN.{length, drop}
-use Rattle.foil_spec.specs.Lists.{each, consIf}
-use Rattle.foil_spec.specs.Foil.{Point}
+use lib.Seq.{drop-drop}
+use Rattle.foil_spec.specs.Lists.{range, consIf, each}
+use Rattle.foil_spec.specs.Limits.{maxStrips, cornerPlaces}
 use Rattle.foil_spec.specs.Ledger.{Step, newFoil, draw, lay, lift, lookUp, stripsOf}
 use Rattle.foil_spec.specs.Ledger.{Answer, refused, accepted, laid, found, numberOf}
-use Rattle.foil_spec.specs.Lent.{Lent, pointNumbers, cornersIn, held, cornersAfter, stepOn}
-use Rattle.foil_spec.specs.Job.{has, field, steps}
-use Rattle.foil_spec.specs.Calls.{runRecord, Reply, answered, ran, atEnd, actAll, callOn}
-use Rattle.ledger_laws.proofs.CornerLists.{corners-read}
+use Rattle.foil_spec.specs.Lent.{Lent, cornersIn, held}
+use Rattle.foil_spec.specs.Job.{mapBits, has, stepAt, stepsAt, steps}
+use Rattle.list_laws.proofs.Tests.{both}
 use Rattle.ledger_laws.proofs.Stored.{strips-fit, length-strips}
-use Rattle.ledger_laws.proofs.Sound.{Sound, of-sound}
+use Rattle.ledger_laws.proofs.Sound.{Sound}
 use Rattle.foil.specs.Contract.{answerOf}
 use Rattle.foil.specs.declared.Answer.{Answer as Answered}
 use Rattle.foil.specs.declared.Answer.the-variants.{Laid}
-use Rattle.job.specs.Contract.{toldAt, restAfter, answersOf}
-use Rattle.job.specs.Parts.{boardStep, patchStep, trackStep, liftStep}
+use Rattle.job.specs.Contract.{setBelow, toldAt, toldIn, answersOf}
+use Rattle.job.specs.Parts.{Whole}
 use Rattle.job.specs.declared.Told.{Told}
 use Rattle.job.specs.declared.Told.the-variants.{Nothing, Said}
-use Rattle.job.proofs.Replies.{Tracked, track-left, told-bit}
-use Rattle.lines.specs.Lines.{boardLine, patchLine, trackLaid, liftLine, stripLine}
-use Rattle.lines.specs.Output.{trackLine, stepLine, stepLines, replyLines}
-use Rattle.job_report.specs.Told.{numberIn, toldLine, layLine, toldTrack, answerLines, InList}
+use Rattle.job.proofs.ByBit.{said-none, said-here, SaidBy, told-by, told-in}
+use Rattle.job.proofs.Replies.{Tracked}
+use Rattle.lines.specs.Lines.{boardLine, patchLine, trackLaid, liftLine}
+use Rattle.lines.specs.Output.{trackLine, stepLine, stepLines}
+use Rattle.job_report.specs.Told.{numberIn, layLine, lineOf, toldLine, linesOf, answerLines, InList, FromBit, FromBits}
 
--- the line of a step whose bit may be set, by the first of the answers that are left
-lineAt : Bool → Step → List Answer → List ℕ
-lineAt true s (a ∷ l) = stepLine s a
-lineAt true s [] = []
-lineAt false s l = []
-
-cons-lines : (b : Bool) (s : Step) (ss : List Step) (given : List Answer)
-    → stepLines (consIf b s ss) given ≡ lineAt b s given ++ stepLines ss (restAfter b given)
-unfolding stepLines lineAt restAfter
-cons-lines true s ss [] = refl
-cons-lines true s ss (a ∷ l) = refl
-cons-lines false s ss given = refl
-
-no-lines : (given : List Answer) → stepLines [] given ≡ []
-unfolding stepLines
-no-lines [] = refl
-no-lines (a ∷ l) = refl
-
-with-step : (b : Bool) (s : Step) (ss : List Step) (given : List Answer) {x y : List ℕ} → lineAt b s given ≡ x
-    → stepLines ss (restAfter b given) ≡ y → stepLines (consIf b s ss) given ≡ x ++ y
-with-step b s ss given e f = cons-lines b s ss given ∙ ap₂ (λ (u v : List ℕ). u ++ v) e f
-
-last-step : (b : Bool) (s : Step) (given : List Answer) {x : List ℕ} → lineAt b s given ≡ x
-    → stepLines (consIf b s []) given ≡ x
-last-step b s given {x} e = with-step b s [] given e (no-lines (restAfter b given)) ∙ append-nil x
-
--- ---- a step whose line has its number alone
+-- ---- the line of a step
 
 number-in : (a : Answer) → numberIn (answerOf a) ≡ numberOf a
 unfolding numberIn answerOf numberOf
@@ -63,95 +37,137 @@ number-in accepted = refl
 number-in (laid cs n) = refl
 number-in (found n) = refl
 
-number-line : (line : ℕ → List ℕ) (s : Step) → ((a : Answer) → stepLine s a ≡ line (numberOf a)) → (b : Bool)
-    (given : List Answer) → lineAt b s given ≡ toldLine line (toldAt b given)
-unfolding lineAt toldLine toldAt
-number-line line s h true (a ∷ l) = h a ∙ ap line (sym (number-in a))
-number-line line s h true [] = refl
-number-line line s h false given = refl
+track-read : (net room : ℕ) (ks : List ℕ) (a : Answer) → Tracked a room ks
+    → layLine net ks (answerOf a) ≡ trackLine net a
+unfolding trackLine layLine answerOf
+track-read net room ks (refused n) t = refl
+track-read net room ks accepted t = refl
+track-read net room ks (laid cs n) t = ap (trackLaid net n) (t .front cs n refl)
+track-read net room ks (found n) t = refl
 
--- ---- a lay
+step-read : (s : Step) (room : ℕ) (ks : List ℕ) (a : Answer) → Tracked a room ks
+    → lineOf s ks (answerOf a) ≡ stepLine s a
+unfolding lineOf stepLine
+step-read (newFoil W H d) room ks a t = ap boardLine (number-in a)
+step-read (draw x0 y0 x1 y1) room ks a t = ap patchLine (number-in a)
+step-read (lay net S T) room ks a t = track-read net room ks a t
+step-read (lift net) room ks a t = ap (liftLine net) (number-in a)
+step-read (lookUp p) room ks a t = refl
 
-track-read : (net : ℕ) (ks ks′ : List ℕ) (a : Answer) → Tracked a ks ks′
-    → trackLine net a ≡ layLine net ks′ (answerOf a)
-unfolding trackLine layLine answerOf cornersAfter
-track-read net ks ks′ (refused n) t = refl
-track-read net ks ks′ accepted t = refl
-track-read net ks ks′ (laid cs n) t =
-    ap (trackLaid net n) (sym (ap (λ (l : List ℕ). cornersIn l (length cs)) (t .front)
-    ∙ corners-read cs (drop (length (each pointNumbers cs)) ks)))
-track-read net ks ks′ (found n) t = refl
+laid-few : (room : ℕ) (ks : List ℕ) (a : Answer) (k n : ℕ) → Tracked a room ks → answerOf a ≡ Laid k n → k ≤ room / 2
+unfolding answerOf
+laid-few room ks (refused n) k i t e = absurd (let z : _≡_ {A = ℕ} 0 1 = cc in omega arith)
+laid-few room ks accepted k i t e = absurd (let z : _≡_ {A = ℕ} 0 1 = cc in omega arith)
+laid-few room ks (laid cs n) k i t e = let q : length cs ≡ k = cc in omega (arith, t .fits cs n refl)
+laid-few room ks (found n) k i t e = absurd (let z : _≡_ {A = ℕ} 0 1 = cc in omega arith)
 
-module _ (ks ks′ : List ℕ) where
-  -- the lay that the first of the answers belongs to, if the bit is set
-  abbrev FirstTracked : Bool → List Answer → Type 0
-  FirstTracked b given = (a : Answer) (l : List Answer) → b ≡ true → given ≡ a ∷ l → Tracked a ks ks′
+-- ---- the lines of the steps, bit by bit
 
-  track-line : (net : ℕ) (S T : Point) (b : Bool) (given : List Answer) → FirstTracked b given
-      → lineAt b (lay net S T) given ≡ toldTrack net ks′ (toldAt b given)
-  unfolding lineAt toldTrack toldAt stepLine
-  track-line net S T true (a ∷ l) h = track-read net ks ks′ a (h a l refl refl)
-  track-line net S T true [] h = refl
-  track-line net S T false given h = refl
+no-lines : (ss : List Step) → stepLines ss [] ≡ []
+unfolding stepLines
+no-lines [] = refl
+no-lines (s ∷ ss) = refl
 
-  laid-few : (a : Answer) (k n : ℕ) → Tracked a ks ks′ → answerOf a ≡ Laid k n → k ≤ length ks / 2
-  unfolding answerOf
-  laid-few (refused n) k m t e = absurd (let z : _≡_ {A = ℕ} 0 1 = cc in omega arith)
-  laid-few accepted k m t e = absurd (let z : _≡_ {A = ℕ} 0 1 = cc in omega arith)
-  laid-few (laid cs n) k m t e = let q : length cs ≡ k = cc in omega (arith, t .fits cs n refl)
-  laid-few (found n) k m t e = absurd (let z : _≡_ {A = ℕ} 0 1 = cc in omega arith)
+no-steps : (given : List Answer) → stepLines [] given ≡ []
+unfolding stepLines
+no-steps [] = refl
+no-steps (a ∷ given) = refl
 
-  told-few : (b : Bool) (given : List Answer) → FirstTracked b given → (k n : ℕ)
-      → toldAt b given ≡ Said (Laid k n) → k ≤ length ks / 2
-  unfolding toldAt
-  told-few true (a ∷ l) h k n e = let q : answerOf a ≡ Laid k n = cc in laid-few a k n (h a l refl refl) q
-  told-few true [] h k n e = absurd (let z : _≡_ {A = ℕ} 0 1 = cc in omega arith)
-  told-few false given h k n e = absurd (let z : _≡_ {A = ℕ} 0 1 = cc in omega arith)
+-- the answers that are left after one more bit
+rest-after : (given : List Answer) (i : ℕ) → drop (i + 1) given ≡ drop 1 (drop i given)
+rest-after given i = sym (drop-drop 1 i given)
 
--- ---- the steps of a record
+module _ (bs : List ℕ) (at : ℕ) (ks : List ℕ) (room : ℕ) (given : List Answer) where
+  -- the corners of every answer stand in the list
+  abbrev AllTracked : Type 0
+  AllTracked =
+      (k j : ℕ) → k + suc j ≡ mapBits → (x : Answer) (rest : List Answer) → has bs at k ≡ true
+      → drop (setBelow (has bs at) k) given ≡ x ∷ rest → Tracked x room ks
 
-module _ (bs : List ℕ) (at : ℕ) (m : Lent) where
-  abbrev given : List Answer
-  given = actAll stepOn (steps bs at) m .answer
+  abbrev line : ℕ → List ℕ
+  line k = toldLine (stepAt bs at k) ks (toldIn (answersOf (has bs at) given) k)
 
-  abbrev after : List ℕ
-  after = actAll stepOn (steps bs at) m .state .corners
+  module _ (tracked : AllTracked) where
+    -- a bit that is set: its line, and those of the bits after it
+    set-lines : (k n : ℕ) → k + suc n ≡ mapBits → has bs at k ≡ true → (ss : List Step) (later : List ℕ)
+        → later ≡ stepLines ss (drop (setBelow (has bs at) k + 1) given) → (left : List Answer)
+        → drop (setBelow (has bs at) k) given ≡ left
+        → line k ++ later ≡ stepLines (stepAt bs at k ∷ ss) left
+    unfolding toldAt toldLine stepLines
+    set-lines k n e set ss later f [] h =
+        rw (
+          told-in (has bs at) given k (omega arith),
+          set,
+          said-none given (setBelow (has bs at) k) h,
+          f,
+          rest-after given (setBelow (has bs at) k),
+          h,
+        )
+        (no-lines ss)
+    set-lines k n e set ss later f (x ∷ rest) h =
+        rw (
+          told-in (has bs at) given k (omega arith),
+          set,
+          said-here given (setBelow (has bs at) k) x rest h,
+          f,
+          rest-after given (setBelow (has bs at) k),
+          h,
+        )
+        (ap (λ (l : List ℕ). l ++ stepLines ss rest)
+        (step-read (stepAt bs at k) room ks x (tracked k n e x rest set h)))
 
-  abbrev rest : List Answer
-  rest = restAfter (has bs at 1) (restAfter (has bs at 0) given)
+    lines-from : (k n : ℕ) → k + n ≡ mapBits
+        → each line (range k n) ≡ stepLines (stepsAt bs at (range k n)) (drop (setBelow (has bs at) k) given)
+    unfolding stepsAt
+    lines-from k zero e = sym (no-steps (drop (setBelow (has bs at) k) given))
+    lines-from k (suc n) e =
+        let later = lines-from (suc k) n (omega arith) in
+        both (has bs at k)
+        (λ set.
+        let next : setBelow (has bs at) (suc k) ≡ setBelow (has bs at) k + 1 = unfold setBelow in rw set refl in
+        rw set
+        (set-lines k n e set (stepsAt bs at (range (suc k) n)) (each line (range (suc k) n))
+        (later ∙ ap (λ (i : ℕ). stepLines (stepsAt bs at (range (suc k) n)) (drop i given)) next)
+        _ refl))
+        (λ unset.
+        let next : setBelow (has bs at) (suc k) ≡ setBelow (has bs at) k = unfold setBelow in rw unset (omega arith) in
+        let none : line k ≡ [] = unfold toldAt toldLine in rw (told-in (has bs at) given k (omega arith), unset) refl in
+        rw unset
+        (ap (λ (l : List ℕ). l ++ each line (range (suc k) n)) none
+        ∙ later ∙ ap (λ (i : ℕ). stepLines (stepsAt bs at (range (suc k) n)) (drop i given)) next))
 
-  tracked : FirstTracked (m .corners) after (has bs at 2) rest
-  tracked a l on e = track-left bs at m a l on e
+    pub answers-lines : answerLines bs at ks (answersOf (has bs at) given) ≡ stepLines (steps bs at) given
+    unfolding linesOf steps
+    answers-lines =
+        lines-from 0 mapBits refl
+        ∙ ap (λ (l : List Answer). stepLines (stepsAt bs at (range 0 mapBits)) l) (unfold setBelow in refl)
 
-  pub corners-there : length (m .corners) ≡ 16384 → length after ≡ 16384
-      → InList after (answersOf (has bs at) given .track)
-  unfolding answersOf
-  corners-there h g =
-      record {
-        few = λ k n e. omega (arith, told-few (m .corners) after (has bs at 2) rest tracked k n e);
-        there = λ k n e. omega (arith, told-few (m .corners) after (has bs at 2) rest tracked k n e);
-      }
-
-  pub answers-lines : answerLines bs at after (answersOf (has bs at) given) ≡ stepLines (steps bs at) given
-  unfolding answerLines answersOf steps stepLine
-  answers-lines =
-      let ss : List Answer = given in
-      let rest-1 : List Answer = restAfter (has bs at 0) ss in
-      let rest-3 : List Answer = restAfter (has bs at 2) (restAfter (has bs at 1) rest-1) in
-      let B : List ℕ = toldLine boardLine (toldAt (has bs at 0) ss) in
-      let P : List ℕ = toldLine patchLine (toldAt (has bs at 1) rest-1) in
-      let T : List ℕ = toldTrack (field bs at 2 0) after (toldAt (has bs at 2) rest) in
-      let L : List ℕ = toldLine (liftLine (field bs at 3 0)) (toldAt (has bs at 3) rest-3) in
-      append-assoc (B ++ P) T L ∙ append-assoc B P (T ++ L)
-      ∙ sym (
-      with-step (has bs at 0) (boardStep bs at) _ ss (number-line boardLine (boardStep bs at) (λ a. refl) _ _)
-      (with-step (has bs at 1) (patchStep bs at) _ rest-1 (number-line patchLine (patchStep bs at) (λ a. refl) _ _)
-      (with-step (has bs at 2) (trackStep bs at) _ rest (track-line (m .corners) after _ _ _ (has bs at 2) rest tracked)
-      (last-step (has bs at 3) (liftStep bs at) rest-3
-      (number-line (liftLine (field bs at 3 0)) (liftStep bs at) (λ a. refl) _ _)))))
+    pub answers-from : Whole bs at → room ≤ 2 * cornerPlaces → room ≤ length ks
+        → FromBits bs at ks (answersOf (has bs at) given)
+    answers-from w small long =
+        record {
+          bit = λ k l.
+              let by : (a : Answered) → toldIn (answersOf (has bs at) given) k ≡ Said a → SaidBy (has bs at) given k a =
+              λ a e. told-by (has bs at) given k a (sym (told-in (has bs at) given k l) ∙ e) in
+              let few : (a : Answered) → toldIn (answersOf (has bs at) given) k ≡ Said a → (i n : ℕ) → a ≡ Laid i n
+              → i ≤ room / 2 =
+              λ a e i n q.
+              let s = by a e in
+              laid-few room ks (s .answer) i n
+              (tracked k (mapBits - suc k) (omega arith) (s .answer) (s .rest) (s .set) (s .from)) (s .is ∙ q) in
+              record {
+                whole = w;
+                set = λ a e. by a e .set;
+                corners = λ a e.
+                    record {
+                      few = λ i n q. omega (arith, few a e i n q);
+                      there = λ i n q. omega (arith, few a e i n q);
+                    };
+              };
+        }
 
 -- ---- the strips at the end of a job
 
-pub strips-few : (m : Lent) → Sound m → m .board .strips ≤ 4096
+pub strips-few : (m : Lent) → Sound m → m .board .strips ≤ maxStrips
 strips-few m fine =
     omega (arith, fine .counted, length-strips (stripsOf (held m)), strips-fit (held m) (fine .kept))

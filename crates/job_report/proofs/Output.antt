@@ -1,29 +1,29 @@
 -- The lines of all records of a job, one after the other, are the output of its file: after the first record the
 -- lists hold what the ledger holds, and each record goes as on the ledger.
-use Prim.Native.Nat.{ℕ, zero, suc, _+_, _*_, _/_, _≤_, _<_}
+use Prim.Native.Nat.{ℕ, zero, suc, _+_, _≤_, _<_}
 use native.Mathlib.Omega.{arith}
 use mathlib.Core.Path.{_≡_, refl, sym, ap, _∙_, subst}
 use mathlib.Core.Bool.{Bool, true, false, cond, not, _&&_}
 use mathlib.Core.List.{List, [], _∷_, _++_, append-nil}
 use mathlib.Core.Option.{Option, none, some}
-use lib.Dec.{leb, ltb}
+use lib.Dec.{ltb}
 use lib.ListN.{length}
-use borrow.Author.Tests.{ltb-false, leb-false}
+use borrow.Author.Tests.{ltb-false}
 use Rattle.foil_spec.specs.Lists.{any}
-use Rattle.foil_spec.specs.Foil.{Layout}
-use Rattle.foil_spec.specs.Ledger.{Step, Answer, Refusal, _⇒_, first, Room, short, After, ledgerStep}
-use Rattle.foil_spec.specs.Lent.{Lent, withCorners, store, held, layoutOk, roomOf}
-use Rattle.foil_spec.specs.Job.{fieldCount, has, fieldsAt, recordEnd, steps, isEnd, recordChecks}
+use Rattle.foil_spec.specs.Limits.{maxBytes}
+use Rattle.foil_spec.specs.Foil.{Layout, noFoil}
+use Rattle.foil_spec.specs.Ledger.{Step, first, Room, short, After, afterLent, ledgerStep}
+use Rattle.foil_spec.specs.Lent.{Lent, store, held, layoutOk}
+use Rattle.foil_spec.specs.Job.{jobRoom, mapBits, fieldsAt, recordEnd, steps, isEnd, recordChecks}
 use Rattle.foil_spec.specs.Calls.{runRecord, Reply, answered, ran, atEnd, measured, endsJob, actAll, actRecord}
-use Rattle.foil_spec.specs.Calls.{tooLarge, ledgerCall, callOn}
-use Rattle.foil_spec.specs.Sequence.{answersIn, cornersAll, shown}
+use Rattle.foil_spec.specs.Calls.{tooLarge, wholeRefusals, reply, ledgerCall, callOn}
 use Rattle.ledger_laws.proofs.Refusals.{none-applies}
-use Rattle.ledger_laws.proofs.Stored.{Long, held-store}
+use Rattle.ledger_laws.proofs.Stored.{held-store}
 use Rattle.ledger_laws.proofs.Kept.{call-kept}
-use Rattle.ledger_laws.proofs.Steps.{call-is, call-corners}
+use Rattle.ledger_laws.proofs.Steps.{shown, call-is}
 use Rattle.ledger_laws.proofs.Opening.{Over, Opening, over, begins, opening}
-use Rattle.lines.specs.Output.{stepLines, jobRoom, noFoil, replyLines, outputFrom, output}
-use Rattle.job_report.specs.Report.{recordLines, placeAfter, onward, reportFrom, JobLists, WritesOutput}
+use Rattle.lines.specs.Output.{stepLines, replyLines, outputFrom, output}
+use Rattle.job_report.specs.Report.{ranRecord, recordLines, placeAfter, onward, reportFrom, WritesOutput}
 
 -- ---- the lines of a record, and those from the next place on
 
@@ -59,7 +59,7 @@ lines-rest ss (measured x) l rest rest′ h = refl
 record Later (bs : List ℕ) (at n : ℕ) : Type 0 where
   after : at < n
   within : n ≤ length bs
-  few : length bs ≤ 60000
+  few : length bs ≤ maxBytes
 
 fields-after : (bs : List ℕ) (at k : ℕ) → at < fieldsAt bs at k
 unfolding fieldsAt
@@ -67,28 +67,26 @@ fields-after bs at zero = omega arith
 fields-after bs at (suc k) = omega (arith, fields-after bs at k)
 
 module _ (r : Room) (bs : List ℕ) (at : ℕ) (l : Layout) where
-  checked : first ((tooLarge bs ⇒ 18) ∷ (short r ⇒ 12) ∷ recordChecks bs at) ≡ none → isEnd bs at ≡ false
-      → Later bs at (recordEnd bs at)
-  unfolding recordChecks tooLarge
+  checked : first (wholeRefusals r false bs at) ≡ none → isEnd bs at ≡ false → Later bs at (recordEnd bs at)
+  unfolding wholeRefusals afterLent recordChecks tooLarge
   checked e f =
-      let large : ltb 60000 (length bs) ≡ false = search none-applies in
+      let large : ltb maxBytes (length bs) ≡ false = search none-applies in
       let ends : (not (isEnd bs at) && ltb (length bs) (recordEnd bs at)) ≡ false = search none-applies depth 12 in
       record {
-        after = unfold recordEnd in fields-after bs at 4;
+        after = unfold recordEnd in fields-after bs at mapBits;
         within = ltb-false (length bs) (recordEnd bs at) (rw f at ends);
-        few = ltb-false 60000 (length bs) large;
+        few = ltb-false maxBytes (length bs) large;
       }
 
   next-later : (n : ℕ) → placeAfter (ledgerCall r (runRecord bs at) l .answer) ≡ some n → Later bs at n
-  unfolding ledgerCall actRecord placeAfter
-  next-later n = go (first ((tooLarge bs ⇒ 18) ∷ (short r ⇒ 12) ∷ recordChecks bs at)) (isEnd bs at) refl refl
+  unfolding ledgerCall reply actRecord placeAfter
+  next-later n = go (first (wholeRefusals r false bs at)) (isEnd bs at) refl refl
     where
       place : (t : Bool) → cond t none (some (recordEnd bs at)) ≡ some n → recordEnd bs at ≡ n
       place true h = absurd (let z : _≡_ {A = ℕ} 0 1 = cc in omega arith)
       place false h = cc
 
-      go : (o : Option ℕ) (e : Bool) → first ((tooLarge bs ⇒ 18) ∷ (short r ⇒ 12) ∷ recordChecks bs at) ≡ o
-          → isEnd bs at ≡ e
+      go : (o : Option ℕ) (e : Bool) → first (wholeRefusals r false bs at) ≡ o → isEnd bs at ≡ e
           → placeAfter (actRecord (ledgerStep r) o e (steps bs at) (recordEnd bs at) l .answer) ≡ some n
           → Later bs at n
       go (some k) e f g h = absurd (let z : _≡_ {A = ℕ} 0 1 = cc in omega arith)
@@ -111,63 +109,38 @@ fuel (suc k) (suc j) bs at l h e f =
 
 -- ---- a record on lists that hold what the ledger holds
 
-room-is : (m : Lent) → JobLists m → roomOf m ≡ jobRoom
-unfolding roomOf jobRoom
-room-is m lists = rw (lists .table, lists .strips, lists .corners) refl
-
-long-lists : (m : Lent) → JobLists m → Long m
-long-lists m lists = record { table = omega (arith, lists .table); strips = omega (arith, lists .strips) }
-
-one-record : (k : ℕ) (bs : List ℕ) (at : ℕ) (m : Lent) (x : After Reply Lent) → callOn (runRecord bs at) m ≡ x
+one-record : (k : ℕ) (bs : List ℕ) (at : ℕ) (m : Lent) (x : After Reply Lent) → ranRecord bs at m ≡ x
     → reportFrom (suc k) bs at m
     ≡ replyLines (steps bs at) (x .answer) (held (x .state)) (λ (n : ℕ). reportFrom k bs n (x .state))
 unfolding reportFrom recordLines
 one-record k bs at m x e =
-    lines-part (steps bs at) (callOn (runRecord bs at) m .answer) (held (callOn (runRecord bs at) m .state)) _
+    lines-part (steps bs at) (ranRecord bs at m .answer) (held (ranRecord bs at m .state)) _
     ∙ ap (λ (y : After Reply Lent).
     replyLines (steps bs at) (y .answer) (held (y .state)) (λ (n : ℕ). reportFrom k bs n (y .state))) e
 
--- the lists after the ledger's reply
-module _ (k : ℕ) (bs : List ℕ) (at : ℕ) (l : Layout) (m : Lent) (lists : JobLists m) where
+-- one that goes as on the ledger
+module _ (k : ℕ) (bs : List ℕ) (at : ℕ) (l : Layout) (m n : Lent) where
   abbrev line : After Reply Layout
   line = ledgerCall jobRoom (runRecord bs at) l
 
-  abbrev corners : List ℕ
-  corners = cornersAll (answersIn (line .answer)) (m .corners)
-
-  still-lists : JobLists (withCorners m corners)
-  still-lists =
-      let f : jobRoom .corners ≡ length (m .corners) / 2 = unfold jobRoom in omega (arith, lists .corners) in
-      record {
-        table = lists .table;
-        strips = lists .strips;
-        corners = call-corners jobRoom (runRecord bs at) l (m .corners) f ∙ lists .corners;
-      }
-
-  shown-record : (n : Lent) → callOn (runRecord bs at) n ≡ shown m (m .corners) line
-      → ((j : Lent) → JobLists j → (p : ℕ)
-      → reportFrom k bs p (store (line .state) j) ≡ outputFrom k bs p (line .state))
+  shown-record : ranRecord bs at n ≡ shown m line
+      → ((p : ℕ) → reportFrom k bs p (store (line .state) m) ≡ outputFrom k bs p (line .state))
       → reportFrom (suc k) bs at n
       ≡ replyLines (steps bs at) (line .answer) (line .state) (λ (p : ℕ). outputFrom k bs p (line .state))
-  unfolding shown store
-  shown-record n e later =
-      one-record k bs at n (shown m (m .corners) line) e
+  unfolding shown
+  shown-record e later =
+      one-record k bs at n (shown m line) e
       ∙ ap (λ (s : Layout). replyLines (steps bs at) (line .answer) s
-      (λ (p : ℕ). reportFrom k bs p (store (line .state) (withCorners m corners))))
-      (held-store (line .state) (withCorners m corners))
-      ∙ lines-rest (steps bs at) (line .answer) (line .state) _ _
-      (λ p q. later (withCorners m corners) still-lists p)
+      (λ (p : ℕ). reportFrom k bs p (store (line .state) m))) (held-store (line .state) m)
+      ∙ lines-rest (steps bs at) (line .answer) (line .state) _ _ (λ p q. later p)
 
-stored : (k : ℕ) (bs : List ℕ) (at : ℕ) (l : Layout) (m : Lent) → JobLists m → layoutOk l ≡ true
+stored : (k : ℕ) (bs : List ℕ) (at : ℕ) (l : Layout) (m : Lent) → layoutOk l ≡ true
     → reportFrom k bs at (store l m) ≡ outputFrom k bs at l
 unfolding reportFrom outputFrom
-stored zero bs at l m lists g = refl
-stored (suc k) bs at l m lists g =
-    shown-record k bs at l m lists (store l m)
-    (call-is (runRecord bs at) l m (long-lists m lists) g
-    ∙ ap (λ (r : Room). shown m (m .corners) (ledgerCall r (runRecord bs at) l)) (room-is m lists))
-    (λ j h p. stored k bs p (ledgerCall jobRoom (runRecord bs at) l .state) j h
-    (call-kept jobRoom (runRecord bs at) l g))
+stored zero bs at l m g = refl
+stored (suc k) bs at l m g =
+    shown-record k bs at l m (store l m) (call-is jobRoom (runRecord bs at) l m g)
+    (λ p. stored k bs p (ledgerCall jobRoom (runRecord bs at) l .state) m (call-kept jobRoom (runRecord bs at) l g))
 
 -- ---- the first record
 
@@ -177,35 +150,29 @@ long = refl
 
 pub writes-output : WritesOutput
 unfolding output outputFrom
-writes-output bs m lists = go (opening bs noFoil m (ap short (room-is m lists) ∙ long))
+writes-output bs m = go (opening jobRoom bs noFoil m long)
   where
     line : After Reply Layout
     line = ledgerCall jobRoom (runRecord bs 0) noFoil
 
-    room : roomOf m ≡ jobRoom
-    room = room-is m lists
-
     -- the lines from the next place on, as they are told and as they are wanted
     told : ℕ → List ℕ
-    told n = reportFrom 60000 bs n (callOn (runRecord bs 0) m .state)
+    told n = reportFrom maxBytes bs n (ranRecord bs 0 m .state)
 
     wanted : ℕ → List ℕ
     wanted n = outputFrom (length bs) bs n (line .state)
 
-    go : Opening bs noFoil m → reportFrom 60001 bs 0 m ≡ outputFrom (suc (length bs)) bs 0 noFoil
+    go : Opening jobRoom bs noFoil m → reportFrom (suc maxBytes) bs 0 m ≡ outputFrom (suc (length bs)) bs 0 noFoil
     go (over a e f o) =
-        one-record 60000 bs 0 m (callOn (runRecord bs 0) m) refl
-        ∙ ap (λ (x : Reply). replyLines (steps bs 0) x (held (callOn (runRecord bs 0) m .state)) told) e
-        ∙ lines-over (steps bs 0) a o (held (callOn (runRecord bs 0) m .state)) (line .state) told wanted
-        ∙ ap (λ (x : Reply). replyLines (steps bs 0) x (line .state) wanted)
-        (sym (ap (λ (r : Room). ledgerCall r (runRecord bs 0) noFoil .answer) (sym room) ∙ f))
+        one-record maxBytes bs 0 m (ranRecord bs 0 m) refl
+        ∙ ap (λ (x : Reply). replyLines (steps bs 0) x (held (ranRecord bs 0 m .state)) told) e
+        ∙ lines-over (steps bs 0) a o (held (ranRecord bs 0 m .state)) (line .state) told wanted
+        ∙ ap (λ (x : Reply). replyLines (steps bs 0) x (line .state) wanted) (sym f)
     go (begins b) =
-        shown-record 60000 bs 0 noFoil m lists m
-        (b .is ∙ ap (λ (r : Room). shown m (m .corners) (ledgerCall r (runRecord bs 0) noFoil)) room)
-        (λ j h p. stored 60000 bs p (line .state) j h
-        (subst (λ (r : Room). layoutOk (ledgerCall r (runRecord bs 0) noFoil .state) ≡ true) room (b .kept)))
-        ∙ lines-rest (steps bs 0) (line .answer) (line .state) (λ (n : ℕ). outputFrom 60000 bs n (line .state)) wanted
+        shown-record maxBytes bs 0 noFoil m m (b .is)
+        (λ p. stored maxBytes bs p (line .state) m (b .kept))
+        ∙ lines-rest (steps bs 0) (line .answer) (line .state) (λ (n : ℕ). outputFrom maxBytes bs n (line .state)) wanted
         (λ n q.
         let p = next-later jobRoom bs 0 noFoil n q in
-        fuel 60000 (length bs) bs n (line .state) (p .within)
+        fuel maxBytes (length bs) bs n (line .state) (p .within)
         (omega (arith, p .after, p .few)) (omega (arith, p .after)))

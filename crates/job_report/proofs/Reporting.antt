@@ -1,50 +1,60 @@
 -- A record that was run and reported, reply by reply.
-use Prim.Native.Nat.{ℕ, _*_, _≤_}
+use Prim.Native.Nat.{ℕ, suc, _+_, _*_, _≤_}
 use native.Mathlib.Omega.{arith}
 use mathlib.Core.Path.{_≡_, refl, sym, ap, ap₂, _∙_, subst}
-use mathlib.Core.List.{List, [], append-nil}
+use mathlib.Core.Bool.{true}
+use mathlib.Core.List.{List, [], _∷_, append-nil}
 use mathlib.Core.Option.{Option, none, some}
-use lib.ListN.{length}
+use lib.ListN.{length, drop}
 use Rattle.foil_spec.specs.Lists.{each}
-use Rattle.foil_spec.specs.Ledger.{stripsOf}
-use Rattle.foil_spec.specs.Lent.{Lent, held, stepOn}
-use Rattle.foil_spec.specs.Job.{has, steps}
-use Rattle.foil_spec.specs.Calls.{runRecord, Reply as Outcome, answered, ran, atEnd, actAll, callOn}
+use Rattle.foil_spec.specs.Limits.{maxEntries, tableSize, maxStrips, stripsSize, cornerPlaces}
+use Rattle.foil_spec.specs.Ledger.{Answer, Room, stripsOf}
+use Rattle.foil_spec.specs.Lent.{Lent, held, listedStrips, roomIn, roomOf, stepOn}
+use Rattle.foil_spec.specs.Job.{jobRoom, mapBits, has, steps}
+use Rattle.foil_spec.specs.Calls.{runRecord, Reply as Outcome, answered, ran, atEnd, actAll, callOn, answersIn, outputAll}
+use Rattle.foil_spec.specs.Calls.{outputBy}
 use Rattle.ledger_laws.proofs.Sound.{Sound, of-sound, strips-listed}
-use Rattle.foil_spec.specs.Lent.{listedStrips}
-use Rattle.foil.specs.declared.Answer.{Answer}
-use Rattle.job.specs.Contract.{answersOf, nextOf, RecordDone}
-use Rattle.job.specs.declared.Told.the-variants.{Said}
+use Rattle.job.specs.Contract.{setBelow, answersOf, nextOf, Replies, RecordDone}
+use Rattle.job.specs.Parts.{ranTo}
 use Rattle.job.specs.declared.Answers.{Answers}
 use Rattle.job.specs.declared.Next.{Next}
 use Rattle.job.specs.declared.Next.the-variants.{Nowhere}
 use Rattle.job.specs.declared.Reply.the-variants.{Refused, Ran, AtEnd}
 use Rattle.job.specs.declared.Replied.{Replied}
-use Rattle.job.proofs.Replies.{was-refused, HasRun, has-run, Stepped, stepped, Ended, ended, told-bit}
+use Rattle.job.proofs.Replies.{was-refused, HasRun, has-run, Stepped, stepped, Ended, ended, Tracked, bit-tracked}
 use Rattle.lines.specs.Lines.{fileLine, stripLine}
 use Rattle.lines.specs.Output.{stepLines, replyLines}
 use Rattle.lines.specs.Put.{Put}
-use Rattle.job_report.specs.Report.{recordLines, placeAfter, RecordReported}
-use Rattle.job_report.specs.Told.{answerLines, FromBit, InList}
+use Rattle.job_report.specs.Report.{ranRecord, recordLines, placeAfter, RecordReported}
+use Rattle.job_report.specs.Told.{answerLines, FromBits}
 use Rattle.job_report.specs.declared.Reported.{Reported}
-use Rattle.job_report.proofs.Answering.{corners-there, answers-lines, strips-few}
+use Rattle.job_report.proofs.Answering.{answers-lines, answers-from, strips-few}
 
-module _ (bs : List ℕ) (at : ℕ) (m : Lent) (d : Replied) (t s ks : List ℕ) (done : RecordDone bs at m d t s ks) where
+-- the lists of a job have its room
+pub in-job : (bs : List ℕ) (at : ℕ) (m : Lent) (out : List ℕ) (d : Replied) (t s out′ : List ℕ)
+    → RecordDone bs at m out d t s out′ → length (m .table) ≡ tableSize → length (m .strips) ≡ stripsSize
+    → length out ≡ 2 * cornerPlaces → Replies (has bs at) (ranRecord bs at m) out d t s out′
+in-job bs at m out d t s out′ done e f g =
+    subst (λ (r : Room). Replies (has bs at) (callOn r (runRecord bs at) m) out d t s out′) room done
+  where
+    room : roomOf m (length out) ≡ jobRoom
+    room = unfold roomIn jobRoom in rw (e, f, g) refl
+
+module _ (bs : List ℕ) (at : ℕ) (m : Lent) (out : List ℕ) (d : Replied) (t s out′ : List ℕ)
+    (done : Replies (has bs at) (ranRecord bs at m) out d t s out′) where
   abbrev reply : Outcome
-  reply = callOn (runRecord bs at) m .answer
+  reply = ranRecord bs at m .answer
 
   -- the lines of a record by its reply
-  lines-by : (o : Outcome) → reply ≡ o → recordLines bs at m
-      ≡ replyLines (steps bs at) o (held (callOn (runRecord bs at) m .state)) (λ (n : ℕ). [])
+  lines-by : (o : Outcome) → reply ≡ o
+      → recordLines bs at m ≡ replyLines (steps bs at) o (held (ranRecord bs at m .state)) (λ (n : ℕ). [])
   unfolding recordLines
-  lines-by o e =
-      ap (λ (x : Outcome).
-      replyLines (steps bs at) x (held (callOn (runRecord bs at) m .state)) (λ (n : ℕ). [])) e
+  lines-by o e = ap (λ (x : Outcome). replyLines (steps bs at) x (held (ranRecord bs at m .state)) (λ (n : ℕ). [])) e
 
   -- the bytes are the record's lines, and the next place is the reply's
   reported : (old new : List ℕ) (r : Reported) (o : Outcome) (lines : List ℕ) → reply ≡ o
       → recordLines bs at m ≡ lines → Put old 0 lines new (r .size) → r .next ≡ nextOf (placeAfter o)
-      → r .board ≡ d .board → RecordReported bs at m old new r t s ks
+      → r .board ≡ d .board → RecordReported bs at m out old new r t s out′
   reported old new r o lines e f p n b =
       record {
         lines = subst (λ (x : List ℕ). Put old 0 x new (r .size)) (sym f) p;
@@ -52,18 +62,18 @@ module _ (bs : List ℕ) (at : ℕ) (m : Lent) (d : Replied) (t s ks : List ℕ)
         board = b ∙ done .board;
         table = done .table;
         strips = done .strips;
-        corners = done .corners;
+        output = done .output;
       }
 
   -- ---- refused as a whole
 
   pub file-reported : (n : ℕ) → d .reply ≡ Refused n → (old new : List ℕ) (size : ℕ) → Put old 0 (fileLine n) new size
       → (r : Reported) → r ≡ record { size = size; next = Nowhere; board = d .board }
-      → RecordReported bs at m old new r t s ks
+      → RecordReported bs at m out old new r t s out′
   unfolding replyLines placeAfter nextOf
   file-reported n e old new size p r q =
       let w = was-refused (has bs at) reply n (sym e ∙ done .reply) in
-      subst (λ (x : Reported). RecordReported bs at m old new x t s ks) (sym q)
+      subst (λ (x : Reported). RecordReported bs at m out old new x t s out′) (sym q)
       (reported old new _ (answered (w .answer)) (fileLine n) (w .is)
       (lines-by _ (w .is) ∙ ap fileLine (sym (w .number))) p refl refl)
 
@@ -73,56 +83,59 @@ module _ (bs : List ℕ) (at : ℕ) (m : Lent) (d : Replied) (t s ks : List ℕ)
     run : HasRun (has bs at) reply a next
     run = has-run (has bs at) reply a next (sym e ∙ done .reply)
 
-    steps-run : Stepped bs at m (run .given)
-    steps-run = stepped bs at m (run .given) (run .place) (run .is)
+    abbrev given : List Answer
+    given = run .given
 
-    given-is : a ≡ answersOf (has bs at) (actAll stepOn (steps bs at) m .answer)
-    given-is = run .answers ∙ ap (answersOf (has bs at)) (steps-run .answers)
+    steps-run : Stepped jobRoom bs at m given
+    steps-run = stepped jobRoom bs at m given (run .place) (run .is)
 
-    corners-are : ks ≡ actAll stepOn (steps bs at) m .state .corners
-    corners-are = done .corners ∙ ap (λ (n : Lent). n .corners) (steps-run .state)
+    given-is : given ≡ ranTo jobRoom bs at mapBits m .answer
+    unfolding steps
+    given-is = steps-run .answers
 
-    pub from-bits : FromBit bs at 2 (a .track) × FromBit bs at 3 (a .lift)
-    unfolding answersOf
-    from-bits = (
-      record {
-        whole = steps-run .whole;
-        set = λ x h. told-bit (has bs at 2) _ x (sym (ap (λ (y : Answers). y .track) given-is) ∙ h);
-      },
-      record {
-        whole = steps-run .whole;
-        set = λ x h. told-bit (has bs at 3) _ x (sym (ap (λ (y : Answers). y .lift) given-is) ∙ h);
-      },
-    )
+    corners-are : out′ ≡ outputAll given out
+    unfolding outputBy answersIn
+    corners-are = done .output ∙ ap (λ (x : Outcome). outputBy x out) (run .is)
 
-    pub in-list : length (m .corners) ≡ 16384 → length ks ≡ 16384 → InList ks (a .track)
-    in-list h g =
-        rw (given-is, corners-are) (corners-there bs at m h (ap length (sym corners-are) ∙ g))
+    tracked : (k j : ℕ) → k + suc j ≡ mapBits → (x : Answer) (rest : List Answer) → has bs at k ≡ true
+        → drop (setBelow (has bs at) k) given ≡ x ∷ rest → Tracked x (jobRoom .output) out′
+    tracked k j q x rest set h =
+        let same : ranTo jobRoom bs at (k + suc j) m .answer ≡ given =
+        ap (λ (n : ℕ). ranTo jobRoom bs at n m .answer) q ∙ sym given-is in
+        subst (Tracked x (jobRoom .output))
+        (ap (λ (l : List Answer). outputAll l out) same ∙ sym corners-are)
+        (bit-tracked jobRoom bs at m out k j x rest set (ap (drop (setBelow (has bs at) k)) same ∙ h))
 
-    pub steps-reported : (old new : List ℕ) (size : ℕ) → Put old 0 (answerLines bs at ks a) new size
-        → RecordReported bs at m old new (record { size = size; next = next; board = d .board }) t s ks
+    room-is : jobRoom .output ≡ 2 * cornerPlaces
+    unfolding jobRoom
+    room-is = refl
+
+    pub from-bits : length out′ ≡ 2 * cornerPlaces → FromBits bs at out′ a
+    from-bits long =
+        subst (FromBits bs at out′) (sym (run .answers))
+        (answers-from bs at out′ (jobRoom .output) given tracked (steps-run .whole) (omega (arith, room-is))
+        (omega (arith, room-is)))
+
+    pub steps-reported : (old new : List ℕ) (size : ℕ) → Put old 0 (answerLines bs at out′ a) new size
+        → RecordReported bs at m out old new (record { size = size; next = next; board = d .board }) t s out′
     unfolding replyLines placeAfter
     steps-reported old new size p =
-        reported old new _ (ran (run .given) (run .place)) (answerLines bs at ks a) (run .is)
-        (lines-by _ (run .is) ∙ by-place (run .place) ∙ lines-are) p (run .next) refl
+        reported old new _ (ran given (run .place)) (answerLines bs at out′ a) (run .is)
+        (lines-by _ (run .is) ∙ by-place (run .place)
+        ∙ sym (ap (answerLines bs at out′) (run .answers)
+        ∙ answers-lines bs at out′ (jobRoom .output) given tracked)) p (run .next) refl
       where
         by-place : (n : Option ℕ)
-            → replyLines (steps bs at) (ran (run .given) n) (held (callOn (runRecord bs at) m .state)) (λ (k : ℕ). [])
-            ≡ stepLines (steps bs at) (run .given)
+            → replyLines (steps bs at) (ran given n) (held (ranRecord bs at m .state)) (λ (k : ℕ). [])
+            ≡ stepLines (steps bs at) given
         by-place none = refl
-        by-place (some n) = append-nil (stepLines (steps bs at) (run .given))
-
-        lines-are : stepLines (steps bs at) (run .given) ≡ answerLines bs at ks a
-        lines-are =
-            ap (stepLines (steps bs at)) (steps-run .answers)
-            ∙ sym (answers-lines bs at m)
-            ∙ sym (ap₂ (answerLines bs at) corners-are given-is)
+        by-place (some n) = append-nil (stepLines (steps bs at) given)
 
   -- ---- the end mark
 
   module _ (e : d .reply ≡ AtEnd) where
-    end : Ended bs at m
-    end = ended bs at m (has bs at) (sym e ∙ done .reply)
+    end : Ended jobRoom bs at m
+    end = ended jobRoom bs at m (has bs at) (sym e ∙ done .reply)
 
     fine : Sound m
     fine = of-sound m (end .fine)
@@ -133,16 +146,16 @@ module _ (bs : List ℕ) (at : ℕ) (m : Lent) (d : Replied) (t s ks : List ℕ)
     strips-are : s ≡ m .strips
     strips-are = done .strips ∙ ap (λ (n : Lent). n .strips) (end .state)
 
-    pub count-few : d .board .strips ≤ 4096
+    pub count-few : d .board .strips ≤ maxStrips
     count-few = omega (arith, ap (λ b. b .strips) board-is, strips-few m fine)
 
     pub strips-reported : (old new : List ℕ) (size : ℕ)
         → Put old 0 (each stripLine (listedStrips s (d .board .strips))) new size
         → (r : Reported) → r ≡ record { size = size; next = Nowhere; board = d .board }
-        → RecordReported bs at m old new r t s ks
+        → RecordReported bs at m out old new r t s out′
     unfolding replyLines placeAfter nextOf
     strips-reported old new size p r q =
-        subst (λ (x : Reported). RecordReported bs at m old new x t s ks) (sym q)
+        subst (λ (x : Reported). RecordReported bs at m out old new x t s out′) (sym q)
         (reported old new _ atEnd (each stripLine (listedStrips s (d .board .strips))) (end .answer)
         (lines-by atEnd (end .answer) ∙ ap (each stripLine)
         (ap (λ (n : Lent). stripsOf (held n)) (end .state)

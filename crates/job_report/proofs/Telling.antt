@@ -1,24 +1,28 @@
 -- The line of a step, by what the step told.
-use Prim.Native.Nat.{ℕ, _≤_, _<_}
+use Prim.Native.Nat.{ℕ, zero, suc, _+_, _≤_, _<_}
 use native.Mathlib.Omega.{arith}
-use mathlib.Core.Path.{_≡_, refl, sym, _∙_}
-use mathlib.Core.Bool.{true}
+use mathlib.Core.Path.{_≡_, refl, sym, ap, _∙_, subst}
 use mathlib.Core.Logic.{inl, inr}
-use mathlib.Core.List.{List, [], _∷_}
+use mathlib.Core.List.{List, [], _∷_, _++_, append-nil}
 use lib.ListN.{length}
 use types.Run.{OneOf}
+use Rattle.foil_spec.specs.Lists.{range, each}
 use Rattle.foil_spec.specs.Lent.{cornersIn}
-use Rattle.foil_spec.specs.Job.{fieldCount, has}
+use Rattle.foil_spec.specs.Job.{mapBits, fieldCount, field, stepAt}
 use Rattle.foil.specs.declared.Answer.{Answer}
 use Rattle.foil.specs.declared.Answer.the-variants.{Refused, Accepted, Laid, Found}
+use Rattle.list_laws.proofs.Members.{each-append}
+use Rattle.job.specs.Contract.{toldIn}
 use Rattle.job.specs.Parts.{Given}
 use Rattle.job.specs.declared.Told.{Told}
 use Rattle.job.specs.declared.Told.the-variants.{Nothing, Said}
+use Rattle.job.specs.declared.Answers.{Answers}
 use Rattle.job.proofs.Places.{field-given}
-use Rattle.lines.specs.Lines.{trackRefused, trackLaid}
+use Rattle.job.proofs.Acting.{range-split}
+use Rattle.lines.specs.Lines.{boardLine, patchLine, trackRefused, trackLaid, liftLine}
 use Rattle.lines.specs.Put.{Put}
-use Rattle.lines.proofs.Putting.{put-none}
-use Rattle.job_report.specs.Told.{numberIn, toldLine, layLine, toldTrack, FromBit}
+use Rattle.lines.proofs.Putting.{put-none, put-then}
+use Rattle.job_report.specs.Told.{numberIn, layLine, lineOf, toldLine, linesOf, bytesBelow, FromBit}
 
 -- ---- the number
 
@@ -39,50 +43,107 @@ no-laid (inl e) = omega arith
 no-laid (inr (inl e)) = omega arith
 no-laid (inr (inr e)) = omega arith
 
--- ---- the net of a step that was run
-
-pub net-given : {bs : List ℕ} {at k : ℕ} {t : Told} (a : Answer) → t ≡ Said a → FromBit bs at k t → k < 4
-    → 0 < fieldCount k
-    → Given bs at k 0
-net-given {bs} {at} {k} a e f l s = field-given bs at (f .whole) k 0 l s (f .set a e)
-
--- ---- a line of a word and a number
-
-module _ (line : ℕ → List ℕ) {t : Told} {o : List ℕ} {at : ℕ} where
-  pub nothing-told : t ≡ Nothing → at ≤ length o → Put o at (toldLine line t) o at
-  unfolding toldLine
-  nothing-told e l = rw e (put-none o at l)
-
-  pub number-told : {o′ : List ℕ} {r n : ℕ} (a : Answer) → t ≡ Said a → n ≡ numberIn a → Put o at (line n) o′ r
-      → Put o at (toldLine line t) o′ r
-  unfolding toldLine
-  number-told {o′} {r} {n} a e f p = rw (e, ← f) p
-
 -- ---- the line of a track
 
-module _ (net : ℕ) (ks : List ℕ) {t : Told} {o : List ℕ} {at : ℕ} where
-  pub no-track : t ≡ Nothing → at ≤ length o → Put o at (toldTrack net ks t) o at
-  unfolding toldTrack
-  no-track e l = rw e (put-none o at l)
+module _ (net : ℕ) (ks : List ℕ) {a : Answer} {o : List ℕ} {at : ℕ} where
+  pub laid-line : {o′ : List ℕ} {r k n : ℕ} → a ≡ Laid k n → Put o at (trackLaid net n (cornersIn ks k)) o′ r
+      → Put o at (layLine net ks a) o′ r
+  unfolding layLine
+  laid-line e p = rw e p
 
-  pub laid-told : {o′ : List ℕ} {r k n : ℕ} {q : ℕ} (a : Answer) → t ≡ Said a → a ≡ Laid k n → q ≡ net
-      → Put o at (trackLaid q n (cornersIn ks k)) o′ r → Put o at (toldTrack net ks t) o′ r
-  unfolding toldTrack layLine
-  laid-told a e f g p = rw (e, f, ← g) p
+  pub refused-line : {o′ : List ℕ} {r n : ℕ} → a ≡ Refused n → Put o at (trackRefused net n) o′ r
+      → Put o at (layLine net ks a) o′ r
+  unfolding layLine
+  refused-line e p = rw e p
 
-  pub refused-told : {o′ : List ℕ} {r n q : ℕ} (a : Answer) → t ≡ Said a → a ≡ Refused n → q ≡ net
-      → Put o at (trackRefused q n) o′ r → Put o at (toldTrack net ks t) o′ r
-  unfolding toldTrack layLine
-  refused-told a e f g p = rw (e, f, ← g) p
+pub other-line : (net : ℕ) (ks : List ℕ) (a : Answer) {o : List ℕ} {at : ℕ} → ((k n : ℕ) → a ≡ Laid k n → ⊥)
+    → ((n : ℕ) → a ≡ Refused n → ⊥) → at ≤ length o → Put o at (layLine net ks a) o at
+unfolding layLine
+other-line net ks (Refused n) f g l = absurd (g n refl)
+other-line net ks Accepted {o} {at} f g l = put-none o at l
+other-line net ks (Laid k n) f g l = absurd (f k n refl)
+other-line net ks (Found k) {o} {at} f g l = put-none o at l
 
-  pub other-told : (a : Answer) → t ≡ Said a → ((k n : ℕ) → a ≡ Laid k n → ⊥) → ((n : ℕ) → a ≡ Refused n → ⊥)
-      → at ≤ length o → Put o at (toldTrack net ks t) o at
-  unfolding toldTrack layLine
-  other-told a e f g l = rw e (none a f g)
-    where
-      none : (a : Answer) → ((k n : ℕ) → a ≡ Laid k n → ⊥) → ((n : ℕ) → a ≡ Refused n → ⊥)
-          → Put o at (layLine net ks a) o at
-      none (Refused n) f g = absurd (g n refl)
-      none Accepted f g = put-none o at l
-      none (Laid k n) f g = absurd (f k n refl)
-      none (Found k) f g = put-none o at l
+-- ---- the net of a step that was run
+
+pub net-given : {bs : List ℕ} {at : ℕ} {ks : List ℕ} {k : ℕ} {t : Told} (a : Answer) → t ≡ Said a → FromBit bs at ks k t
+    → (j : ℕ) → k ≡ j → j < mapBits → 0 < fieldCount j → Given bs at j 0
+net-given {bs} {at} {ks} {k} a e f j q l s =
+    subst (λ (i : ℕ). i < mapBits → 0 < fieldCount i → Given bs at i 0) q
+    (λ h g. field-given bs at (f .whole) k 0 h g (f .set a e)) l s
+
+-- ---- the line of a bit
+
+module _ (bs : List ℕ) (place : ℕ) (ks : List ℕ) (k : ℕ) {t : Told} {o : List ℕ} {at : ℕ} where
+  pub no-line : t ≡ Nothing → at ≤ length o → Put o at (toldLine (stepAt bs place k) ks t) o at
+  unfolding toldLine
+  no-line e l = rw e (put-none o at l)
+
+  module _ {o′ : List ℕ} {r : ℕ} (a : Answer) (e : t ≡ Said a) where
+    pub line-board : k ≡ 0 → (n : ℕ) → n ≡ numberIn a → Put o at (boardLine n) o′ r
+        → Put o at (toldLine (stepAt bs place k) ks t) o′ r
+    unfolding toldLine lineOf stepAt
+    line-board z n f p = rw (e, z, ← f) p
+
+    pub line-patch : k ≡ 1 → (n : ℕ) → n ≡ numberIn a → Put o at (patchLine n) o′ r
+        → Put o at (toldLine (stepAt bs place k) ks t) o′ r
+    unfolding toldLine lineOf stepAt
+    line-patch z n f p = rw (e, z, ← f) p
+
+    pub line-track : k ≡ 2 → (net : ℕ) → net ≡ field bs place 2 0 → Put o at (layLine net ks a) o′ r
+        → Put o at (toldLine (stepAt bs place k) ks t) o′ r
+    unfolding toldLine lineOf stepAt
+    line-track z net f p = rw (e, z, ← f) p
+
+    pub line-lift : k ≡ 3 → (net : ℕ) → net ≡ field bs place 3 0 → (n : ℕ) → n ≡ numberIn a
+        → Put o at (liftLine net n) o′ r → Put o at (toldLine (stepAt bs place k) ks t) o′ r
+    unfolding toldLine lineOf stepAt
+    line-lift z net f n g p = rw (e, z, ← f, ← g) p
+
+-- ---- how many bytes they take
+
+pub bytes-rise : (k : ℕ) → k < mapBits → (bytesBelow k ≤ bytesBelow (k + 1)) × (bytesBelow (k + 1) ≤ 98560)
+unfolding bytesBelow
+bytes-rise zero h = (omega arith, omega arith)
+bytes-rise (suc zero) h = (omega arith, omega arith)
+bytes-rise (suc (suc zero)) h = (omega arith, omega arith)
+bytes-rise (suc (suc (suc zero))) h = (omega arith, omega arith)
+bytes-rise (suc (suc (suc (suc k)))) h = absurd (omega arith)
+
+pub bytes-board : (k : ℕ) → k ≡ 0 → (bytesBelow k ≡ 0) × (bytesBelow (k + 1) ≡ 64)
+unfolding bytesBelow
+bytes-board k e = (rw e refl, rw e refl)
+
+pub bytes-patch : (k : ℕ) → k ≡ 1 → (bytesBelow k ≡ 64) × (bytesBelow (k + 1) ≡ 128)
+unfolding bytesBelow
+bytes-patch k e = (rw e refl, rw e refl)
+
+pub bytes-track : (k : ℕ) → k ≡ 2 → (bytesBelow k ≡ 128) × (bytesBelow (k + 1) ≡ 98496)
+unfolding bytesBelow
+bytes-track k e = (rw e refl, rw e refl)
+
+pub bytes-lift : (k : ℕ) → k ≡ 3 → (bytesBelow k ≡ 98496) × (bytesBelow (k + 1) ≡ 98560)
+unfolding bytesBelow
+bytes-lift k e = (rw e refl, rw e refl)
+
+-- ---- the lines of the bits below one
+
+module _ (bs : List ℕ) (at : ℕ) (ks : List ℕ) (a : Answers) {o : List ℕ} where
+  pub lines-none : Put o 0 (linesOf bs at ks a (range 0 0)) o 0
+  unfolding linesOf
+  lines-none = put-none o 0 (omega arith)
+
+  pub lines-more : {o₁ o₂ : List ℕ} {p q : ℕ} (k : ℕ) (t : Told) → t ≡ toldIn a k
+      → Put o 0 (linesOf bs at ks a (range 0 k)) o₁ p → Put o₁ p (toldLine (stepAt bs at k) ks t) o₂ q
+      → Put o 0 (linesOf bs at ks a (range 0 (k + 1))) o₂ q
+  unfolding linesOf
+  lines-more {o₁} {o₂} {p} {q} k t e f g =
+      let line : ℕ → List ℕ = λ j. toldLine (stepAt bs at j) ks (toldIn a j) in
+      subst (λ (l : List ℕ). Put o 0 l o₂ q)
+      (sym (ap (each line) (range-split k 1) ∙ each-append line (range 0 k) (k ∷ [])
+      ∙ ap (λ (l : List ℕ). each line (range 0 k) ++ l) (append-nil (line k))))
+      (put-then f (subst (λ (u : Told). Put o₁ p (toldLine (stepAt bs at k) ks u) o₂ q) e g))
+
+  pub lines-all : {o₁ : List ℕ} {p : ℕ} (k : ℕ) → k ≡ mapBits → Put o 0 (linesOf bs at ks a (range 0 k)) o₁ p
+      → Put o 0 (linesOf bs at ks a (range 0 mapBits)) o₁ p
+  lines-all {o₁} {p} k e f = subst (λ (n : ℕ). Put o 0 (linesOf bs at ks a (range 0 n)) o₁ p) e f

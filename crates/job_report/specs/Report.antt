@@ -3,23 +3,24 @@ use Prim.Native.Nat.{ℕ, zero, suc}
 use mathlib.Core.Path.{_≡_}
 use mathlib.Core.List.{List, [], _++_}
 use mathlib.Core.Option.{Option, none, some}
-use lib.ListN.{length}
+use Rattle.foil_spec.specs.Limits.{maxBytes}
+use Rattle.foil_spec.specs.Ledger.{After}
 use Rattle.foil_spec.specs.Lent.{Lent, held}
-use Rattle.foil_spec.specs.Job.{steps}
-use Rattle.foil_spec.specs.Calls.{runRecord, Reply, answered, ran, atEnd, measured, callOn}
+use Rattle.foil_spec.specs.Job.{jobRoom, steps}
+use Rattle.foil_spec.specs.Calls.{runRecord, Reply, answered, ran, atEnd, measured, callOn, outputBy}
 use Rattle.job.specs.Contract.{nextOf}
 use Rattle.lines.specs.Output.{replyLines, output}
 use Rattle.lines.specs.Put.{Put}
 use Rattle.job_report.specs.declared.Reported.{Reported}
 
--- the lines of the record at a place, run on what is lent
+-- the record at a place, run on lists that have the room of a job
+abbrev pub ranRecord : List ℕ → ℕ → Lent → After Reply Lent
+ranRecord bs at m = callOn jobRoom (runRecord bs at) m
+
+-- its lines
 unfoldable pub recordLines : List ℕ → ℕ → Lent → List ℕ
 recordLines bs at m =
-    replyLines
-    (steps bs at)
-    (callOn (runRecord bs at) m .answer)
-    (held (callOn (runRecord bs at) m .state))
-    (λ (n : ℕ). [])
+    replyLines (steps bs at) (ranRecord bs at m .answer) (held (ranRecord bs at m .state)) (λ (n : ℕ). [])
 
 -- the place of the next record by a reply, if there is one
 unfoldable pub placeAfter : Reply → Option ℕ
@@ -28,16 +29,16 @@ placeAfter (ran given n) = n
 placeAfter atEnd = none
 placeAfter (measured x) = none
 
--- the record at a place was lent m and the byte list `old`: it left its lines at the front of the byte list, answered
--- r, and left the table t, the strips s and the corner list ks
-pub record RecordReported (bs : List ℕ) (at : ℕ) (m : Lent) (old new : List ℕ) (r : Reported) (t s ks : List ℕ)
+-- the record at a place was lent m, the corner list out and the byte list `old`: it left its lines at the front of the
+-- byte list, answered r, and left the table t, the strips s and the corner list out′
+pub record RecordReported (bs : List ℕ) (at : ℕ) (m : Lent) (out old new : List ℕ) (r : Reported) (t s out′ : List ℕ)
     : Type 0 where
   pub lines : Put old 0 (recordLines bs at m) new (r .size)
-  pub next : r .next ≡ nextOf (placeAfter (callOn (runRecord bs at) m .answer))
-  pub board : r .board ≡ callOn (runRecord bs at) m .state .board
-  pub table : t ≡ callOn (runRecord bs at) m .state .table
-  pub strips : s ≡ callOn (runRecord bs at) m .state .strips
-  pub corners : ks ≡ callOn (runRecord bs at) m .state .corners
+  pub next : r .next ≡ nextOf (placeAfter (ranRecord bs at m .answer))
+  pub board : r .board ≡ ranRecord bs at m .state .board
+  pub table : t ≡ ranRecord bs at m .state .table
+  pub strips : s ≡ ranRecord bs at m .state .strips
+  pub output : out′ ≡ outputBy (ranRecord bs at m .answer) out
 
 -- what comes from the next place on, if there is one
 unfoldable pub onward : Option ℕ → (ℕ → List ℕ) → List ℕ
@@ -50,16 +51,10 @@ unfoldable pub reportFrom : ℕ → List ℕ → ℕ → Lent → List ℕ
 reportFrom zero bs at m = []
 reportFrom (suc most) bs at m =
     recordLines bs at m
-    ++ onward (placeAfter (callOn (runRecord bs at) m .answer))
-    (λ (n : ℕ). reportFrom most bs n (callOn (runRecord bs at) m .state))
+    ++ onward (placeAfter (ranRecord bs at m .answer))
+    (λ (n : ℕ). reportFrom most bs n (ranRecord bs at m .state))
 
--- the lists that the job program lends: as long as they must be, with 8,192 corner places
-pub record JobLists (m : Lent) : Type 0 where
-  pub table : length (m .table) ≡ 640
-  pub strips : length (m .strips) ≡ 16384
-  pub corners : length (m .corners) ≡ 16384
-
--- for every file, the lines of its records from place 0 on, of at most 60,001, are its output, whatever the lists and
--- the record hold at first
+-- for every file, the lines of its records from place 0 on, of one more than a file may have bytes, are its output,
+-- whatever the lists and the record hold at first
 abbrev pub WritesOutput : Type 0
-WritesOutput = (bs : List ℕ) (m : Lent) → JobLists m → reportFrom 60001 bs 0 m ≡ output bs
+WritesOutput = (bs : List ℕ) (m : Lent) → reportFrom (suc maxBytes) bs 0 m ≡ output bs

@@ -2,12 +2,16 @@
 use Prim.Native.Nat.{ℕ, _*_, _≤_, _<_}
 use mathlib.Core.Path.{_≡_}
 use mathlib.Core.Bool.{true}
-use mathlib.Core.List.{List, [], _++_}
-use lib.ListN.{length}
+use mathlib.Core.List.{List, [], _∷_}
+use lib.ListN.{length, getD}
+use Rattle.foil_spec.specs.Lists.{range, each}
+use Rattle.foil_spec.specs.Limits.{cornerPlaces}
+use Rattle.foil_spec.specs.Ledger.{Step, newFoil, draw, lay, lift, lookUp}
 use Rattle.foil_spec.specs.Lent.{cornersIn}
-use Rattle.foil_spec.specs.Job.{has, field}
+use Rattle.foil_spec.specs.Job.{mapBits, has, stepAt}
 use Rattle.foil.specs.declared.Answer.{Answer}
 use Rattle.foil.specs.declared.Answer.the-variants.{Refused, Accepted, Laid, Found}
+use Rattle.job.specs.Contract.{toldIn}
 use Rattle.job.specs.Parts.{Whole}
 use Rattle.job.specs.declared.Told.{Told}
 use Rattle.job.specs.declared.Told.the-variants.{Nothing, Said}
@@ -21,11 +25,6 @@ numberIn Accepted = 0
 numberIn (Laid k n) = 0
 numberIn (Found k) = 0
 
--- the line of a step that was run, by its number
-unfoldable pub toldLine : (ℕ → List ℕ) → Told → List ℕ
-toldLine line Nothing = []
-toldLine line (Said a) = line (numberIn a)
-
 -- the line of a lay that was answered, whose corners are the first of the list ks
 unfoldable pub layLine : ℕ → List ℕ → Answer → List ℕ
 layLine net ks (Refused n) = trackRefused net n
@@ -33,23 +32,43 @@ layLine net ks Accepted = []
 layLine net ks (Laid k n) = trackLaid net n (cornersIn ks k)
 layLine net ks (Found k) = []
 
--- the line of a lay that was run
-unfoldable pub toldTrack : ℕ → List ℕ → Told → List ℕ
-toldTrack net ks Nothing = []
-toldTrack net ks (Said a) = layLine net ks a
+-- the line of a step that was answered; no record holds a look up
+unfoldable pub lineOf : Step → List ℕ → Answer → List ℕ
+lineOf (newFoil W H d) ks a = boardLine (numberIn a)
+lineOf (draw x0 y0 x1 y1) ks a = patchLine (numberIn a)
+lineOf (lay net S T) ks a = layLine net ks a
+lineOf (lift net) ks a = liftLine net (numberIn a)
+lineOf (lookUp p) ks a = []
 
--- the lines of the steps that were run, in bit order, of the record at a place
-unfoldable pub answerLines : List ℕ → ℕ → List ℕ → Answers → List ℕ
-answerLines bs at ks a =
-    toldLine boardLine (a .board) ++ toldLine patchLine (a .patch) ++ toldTrack (field bs at 2 0) ks (a .track)
-    ++ toldLine (liftLine (field bs at 3 0)) (a .lift)
+-- the line of a step, if it was run
+unfoldable pub toldLine : Step → List ℕ → Told → List ℕ
+toldLine s ks Nothing = []
+toldLine s ks (Said a) = lineOf s ks a
 
--- what the step of bit k told, of a record all of whose fields are among the bytes: it has that bit, if it was run
-pub record FromBit (bs : List ℕ) (at k : ℕ) (t : Told) : Type 0 where
+-- the lines of the steps of the bits in a list that were run, of the record at a place
+unfoldable pub linesOf : List ℕ → ℕ → List ℕ → Answers → List ℕ → List ℕ
+linesOf bs at ks a bits = each (λ (k : ℕ). toldLine (stepAt bs at k) ks (toldIn a k)) bits
+
+-- the lines of all its steps that were run, in bit order
+abbrev pub answerLines : List ℕ → ℕ → List ℕ → Answers → List ℕ
+answerLines bs at ks a = linesOf bs at ks a (range 0 mapBits)
+
+-- how many bytes the lines of the bits below k take at most: 64 a line, and 12 for each of 8,192 corners
+unfoldable pub bytesBelow : ℕ → ℕ
+bytesBelow k = getD (0 ∷ 64 ∷ 128 ∷ 98496 ∷ 98560 ∷ []) k 0
+
+-- the corners of an answer stand in the list, 8,192 at most
+pub record InList (ks : List ℕ) (a : Answer) : Type 0 where
+  pub few : (k n : ℕ) → a ≡ Laid k n → k ≤ cornerPlaces
+  pub there : (k n : ℕ) → a ≡ Laid k n → 2 * k ≤ length ks
+
+-- what the step of bit k told, of a record all of whose fields are among the bytes: it has that bit, if it was run, and
+-- its corners stand in the list
+pub record FromBit (bs : List ℕ) (at : ℕ) (ks : List ℕ) (k : ℕ) (t : Told) : Type 0 where
   pub whole : Whole bs at
   pub set : (a : Answer) → t ≡ Said a → has bs at k ≡ true
+  pub corners : (a : Answer) → t ≡ Said a → InList ks a
 
--- the corners of a track that was laid stand in the list, 8,192 at most
-pub record InList (ks : List ℕ) (t : Told) : Type 0 where
-  pub few : (k n : ℕ) → t ≡ Said (Laid k n) → k ≤ 8192
-  pub there : (k n : ℕ) → t ≡ Said (Laid k n) → 2 * k ≤ length ks
+-- the same of all its bits
+pub record FromBits (bs : List ℕ) (at : ℕ) (ks : List ℕ) (a : Answers) : Type 0 where
+  pub bit : (k : ℕ) → k < mapBits → FromBit bs at ks k (toldIn a k)

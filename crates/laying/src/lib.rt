@@ -55,7 +55,18 @@ pub fn lay(
     if let Checked::Refused(number) = checked {
         return refuse(number, board);
     }
-    lay_in(table, strips, corners, board, MAX_ENTRIES, net, sx, sy, tx, ty)
+    lay_in(
+        table,
+        strips,
+        corners,
+        board,
+        MAX_ENTRIES,
+        net,
+        sx,
+        sy,
+        tx,
+        ty,
+    )
 }
 
 // Lays a track on a foil that keeps the rules and may have so many entries.

@@ -12,34 +12,49 @@ abbrev μ-loop : tie.MeasureT-loop
 
 add-x : tie.Need-add-x Inv-loop μ-loop
 add-x c = search needs
+
 loop-holds : tie.Need-loop-holds Inv-loop μ-loop
 loop-holds c = search needs
+
 next-requires : tie.Need-next-requires Inv-loop μ-loop
 next-requires c κs = search needs
+
 add-least : tie.Need-add-least Inv-loop μ-loop
 add-least c = search needs
+
 below-requires : tie.Need-below-requires Inv-loop μ-loop
 below-requires c κs = search needs
+
 add-least-2 : tie.Need-add-least-2 Inv-loop μ-loop
 add-least-2 c = search needs
+
 sub-least : tie.Need-sub-least Inv-loop μ-loop
 sub-least c = search needs
+
 least-requires : tie.Need-least-requires Inv-loop μ-loop
 least-requires c κs = search needs
+
 tooth-requires : tie.Need-tooth-requires Inv-loop μ-loop
 tooth-requires c κs = search needs
+
 add-i : tie.Need-add-i Inv-loop μ-loop
 add-i c = search needs
+
 add-x-2 : tie.Need-add-x-2 Inv-loop μ-loop
 add-x-2 c = search needs
+
 add-x-3 : tie.Need-add-x-3 Inv-loop μ-loop
 add-x-3 c = search needs
+
 add-x-4 : tie.Need-add-x-4 Inv-loop μ-loop
 add-x-4 c = search needs
+
 loop-less : tie.Need-loop-less Inv-loop μ-loop
 loop-less c = search needs
+
 loop-again : tie.Need-loop-again Inv-loop μ-loop
 loop-again c = search needs
+
 returns : tie.Need-returns Inv-loop μ-loop
 returns c = search needs
 

@@ -12,24 +12,34 @@ abbrev μ-loop : tie.MeasureT-loop
 
 no-board-requires : tie.Need-no-board-requires Inv-loop μ-loop
 no-board-requires c κs = search needs
+
 loop-holds : tie.Need-loop-holds Inv-loop μ-loop
 loop-holds c = search needs
+
 run-requires : tie.Need-run-requires Inv-loop μ-loop
 run-requires c κs = search needs
+
 after-requires : tie.Need-after-requires Inv-loop μ-loop
 after-requires c κs = search needs
+
 enum-known-next : tie.Need-enum-known-next Inv-loop μ-loop
 enum-known-next c = search needs
+
 enum-told : tie.Need-enum-told Inv-loop μ-loop
 enum-told c = search needs
+
 returns : tie.Need-returns Inv-loop μ-loop
 returns c = search needs
+
 add-counter : tie.Need-add-counter Inv-loop μ-loop
 add-counter c = search needs
+
 loop-less : tie.Need-loop-less Inv-loop μ-loop
 loop-less c = search needs
+
 loop-again : tie.Need-loop-again Inv-loop μ-loop
 loop-again c = search needs
+
 returns-2 : tie.Need-returns-2 Inv-loop μ-loop
 returns-2 c = search needs
 

@@ -12,14 +12,19 @@ abbrev μ-loop : tie.MeasureT-loop
 
 loop-holds : tie.Need-loop-holds Inv-loop μ-loop
 loop-holds c = search needs
+
 add-net : tie.Need-add-net Inv-loop μ-loop
 add-net c = search needs
+
 write-net-requires : tie.Need-write-net-requires Inv-loop μ-loop
 write-net-requires c κs = search needs
+
 loop-less : tie.Need-loop-less Inv-loop μ-loop
 loop-less c = search needs
+
 loop-again : tie.Need-loop-again Inv-loop μ-loop
 loop-again c = search needs
+
 returns : tie.Need-returns Inv-loop μ-loop
 returns c = search needs
 

@@ -20,7 +20,7 @@ same-length-2 : tie.Need-same-length-2
 same-length-2 c = search needs
 
 returns : tie.Need-returns
-returns c = 
+returns c =
     lending-refused _ _ _ _ _ _ _ _ (c .before .before .before .before .lending-refusal .ensures) _ (c .before .before .lending .given .1) _
     (c .refuse .ensures)
 
@@ -43,7 +43,7 @@ same-length-4 : tie.Need-same-length-4
 same-length-4 c = search needs
 
 returns-2 : tie.Need-returns-2
-returns-2 c = 
+returns-2 c =
     record-refused _ _ _ _ _ _ _ (lends (c .before .before .before .before .before .before .before .lending-refusal .ensures) (c .before .before .before .before .before .enum-told .given .1)) _ (c .before .before .before .before .record-refusal .ensures) _
     (c .before .before .checked .given .1) _ (c .refuse2 .ensures)
 
@@ -60,7 +60,7 @@ same-length-6 : tie.Need-same-length-6
 same-length-6 c = search needs
 
 returns-3 : tie.Need-returns-3
-returns-3 c = 
+returns-3 c =
     at-end _ _ _ _ _ _ _ (lends (c .before .before .before .before .before .before .before .lending-refusal .ensures) (c .before .before .before .before .before .enum-told .given .1)) _ (c .before .before .before .before .record-refusal .ensures)
     (c .before .before .enum-told2 .given .1) (c .if1 .taken)
 
@@ -81,7 +81,7 @@ same-length-9 : tie.Need-same-length-9
 same-length-9 c = search needs
 
 returns-4 : tie.Need-returns-4
-returns-4 c = 
+returns-4 c =
     ran-done _ _ _ _ _ _ _ (lends (c .before .before .before .before .before .before .before .before .before .before .before .before .before .before .before .before .before .lending-refusal .ensures) (c .before .before .before .before .before .before .before .before .before .before .before .before .before .before .before .enum-told .given .1)) _ (c .before .before .before .before .before .before .before .before .before .before .before .before .before .before .record-refusal .ensures)
     (c .before .before .before .before .before .before .before .before .before .before .before .before .enum-told2 .given .1) (c .before .before .before .before .before .before .before .before .before .before .if1 .left) _ _ _ _ (c .before .before .before .before .before .before .run-steps .ensures)
 

@@ -62,15 +62,19 @@ module _ (t : ℕ) where
   abbrev levelAtStart : level-lts.Else1 (level-calls t) (level-step-at t) level-step.Post
       → level-lts.Start (level-calls t) (level-step-at t) level-step.Post
   levelAtStart c = c .before .before .before .before .before .before .before .before .before .before
+
   abbrev levelAtIf1 : level-lts.After-shared-slice-known10 (level-calls t) (level-step-at t) level-step.Post
       → level-lts.Else1 (level-calls t) (level-step-at t) level-step.Post
   levelAtIf1 c = c .before .before .before .before
+
   abbrev levelAtStop : level-lts.After-upright-step-arg (level-calls t) (level-step-at t) level-step.Post
       → level-lts.After-next-stop (level-calls t) (level-step-at t) level-step.Post
   levelAtStop c = c .before .before .before .before .before .before .before
+
   abbrev levelAtPut : level-lts.After-upright-step-arg (level-calls t) (level-step-at t) level-step.Post
       → level-lts.After-put-corner (level-calls t) (level-step-at t) level-step.Post
   levelAtPut c = c .before .before .before
+
   abbrev levelAtStep : level-lts.After-slice-known3 (level-calls t) (level-step-at t) level-step.Post
       → level-lts.After-upright-step (level-calls t) (level-step-at t) level-step.Post
   levelAtStep c = c .before .before
@@ -107,8 +111,11 @@ module _ (t : ℕ) where
           omega (arith, low, pre .1 .3),
           omega (arith, pre .1 .1, sized .level-edges),
         ),
-        (sized .upright, sized .upright-inks,
-            lean-low _ _ (pre .0 .upright-lean) (pre .1 .1) (omega (arith, pre .1 .2))),
+        (
+          sized .upright,
+          sized .upright-inks,
+          lean-low _ _ (pre .0 .upright-lean) (pre .1 .1) (omega (arith, pre .1 .2)),
+        ),
       )
 
   level-step-mul-put-corner : level-lts.Need-mul-put-corner (level-calls t) (level-step-at t) level-step.Post
@@ -135,8 +142,10 @@ module _ (t : ℕ) where
   level-step-put-corner-requires :
       level-lts.Need-put-corner-requires (level-calls t) (level-step-at t) level-step.Post
   level-step-put-corner-requires c κs = omega arith
+
   level-step-sub-upright-step : level-lts.Need-sub-upright-step (level-calls t) (level-step-at t) level-step.Post
   level-step-sub-upright-step c = omega arith
+
   level-step-add-upright-step : level-lts.Need-add-upright-step (level-calls t) (level-step-at t) level-step.Post
   level-step-add-upright-step c = omega arith
 
@@ -174,17 +183,21 @@ module _ (t : ℕ) where
   abbrev uprightAtStart : upright-lts.Else1 (upright-calls t) (upright-step-at t) upright-step.Post
       → upright-lts.Start (upright-calls t) (upright-step-at t) upright-step.Post
   uprightAtStart c = c .before .before .before .before .before .before .before .before .before .before
+
   abbrev uprightAtIf1 : upright-lts.After-level-step-arg (upright-calls t)
       (upright-step-at t) upright-step.Post → upright-lts.Else1 (upright-calls t) (upright-step-at t) upright-step.Post
   uprightAtIf1 c = c .before .before .before .before .before .before .before .before .before
+
   abbrev uprightAtStop : upright-lts.After-shared-slice-known10 (upright-calls t)
       (upright-step-at t) upright-step.Post
       → upright-lts.After-next-stop (upright-calls t) (upright-step-at t) upright-step.Post
   uprightAtStop c = c .before .before
+
   abbrev uprightAtPut : upright-lts.After-level-step-arg (upright-calls t)
       (upright-step-at t) upright-step.Post
       → upright-lts.After-put-corner (upright-calls t) (upright-step-at t) upright-step.Post
   uprightAtPut c = c .before .before .before
+
   abbrev uprightAtStep : upright-lts.After-slice-known3 (upright-calls t)
       (upright-step-at t) upright-step.Post
       → upright-lts.After-level-step (upright-calls t) (upright-step-at t) upright-step.Post
@@ -254,9 +267,11 @@ module _ (t : ℕ) where
   upright-step-put-corner-requires :
       upright-lts.Need-put-corner-requires (upright-calls t) (upright-step-at t) upright-step.Post
   upright-step-put-corner-requires c κs = omega arith
+
   upright-step-sub-level-step :
       upright-lts.Need-sub-level-step (upright-calls t) (upright-step-at t) upright-step.Post
   upright-step-sub-level-step c = omega arith
+
   upright-step-add-level-step :
       upright-lts.Need-add-level-step (upright-calls t) (upright-step-at t) upright-step.Post
   upright-step-add-level-step c = omega arith

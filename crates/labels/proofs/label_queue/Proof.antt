@@ -24,10 +24,13 @@ abbrev μ-loop : tie.MeasureT-loop
 -- back to the start, the loop's head, the loop's turn and visit
 abbrev atStart : tie.After-floor-of Inv-loop μ-loop → tie.Start Inv-loop μ-loop
 atStart c = c .before .before .before .before .before .before .before .before .before .before .before
+
 abbrev atLoop : tie.After-shared-slice-known7 Inv-loop μ-loop → tie.At-loop Inv-loop μ-loop
 atLoop c = c .before .before .before
+
 abbrev inLoop : tie.After-visit-arg5 Inv-loop μ-loop → tie.In-loop Inv-loop μ-loop
 inLoop c = c .before .before .before .before .before .before .before
+
 abbrev atVisit : tie.After-slice-known10 Inv-loop μ-loop → tie.After-visit Inv-loop μ-loop
 atVisit c = c .before .before .before .before .before .before .before .before .before .before
 
@@ -41,8 +44,10 @@ loop-holds c =
 
 mul-k : tie.Need-mul-k Inv-loop μ-loop
 mul-k c = omega arith
+
 mul-k-2 : tie.Need-mul-k-2 Inv-loop μ-loop
 mul-k-2 c = omega arith
+
 shared-slice-read-k : tie.Need-shared-slice-read-k Inv-loop μ-loop
 shared-slice-read-k c = omega arith
 
@@ -51,10 +56,13 @@ cast-k c = omega (arith, c .shared-slice-known6 .given (2 * c .before .before .l
 
 mul-line : tie.Need-mul-line Inv-loop μ-loop
 mul-line c = omega arith
+
 add-line : tie.Need-add-line Inv-loop μ-loop
 add-line c = omega arith
+
 mul-line-2 : tie.Need-mul-line-2 Inv-loop μ-loop
 mul-line-2 c = omega arith
+
 shared-slice-read-line : tie.Need-shared-slice-read-line Inv-loop μ-loop
 shared-slice-read-line c = omega arith
 
@@ -116,12 +124,16 @@ loop-again c =
 
 same-length : tie.Need-same-length Inv-loop μ-loop
 same-length c = c .before .loop .inv .4 .visited .size
+
 same-length-2 : tie.Need-same-length-2 Inv-loop μ-loop
 same-length-2 c = c .before .loop .inv .4 .inked .size
+
 same-length-3 : tie.Need-same-length-3 Inv-loop μ-loop
 same-length-3 c = c .before .loop .inv .4 .added .size
+
 same-length-4 : tie.Need-same-length-4 Inv-loop μ-loop
 same-length-4 c = c .before .loop .inv .2
+
 same-length-5 : tie.Need-same-length-5 Inv-loop μ-loop
 same-length-5 c = c .before .loop .inv .3
 

@@ -18,8 +18,10 @@ abbrev μ-loop : tie.MeasureT-loop
 -- back to the start, the loop's head and put_cell
 abbrev atStart : tie.After-put-cell-arg2 Inv-loop μ-loop → tie.Start Inv-loop μ-loop
 atStart c = c .before .before .before .before .before .before
+
 abbrev atLoop : tie.After-put-cell-arg2 Inv-loop μ-loop → tie.At-loop Inv-loop μ-loop
 atLoop c = c .before .before .before
+
 abbrev atPut : tie.After-slice-known4 Inv-loop μ-loop → tie.After-put-cell Inv-loop μ-loop
 atPut c = c .before .before .before .before
 
@@ -37,6 +39,7 @@ put-cell-requires c κs =
 
 add-k : tie.Need-add-k Inv-loop μ-loop
 add-k c = omega arith
+
 loop-less : tie.Need-loop-less Inv-loop μ-loop
 loop-less c = omega arith
 
@@ -51,6 +54,7 @@ loop-again c =
 
 same-length : tie.Need-same-length Inv-loop μ-loop
 same-length c = c .before .loop .inv .2 .run .size
+
 same-length-2 : tie.Need-same-length-2 Inv-loop μ-loop
 same-length-2 c = c .before .loop .inv .2 .size
 

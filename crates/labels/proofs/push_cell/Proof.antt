@@ -8,15 +8,19 @@ use Rattle.labels.proofs.push_cell.Tie as tie
 -- back to the start and put_cell
 abbrev atStart : tie.After-put-cell-arg2 → tie.Start
 atStart c = c .before .before .before .before .before .before
+
 abbrev afterPutCell : tie.After-slice-known5 → tie.After-put-cell
 afterPutCell c = c .before .before .before .before
 
 mul-if1 : tie.Need-mul-if1
 mul-if1 c = omega arith
+
 add-if1 : tie.Need-add-if1
 add-if1 c = omega arith
+
 mul-if1-2 : tie.Need-mul-if1-2
 mul-if1-2 c = omega arith
+
 slice-read-if1 : tie.Need-slice-read-if1
 slice-read-if1 c = omega arith
 
@@ -30,6 +34,7 @@ put-cell-requires c κs =
 
 same-length : tie.Need-same-length
 same-length c = search needs
+
 same-length-2 : tie.Need-same-length-2
 same-length-2 c = search needs
 

@@ -16,8 +16,10 @@ abbrev μ-loop : tie.MeasureT-loop
 -- back to the start, the loop's head and push_cell
 abbrev atStart : tie.After-push-cell-arg2 Inv-loop μ-loop → tie.Start Inv-loop μ-loop
 atStart c = c .before .before .before .before .before .before
+
 abbrev atLoop : tie.After-push-cell-arg2 Inv-loop μ-loop → tie.At-loop Inv-loop μ-loop
 atLoop c = c .before .before .before
+
 abbrev atPush : tie.After-slice-known4 Inv-loop μ-loop → tie.After-push-cell Inv-loop μ-loop
 atPush c = c .before .before .before .before
 
@@ -31,6 +33,7 @@ push-cell-requires c κs =
 
 add-k : tie.Need-add-k Inv-loop μ-loop
 add-k c = omega arith
+
 loop-less : tie.Need-loop-less Inv-loop μ-loop
 loop-less c = omega arith
 
@@ -45,6 +48,7 @@ loop-again c =
 
 same-length : tie.Need-same-length Inv-loop μ-loop
 same-length c = c .before .loop .inv .2 .run .size
+
 same-length-2 : tie.Need-same-length-2 Inv-loop μ-loop
 same-length-2 c = c .before .loop .inv .2 .size
 

@@ -11,18 +11,25 @@ use Rattle.labels.proofs.put_cell.Tie as tie
 
 add-labels : tie.Need-add-labels
 add-labels c = omega arith
+
 mul-labels : tie.Need-mul-labels
 mul-labels c = omega arith
+
 add-labels-2 : tie.Need-add-labels-2
 add-labels-2 c = omega arith
+
 mul-labels-2 : tie.Need-mul-labels-2
 mul-labels-2 c = omega arith
+
 slice-write-labels : tie.Need-slice-write-labels
 slice-write-labels c = omega arith
+
 cast-queue : tie.Need-cast-queue
 cast-queue c = omega arith
+
 mul-queue : tie.Need-mul-queue
 mul-queue c = omega arith
+
 mul-queue-2 : tie.Need-mul-queue-2
 mul-queue-2 c = omega arith
 
@@ -34,10 +41,13 @@ slice-write-queue c =
 
 cast-queue-2 : tie.Need-cast-queue-2
 cast-queue-2 c = omega arith
+
 mul-queue-3 : tie.Need-mul-queue-3
 mul-queue-3 c = omega arith
+
 add-queue : tie.Need-add-queue
 add-queue c = omega arith
+
 mul-queue-4 : tie.Need-mul-queue-4
 mul-queue-4 c = omega arith
 
@@ -49,8 +59,10 @@ slice-write-queue-2 c =
 
 add-result : tie.Need-add-result
 add-result c = omega arith
+
 same-length : tie.Need-same-length
 same-length c = search needs
+
 same-length-2 : tie.Need-same-length-2
 same-length-2 c = search needs
 

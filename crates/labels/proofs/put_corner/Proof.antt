@@ -7,14 +7,19 @@ use Rattle.labels.proofs.put_corner.Tie as tie
 
 mul-out : tie.Need-mul-out
 mul-out c = omega arith
+
 mul-out-2 : tie.Need-mul-out-2
 mul-out-2 c = omega arith
+
 slice-write-out : tie.Need-slice-write-out
 slice-write-out c = omega arith
+
 mul-out-3 : tie.Need-mul-out-3
 mul-out-3 c = omega arith
+
 add-out : tie.Need-add-out
 add-out c = omega arith
+
 mul-out-4 : tie.Need-mul-out-4
 mul-out-4 c = omega arith
 
@@ -23,6 +28,7 @@ slice-write-out-2 c = simp length-set (omega arith)
 
 same-length : tie.Need-same-length
 same-length c = search needs
+
 returns : tie.Need-returns
 returns c = search needs
 

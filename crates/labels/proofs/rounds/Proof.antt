@@ -29,17 +29,23 @@ abbrev μ-loop : tie.MeasureT-loop
 -- back to the start, to the round, to where neither label is found, and to what the two passes answered
 abbrev atStart : tie.After-shared-slice-known4 Inv-loop μ-loop → tie.Start Inv-loop μ-loop
 atStart c = c .before .before .before .before .before .before .before .before .before .before
+
 abbrev atLoop : tie.Else1 Inv-loop μ-loop → tie.At-loop Inv-loop μ-loop
 atLoop c = c .before .before
+
 abbrev notFound : tie.After-label-queue-arg6 Inv-loop μ-loop → tie.Else2 Inv-loop μ-loop
 notFound c = c .before .before .before .before .before .before .before .before
+
 abbrev inRound : tie.After-label-queue-arg6 Inv-loop μ-loop → tie.At-loop Inv-loop μ-loop
 inRound c = atLoop (notFound c .before .before)
+
 abbrev atFirst : tie.After-label-queue-arg12 Inv-loop μ-loop → tie.After-label-queue Inv-loop μ-loop
 atFirst c = c .before .before .before .before .before .before .before .before .before .before .before .before .before
     .before .before .before
+
 abbrev atSecond : tie.After-behind4 Inv-loop μ-loop → tie.After-label-queue2 Inv-loop μ-loop
 atSecond c = c .before .before .before .before .before .before .before .before
+
 abbrev atRound : tie.After-behind4 Inv-loop μ-loop → tie.At-loop Inv-loop μ-loop
 atRound c = inRound (atFirst (atSecond c .before) .before)
 
@@ -60,14 +66,19 @@ slice-read-if1 c = omega (arith, c .before .loop .inv .8 .level-room, atStart (c
 
 same-length : tie.Need-same-length Inv-loop μ-loop
 same-length c = c .before .before .loop .inv .0
+
 same-length-2 : tie.Need-same-length-2 Inv-loop μ-loop
 same-length-2 c = c .before .before .loop .inv .1
+
 same-length-3 : tie.Need-same-length-3 Inv-loop μ-loop
 same-length-3 c = c .before .before .loop .inv .2
+
 same-length-4 : tie.Need-same-length-4 Inv-loop μ-loop
 same-length-4 c = c .before .before .loop .inv .3
+
 same-length-5 : tie.Need-same-length-5 Inv-loop μ-loop
 same-length-5 c = c .before .before .loop .inv .4
+
 same-length-6 : tie.Need-same-length-6 Inv-loop μ-loop
 same-length-6 c = c .before .before .loop .inv .5
 
@@ -93,14 +104,19 @@ slice-read-if2 c =
 
 same-length-7 : tie.Need-same-length-7 Inv-loop μ-loop
 same-length-7 c = atLoop (c .before .before) .loop .inv .0
+
 same-length-8 : tie.Need-same-length-8 Inv-loop μ-loop
 same-length-8 c = atLoop (c .before .before) .loop .inv .1
+
 same-length-9 : tie.Need-same-length-9 Inv-loop μ-loop
 same-length-9 c = atLoop (c .before .before) .loop .inv .2
+
 same-length-10 : tie.Need-same-length-10 Inv-loop μ-loop
 same-length-10 c = atLoop (c .before .before) .loop .inv .3
+
 same-length-11 : tie.Need-same-length-11 Inv-loop μ-loop
 same-length-11 c = atLoop (c .before .before) .loop .inv .4
+
 same-length-12 : tie.Need-same-length-12 Inv-loop μ-loop
 same-length-12 c = atLoop (c .before .before) .loop .inv .5
 
@@ -112,6 +128,7 @@ returns-2 c =
 
 slice-aggregate-label-queue : tie.Need-slice-aggregate-label-queue Inv-loop μ-loop
 slice-aggregate-label-queue c = search needs
+
 slice-aggregate-label-queue-2 : tie.Need-slice-aggregate-label-queue-2 Inv-loop μ-loop
 slice-aggregate-label-queue-2 c = search needs
 
@@ -148,6 +165,7 @@ label-queue-requires c κs =
 
 slice-aggregate-label-queue-3 : tie.Need-slice-aggregate-label-queue-3 Inv-loop μ-loop
 slice-aggregate-label-queue-3 c = search needs
+
 slice-aggregate-label-queue-4 : tie.Need-slice-aggregate-label-queue-4 Inv-loop μ-loop
 slice-aggregate-label-queue-4 c = search needs
 
@@ -237,8 +255,14 @@ loop-less : tie.Need-loop-less Inv-loop μ-loop
 loop-less c =
     let first = atFirst (atSecond (c .before) .before) .label-queue .ensures in
     let second = atSecond (c .before) .label-queue2 .ensures in
-    omega (arith, c .if3 .left, first .visited .count, first .added .grew, second .visited .count,
-    second .added .grew)
+    omega (
+      arith,
+      c .if3 .left,
+      first .visited .count,
+      first .added .grew,
+      second .visited .count,
+      second .added .grew,
+    )
 
 loop-again : tie.Need-loop-again Inv-loop μ-loop
 loop-again c =

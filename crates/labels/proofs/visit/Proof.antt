@@ -9,33 +9,46 @@ use Rattle.labels.proofs.visit.Tie as tie
 -- back to the start, to the run's end, to the two sweeps, and in each branch to the inks and to what was pushed
 abbrev atStart : tie.After-slice-known6 → tie.Start
 atStart c = c .before .before .before .before .before .before .before .before .before .before
+
 abbrev atTest : tie.After-run-end → tie.After-slice-known6
 atTest c = c .before .before .before
+
 abbrev atEnd : tie.After-behind-of-arg → tie.After-run-end
 atEnd c = c .before .before .before .before .before
+
 abbrev atAhead : tie.After-behind-of-arg → tie.After-ahead-of
 atAhead c = c .before .before .before
+
 abbrev runSwept : tie.After-ink-run-arg4 → tie.After-behind-of
 runSwept c = c .before .before .before .before .before .before .before
+
 abbrev blankSwept : tie.After-ink-blank-arg4 → tie.After-behind-of
 blankSwept c = c .before .before .before .before .before .before .before
+
 abbrev runInked : tie.After-push-run-arg2 → tie.After-ink-run
 runInked c = c .before .before .before .before
+
 abbrev runPushed : tie.After-slice-known11 → tie.After-push-run
 runPushed c = c .before .before .before .before
+
 abbrev atLow : tie.After-ink-blank-arg4 → tie.Else2
 atLow c = c .before .before .before .before
+
 abbrev blankInked : tie.After-push-blank-arg2 → tie.After-ink-blank
 blankInked c = c .before .before .before .before
+
 abbrev blankPushed : tie.After-slice-known14 → tie.After-push-blank
 blankPushed c = c .before .before .before .before
 
 mul-if1 : tie.Need-mul-if1
 mul-if1 c = omega arith
+
 add-if1 : tie.Need-add-if1
 add-if1 c = omega arith
+
 mul-if1-2 : tie.Need-mul-if1-2
 mul-if1-2 c = omega arith
+
 slice-read-if1 : tie.Need-slice-read-if1
 slice-read-if1 c = omega arith
 
@@ -98,12 +111,16 @@ push-run-requires c κs =
 
 same-length : tie.Need-same-length
 same-length c = search needs
+
 same-length-2 : tie.Need-same-length-2
 same-length-2 c = search needs
+
 same-length-3 : tie.Need-same-length-3
 same-length-3 c = search needs
+
 same-length-4 : tie.Need-same-length-4
 same-length-4 c = search needs
+
 same-length-5 : tie.Need-same-length-5
 same-length-5 c = search needs
 
@@ -158,12 +175,16 @@ push-blank-requires c κs =
 
 same-length-6 : tie.Need-same-length-6
 same-length-6 c = search needs
+
 same-length-7 : tie.Need-same-length-7
 same-length-7 c = search needs
+
 same-length-8 : tie.Need-same-length-8
 same-length-8 c = search needs
+
 same-length-9 : tie.Need-same-length-9
 same-length-9 c = search needs
+
 same-length-10 : tie.Need-same-length-10
 same-length-10 c = search needs
 

@@ -8,32 +8,39 @@ use Rattle.lines.proofs.net_line.Tie as tie
 -- back to put_bytes, put_item and put_item2
 abbrev atNumber : tie.After-slice-known5 → tie.After-put-item2
 atNumber c = c .before .before .before .before .before .before .before
+
 abbrev atNet : tie.After-slice-known5 → tie.After-put-item
 atNet c = atNumber c .before .before .before .before
+
 abbrev atWord : tie.After-slice-known5 → tie.After-put-bytes
 atWord c = atNet c .before .before .before .before
 
 put-bytes-requires : tie.Need-put-bytes-requires
 put-bytes-requires c κs = omega arith
+
 put-item-requires : tie.Need-put-item-requires
 put-item-requires c κs = omega arith
+
 put-item-requires-2 : tie.Need-put-item-requires-2
 put-item-requires-2 c κs = omega arith
+
 slice-aggregate-put-bytes : tie.Need-slice-aggregate-put-bytes
 slice-aggregate-put-bytes c = search needs
+
 put-bytes-requires-2 : tie.Need-put-bytes-requires-2
 put-bytes-requires-2 c κs = omega arith
+
 same-length : tie.Need-same-length
 same-length c = omega arith
 
 returns : tie.Need-returns
 returns c = (
-      put-then
-          (put-then (put-then (atWord c .put-bytes .ensures) (atNet c .put-item .ensures .0))
-              (atNumber c .put-item2 .ensures .0))
-          (c .before .before .put-bytes2 .ensures),
-      omega arith,
-    )
+  put-then
+      (put-then (put-then (atWord c .put-bytes .ensures) (atNet c .put-item .ensures .0))
+      (atNumber c .put-item2 .ensures .0))
+      (c .before .before .put-bytes2 .ensures),
+  omega arith,
+)
 
 pub net-line-spec : {M : Type 1} → statement M
 net-line-spec =

@@ -8,26 +8,31 @@ use Rattle.lines.proofs.number_line.Tie as tie
 -- back to put_bytes and put_item
 abbrev atNumber : tie.After-slice-known4 → tie.After-put-item
 atNumber c = c .before .before .before .before .before .before .before
+
 abbrev atWord : tie.After-slice-known4 → tie.After-put-bytes
 atWord c = atNumber c .before .before .before .before
 
 put-bytes-requires : tie.Need-put-bytes-requires
 put-bytes-requires c κs = omega arith
+
 put-item-requires : tie.Need-put-item-requires
 put-item-requires c κs = omega arith
+
 slice-aggregate-put-bytes : tie.Need-slice-aggregate-put-bytes
 slice-aggregate-put-bytes c = search needs
+
 put-bytes-requires-2 : tie.Need-put-bytes-requires-2
 put-bytes-requires-2 c κs = omega arith
+
 same-length : tie.Need-same-length
 same-length c = omega arith
 
 returns : tie.Need-returns
 returns c = (
-      put-then (put-then (atWord c .put-bytes .ensures) (atNumber c .put-item .ensures .0))
-          (c .before .before .put-bytes2 .ensures),
-      omega arith,
-    )
+  put-then (put-then (atWord c .put-bytes .ensures) (atNumber c .put-item .ensures .0))
+      (c .before .before .put-bytes2 .ensures),
+  omega arith,
+)
 
 pub number-line-spec : {M : Type 1} → statement M
 number-line-spec =

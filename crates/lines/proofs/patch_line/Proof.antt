@@ -7,8 +7,10 @@ use Rattle.lines.proofs.patch_line.Tie as tie
 
 slice-aggregate-number-line : tie.Need-slice-aggregate-number-line
 slice-aggregate-number-line c = search needs
+
 number-line-requires : tie.Need-number-line-requires
 number-line-requires c κs = omega arith
+
 same-length : tie.Need-same-length
 same-length c = omega arith
 

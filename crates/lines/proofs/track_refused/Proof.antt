@@ -7,8 +7,10 @@ use Rattle.lines.proofs.track_refused.Tie as tie
 
 slice-aggregate-net-line : tie.Need-slice-aggregate-net-line
 slice-aggregate-net-line c = search needs
+
 net-line-requires : tie.Need-net-line-requires
 net-line-requires c κs = omega arith
+
 same-length : tie.Need-same-length
 same-length c = omega arith
 

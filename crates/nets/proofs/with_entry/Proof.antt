@@ -8,15 +8,19 @@ use Rattle.nets.proofs.with_entry.Tie as tie
 -- back to the start and where the test fails
 abbrev atStart : tie.After-shared-slice-known2 → tie.Start
 atStart c = c .before .before
+
 abbrev atStartFromLegSteps : tie.After-shared-slice-known6 → tie.Start
 atStartFromLegSteps c = c .before .before .before .before .before .before .before
+
 abbrev atEntered : tie.After-struct-known2 → tie.Else1
 atEntered c = c .before .before .before .before .before .before .before
 
 mul-if1 : tie.Need-mul-if1
 mul-if1 c = search needs
+
 mul-if1-2 : tie.Need-mul-if1-2
 mul-if1-2 c = search needs
+
 shared-slice-read-if1 : tie.Need-shared-slice-read-if1
 shared-slice-read-if1 c = search needs
 
@@ -25,34 +29,49 @@ returns c = measured-skip _ _ _ _ (atStart (c .before) .pre .1 .1) (λ e. omega 
 
 mul-leg-steps : tie.Need-mul-leg-steps
 mul-leg-steps c = search needs
+
 add-leg-steps : tie.Need-add-leg-steps
 add-leg-steps c = search needs
+
 mul-leg-steps-2 : tie.Need-mul-leg-steps-2
 mul-leg-steps-2 c = search needs
+
 shared-slice-read-leg-steps : tie.Need-shared-slice-read-leg-steps
 shared-slice-read-leg-steps c = search needs
+
 mul-leg-steps-3 : tie.Need-mul-leg-steps-3
 mul-leg-steps-3 c = search needs
+
 add-leg-steps-2 : tie.Need-add-leg-steps-2
 add-leg-steps-2 c = search needs
+
 mul-leg-steps-4 : tie.Need-mul-leg-steps-4
 mul-leg-steps-4 c = search needs
+
 shared-slice-read-leg-steps-2 : tie.Need-shared-slice-read-leg-steps-2
 shared-slice-read-leg-steps-2 c = search needs
+
 mul-leg-steps-5 : tie.Need-mul-leg-steps-5
 mul-leg-steps-5 c = search needs
+
 add-leg-steps-3 : tie.Need-add-leg-steps-3
 add-leg-steps-3 c = search needs
+
 mul-leg-steps-6 : tie.Need-mul-leg-steps-6
 mul-leg-steps-6 c = search needs
+
 shared-slice-read-leg-steps-3 : tie.Need-shared-slice-read-leg-steps-3
 shared-slice-read-leg-steps-3 c = search needs
+
 mul-leg-steps-7 : tie.Need-mul-leg-steps-7
 mul-leg-steps-7 c = search needs
+
 add-leg-steps-4 : tie.Need-add-leg-steps-4
 add-leg-steps-4 c = search needs
+
 mul-leg-steps-8 : tie.Need-mul-leg-steps-8
 mul-leg-steps-8 c = search needs
+
 shared-slice-read-leg-steps-4 : tie.Need-shared-slice-read-leg-steps-4
 shared-slice-read-leg-steps-4 c = search needs
 
@@ -65,8 +84,13 @@ add-t28 c = search needs
 add-t29 : tie.Need-add-t29
 add-t29 c =
     let start = atStart (atEntered c .before) in
-    omega (arith, start .pre .0 .0, start .pre .1 .1 .short, c .before .before .leg-steps .ensures,
-    steps-most _ (box-at _ _ (start .pre .1 .0)))
+    omega (
+      arith,
+      start .pre .0 .0,
+      start .pre .1 .1 .short,
+      c .before .before .leg-steps .ensures,
+      steps-most _ (box-at _ _ (start .pre .1 .0)),
+    )
 
 returns-2 : tie.Need-returns-2
 returns-2 c =

@@ -12,36 +12,52 @@ abbrev μ-loop : tie.MeasureT-loop
 
 loop-holds : tie.Need-loop-holds Inv-loop μ-loop
 loop-holds c = search needs
+
 slice-aggregate-write-all : tie.Need-slice-aggregate-write-all Inv-loop μ-loop
 slice-aggregate-write-all c = search needs
+
 write-all-requires : tie.Need-write-all-requires Inv-loop μ-loop
 write-all-requires c κs = search needs
+
 mul-print-point : tie.Need-mul-print-point Inv-loop μ-loop
 mul-print-point c = search needs
+
 mul-print-point-2 : tie.Need-mul-print-point-2 Inv-loop μ-loop
 mul-print-point-2 c = search needs
+
 element-copy-out-print-point : tie.Need-element-copy-out-print-point Inv-loop μ-loop
 element-copy-out-print-point c = search needs
+
 mul-print-point-3 : tie.Need-mul-print-point-3 Inv-loop μ-loop
 mul-print-point-3 c = search needs
+
 add-print-point : tie.Need-add-print-point Inv-loop μ-loop
 add-print-point c = search needs
+
 mul-print-point-4 : tie.Need-mul-print-point-4 Inv-loop μ-loop
 mul-print-point-4 c = search needs
+
 element-copy-out-print-point-2 : tie.Need-element-copy-out-print-point-2 Inv-loop μ-loop
 element-copy-out-print-point-2 c = search needs
+
 print-point-requires : tie.Need-print-point-requires Inv-loop μ-loop
 print-point-requires c κs = search needs
+
 add-i : tie.Need-add-i Inv-loop μ-loop
 add-i c = search needs
+
 loop-less : tie.Need-loop-less Inv-loop μ-loop
 loop-less c = search needs
+
 loop-again : tie.Need-loop-again Inv-loop μ-loop
 loop-again c = search needs
+
 slice-aggregate-write-all-2 : tie.Need-slice-aggregate-write-all-2 Inv-loop μ-loop
 slice-aggregate-write-all-2 c = search needs
+
 write-all-requires-2 : tie.Need-write-all-requires-2 Inv-loop μ-loop
 write-all-requires-2 c κs = search needs
+
 returns : tie.Need-returns Inv-loop μ-loop
 returns c = search needs
 

@@ -15,6 +15,7 @@ no-nan (fin s m e) h = tt
 
 slice-aggregate-write-all : tie.Need-slice-aggregate-write-all
 slice-aggregate-write-all c = search needs
+
 write-all-requires : tie.Need-write-all-requires
 write-all-requires c κs = search needs
 
@@ -25,12 +26,16 @@ float-to-bits-print-hex c =
 
 print-hex-requires : tie.Need-print-hex-requires
 print-hex-requires c κs = search needs
+
 slice-aggregate-write-all-2 : tie.Need-slice-aggregate-write-all-2
 slice-aggregate-write-all-2 c = search needs
+
 write-all-requires-2 : tie.Need-write-all-requires-2
 write-all-requires-2 c κs = search needs
+
 returns : tie.Need-returns
 returns c = search needs
+
 returns-2 : tie.Need-returns-2
 returns-2 c = search needs
 

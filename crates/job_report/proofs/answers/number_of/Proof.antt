@@ -1,6 +1,6 @@
 -- `job_report::answers::number_of` meets its contract: a refusal has its number, any other answer 0.
 use borrow.Author.Needs.{needs}
-use Rattle.job.proofs.Stepping.{no-refusal}
+use Rattle.job.proofs.Ending.{no-refusal}
 use Rattle.job_report.proofs.Telling.{number-refused, number-other}
 use Rattle.job_report.proofs.answers.number_of.Statement.{statement}
 use Rattle.job_report.proofs.answers.number_of.Tie as tie

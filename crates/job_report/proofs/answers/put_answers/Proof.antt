@@ -1,46 +1,66 @@
--- `job_report::answers::put_answers` meets its contract: the lines of the four steps, one after the other.
+-- The lines of the bits below k are put.
+use Prim.Native.Nat.{_-_, _≤_}
 use native.Mathlib.Omega.{arith}
-use borrow.Author.Needs.{needs}
-use Rattle.lines.proofs.Putting.{put-then}
-use Rattle.job_report.specs.Told.{answerLines}
+use mathlib.Core.Path.{_≡_}
+use Rattle.foil_spec.specs.Lists.{range}
+use Rattle.foil_spec.specs.Job.{mapBits}
+use Rattle.lines.specs.Put.{Put}
+use Rattle.lines.proofs.Putting.{put-length}
+use Rattle.job_report.specs.Told.{linesOf, bytesBelow}
+use Rattle.job_report.proofs.Telling.{lines-none, lines-more, lines-all}
 use Rattle.job_report.proofs.answers.put_answers.Statement.{statement}
 use Rattle.job_report.proofs.answers.put_answers.Tie as tie
 
-put-board-requires : tie.Need-put-board-requires
-put-board-requires c κs = search needs
+abbrev Inv-loop : tie.InvT-loop
+Inv-loop out₀ answers corners bytes place a₀ k₀ out a k =
+    (k ≤ mapBits) × Put out₀ 0 (linesOf bytes place corners answers (range 0 k)) out a × (a ≤ bytesBelow k)
 
-put-patch-requires : tie.Need-put-patch-requires
-put-patch-requires c κs = search needs
+abbrev μ-loop : tie.MeasureT-loop
+μ-loop out₀ answers corners bytes place a₀ k₀ out a k = mapBits - k
 
-put-track-requires : tie.Need-put-track-requires
-put-track-requires c κs = search needs
+loop-holds : tie.Need-loop-holds Inv-loop μ-loop
+loop-holds c = (omega arith, lines-none _ _ _ _, omega arith)
 
-put-lift-requires : tie.Need-put-lift-requires
-put-lift-requires c κs = search needs
+told-by-requires : tie.Need-told-by-requires Inv-loop μ-loop
+told-by-requires c κs = omega arith
 
-same-length : tie.Need-same-length
-same-length c = search needs
+put-bit-requires : tie.Need-put-bit-requires Inv-loop μ-loop
+put-bit-requires c κs = (
+  (omega arith, c .before .before .before .loop .inv .2, omega (arith, put-length (c .before .before .before .loop .inv .1))),
+  rw (c .told-by .ensures) (c .before .before .before .before .before .before .before .pre .1 .bit _ (omega arith)),
+)
 
-returns : tie.Need-returns
-unfolding answerLines
-returns c =
-    let lift = c .before .before in
-    let track = lift .before .before .before .before in
-    let patch = track .before .before .before .before in
-    let board = patch .before .before .before .before in
-    put-then
-    (put-then
-    (put-then (board .put-board .ensures .0) (patch .put-patch .ensures .0))
-    (track .put-track .ensures .0))
-    (lift .put-lift .ensures .0)
+add-k : tie.Need-add-k Inv-loop μ-loop
+add-k c = omega arith
+
+loop-less : tie.Need-loop-less Inv-loop μ-loop
+loop-less c = omega arith
+
+loop-again : tie.Need-loop-again Inv-loop μ-loop
+loop-again c = (
+  omega arith,
+  lines-more _ _ _ _ _ _ (c .before .before .before .told-by .ensures) (c .before .before .before .before .before .before .loop .inv .1) (c .before .before .put-bit .ensures .0),
+  c .before .before .put-bit .ensures .1,
+)
+
+same-length : tie.Need-same-length Inv-loop μ-loop
+same-length c = put-length (c .before .loop .inv .1)
+
+returns : tie.Need-returns Inv-loop μ-loop
+returns c = let last : c .before .loop .k ≡ mapBits = omega arith in
+    lines-all _ _ _ _ _ last (c .before .loop .inv .1)
 
 pub put-answers-spec : {M : Type 1} → statement M
 put-answers-spec =
     tie.close
     (tie.spec
-    put-board-requires
-    put-patch-requires
-    put-track-requires
-    put-lift-requires
+    Inv-loop
+    μ-loop
+    loop-holds
+    told-by-requires
+    put-bit-requires
+    add-k
+    loop-less
+    loop-again
     same-length
     returns)

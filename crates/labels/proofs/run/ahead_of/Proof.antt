@@ -17,15 +17,19 @@ abbrev μ-loop : tie.MeasureT-loop
 -- back to the start and the loop's head
 abbrev atStart : tie.After-shared-slice-known4 Inv-loop μ-loop → tie.Start Inv-loop μ-loop
 atStart c = c .before .before .before .before .before
+
 abbrev beforeLoop : tie.After-shared-slice-known7 Inv-loop μ-loop → tie.After-shared-slice-known4 Inv-loop μ-loop
 beforeLoop c = c .before .before .before .before .before
+
 abbrev atLoop : tie.After-carry Inv-loop μ-loop → tie.At-loop Inv-loop μ-loop
 atLoop c = c .before .before .before
 
 sub-top : tie.Need-sub-top Inv-loop μ-loop
 sub-top c = omega arith
+
 mul-top : tie.Need-mul-top Inv-loop μ-loop
 mul-top c = omega arith
+
 shared-slice-read-top : tie.Need-shared-slice-read-top Inv-loop μ-loop
 shared-slice-read-top c = omega arith
 
@@ -34,14 +38,19 @@ cast-top c = omega (arith, atStart c .pre .0 .1 .below (atStart c .args .hi - 1)
 
 mul-best : tie.Need-mul-best Inv-loop μ-loop
 mul-best c = omega arith
+
 add-best : tie.Need-add-best Inv-loop μ-loop
 add-best c = omega arith
+
 mul-best-2 : tie.Need-mul-best-2 Inv-loop μ-loop
 mul-best-2 c = omega arith
+
 shared-slice-read-best : tie.Need-shared-slice-read-best Inv-loop μ-loop
 shared-slice-read-best c = omega arith
+
 mul-best-3 : tie.Need-mul-best-3 Inv-loop μ-loop
 mul-best-3 c = omega arith
+
 shared-slice-read-best-2 : tie.Need-shared-slice-read-best-2 Inv-loop μ-loop
 shared-slice-read-best-2 c = omega arith
 
@@ -70,14 +79,18 @@ add-best-3 c =
 loop-holds : tie.Need-loop-holds Inv-loop μ-loop
 loop-holds c =
     let start = atStart (c .before .before) in
-    let pre = start .pre in
-    (refl, down-start (pre .0 .1) (pre .0 .2) (start .args .h) (pre .0 .3) (pre .0 .4) (pre .1 .1 .0)
-    (pre .1 .1 .1) _)
+    let pre = start .pre in (
+      refl,
+      down-start (pre .0 .1) (pre .0 .2) (start .args .h) (pre .0 .3) (pre .0 .4) (pre .1 .1 .0)
+          (pre .1 .1 .1) _,
+    )
 
 sub-k : tie.Need-sub-k Inv-loop μ-loop
 sub-k c = omega arith
+
 mul-carry : tie.Need-mul-carry Inv-loop μ-loop
 mul-carry c = omega arith
+
 shared-slice-read-carry : tie.Need-shared-slice-read-carry Inv-loop μ-loop
 shared-slice-read-carry c = omega arith
 

@@ -21,10 +21,13 @@ loop-holds c = (omega arith, linked-refl _ _ _)
 
 mul-if1 : tie.Need-mul-if1 Inv-loop μ-loop
 mul-if1 c = omega arith
+
 sub-if1 : tie.Need-sub-if1 Inv-loop μ-loop
 sub-if1 c = omega arith
+
 add-if1 : tie.Need-add-if1 Inv-loop μ-loop
 add-if1 c = omega arith
+
 shared-slice-read-if1 : tie.Need-shared-slice-read-if1 Inv-loop μ-loop
 shared-slice-read-if1 c = omega arith
 
@@ -33,6 +36,7 @@ returns c = record { le = omega arith; linked = atLoop (c .before) .loop .inv .1
 
 sub-lo : tie.Need-sub-lo Inv-loop μ-loop
 sub-lo c = omega arith
+
 loop-less : tie.Need-loop-less Inv-loop μ-loop
 loop-less c = omega arith
 

@@ -17,13 +17,16 @@ abbrev μ-loop : tie.MeasureT-loop
 -- back to the start and the loop's head
 abbrev atStartFromLoop : tie.After-shared-slice-known4 Inv-loop μ-loop → tie.Start Inv-loop μ-loop
 atStartFromLoop c = c .before .before .before .before .before
+
 abbrev atStart : tie.After-shared-slice-known6 Inv-loop μ-loop → tie.Start Inv-loop μ-loop
 atStart c = c .before .before .before .before .before .before .before
+
 abbrev atLoop : tie.After-shared-slice-known7 Inv-loop μ-loop → tie.At-loop Inv-loop μ-loop
 atLoop c = c .before .before
 
 mul-top : tie.Need-mul-top Inv-loop μ-loop
 mul-top c = omega arith
+
 shared-slice-read-top : tie.Need-shared-slice-read-top Inv-loop μ-loop
 shared-slice-read-top c = omega arith
 
@@ -35,14 +38,19 @@ sub-top c = omega (arith, atStartFromLoop c .pre .0 .1 .below (atStartFromLoop c
 
 mul-best : tie.Need-mul-best Inv-loop μ-loop
 mul-best c = omega arith
+
 add-best : tie.Need-add-best Inv-loop μ-loop
 add-best c = omega arith
+
 mul-best-2 : tie.Need-mul-best-2 Inv-loop μ-loop
 mul-best-2 c = omega arith
+
 shared-slice-read-best : tie.Need-shared-slice-read-best Inv-loop μ-loop
 shared-slice-read-best c = omega arith
+
 mul-best-3 : tie.Need-mul-best-3 Inv-loop μ-loop
 mul-best-3 c = omega arith
+
 shared-slice-read-best-2 : tie.Need-shared-slice-read-best-2 Inv-loop μ-loop
 shared-slice-read-best-2 c = omega arith
 
@@ -64,12 +72,15 @@ add-best-3 c = omega (arith, atStart c .pre .1 .1 .0 .le (atStart c .args .h) (o
 
 loop-holds : tie.Need-loop-holds Inv-loop μ-loop
 loop-holds c =
-    let pre = atStart c .pre in
-    (refl, up-start (pre .0 .1) (pre .0 .2) (atStart c .args .h) (pre .0 .3) (pre .0 .4) (pre .1 .1 .0)
-    (pre .1 .1 .1) _)
+    let pre = atStart c .pre in (
+      refl,
+      up-start (pre .0 .1) (pre .0 .2) (atStart c .args .h) (pre .0 .3) (pre .0 .4) (pre .1 .1 .0)
+          (pre .1 .1 .1) _,
+    )
 
 mul-carry : tie.Need-mul-carry Inv-loop μ-loop
 mul-carry c = omega arith
+
 shared-slice-read-carry : tie.Need-shared-slice-read-carry Inv-loop μ-loop
 shared-slice-read-carry c = omega arith
 
@@ -97,6 +108,7 @@ slice-write-behind c = omega (arith, atLoop (c .before) .loop .inv .0)
 
 add-k : tie.Need-add-k Inv-loop μ-loop
 add-k c = omega arith
+
 loop-less : tie.Need-loop-less Inv-loop μ-loop
 loop-less c = omega arith
 

@@ -13,10 +13,13 @@ atStart c = c .before .before .before .before .before
 
 mul-if1 : tie.Need-mul-if1
 mul-if1 c = omega arith
+
 add-if1 : tie.Need-add-if1
 add-if1 c = omega arith
+
 mul-if1-2 : tie.Need-mul-if1-2
 mul-if1-2 c = omega arith
+
 shared-slice-read-if1 : tie.Need-shared-slice-read-if1
 shared-slice-read-if1 c = omega arith
 
@@ -25,10 +28,13 @@ returns c = record { no-farther = omega arith; no-more = λ e. absurd (c .if1 .t
 
 mul-lesser : tie.Need-mul-lesser
 mul-lesser c = omega arith
+
 add-lesser : tie.Need-add-lesser
 add-lesser c = omega arith
+
 mul-lesser-2 : tie.Need-mul-lesser-2
 mul-lesser-2 c = omega arith
+
 shared-slice-read-lesser : tie.Need-shared-slice-read-lesser
 shared-slice-read-lesser c = omega arith
 

@@ -16,6 +16,7 @@ abbrev μ-loop : tie.MeasureT-loop
 -- back to the start and the loop's head
 abbrev atStart : tie.After-shared-slice-known9 Inv-loop μ-loop → tie.Start Inv-loop μ-loop
 atStart c = c .before .before .before .before .before .before .before .before .before .before .before .before
+
 abbrev atLoop : tie.After-shared-slice-known9 Inv-loop μ-loop → tie.At-loop Inv-loop μ-loop
 atLoop c = c .before .before .before .before
 
@@ -24,14 +25,19 @@ loop-holds c = (omega arith, omega arith, inked-none _ _)
 
 mul-ink-of : tie.Need-mul-ink-of Inv-loop μ-loop
 mul-ink-of c = omega arith
+
 shared-slice-read-ink-of : tie.Need-shared-slice-read-ink-of Inv-loop μ-loop
 shared-slice-read-ink-of c = omega arith
+
 mul-ink-of-2 : tie.Need-mul-ink-of-2 Inv-loop μ-loop
 mul-ink-of-2 c = omega arith
+
 shared-slice-read-ink-of-2 : tie.Need-shared-slice-read-ink-of-2 Inv-loop μ-loop
 shared-slice-read-ink-of-2 c = omega arith
+
 mul-ink-of-3 : tie.Need-mul-ink-of-3 Inv-loop μ-loop
 mul-ink-of-3 c = omega arith
+
 shared-slice-read-ink-of-3 : tie.Need-shared-slice-read-ink-of-3 Inv-loop μ-loop
 shared-slice-read-ink-of-3 c = omega arith
 
@@ -48,8 +54,10 @@ ink-of-requires c κs =
 
 mul-own : tie.Need-mul-own Inv-loop μ-loop
 mul-own c = omega arith
+
 add-own : tie.Need-add-own Inv-loop μ-loop
 add-own c = omega arith
+
 mul-own-2 : tie.Need-mul-own-2 Inv-loop μ-loop
 mul-own-2 c = omega arith
 
@@ -60,6 +68,7 @@ slice-write-own c =
 
 add-k : tie.Need-add-k Inv-loop μ-loop
 add-k c = omega arith
+
 loop-less : tie.Need-loop-less Inv-loop μ-loop
 loop-less c = omega arith
 

@@ -8,15 +8,19 @@ use Rattle.labels.proofs.run.is_stop.Tie as tie
 -- back to the start and where test 1 fails
 abbrev atStart : tie.After-steps → tie.Start
 atStart c = c .before .before .before .before .before .before .before .before
+
 abbrev inElse1 : tie.After-steps → tie.Else1
 inElse1 c = c .before .before .before
 
 mul-if1 : tie.Need-mul-if1
 mul-if1 c = omega arith
+
 add-if1 : tie.Need-add-if1
 add-if1 c = omega arith
+
 mul-if1-2 : tie.Need-mul-if1-2
 mul-if1-2 c = omega arith
+
 shared-slice-read-if1 : tie.Need-shared-slice-read-if1
 shared-slice-read-if1 c = omega arith
 
@@ -25,16 +29,22 @@ returns c = sym (other-label _ _ _ _ _ _ _ _ (c .if1 .taken))
 
 mul-if2 : tie.Need-mul-if2
 mul-if2 c = omega arith
+
 add-if2 : tie.Need-add-if2
 add-if2 c = omega arith
+
 mul-if2-2 : tie.Need-mul-if2-2
 mul-if2-2 c = omega arith
+
 shared-slice-read-if2 : tie.Need-shared-slice-read-if2
 shared-slice-read-if2 c = omega arith
+
 mul-steps : tie.Need-mul-steps
 mul-steps c = omega arith
+
 shared-slice-read-steps : tie.Need-shared-slice-read-steps
 shared-slice-read-steps c = omega arith
+
 steps-requires : tie.Need-steps-requires
 steps-requires c κs = omega arith
 

@@ -11,8 +11,10 @@ atStart c = c .before .before .before .before .before .before
 
 run-start-requires : tie.Need-run-start-requires
 run-start-requires c κs = search needs
+
 mul-scan : tie.Need-mul-scan
 mul-scan c = omega arith
+
 shared-slice-read-scan : tie.Need-shared-slice-read-scan
 shared-slice-read-scan c = omega arith
 

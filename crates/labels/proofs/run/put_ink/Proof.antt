@@ -7,10 +7,13 @@ use Rattle.labels.proofs.run.put_ink.Tie as tie
 
 mul-if1 : tie.Need-mul-if1
 mul-if1 c = omega arith
+
 add-if1 : tie.Need-add-if1
 add-if1 c = omega arith
+
 mul-if1-2 : tie.Need-mul-if1-2
 mul-if1-2 c = omega arith
+
 shared-slice-read-if1 : tie.Need-shared-slice-read-if1
 shared-slice-read-if1 c = omega arith
 
@@ -19,12 +22,16 @@ returns c = InkPut.stays (c .if1 .taken)
 
 mul-own : tie.Need-mul-own
 mul-own c = omega arith
+
 add-own : tie.Need-add-own
 add-own c = omega arith
+
 mul-own-2 : tie.Need-mul-own-2
 mul-own-2 c = omega arith
+
 slice-write-own : tie.Need-slice-write-own
 slice-write-own c = omega arith
+
 same-length : tie.Need-same-length
 same-length c = search needs
 

@@ -24,20 +24,29 @@ loop-holds c = (omega arith, omega arith, linked-first _ _ _)
 
 mul-if1 : tie.Need-mul-if1 Inv-loop μ-loop
 mul-if1 c = omega arith
+
 sub-if1 : tie.Need-sub-if1 Inv-loop μ-loop
 sub-if1 c = omega arith
+
 add-if1 : tie.Need-add-if1 Inv-loop μ-loop
 add-if1 c = omega arith
+
 shared-slice-read-if1 : tie.Need-shared-slice-read-if1 Inv-loop μ-loop
 shared-slice-read-if1 c = omega arith
 
 returns : tie.Need-returns Inv-loop μ-loop
 returns c =
-    record { after = omega arith; le = omega arith; linked = atLoop (c .before) .loop .inv .2; stop = λ z.
-    c .if1 .taken }
+    record {
+      after = omega arith;
+      le = omega arith;
+      linked = atLoop (c .before) .loop .inv .2;
+      stop = λ z.
+          c .if1 .taken;
+    }
 
 add-hi-2 : tie.Need-add-hi-2 Inv-loop μ-loop
 add-hi-2 c = omega arith
+
 loop-less : tie.Need-loop-less Inv-loop μ-loop
 loop-less c = omega arith
 
@@ -47,7 +56,11 @@ loop-again c =
 
 returns-2 : tie.Need-returns-2 Inv-loop μ-loop
 returns-2 c =
-    record { after = omega arith; le = omega arith; linked = c .before .loop .inv .2; stop = λ z. absurd (omega arith)
+    record {
+      after = omega arith;
+      le = omega arith;
+      linked = c .before .loop .inv .2;
+      stop = λ z. absurd (omega arith);
     }
 
 pub run-end-spec : {M : Type 1} → statement M

@@ -6,6 +6,7 @@ use Rattle.labels.proofs.run.run_start.Tie as tie
 
 back-from-requires : tie.Need-back-from-requires
 back-from-requires c κs = search needs
+
 nearer-requires : tie.Need-nearer-requires
 nearer-requires c κs = search needs
 

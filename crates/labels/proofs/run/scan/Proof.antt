@@ -21,8 +21,10 @@ abbrev μ-loop : tie.MeasureT-loop
 -- back to the start, the loop's head and is_stop
 abbrev atStart : tie.In-loop Inv-loop μ-loop → tie.Start Inv-loop μ-loop
 atStart c = c .before .before .before .before .before .before
+
 abbrev atLoop : tie.Then1 Inv-loop μ-loop → tie.At-loop Inv-loop μ-loop
 atLoop c = c .before .before .before
+
 abbrev atStop : tie.After-shared-slice-known5 Inv-loop μ-loop → tie.After-is-stop Inv-loop μ-loop
 atStop c = c .before .before
 
@@ -49,8 +51,10 @@ returns c =
 
 mul-if2 : tie.Need-mul-if2 Inv-loop μ-loop
 mul-if2 c = omega arith
+
 add-if2 : tie.Need-add-if2 Inv-loop μ-loop
 add-if2 c = omega arith
+
 shared-slice-read-if2 : tie.Need-shared-slice-read-if2 Inv-loop μ-loop
 shared-slice-read-if2 c = omega arith
 
@@ -63,6 +67,7 @@ returns-2 c =
 
 add-k : tie.Need-add-k Inv-loop μ-loop
 add-k c = omega arith
+
 loop-less : tie.Need-loop-less Inv-loop μ-loop
 loop-less c = omega arith
 

@@ -18,6 +18,7 @@ loop-holds c = (omega arith, copied-none _ _ (omega arith))
 
 shared-slice-read-out : tie.Need-shared-slice-read-out Inv-loop μ-loop
 shared-slice-read-out c = omega arith
+
 add-out : tie.Need-add-out Inv-loop μ-loop
 add-out c = omega arith
 
@@ -26,6 +27,7 @@ slice-write-out c = omega (arith, put-length (c .before .before .loop .inv .1))
 
 add-i : tie.Need-add-i Inv-loop μ-loop
 add-i c = omega arith
+
 loop-less : tie.Need-loop-less Inv-loop μ-loop
 loop-less c = omega arith
 
@@ -34,6 +36,7 @@ loop-again c = (omega arith, copied-more _ _ _ _ _ (omega arith) (omega arith) (
 
 add-result : tie.Need-add-result Inv-loop μ-loop
 add-result c = omega arith
+
 same-length : tie.Need-same-length Inv-loop μ-loop
 same-length c = put-length (c .before .loop .inv .1)
 

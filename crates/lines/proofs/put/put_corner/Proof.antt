@@ -10,29 +10,35 @@ use Rattle.lines.proofs.put.put_corner.Tie as tie
 -- back to the start, put_item and put_bytes
 abbrev atComma : tie.After-slice-known4 → tie.After-put-bytes
 atComma c = c .before .before .before .before .before .before
+
 abbrev afterPutItem : tie.After-slice-known4 → tie.After-put-item
 afterPutItem c = atComma c .before .before .before .before .before
+
 abbrev atStart : tie.After-slice-known4 → tie.Start
 atStart c = afterPutItem c .before .before .before
 
 put-item-requires : tie.Need-put-item-requires
 put-item-requires c κs = omega arith
+
 slice-aggregate-put-bytes : tie.Need-slice-aggregate-put-bytes
 slice-aggregate-put-bytes c = search needs
+
 put-bytes-requires : tie.Need-put-bytes-requires
 put-bytes-requires c κs = omega arith
+
 put-number-requires : tie.Need-put-number-requires
 put-number-requires c κs = omega arith
+
 same-length : tie.Need-same-length
 same-length c = omega arith
 
 returns : tie.Need-returns
 unfolding cornerItem
 returns c = (
-      put-then (put-then (afterPutItem c .put-item .ensures .0) (atComma c .put-bytes .ensures))
-          (c .before .before .put-number .ensures .0),
-      omega (arith, decimal-short (atStart c .args .y) (atStart c .fits .y .fits)),
-    )
+  put-then (put-then (afterPutItem c .put-item .ensures .0) (atComma c .put-bytes .ensures))
+      (c .before .before .put-number .ensures .0),
+  omega (arith, decimal-short (atStart c .args .y) (atStart c .fits .y .fits)),
+)
 
 pub put-corner-spec : {M : Type 1} → statement M
 put-corner-spec =

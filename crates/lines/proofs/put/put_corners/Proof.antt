@@ -20,6 +20,7 @@ abbrev μ-loop : tie.MeasureT-loop
 -- back to the loop's head and the loop's turn
 abbrev atLoop : tie.After-shared-slice-known3 Inv-loop μ-loop → tie.At-loop Inv-loop μ-loop
 atLoop c = c .before .before .before .before
+
 abbrev inLoop : tie.After-slice-known2 Inv-loop μ-loop → tie.In-loop Inv-loop μ-loop
 inLoop c = c .before .before .before .before .before .before
 
@@ -28,16 +29,22 @@ loop-holds c = (omega arith, corners-none _ _ _ (omega arith), omega arith)
 
 mul-put-corner : tie.Need-mul-put-corner Inv-loop μ-loop
 mul-put-corner c = omega arith
+
 mul-put-corner-2 : tie.Need-mul-put-corner-2 Inv-loop μ-loop
 mul-put-corner-2 c = omega arith
+
 shared-slice-read-put-corner : tie.Need-shared-slice-read-put-corner Inv-loop μ-loop
 shared-slice-read-put-corner c = omega arith
+
 mul-put-corner-3 : tie.Need-mul-put-corner-3 Inv-loop μ-loop
 mul-put-corner-3 c = omega arith
+
 add-put-corner : tie.Need-add-put-corner Inv-loop μ-loop
 add-put-corner c = omega arith
+
 mul-put-corner-4 : tie.Need-mul-put-corner-4 Inv-loop μ-loop
 mul-put-corner-4 c = omega arith
+
 shared-slice-read-put-corner-2 : tie.Need-shared-slice-read-put-corner-2 Inv-loop μ-loop
 shared-slice-read-put-corner-2 c = omega arith
 
@@ -46,6 +53,7 @@ put-corner-requires c κs = omega (arith, put-length (atLoop c .loop .inv .1))
 
 add-k : tie.Need-add-k Inv-loop μ-loop
 add-k c = omega arith
+
 loop-less : tie.Need-loop-less Inv-loop μ-loop
 loop-less c = omega arith
 

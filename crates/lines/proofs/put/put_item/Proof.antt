@@ -10,24 +10,28 @@ use Rattle.lines.proofs.put.put_item.Tie as tie
 -- back to the start and put_bytes
 abbrev atBlank : tie.After-slice-known3 → tie.After-put-bytes
 atBlank c = c .before .before .before .before .before .before
+
 abbrev atStart : tie.After-slice-known3 → tie.Start
 atStart c = atBlank c .before .before .before .before
 
 slice-aggregate-put-bytes : tie.Need-slice-aggregate-put-bytes
 slice-aggregate-put-bytes c = search needs
+
 put-bytes-requires : tie.Need-put-bytes-requires
 put-bytes-requires c κs = omega arith
+
 put-number-requires : tie.Need-put-number-requires
 put-number-requires c κs = omega arith
+
 same-length : tie.Need-same-length
 same-length c = omega arith
 
 returns : tie.Need-returns
 unfolding item
 returns c = (
-      put-then (atBlank c .put-bytes .ensures) (c .before .before .put-number .ensures .0),
-      omega (arith, decimal-short (atStart c .args .n) (atStart c .fits .n .fits)),
-    )
+  put-then (atBlank c .put-bytes .ensures) (c .before .before .put-number .ensures .0),
+  omega (arith, decimal-short (atStart c .args .n) (atStart c .fits .n .fits)),
+)
 
 pub put-item-spec : {M : Type 1} → statement M
 put-item-spec =

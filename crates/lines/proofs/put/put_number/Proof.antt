@@ -8,13 +8,16 @@ use Rattle.lines.proofs.put.put_number.Tie as tie
 -- back to the start and decimal
 abbrev atStart : tie.After-decimal → tie.Start
 atStart c = c .before .before .before
+
 abbrev atDigits : tie.After-slice-known2 → tie.After-decimal
 atDigits c = c .before .before .before .before .before
 
 decimal-requires : tie.Need-decimal-requires
 decimal-requires c κs = search needs
+
 array-share-prefix-text : tie.Need-array-share-prefix-text
 array-share-prefix-text c = search needs
+
 slice-aggregate-put-bytes : tie.Need-slice-aggregate-put-bytes
 slice-aggregate-put-bytes c = search needs
 

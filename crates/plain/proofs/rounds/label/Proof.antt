@@ -12,34 +12,49 @@ abbrev μ-loop : tie.MeasureT-loop
 
 spread-requires : tie.Need-spread-requires Inv-loop μ-loop
 spread-requires c κs = search needs
+
 spread-requires-2 : tie.Need-spread-requires-2 Inv-loop μ-loop
 spread-requires-2 c κs = search needs
+
 spread-requires-3 : tie.Need-spread-requires-3 Inv-loop μ-loop
 spread-requires-3 c κs = search needs
+
 spread-requires-4 : tie.Need-spread-requires-4 Inv-loop μ-loop
 spread-requires-4 c κs = search needs
+
 loop-holds : tie.Need-loop-holds Inv-loop μ-loop
 loop-holds c = search needs
+
 round-requires : tie.Need-round-requires Inv-loop μ-loop
 round-requires c κs = search needs
+
 round-requires-2 : tie.Need-round-requires-2 Inv-loop μ-loop
 round-requires-2 c κs = search needs
+
 add-has : tie.Need-add-has Inv-loop μ-loop
 add-has c = search needs
+
 has-requires : tie.Need-has-requires Inv-loop μ-loop
 has-requires c κs = search needs
+
 add-has-2 : tie.Need-add-has-2 Inv-loop μ-loop
 add-has-2 c = search needs
+
 has-requires-2 : tie.Need-has-requires-2 Inv-loop μ-loop
 has-requires-2 c κs = search needs
+
 returns : tie.Need-returns Inv-loop μ-loop
 returns c = search needs
+
 add-k : tie.Need-add-k Inv-loop μ-loop
 add-k c = search needs
+
 loop-less : tie.Need-loop-less Inv-loop μ-loop
 loop-less c = search needs
+
 loop-again : tie.Need-loop-again Inv-loop μ-loop
 loop-again c = search needs
+
 returns-2 : tie.Need-returns-2 Inv-loop μ-loop
 returns-2 c = search needs
 

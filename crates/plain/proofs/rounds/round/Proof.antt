@@ -12,24 +12,34 @@ abbrev μ-loop : tie.MeasureT-loop
 
 loop-holds : tie.Need-loop-holds Inv-loop μ-loop
 loop-holds c = search needs
+
 mul-cost : tie.Need-mul-cost Inv-loop μ-loop
 mul-cost c = search needs
+
 element-copy-out-cost : tie.Need-element-copy-out-cost Inv-loop μ-loop
 element-copy-out-cost c = search needs
+
 add-spread : tie.Need-add-spread Inv-loop μ-loop
 add-spread c = search needs
+
 spread-requires : tie.Need-spread-requires Inv-loop μ-loop
 spread-requires c κs = search needs
+
 add-spread-2 : tie.Need-add-spread-2 Inv-loop μ-loop
 add-spread-2 c = search needs
+
 spread-requires-2 : tie.Need-spread-requires-2 Inv-loop μ-loop
 spread-requires-2 c κs = search needs
+
 add-p : tie.Need-add-p Inv-loop μ-loop
 add-p c = search needs
+
 loop-less : tie.Need-loop-less Inv-loop μ-loop
 loop-less c = search needs
+
 loop-again : tie.Need-loop-again Inv-loop μ-loop
 loop-again c = search needs
+
 returns : tie.Need-returns Inv-loop μ-loop
 returns c = search needs
 

@@ -12,22 +12,31 @@ abbrev μ-loop : tie.MeasureT-loop
 
 mul-i-end : tie.Need-mul-i-end Inv-loop μ-loop
 mul-i-end c = search needs
+
 loop-holds : tie.Need-loop-holds Inv-loop μ-loop
 loop-holds c = search needs
+
 mul-corners : tie.Need-mul-corners Inv-loop μ-loop
 mul-corners c = search needs
+
 element-copy-out-corners : tie.Need-element-copy-out-corners Inv-loop μ-loop
 element-copy-out-corners c = search needs
+
 mul-corners-2 : tie.Need-mul-corners-2 Inv-loop μ-loop
 mul-corners-2 c = search needs
+
 element-write-corners : tie.Need-element-write-corners Inv-loop μ-loop
 element-write-corners c = search needs
+
 add-i : tie.Need-add-i Inv-loop μ-loop
 add-i c = search needs
+
 loop-less : tie.Need-loop-less Inv-loop μ-loop
 loop-less c = search needs
+
 loop-again : tie.Need-loop-again Inv-loop μ-loop
 loop-again c = search needs
+
 returns : tie.Need-returns Inv-loop μ-loop
 returns c = search needs
 

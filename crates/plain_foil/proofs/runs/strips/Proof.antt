@@ -12,16 +12,22 @@ abbrev μ-loop : tie.MeasureT-loop
 
 free-points-requires : tie.Need-free-points-requires Inv-loop μ-loop
 free-points-requires c κs = search needs
+
 loop-holds : tie.Need-loop-holds Inv-loop μ-loop
 loop-holds c = search needs
+
 strip-at-requires : tie.Need-strip-at-requires Inv-loop μ-loop
 strip-at-requires c κs = search needs
+
 add-p : tie.Need-add-p Inv-loop μ-loop
 add-p c = search needs
+
 loop-less : tie.Need-loop-less Inv-loop μ-loop
 loop-less c = search needs
+
 loop-again : tie.Need-loop-again Inv-loop μ-loop
 loop-again c = search needs
+
 returns : tie.Need-returns Inv-loop μ-loop
 returns c = search needs
 
