@@ -1,4 +1,4 @@
--- Look up, return by return: a point is free just if a strip holds it.
+-- Look up, return by return: a point is free exactly if a strip holds it.
 use Prim.Native.Nat.{ℕ, _*_, _≤_, _<_}
 use native.Mathlib.Omega.{arith}
 use mathlib.Core.Path.{_≡_, refl, sym, ap, _∙_, subst}
@@ -87,7 +87,7 @@ module _ (b : Board) (t s : List ℕ) (p : Point) where
       unfolding offFoil held layoutOf
       on-foil = simp (lt-leb (b .width) (p .x) wide, lt-leb (b .height) (p .y) high)
 
-      -- the point is free just if a strip holds it
+      -- the point is free exactly if a strip holds it
       at-free : free (held m) (p .x) (p .y) ≡ true
           → placeIn p (listedStrips s (b .strips)) ≡ At (placeOf p (stripsOf (held m)))
       unfolding stripsOf held layoutOf

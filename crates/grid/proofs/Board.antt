@@ -1,4 +1,4 @@
--- The escape grid over the foil: the marks are those that the search asks for, and a link has 1 just if it is free.
+-- The escape grid over the foil: the marks are those that the search asks for, and a link has 1 exactly if it is free.
 use Prim.Native.Nat.{ℕ, suc, _-_, _≤_, _<_}
 use native.Mathlib.Omega.{arith}
 use native.Mathlib.Decide.{ℕ-discrete}
@@ -25,7 +25,7 @@ sizeOn W H false = W
 sizeOn W H true = H
 
 module _ (W H n : ℕ) (z : List ℕ) where
-  -- a point is free just if it is on the foil and no box has it, seen along an axis
+  -- a point is free exactly if it is on the foil and no box has it, seen along an axis
   free-on : (upright : Bool) (x y : ℕ) → x < sizeOn W H upright → y < sizeOn W H (not upright) →
       ((k : ℕ) → k < n → turned upright (covers (entryAt z k)) x y ≡ false) →
       turned upright (boxFree W H n z) x y ≡ true
@@ -104,7 +104,7 @@ module _ (W H n : ℕ) (z : List ℕ) where
 module _ (W H : ℕ) {n : ℕ} {z : List ℕ} (upright : Bool) {lines : List ℕ} {l : ℕ} {cross : List ℕ} {k : ℕ}
     {m m′ e : List ℕ} (L : Collected m (sizeOn W H (not upright)) lines l)
     (C : Collected m′ (sizeOn W H upright) cross k) (P : Painted z upright lines l cross k n e) where
-  -- a link has 1 just if it is free
+  -- a link has 1 exactly if it is free
   pub grid-links : Links (turned upright (boxFree W H n z)) cross k lines l e
   unfolding Span
   grid-links = record {

@@ -1,4 +1,4 @@
--- A box has a point just if it covers both its numbers, each on its axis.
+-- A box has a point exactly if it covers both its numbers, each on its axis.
 use Prim.Native.Nat.{ℕ, _≤_, _<_}
 use mathlib.Core.Path.{_≡_, refl, _∙_}
 use mathlib.Core.Bool.{Bool, true, false, not, _&&_, and-comm}

@@ -54,14 +54,14 @@ module _ (z : List ℕ) (upright : Bool) (lines : List ℕ) where
       pub link : (j : ℕ) → j < m → (i : ℕ) → suc i < n →
           Paint (Missed cross k j i) (getD e₀ (j * stride + i) 0) (getD e (j * stride + i) 0)
 
-    -- the first k boxes are painted: a link has 1 just if they all miss it
+    -- the first k boxes are painted: a link has 1 exactly if they all miss it
     pub record Painted (k : ℕ) (e : List ℕ) : Type 0 where
       pub free : (j : ℕ) → j < m → (i : ℕ) → suc i < n → getD e (j * stride + i) 0 ≡ 1 →
           (b : ℕ) → b < k → Missed cross b j i
       pub one : (j : ℕ) → j < m → (i : ℕ) → suc i < n → ((b : ℕ) → b < k → Missed cross b j i) →
           getD e (j * stride + i) 0 ≡ 1
 
--- link i of line j has 1 just if the line is free from crossing i to the next one
+-- link i of line j has 1 exactly if the line is free from crossing i to the next one
 pub record Links (f : ℕ → ℕ → Bool) (cross : List ℕ) (n : ℕ) (lines : List ℕ) (m : ℕ) (e : List ℕ) : Type 0 where
   pub span : (j i : ℕ) → j < m → suc i < n → getD e (j * stride + i) 0 ≡ 1 →
       Span f (getD lines j 0) (getD cross i 0) (getD cross (suc i) 0)

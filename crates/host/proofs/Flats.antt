@@ -30,7 +30,7 @@ use Rattle.host.proofs.flat.Flat.Laws as T′
 
 -- ---- one entry
 
--- two entries whose first four numbers are equal are one just if their last numbers are
+-- two entries whose first four numbers are equal are one exactly if their last numbers are
 module _ (a b : Entry) (net : a .net ≡ b .net) (x0 : a .x0 ≡ b .x0) (y0 : a .y0 ≡ b .y0) (x1 : a .x1 ≡ b .x1) where
   last-told : (t : Bool) → eqb (a .y1) (b .y1) ≡ t → Told (a ≡ b) t
   last-told true e =

@@ -9,7 +9,7 @@ use lib.Dec.{eqb}
 use borrow.Author.Tests.{eq-eqb, ne-eqb, not-true, not-false}
 use Rattle.foil_spec.specs.Foil.{entry, netOk, shapeOk}
 
--- two numbers are neighbours just if their difference is 1
+-- two numbers are neighbours exactly if their difference is 1
 one-apart : (a b : ℕ) → a < b → eqb (b - a) 1 ≡ eqb b (suc a)
 one-apart a b l =
     by-cases (ℕ-discrete b (suc a))
