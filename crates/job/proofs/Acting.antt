@@ -3,7 +3,7 @@ use Prim.Native.Nat.{ℕ, zero, suc, _+_, _≤_}
 use native.Mathlib.Omega.{arith}
 use native.Mathlib.Numerals.{add-one}
 use mathlib.Core.Path.{_≡_, refl, sym, ap, _∙_}
-use mathlib.Core.Bool.{Bool, true, false, cond, _||_}
+use mathlib.Core.Bool.{Bool, true, false}
 use mathlib.Core.List.{List, [], _∷_, _++_, append-nil}
 use lib.ListN.{length, drop, length-append, drop-of-length-le}
 use lib.Seq.{drop-at}
@@ -12,7 +12,7 @@ use Rattle.foil_spec.specs.Ledger.{Step, Answer, Room, After}
 use Rattle.foil_spec.specs.Lent.{Lent, stepOn}
 use Rattle.foil_spec.specs.Job.{has, stepAt, stepsAt}
 use Rattle.foil_spec.specs.Calls.{endsJob, andThen, actAll}
-use Rattle.list_laws.proofs.Tests.{both, clash, or-l, or-r, any-append}
+use Rattle.list_laws.proofs.Tests.{both, clash}
 use Rattle.job.specs.Contract.{setBelow}
 use Rattle.job.specs.Parts.{ranTo}
 
@@ -66,7 +66,8 @@ range-append a zero j =
 range-append a (suc n) j =
     let e : suc n + j ≡ suc (n + j) = omega arith in
     let f : suc a + n ≡ a + suc n = omega arith in
-    ap (range a) e ∙ ap (λ (l : List ℕ). a ∷ l) (range-append (suc a) n j ∙ ap (λ (k : ℕ). range (suc a) n ++ range k j) f)
+    ap (range a) e
+    ∙ ap (λ (l : List ℕ). a ∷ l) (range-append (suc a) n j ∙ ap (λ (k : ℕ). range (suc a) n ++ range k j) f)
 
 -- the bits below k, then j more
 pub range-split : (k j : ℕ) → range 0 (k + j) ≡ range 0 k ++ range k j

@@ -2,7 +2,7 @@
 use Prim.Native.Nat.{ℕ, _+_, _^_, _≤_, _<_}
 use native.Mathlib.Omega.{arith}
 use mathlib.Core.Path.{_≡_, refl, sym, ap, _∙_}
-use mathlib.Core.Bool.{Bool, true, false, not, _&&_, and-true, xor}
+use mathlib.Core.Bool.{Bool, true, false, not, and-true, xor}
 use mathlib.Core.List.{List}
 use mathlib.Core.Option.{some}
 use lib.Dec.{eqb}
@@ -14,7 +14,6 @@ use Rattle.foil_spec.specs.Lent.{Lent, lent, sound, roomIn}
 use Rattle.foil_spec.specs.Job.{mapBits, mapByte, has, fieldsAt, recordEnd, isEnd, recordChecks}
 use Rattle.foil_spec.specs.Calls.{tooLarge, wholeRefusals}
 use Rattle.foil_spec.specs.declared.Board.{Board}
-use Rattle.ledger_laws.proofs.Stored.{Long}
 use Rattle.ledger_laws.proofs.Sound.{sound-long}
 use Rattle.foil.specs.Contract.{TooShort, LentChecked}
 use Rattle.foil.specs.declared.lent.Checked.{Checked}

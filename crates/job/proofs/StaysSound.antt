@@ -2,12 +2,11 @@
 -- the job.
 use Prim.Native.Nat.{ℕ}
 use mathlib.Core.Path.{_≡_, refl, sym, ap, _∙_}
-use mathlib.Core.Bool.{Bool, true, false, not, _||_, or-true}
+use mathlib.Core.Bool.{true, false, not, _||_, or-true}
 use mathlib.Core.List.{List, _∷_}
 use mathlib.Core.Option.{Option, none, some}
 use Rattle.foil_spec.specs.Lists.{all, any}
-use Rattle.foil_spec.specs.Foil.{Layout}
-use Rattle.foil_spec.specs.Ledger.{Room, short, Step, newFoil, Answer, refused, Refusal, reads, refusals, first}
+use Rattle.foil_spec.specs.Ledger.{Room, short, Step, newFoil, Answer, refused, Refusal, reads, refusals}
 use Rattle.foil_spec.specs.Ledger.{After, refusalOf, settle, ledgerStep}
 use Rattle.foil_spec.specs.Lent.{Lent, held, sound, stepOn}
 use Rattle.foil_spec.specs.Calls.{endsJob, andThen, actAll}
@@ -32,7 +31,8 @@ module _ (r : Room) where
     abbrev new : Step
     new = newFoil W H d
 
-    refusal-ends : all (λ (c : Refusal). not (c .applies) || endsJob (refused (c .number))) (refusals new r (held m)) ≡ true
+    refusal-ends : all (λ (c : Refusal). not (c .applies) || endsJob (refused (c .number))) (refusals new r (held m))
+        ≡ true
     unfolding refusals endsJob
     refusal-ends = simp or-true
 

@@ -1,5 +1,5 @@
 -- The bits of a record, one after the other: what the bits below one have left, that bit goes on from.
-use Prim.Native.Nat.{ℕ, zero, suc, _+_, _≤_, _<_}
+use Prim.Native.Nat.{ℕ, zero, suc, _+_, _<_}
 use native.Mathlib.Omega.{arith}
 use native.Mathlib.Numerals.{add-one}
 use mathlib.Core.Path.{_≡_, refl, sym, ap, _∙_, subst}
@@ -9,8 +9,7 @@ use mathlib.Core.Option.{none, some}
 use borrow.Author.Tests.{not-true, not-false}
 use lib.ListN.{length}
 use Rattle.foil_spec.specs.Lists.{range, any}
-use Rattle.foil_spec.specs.Limits.{tableSize, stripsSize}
-use Rattle.foil_spec.specs.Ledger.{Step, Answer, reads, Room, short, After}
+use Rattle.foil_spec.specs.Ledger.{Step, Answer, reads, Room, short}
 use Rattle.foil_spec.specs.Lent.{Lent, lent, sound, roomIn, stepOn, outputAfter}
 use Rattle.foil_spec.specs.Job.{mapBits, has, fieldsAt, recordEnd, stepAt, stepsAt, steps}
 use Rattle.foil_spec.specs.Calls.{endsJob, actAll, actRecord, answersIn, outputAll, outputBy}
@@ -64,7 +63,8 @@ bit-skipped limit bs at k d t s out go q n =
       is = λ r m o long few room j.
           both (has bs at k)
           (λ set.
-          let over : not (d .ended) ≡ false = ap (λ (b : Bool). b && not (d .ended)) (sym set) ∙ sym q ∙ not-true go n in
+          let over : not (d .ended) ≡ false =
+          ap (λ (b : Bool). b && not (d .ended)) (sym set) ∙ sym q ∙ not-true go n in
           one-more (ran-same (ran-ended bs at r m k (sym (j .ended) ∙ not-false (d .ended) over)) j))
           (λ unset. one-more (ran-same (ran-unset bs at r m k unset) j));
     }
@@ -149,7 +149,8 @@ bits-sound r bs at m y long (suc k) h f =
     opens : has bs at 0 ≡ true → stepsAt bs at (range 0 (suc k)) ≡ new (stepsAt bs at (range 1 k))
     opens set = unfold stepsAt in rw set refl
 
-    opened : (ss : List Step) → ss ≡ new (stepsAt bs at (range 1 k)) → any endsJob (actAll (stepOn r) ss m .answer) ≡ false
+    opened : (ss : List Step) → ss ≡ new (stepsAt bs at (range 1 k))
+        → any endsJob (actAll (stepOn r) ss m .answer) ≡ false
         → sound (actAll (stepOn r) ss m .state) ≡ true
     opened ss e g =
         rw e (unfold stepAt in first-sound r _ _ _ (stepsAt bs at (range 1 k)) m long (rw e at g))
@@ -172,7 +173,9 @@ bit-ready limit bs at m o y k d t s out j l e f =
             set = set;
             table = omega (arith, y .table);
             strips = omega (arith, y .strips);
-            fine = λ g. ap sound (j .state) ∙ bits-sound r bs at m y (ready-long bs at m y limit (length o)) k (sym (j .ended) ∙ ne) g;
+            fine = λ g.
+                ap sound (j .state)
+                ∙ bits-sound r bs at m y (ready-long bs at m y limit (length o)) k (sym (j .ended) ∙ ne) g;
           };
     }
 

@@ -1,5 +1,5 @@
 -- A record as a whole, return by return.
-use Prim.Native.Nat.{ℕ, _≤_, _<_}
+use Prim.Native.Nat.{ℕ, _<_}
 use native.Mathlib.Omega.{arith}
 use native.Mathlib.Decide.{ℕ-discrete}
 use mathlib.Core.Path.{_≡_, refl, sym, ap, _∙_, subst}
@@ -11,19 +11,19 @@ use lib.Dec.{leb, ltb, eqb}
 use lib.ListN.{length, getD}
 use borrow.Author.Tests.{le-ltb, ltb-false, leb-false, eq-eqb, ne-eqb}
 use Rattle.foil_spec.specs.Limits.{maxBytes}
-use Rattle.foil_spec.specs.Ledger.{first, refused, numberOf, Room, short, After, afterLent}
+use Rattle.foil_spec.specs.Ledger.{first, refused, numberOf, Room, afterLent}
 use Rattle.foil_spec.specs.Lent.{Lent, lent, sound, roomIn, stepOn, outputAfter}
 use Rattle.foil_spec.specs.Job.{mapByte, has, isEnd, recordEnd, steps, recordChecks}
-use Rattle.foil_spec.specs.Calls.{Reply as Outcome, answered, atEnd, runRecord, actRecord, tooLarge, wholeRefusals, reply}
+use Rattle.foil_spec.specs.Calls.{actRecord, tooLarge, wholeRefusals, reply}
 use Rattle.foil_spec.specs.Calls.{callOn, answersIn, outputAll, outputBy}
 use Rattle.foil_spec.specs.declared.Board.{Board}
-use Rattle.list_laws.proofs.Tests.{both, clash}
+use Rattle.list_laws.proofs.Tests.{clash}
 use Rattle.ledger_laws.proofs.Refusals.{none-applies}
 use Rattle.foil.specs.declared.lent.Checked.{Checked}
 use Rattle.foil.specs.declared.lent.Checked.the-variants.{Passed, Refused}
 use Rattle.foil.proofs.Giving.{long-room}
 use Rattle.job.specs.Contract.{replyOf, Replies, RecordIn}
-use Rattle.job.specs.Parts.{Whole, Lends, LendingChecked, Ready, checkedOf, refusedBy, StepsDone}
+use Rattle.job.specs.Parts.{Lends, LendingChecked, Ready, checkedOf, refusedBy, StepsDone}
 use Rattle.job.specs.declared.Reply.the-variants.{AtEnd}
 use Rattle.job.specs.declared.Replied.{Replied}
 
@@ -107,7 +107,8 @@ module _ (limit : ℕ) (bs : List ℕ) (at : ℕ) (b : Board) (t s out : List �
   abbrev room : Room
   room = roomIn limit m (length out)
 
-  call-done : (o : Option ℕ) → first (wholeRefusals room (not (sound m)) bs at) ≡ o → (r : Replied) (t′ s′ out′ : List ℕ)
+  call-done : (o : Option ℕ) → first (wholeRefusals room (not (sound m)) bs at) ≡ o
+      → (r : Replied) (t′ s′ out′ : List ℕ)
       → Replies (has bs at) (actRecord (stepOn room) o (isEnd bs at) (steps bs at) (recordEnd bs at) m) out r t′ s′ out′
       → RecordIn limit bs at m out r t′ s′ out′
   unfolding callOn reply

@@ -2,13 +2,13 @@
 use Prim.Native.Nat.{ℕ, _+_, _*_, _≤_, _<_}
 use mathlib.Core.Path.{_≡_}
 use mathlib.Core.Bool.{Bool, true, false, cond, not}
-use mathlib.Core.List.{List, [], _∷_}
+use mathlib.Core.List.{List}
 use mathlib.Core.Option.{Option, none, some}
 use lib.Dec.{eqb}
 use lib.ListN.{length}
 use Rattle.foil_spec.specs.Lists.{range, any}
 use Rattle.foil_spec.specs.Limits.{tableSize, stripsSize, maxBytes}
-use Rattle.foil_spec.specs.Ledger.{Step, Answer, first, reads, Room, short, After}
+use Rattle.foil_spec.specs.Ledger.{Answer, first, reads, Room, short, After}
 use Rattle.foil_spec.specs.Lent.{Lent, lent, sound, roomIn, stepOn}
 use Rattle.foil_spec.specs.Job.{mapBits, has, fieldsAt, recordEnd, stepAt, stepsAt, steps}
 use Rattle.foil_spec.specs.Calls.{endsJob, actAll, actRecord, wholeRefusals, outputAll}
@@ -105,7 +105,7 @@ pub record RanTo (r : Room) (bs : List ℕ) (at k : ℕ) (m : Lent) (out : List 
   pub state : lent (d .board) t s ≡ ranTo r bs at k m .state
   pub output : out′ ≡ outputAll (ranTo r bs at k m .answer) out
 
--- bit k was run after the bits below it had left d, t, s and out: with it the bits up to k have left d′, t′, s′ and out′
+-- bit k was met after the bits below it had left d, t, s and out: with it the bits up to k have left d′, t′, s′, out′
 pub record GoesOn (limit : ℕ) (bs : List ℕ) (at k : ℕ) (d : Stepped) (t s out : List ℕ) (d′ : Stepped)
     (t′ s′ out′ : List ℕ) : Type 0 where
   pub is : (r : Room) (m : Lent) (o : List ℕ) → short r ≡ false → r .limit ≡ limit → r .output ≡ length out
