@@ -17,13 +17,13 @@ use Rattle.foil_spec.specs.Lent.{held, sound}
 use Rattle.list_laws.proofs.Tests.{not-ff}
 use Rattle.path_laws.proofs.FirstPath.{of-path}
 use Rattle.path_laws.proofs.Laws.{gives-first, gives-none}
-use Rattle.reach.proofs.Corners.{either-path}
-use Rattle.reach.proofs.Bends.{bends-most}
-use Rattle.ledger_laws.proofs.Legs.{free-inside}
+use Rattle.courses.proofs.Corners.{either-path}
+use Rattle.courses.proofs.Bends.{bends-most}
+use Rattle.zones.proofs.Free.{free-inside}
 use Rattle.ledger_laws.proofs.Sound.{of-sound}
 use Rattle.ledger_laws.proofs.Lay.{laid-on, first-laid, laid-unbroken}
 use Rattle.bend_bound.specs.Bound.{bendBound, FewestBends, TrackBends, JoinedBends, LaidBends}
-use Rattle.bend_bound.proofs.Trails.{segmentsFor, strips-met, target-free, trail-reach, path-trail}
+use Rattle.bend_bound.proofs.Trails.{segmentsFor, strips-met, target-free, trail-course, path-trail}
 
 -- ---- the numbers
 
@@ -53,7 +53,7 @@ fewest-bends f W H inside S T cs path fewest =
     let a =
     bends-most f S T (r .start)
     (λ x y e. subst (λ (p : Point). f (p .x) (p .y) ≡ true) (λ i. point (sym (e .0) i) (sym (e .1) i)) t-free)
-    cs fewest (segmentsFor (length (t .0))) (trail-reach f W H T S (t .0) (t .1)) in
+    cs fewest (segmentsFor (length (t .0))) (trail-course f W H T S (t .0) (t .1)) in
     let b = bound-covers (length (t .0)) (length (strips f W H)) (strips-met f W H T S (t .0) (t .1)) in
     omega arith
 

@@ -16,9 +16,9 @@ use Rattle.list_laws.proofs.Members.{In}
 use Rattle.list_laws.proofs.Counting.{count, count-lt, count-length}
 use Rattle.strip_laws.proofs.Laws.{in-a-strip, in-one-only, only-free}
 use Rattle.strip_laws.proofs.Rectangle.{free-between, same-strip}
-use Rattle.reach.specs.Reach.{flip, Span, Reach}
-use Rattle.reach.specs.Best.{PathD, At}
-use Rattle.reach.proofs.Reach.{span-sym, span-trans, span-end, reach-merge}
+use Rattle.courses.specs.Course.{flip, Span, Course}
+use Rattle.courses.specs.Best.{PathD, At}
+use Rattle.courses.proofs.Course.{span-sym, span-trans, span-end, course-merge}
 use Rattle.bend_bound.specs.Bound.{OnFoil}
 
 -- ---- spans in a strip
@@ -94,7 +94,7 @@ module _ (f : ℕ → ℕ → Bool) (W H : ℕ) (T : Point) where
   target-free p (q ∷ qs) (s, a, c, apart, t) = target-free q qs t
 
   -- within the last strip, the first segment upright
-  upright-end : (p : Point) → Trail p [] → Reach 2 (flip f) (flip (At T)) (p .y) (p .x)
+  upright-end : (p : Point) → Trail p [] → Course 2 (flip f) (flip (At T)) (p .y) (p .x)
   upright-end p (s, (i, h), k) = (
     T .y,
     span-sym (flip f) (p .x) (T .y) (p .y) (along-column f W H s i T p k h),
@@ -110,15 +110,15 @@ module _ (f : ℕ → ℕ → Bool) (W H : ℕ) (T : Point) where
   )
 
   -- the segments of a trail
-  pub trail-reach : (p : Point) (qs : List Point) → Trail p qs → Reach (segmentsFor (length qs)) f (At T) (p .x) (p .y)
-  trail-reach p [] (s, (i, h), k) =
+  pub trail-course : (p : Point) (qs : List Point) → Trail p qs → Course (segmentsFor (length qs)) f (At T) (p .x) (p .y)
+  trail-course p [] (s, (i, h), k) =
       (T .x, along-row f W H s i p T h k, (T .y, along-column f W H s i p T h k, (refl, refl)))
-  trail-reach p (q ∷ []) (s, a, c, apart, t) =
+  trail-course p (q ∷ []) (s, a, c, apart, t) =
       let (along, up) = over-column p q s a c in
-      (q .x, along, reach-merge 1 (flip f) (flip (At T)) (p .y) (q .x) (q .y) up (upright-end q t))
-  trail-reach p (q ∷ r ∷ rs) (s, a, c, apart, t) =
+      (q .x, along, course-merge 1 (flip f) (flip (At T)) (p .y) (q .x) (q .y) up (upright-end q t))
+  trail-course p (q ∷ r ∷ rs) (s, a, c, apart, t) =
       let (along, up) = over-column p q s a c in
-      (q .x, along, (q .y, up, trail-reach q (r ∷ rs) t))
+      (q .x, along, (q .y, up, trail-course q (r ∷ rs) t))
 
   -- ---- a trail of every path
 

@@ -1,7 +1,7 @@
 -- An entry more, and a patch that is drawn, return by return.
 use Prim.Native.Nat.{ℕ, _+_, min, _≤_, _<_}
 use native.Mathlib.Omega.{arith}
-use mathlib.Core.Path.{_≡_, refl, sym, ap, _∙_, subst}
+use mathlib.Core.Path.{_≡_, refl, sym, _∙_, subst}
 use mathlib.Core.Bool.{Bool, true, false, not}
 use mathlib.Core.List.{List, [], _∷_, _++_, map}
 use lib.ListN.{length, replicate, length-append}
@@ -10,7 +10,7 @@ use borrow.Author.Tests.{lt-ltb, le-ltb, not-true, not-false}
 use Rattle.foil_spec.specs.Lists.{range, all}
 use Rattle.foil_spec.specs.Limits.{maxEntries, tableSize}
 use Rattle.foil_spec.specs.Foil.{Entry, entry, Layout, boxOk, entryOk}
-use Rattle.foil_spec.specs.Ledger.{Room, short, tooLong, draw, next, says, first, refusals, After, settle}
+use Rattle.foil_spec.specs.Ledger.{Room, tooLong, draw, next, says, first, refusals, After, settle}
 use Rattle.foil_spec.specs.Ledger.{Answer as Outcome}
 use Rattle.foil_spec.specs.Lent.{Lent, lent, store, entryAt, layoutOf, held, sound}
 use Rattle.foil_spec.specs.declared.Board.{Board}

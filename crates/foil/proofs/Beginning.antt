@@ -2,22 +2,23 @@
 use Prim.Native.Nat.{ℕ}
 use native.Mathlib.Omega.{arith}
 use mathlib.Core.Path.{_≡_, refl, sym, _∙_}
-use mathlib.Core.Bool.{Bool, true, false, not, _&&_, and-false}
-use mathlib.Core.List.{List, [], _∷_}
-use mathlib.Core.Option.{none, some}
+use mathlib.Core.Bool.{Bool, true, false, not, and-false}
+use mathlib.Core.List.{List, []}
+use mathlib.Core.Option.{none}
 use lib.Dec.{leb}
 use lib.ListN.{replicate}
 use borrow.Author.Tests.{leb-true, not-true, not-false}
 use Rattle.foil_spec.specs.Limits.{tableSize}
 use Rattle.foil_spec.specs.Foil.{sizeOk, clearanceOk}
-use Rattle.foil_spec.specs.Ledger.{Room, short, newFoil, next, says, first, reads, refusals, afterLent, settle, refusalOf}
+use Rattle.foil_spec.specs.Ledger.{Room, short, newFoil, next, says, first, reads, refusals, afterLent, settle}
+use Rattle.foil_spec.specs.Ledger.{refusalOf}
 use Rattle.foil_spec.specs.Lent.{lent, store, written, layoutOf, sound, held, stepOn}
 use Rattle.foil_spec.specs.declared.Board.{Board}
 use Rattle.list_laws.proofs.Tests.{parts}
 use Rattle.ledger_laws.proofs.Line.{new-fine}
 use Rattle.zones.specs.Table.{Table}
 use Rattle.booking.specs.Rows.{rowsOf}
-use Rattle.foil.specs.Contract.{answerOf, Gave, refusedBy, takenOver}
+use Rattle.foil.specs.Contract.{Gave, refusedBy, takenOver}
 use Rattle.foil.specs.declared.Done.{Done}
 use Rattle.foil.proofs.Giving.{step-refused}
 use Rattle.foil.proofs.Making.{rows-table}

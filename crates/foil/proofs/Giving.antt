@@ -2,18 +2,18 @@
 use Prim.Native.Nat.{ℕ, _/_, _≤_, _<_}
 use native.Mathlib.Omega.{arith}
 use mathlib.Core.Path.{_≡_, refl, sym, ap, _∙_, subst}
-use mathlib.Core.Bool.{Bool, true, false, not, _&&_, and-true}
-use mathlib.Core.List.{List, [], _∷_}
+use mathlib.Core.Bool.{Bool, true, false, not, and-true}
+use mathlib.Core.List.{List}
 use mathlib.Core.Logic.{⊎-elim}
-use mathlib.Core.Option.{Option, none, some}
+use mathlib.Core.Option.{Option, some}
 use lib.Dec.{ltb}
-use borrow.Author.Tests.{lt-ltb, le-ltb, not-true, not-false}
+use borrow.Author.Tests.{lt-ltb, le-ltb, not-true}
 use lib.ListN.{length}
 use Rattle.foil_spec.specs.Limits.{maxEntries, tableSize, maxStrips, stripsSize}
 use Rattle.foil_spec.specs.Foil.{Layout}
-use Rattle.foil_spec.specs.Ledger.{Room, short, tooFine, Step, says, next, Refusal, _⇒_, first, reads, refusals, afterLent}
+use Rattle.foil_spec.specs.Ledger.{Room, short, Step, says, next, first, reads, refusals, afterLent}
 use Rattle.foil_spec.specs.Ledger.{After, settle, refusalOf}
-use Rattle.foil_spec.specs.Ledger.{Answer as Outcome, accepted}
+use Rattle.foil_spec.specs.Ledger.{Answer as Outcome}
 use Rattle.foil_spec.specs.Lent.{Lent, lent, held, store, sound, roomIn, stepOn, outputAfter}
 use Rattle.foil_spec.specs.declared.Board.{Board}
 use Rattle.list_laws.proofs.Tests.{lt-or-le}
@@ -22,10 +22,8 @@ use Rattle.ledger_laws.proofs.Stored.{Long}
 use Rattle.ledger_laws.proofs.Sound.{sound-long}
 use Rattle.ledger_laws.proofs.Lending.{long-lists}
 use Rattle.booking.specs.Booked.{Stored, Unchanged}
-use Rattle.foil.specs.declared.Answer.{Answer}
 use Rattle.foil.specs.declared.Answer.the-variants.{Accepted}
 use Rattle.foil.specs.declared.Done.{Done}
-use Rattle.foil.specs.declared.lent.Checked.{Checked}
 use Rattle.foil.specs.declared.lent.Checked.the-variants as checked
 use Rattle.foil.specs.Contract.{answerOf, Gave, Wrote, refusedBy, TooShort, LentChecked, takenOver}
 

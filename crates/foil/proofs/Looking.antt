@@ -3,7 +3,7 @@ use Prim.Native.Nat.{ℕ, _*_, _≤_, _<_}
 use native.Mathlib.Omega.{arith}
 use mathlib.Core.Path.{_≡_, refl, sym, ap, _∙_, subst}
 use mathlib.Core.Bool.{Bool, true, false, not, and-true, or-true}
-use mathlib.Core.List.{List, [], _∷_}
+use mathlib.Core.List.{List}
 use mathlib.Core.Option.{Option, none, some}
 use lib.ListN.{length}
 use borrow.Author.Tests.{lt-leb, le-leb}
@@ -11,7 +11,7 @@ use Rattle.foil_spec.specs.Limits.{maxEntries}
 use Rattle.foil_spec.specs.Foil.{Point, free}
 use Rattle.foil_spec.specs.Strips.{placeOf}
 use Rattle.foil_spec.specs.Ledger.{lookUp, stripsOf, offFoil, blocked, next, says, first, reads, refusals, settle}
-use Rattle.foil_spec.specs.Ledger.{afterLent, refusalOf}
+use Rattle.foil_spec.specs.Ledger.{refusalOf}
 use Rattle.foil_spec.specs.Lent.{Lent, lent, layoutOf, held, sound, roomOf, listedStrips, stepOn}
 use Rattle.foil_spec.specs.declared.Board.{Board}
 use Rattle.list_laws.proofs.Tests.{both}

@@ -10,7 +10,7 @@ use lib.ListN.{getD, length}
 use borrow.Author.Tests.{eqb-false, eq-eqb}
 use Rattle.foil_spec.specs.Lent.{entryAt}
 use Rattle.list_laws.proofs.Tests.{and-l, and-r, and-i, both, clash}
-use Rattle.reach.specs.Reach.{Span, Marks}
+use Rattle.courses.specs.Course.{Span, Marks}
 use Rattle.zones.specs.Boxes.{covers, boxFree, maxBoxes}
 use Rattle.zones.proofs.Free.{inside-yes, of-inside, box-free-at, not-covered}
 use Rattle.grid.specs.Size.{stride}

@@ -2,7 +2,7 @@
 use Prim.Native.Nat.{ℕ, _-_, _/_, _≤_}
 use native.Mathlib.Omega.{arith}
 use mathlib.Core.Path.{_≡_, refl, sym, ap, ap₂, _∙_}
-use mathlib.Core.Bool.{Bool, true, false, cond, not, _&&_, and-false}
+use mathlib.Core.Bool.{Bool, true, false, cond, not, and-false}
 use mathlib.Core.List.{List, [], _∷_, _++_, append-assoc}
 use mathlib.Core.Option.{Option, none, some}
 use lib.ListN.{length, take, drop, replicate, length-append}
@@ -11,9 +11,10 @@ use borrow.Author.Tests.{le-ltb}
 use Rattle.foil_spec.specs.Lists.{each}
 use Rattle.foil_spec.specs.Limits.{maxEntries, tableSize}
 use Rattle.foil_spec.specs.Foil.{Layout}
-use Rattle.foil_spec.specs.Ledger.{Step, Answer, first, Room, short, reads, refusals, afterLent, After, says, next}
+use Rattle.foil_spec.specs.Ledger.{Step, Answer, first, Room, short, reads, afterLent, After, says, next}
 use Rattle.foil_spec.specs.Ledger.{settle, refusalOf}
-use Rattle.foil_spec.specs.Lent.{Lent, lent, written, entryNumbers, boardOf, store, held, layoutOk, sound, roomIn, stepOn}
+use Rattle.foil_spec.specs.Lent.{Lent, lent, written, entryNumbers, boardOf, store, held, layoutOk, sound, roomIn}
+use Rattle.foil_spec.specs.Lent.{stepOn}
 use Rattle.foil_spec.specs.Calls.{runRecord, ohms, ohmsReply, endsJob, andThen, actAll, actRecord, wholeRefusals}
 use Rattle.foil_spec.specs.Calls.{reply, callOn}
 use Rattle.foil_spec.specs.declared.Ink.{Ink}

@@ -10,8 +10,8 @@ use mathlib.Core.List.{List, [], _∷_}
 use lib.ListN.{getD, length}
 use Rattle.foil_spec.specs.Paths.{gap}
 use Rattle.list_laws.proofs.Tests.{clash}
-use Rattle.reach.specs.Reach.{flip, Span, Within, ink, TargetFree, Greedy}
-use Rattle.reach.proofs.Reach.{within-reach}
+use Rattle.courses.specs.Course.{flip, Span, Within, ink, TargetFree, Greedy}
+use Rattle.courses.proofs.Course.{within-course}
 use Rattle.labels.specs.Line.{along, across, Linked, isStop, Stop}
 use Rattle.labels.specs.Walk.{Trail, done, step}
 use Rattle.labels.proofs.Line.{of-stop, to-stop}
@@ -45,7 +45,7 @@ module _ {f : ℕ → ℕ → Bool} {T : ℕ → ℕ → Type 0} (tf : TargetFre
       let N = F .near w t i j c li lj sp wc in
       go (N .0) (N .1) (N .2) (N .3) (N .4) (N .5)
       (exact tf F B i j (N .0) w li lj (N .2) wr (λ b lb. A .says j lj i li .least (w + 1) e b (omega arith)) (N .3)
-      (within-reach w (N .1) (flip f) (flip T) (getD lines j 0) (getD cross (N .0) 0) (N .4)))
+      (within-course w (N .1) (flip f) (flip T) (getD lines j 0) (getD cross (N .0) 0) (N .4)))
     where
       later : (q : ℕ) → q < n → Dec (q < k) → getD cross q 0 ≤ c → Linked edge j i q →
           isStop other wother cross j (getD cross i 0) (w + 1) (along wown j i) q ≡ true → ⊥
@@ -97,7 +97,7 @@ pub trail-greedy : {f : ℕ → ℕ → Bool} {T : ℕ → ℕ → Type 0} → T
     Greedy (coords cross lines qs) f T (getD cross i 0) (getD lines j 0)
     × (ink (coords cross lines qs) (getD cross i 0) (getD lines j 0) ≡ along wown j i)
 trail-greedy tf F F′ A B AM BM {i} {j} done li lj lr e =
-    let t = A .says j lj i li .reach 0 e in
+    let t = A .says j lj i li .course 0 e in
     let z = AM .says j lj i li .least 0 e 0 t in
     (t, omega arith)
 trail-greedy tf {cross} {n} {lines} {m} F F′ A B AM BM {i} {j} (step {v = w} {q = q} {qs = qs} s lq t) li lj lr e =

@@ -148,13 +148,13 @@ pub stop-of : {other inks edge cross : List ℕ} {line n at v s lo r : ℕ} → 
     Scanned other inks edge cross line n lo (getD cross at 0) v s r → Stop other inks edge cross line n at v s r
 stop-of {edge = edge} {line = line} {at = at} {lo = lo} {r = r} s c = record {
   le = c .le;
-  before = λ k l h. c .before k l (reach k h (decLe lo k)) (linked-trans edge line lo at k (s .linked) h);
+  before = λ k l h. c .before k l (from-lo k h (decLe lo k)) (linked-trans edge line lo at k (s .linked) h);
   found = λ l.
       (linked-trans edge line at lo r (linked-sym edge line lo at (s .linked)) (c .found l .1), c .found l .2);
 }
   where
-    reach : (k : ℕ) → Linked edge line at k → Dec (lo ≤ k) → lo ≤ k
-    reach k h (yes p) = p
-    reach k h (no p) =
+    from-lo : (k : ℕ) → Linked edge line at k → Dec (lo ≤ k) → lo ≤ k
+    from-lo k h (yes p) = p
+    from-lo k h (no p) =
         let q = s .le in
         absurd (s .stop (omega arith) (linked-at edge line at k (lo - 1) (omega arith) (omega arith) h))

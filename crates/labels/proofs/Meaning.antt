@@ -9,8 +9,8 @@ use mathlib.Core.Bool.{Bool, true}
 use mathlib.Core.List.{List}
 use lib.ListN.{getD}
 use Rattle.foil_spec.specs.Paths.{gap}
-use Rattle.reach.specs.Reach.{flip, Span, Reach, Within, TargetFree}
-use Rattle.reach.proofs.Reach.{span-sym, span-start, within-more, within-reach, reach-within}
+use Rattle.courses.specs.Course.{flip, Span, Course, Within, TargetFree}
+use Rattle.courses.proofs.Course.{span-sym, span-start, within-more, within-course, course-within}
 use Rattle.labels.specs.Line.{along, across, Linked, isStop}
 use Rattle.labels.specs.Ink.{LeastInk, Inked}
 use Rattle.labels.specs.Pass.{Cell, kept, none, new, Pass, Below}
@@ -22,9 +22,9 @@ use Rattle.labels.proofs.Faithful.{Faithful}
 
 -- what the label a of the point (x, y) says after n rounds
 pub record Says (f : ℕ → ℕ → Bool) (T : ℕ → ℕ → Type 0) (n x y a : ℕ) : Type 0 where
-  pub never : a ≡ 0 → (k : ℕ) → k ≤ n → Reach k f T x y → ⊥
-  pub reach : (k : ℕ) → a ≡ k + 1 → Reach k f T x y
-  pub least : (k : ℕ) → a ≡ k + 1 → (i : ℕ) → i < k → Reach i f T x y → ⊥
+  pub never : a ≡ 0 → (k : ℕ) → k ≤ n → Course k f T x y → ⊥
+  pub course : (k : ℕ) → a ≡ k + 1 → Course k f T x y
+  pub least : (k : ℕ) → a ≡ k + 1 → (i : ℕ) → i < k → Course i f T x y → ⊥
 
 -- the labels of m lines with n crossings each are right after r rounds
 pub record Labelled (f : ℕ → ℕ → Bool) (T : ℕ → ℕ → Type 0) (cross : List ℕ) (n : ℕ) (lines : List ℕ) (m r : ℕ)
@@ -42,10 +42,10 @@ pub record Measured (f : ℕ → ℕ → Bool) (T : ℕ → ℕ → Type 0) (cro
   pub says : (j : ℕ) → j < m → (i : ℕ) → i < n →
       Measures f T (getD cross i 0) (getD lines j 0) (along lab j i) (along inks j i)
 
-reach-free : (n : ℕ) (f : ℕ → ℕ → Bool) (T : ℕ → ℕ → Type 0) → TargetFree f T → (x y : ℕ) → Reach n f T x y →
+course-free : (n : ℕ) (f : ℕ → ℕ → Bool) (T : ℕ → ℕ → Type 0) → TargetFree f T → (x y : ℕ) → Course n f T x y →
     f x y ≡ true
-reach-free zero f T tf x y r = tf x y r
-reach-free (suc n) f T tf x y r = span-start f y x (r .0) (r .1)
+course-free zero f T tf x y r = tf x y r
+course-free (suc n) f T tf x y r = span-start f y x (r .0) (r .1)
 
 -- fewer rounds say less
 labelled-less : {f : ℕ → ℕ → Bool} {T : ℕ → ℕ → Type 0} {cross : List ℕ} {n : ℕ} {lines : List ℕ} {m : ℕ} (r : ℕ)
@@ -53,7 +53,7 @@ labelled-less : {f : ℕ → ℕ → Bool} {T : ℕ → ℕ → Type 0} {cross :
 labelled-less r L = record {
   says = λ j lj i li.
       let s = L .says j lj i li in
-      record { never = λ e k l h. s .never e k (omega arith) h; reach = s .reach; least = s .least };
+      record { never = λ e k l h. s .never e k (omega arith) h; course = s .course; least = s .least };
 }
 
 -- A pass.
@@ -64,24 +64,24 @@ module _ {f : ℕ → ℕ → Bool} {T : ℕ → ℕ → Type 0} (tf : TargetFre
   pub step-span : (i j q k : ℕ) → i < n → j < m → q < n → Linked edge j i q → across other j q ≡ k + 1 →
       Span f (getD lines j 0) (getD cross i 0) (getD cross q 0)
   step-span i j q k li lj lq h e =
-      let free = reach-free k (flip f) (flip T) (λ a b t. tf b a t) _ _ (O .says q lq j lj .reach k e) in
+      let free = course-free k (flip f) (flip T) (λ a b t. tf b a t) _ _ (O .says q lq j lj .course k e) in
       span-sym f (getD lines j 0) (getD cross q 0) (getD cross i 0)
       (F .joined j q i lj lq li free (linked-sym edge j i q h))
 
-  pub step-reach : (i j q k : ℕ) → i < n → j < m → q < n → Linked edge j i q → across other j q ≡ k + 1 →
-      Reach (suc k) f T (getD cross i 0) (getD lines j 0)
-  step-reach i j q k li lj lq h e = (getD cross q 0, step-span i j q k li lj lq h e, O .says q lq j lj .reach k e)
+  pub step-course : (i j q k : ℕ) → i < n → j < m → q < n → Linked edge j i q → across other j q ≡ k + 1 →
+      Course (suc k) f T (getD cross i 0) (getD lines j 0)
+  step-course i j q k li lj lq h e = (getD cross q 0, step-span i j q k li lj lq h e, O .says q lq j lj .course k e)
 
   -- what is joined with a point that no more than w segments leave, and is left by w segments itself, has the
   -- label w + 1
   pub exact : (i j q w : ℕ) → i < n → j < m → q < n → w ≤ r →
-      ((k : ℕ) → k ≤ w → Reach k f T (getD cross i 0) (getD lines j 0) → ⊥) → Linked edge j i q →
-      Reach w (flip f) (flip T) (getD lines j 0) (getD cross q 0) → across other j q ≡ w + 1
+      ((k : ℕ) → k ≤ w → Course k f T (getD cross i 0) (getD lines j 0) → ⊥) → Linked edge j i q →
+      Course w (flip f) (flip T) (getD lines j 0) (getD cross q 0) → across other j q ≡ w + 1
   exact i j q w li lj lq lw low lk rq = go (across other j q) refl
     where
       pick : (k : ℕ) → Dec (w < k) → Dec (k < w) → across other j q ≡ k + 1 → k + 1 ≡ w + 1
       pick k (yes p) u e = absurd (O .says q lq j lj .least k e w p rq)
-      pick k (no p) (yes u) e = absurd (low (suc k) (omega arith) (step-reach i j q k li lj lq lk e))
+      pick k (no p) (yes u) e = absurd (low (suc k) (omega arith) (step-course i j q k li lj lq lk e))
       pick k (no p) (no u) e = omega arith
 
       go : (a : ℕ) → across other j q ≡ a → a ≡ w + 1
@@ -90,36 +90,36 @@ module _ {f : ℕ → ℕ → Bool} {T : ℕ → ℕ → Type 0} (tf : TargetFre
 
   -- no crossing with the label r + 1, and fewer segments do not lead there: nor do r + 1
   no-step : (i j : ℕ) → i < n → j < m → ((q : ℕ) → q < n → Linked edge j i q → across other j q ≢ r + 1) →
-      ((k : ℕ) → k ≤ r → Reach k f T (getD cross i 0) (getD lines j 0) → ⊥) →
-      Reach (suc r) f T (getD cross i 0) (getD lines j 0) → ⊥
+      ((k : ℕ) → k ≤ r → Course k f T (getD cross i 0) (getD lines j 0) → ⊥) →
+      Course (suc r) f T (getD cross i 0) (getD lines j 0) → ⊥
   no-step i j li lj h low t =
-      let u = reach-within r (flip f) (flip T) (getD lines j 0) (t .0) (t .2) in
+      let u = course-within r (flip f) (flip T) (getD lines j 0) (t .0) (t .2) in
       let w = F .near r (u .0) i j (t .0) li lj (t .1) (u .1) in
       h (w .0) (w .2) (w .3)
       (exact i j (w .0) r li lj (w .2) (omega arith) low (w .3)
-      (within-reach r (w .1) (flip f) (flip T) (getD lines j 0) (getD cross (w .0) 0) (w .4)))
+      (within-course r (w .1) (flip f) (flip T) (getD lines j 0) (getD cross (w .0) 0) (w .4)))
 
   pass-cell : (i j : ℕ) → i < n → j < m → (a b : ℕ) → Cell other edge j n (r + 1) i a b →
       Says f T r (getD cross i 0) (getD lines j 0) a → Says f T (r + 1) (getD cross i 0) (getD lines j 0) b
   pass-cell i j li lj a b (kept z) s =
-      record { never = λ e k l t. absurd (z e); reach = s .reach; least = s .least }
+      record { never = λ e k l t. absurd (z e); course = s .course; least = s .least }
   pass-cell i j li lj a b (none h) s = record {
     never = λ e k l t. pick k l t (decLe k r);
-    reach = λ k e. absurd (omega arith);
+    course = λ k e. absurd (omega arith);
     least = λ k e. absurd (omega arith);
   }
     where
-      pick : (k : ℕ) → k ≤ r + 1 → Reach k f T (getD cross i 0) (getD lines j 0) → Dec (k ≤ r) → ⊥
+      pick : (k : ℕ) → k ≤ r + 1 → Course k f T (getD cross i 0) (getD lines j 0) → Dec (k ≤ r) → ⊥
       pick k l t (yes p) = s .never refl k p t
       pick k l t (no p) =
           let e : k ≡ suc r = omega arith in
           no-step i j li lj h (s .never refl)
-          (subst (λ (x : ℕ). Reach x f T (getD cross i 0) (getD lines j 0)) e t)
+          (subst (λ (x : ℕ). Course x f T (getD cross i 0) (getD lines j 0)) e t)
   pass-cell i j li lj a b (new q lq lk e) s = record {
     never = λ z. absurd (omega arith);
-    reach = λ k z.
+    course = λ k z.
         let u : suc r ≡ k = omega arith in
-        subst (λ (x : ℕ). Reach x f T (getD cross i 0) (getD lines j 0)) u (step-reach i j q r li lj lq lk e);
+        subst (λ (x : ℕ). Course x f T (getD cross i 0) (getD lines j 0)) u (step-course i j q r li lj lq lk e);
     least = λ k z x l t. s .never refl x (omega arith) t;
   }
 
@@ -142,7 +142,7 @@ module _ {f : ℕ → ℕ → Bool} {T : ℕ → ℕ → Type 0} (tf : TargetFre
     )
 
     new-ink : (i j s : ℕ) → i < n → j < m →
-        ((k : ℕ) → k ≤ r → Reach k f T (getD cross i 0) (getD lines j 0) → ⊥) →
+        ((k : ℕ) → k ≤ r → Course k f T (getD cross i 0) (getD lines j 0) → ⊥) →
         LeastInk other inks edge cross j n (r + 1) i s →
         Measures f T (getD cross i 0) (getD lines j 0) (r + 1 + 1) s
     new-ink i j s li lj low L = record {
@@ -161,7 +161,7 @@ module _ {f : ℕ → ℕ → Bool} {T : ℕ → ℕ → Type 0} (tf : TargetFre
             let w = F .near r (u .1) i j (u .0) li lj (u .3) (u .4) in
             let e =
             exact i j (w .0) r li lj (w .2) (omega arith) low (w .3)
-            (within-reach r (w .1) (flip f) (flip T) (getD lines j 0) (getD cross (w .0) 0) (w .4)) in
+            (within-course r (w .1) (flip f) (flip T) (getD lines j 0) (getD cross (w .0) 0) (w .4)) in
             let a = L .le (w .0) (w .2) (w .3) e in
             let b = OM .says (w .0) (w .2) j lj .least r e (w .1) (w .4) in
             let c = u .2 in
@@ -228,28 +228,28 @@ module _ {f : ℕ → ℕ → Bool} {T : ℕ → ℕ → Type 0} (tf : TargetFre
       let k2 = pass-inks tf L (A .1) (K .1) (A .0) (K .0) (rw e at x) (rw e at a) in
       (k2, pass-inks (λ a b t. tf b a t) U (labelled-less (v - 1) l2) k2 (A .1) (K .1) (rw e at y) (rw e at b))
 
--- A round that changes nothing: what has no label then is out of reach.
+-- A round that changes nothing: what has no label then leads to no target.
 module _ {f : ℕ → ℕ → Bool} {T : ℕ → ℕ → Type 0} (tf : TargetFree f T) {cross : List ℕ} {n : ℕ} {lines : List ℕ} {m : ℕ}
     {edge : List ℕ} (F : Faithful f T cross n lines m edge) {r : ℕ} {l u : List ℕ}
     (A : Labelled f T cross n lines m r l) (B : Labelled (flip f) (flip T) lines m cross n r u)
     (C : Below n m u r) where
   stuck-step : (k : ℕ) →
       ((i : ℕ) → i < n → (j : ℕ) → j < m → along u i j ≡ 0 →
-      Reach k (flip f) (flip T) (getD lines j 0) (getD cross i 0) → ⊥) →
+      Course k (flip f) (flip T) (getD lines j 0) (getD cross i 0) → ⊥) →
       (j : ℕ) → j < m → (i : ℕ) → i < n → along l j i ≡ 0 →
-      Reach (suc k) f T (getD cross i 0) (getD lines j 0) → ⊥
+      Course (suc k) f T (getD cross i 0) (getD lines j 0) → ⊥
   stuck-step k ih j lj i li z t =
-      let e = reach-within k (flip f) (flip T) (getD lines j 0) (t .0) (t .2) in
+      let e = course-within k (flip f) (flip T) (getD lines j 0) (t .0) (t .2) in
       let w = F .near k (e .0) i j (t .0) li lj (t .1) (e .1) in
-      go (w .0) (w .2) (w .3) (within-reach k (w .1) (flip f) (flip T) (getD lines j 0) (getD cross (w .0) 0) (w .4))
+      go (w .0) (w .2) (w .3) (within-course k (w .1) (flip f) (flip T) (getD lines j 0) (getD cross (w .0) 0) (w .4))
       (along u (w .0) j) refl
     where
-      go : (q : ℕ) → q < n → Linked edge j i q → Reach k (flip f) (flip T) (getD lines j 0) (getD cross q 0) →
+      go : (q : ℕ) → q < n → Linked edge j i q → Course k (flip f) (flip T) (getD lines j 0) (getD cross q 0) →
           (a : ℕ) → along u q j ≡ a → ⊥
       go q lq lk rq zero e = ih q lq j lj e rq
       go q lq lk rq (suc a) e =
           let b = C .le q lq j lj in
-          A .says j lj i li .never z (suc a) (omega arith) (step-reach tf F B i j q a li lj lq lk (e ∙ sym (add-one a)))
+          A .says j lj i li .never z (suc a) (omega arith) (step-course tf F B i j q a li lj lq lk (e ∙ sym (add-one a)))
 
 -- Every label but the first rests on one of the other direction, and is at most as large as the rounds allow.
 grounded-pass : {other inks edge cross : List ℕ} {m n v : ℕ} {l l′ w w′ : List ℕ} → Pass other edge m n v l l′ →
@@ -312,9 +312,9 @@ module _ {f : ℕ → ℕ → Bool} {T : ℕ → ℕ → Type 0} (tf : TargetFre
   still = let p = rounds-pos R in both-more tf L U (v - 1) v (omega arith) (rounds-labels tf L U S R) P Q
 
   pub rounds-stuck : (k : ℕ) →
-      ((j : ℕ) → j < nr → (i : ℕ) → i < nc → along l j i ≡ 0 → Reach k f T (getD cols i 0) (getD rows j 0) → ⊥)
+      ((j : ℕ) → j < nr → (i : ℕ) → i < nc → along l j i ≡ 0 → Course k f T (getD cols i 0) (getD rows j 0) → ⊥)
       × ((i : ℕ) → i < nc → (j : ℕ) → j < nr → along u i j ≡ 0 →
-      Reach k (flip f) (flip T) (getD rows j 0) (getD cols i 0) → ⊥)
+      Course k (flip f) (flip T) (getD rows j 0) (getD cols i 0) → ⊥)
   rounds-stuck zero = (
     λ j lj i li z t. still .0 .says j lj i li .never z 0 (omega arith) t,
     λ i li j lj z t. still .1 .says i li j lj .never z 0 (omega arith) t,

@@ -36,7 +36,7 @@ trail-step {own} {other} {wown} {wother} {edge} {edge′} {cross} {lines} {m} {n
     subst (λ (w : ℕ). Trail own other wown wother edge edge′ cross lines m n line k w (q ∷ qs)) (sym e) (step s l t)
 
 module _ {l u wl wu el eu cols rows : List ℕ} {nc nr i j v at : ℕ} {out : List ℕ} where
-  -- the target is reached
+  -- the target is met
   pub level-done : v ≡ 1 → LevelWalk l u wl wu el eu cols rows nc nr i j v at out out at
   unfolding levelOut
   level-done e = record { crossings = []; trail = rw e done; wrote = refl; count = omega arith }

@@ -1,11 +1,9 @@
 -- Lay before its search, return by return.
-use Prim.Native.Nat.{ℕ, _*_, _≤_, _<_}
-use native.Mathlib.Omega.{arith}
+use Prim.Native.Nat.{ℕ, _≤_, _<_}
 use mathlib.Core.Path.{_≡_, refl, sym, _∙_}
 use mathlib.Core.Bool.{Bool, true, false, not, _||_, or-true}
 use mathlib.Core.List.{List, [], map}
 use lib.Dec.{leb}
-use lib.ListN.{length}
 use borrow.Author.Tests.{lt-leb, le-leb, leb-false, not-true, not-false}
 use Rattle.foil_spec.specs.Lists.{range}
 use Rattle.foil_spec.specs.Foil.{Point, netOk}

@@ -20,7 +20,7 @@ use Rattle.foil_spec.specs.Lent.{outputAfter}
 use Rattle.foil_spec.specs.declared.Board.{Board}
 use Rattle.list_laws.proofs.Tests.{all-append}
 use Rattle.path_laws.proofs.Laws.{gives-first}
-use Rattle.ledger_laws.proofs.Legs.{free-inside}
+use Rattle.zones.proofs.Free.{free-inside}
 use Rattle.ledger_laws.proofs.Rules.{of-ok}
 use Rattle.ledger_laws.proofs.Line.{laid-ok}
 use Rattle.ledger_laws.proofs.Lay.{lay-from-9}

@@ -22,7 +22,7 @@ use Rattle.strip_laws.proofs.Laws.{listed-strip, strips-in-order, partition}
 use Rattle.ledger_laws.specs.Moments.{Moment}
 use Rattle.ledger_laws.specs.Demand2.{StripsRight, StripsStayRight}
 use Rattle.ledger_laws.proofs.Stored.{length-strips, strips-fit}
-use Rattle.ledger_laws.proofs.Legs.{free-inside}
+use Rattle.zones.proofs.Free.{free-inside}
 use Rattle.ledger_laws.proofs.Moments.{Shows, Standing, opens, runs-on, at-every}
 
 -- a free point is on the foil

@@ -22,7 +22,7 @@ use Rattle.path_laws.specs.First.{IsFirst}
 use Rattle.path_laws.proofs.Laws.{gives-first, gives-none, none-is}
 use Rattle.ledger_laws.specs.Demand3.{MayLay}
 use Rattle.ledger_laws.proofs.Refusals.{none-applies, unrefused-sound, unrefused-own}
-use Rattle.ledger_laws.proofs.Legs.{free-inside}
+use Rattle.zones.proofs.Free.{free-inside}
 use Rattle.ledger_laws.proofs.Line.{settled-refused}
 
 -- ---- 9

@@ -5,21 +5,14 @@ use mathlib.Core.Path.{_≡_, refl}
 use mathlib.Core.Bool.{Bool, true, _||_, or-true}
 use mathlib.Core.List.{List, [], _∷_}
 use mathlib.Core.Logic.{_⊎_, inl, inr, ⊎-elim}
-use lib.Dec.{ltb, eqb}
-use borrow.Author.Tests.{ltb-true, lt-ltb, le-leb, eq-eqb}
+use lib.Dec.{eqb}
+use borrow.Author.Tests.{lt-ltb, le-leb, eq-eqb}
 use Rattle.foil_spec.specs.Lists.{all}
-use Rattle.foil_spec.specs.Foil.{Point, Layout, netOk, boxOk, shapeOk, entryOk, free}
+use Rattle.foil_spec.specs.Foil.{Point, netOk, boxOk, shapeOk, entryOk}
 use Rattle.foil_spec.specs.Paths.{at, Heading, either, segment, after, leads, isPath, isPathTo}
 use Rattle.foil_spec.specs.Ledger.{leg, legsFrom, legs}
 use Rattle.list_laws.proofs.Tests.{and-l, and-r, and-i, parts}
 use Rattle.path_laws.proofs.Segments.{Level, Upright, of-segment, end-free}
-
-pub free-inside : (l : Layout) (x y : ℕ) → free l x y ≡ true → (x < l .width) × (y < l .height)
-unfolding free
-free-inside l x y h =
-    let a : ltb x (l .width) ≡ true = search parts in
-    let b : ltb y (l .height) ≡ true = search parts in
-    (ltb-true x (l .width) a, ltb-true y (l .height) b)
 
 module _ (W H net : ℕ) (ok : netOk net ≡ true) where
   leg-ok : (p q : Point) → (p .x < W) × (p .y < H) → (q .x < W) × (q .y < H) → (p .x ≡ q .x) ⊎ (p .y ≡ q .y)

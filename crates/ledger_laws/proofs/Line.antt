@@ -6,7 +6,7 @@ use mathlib.Core.Bool.{Bool, true, false, not, _&&_, _||_, or-true, true≢false
 use mathlib.Core.List.{List, [], _∷_, _++_}
 use mathlib.Core.Option.{Option, none, some, Option·getD}
 use lib.Dec.{leb, ltb}
-use borrow.Author.Tests.{ltb-true, ltb-false, leb-true, lt-ltb, le-leb}
+use borrow.Author.Tests.{ltb-true, ltb-false, leb-true, le-leb}
 use lib.ListN.{length}
 use Rattle.foil_spec.specs.Lists.{all, keep, consIf}
 use Rattle.foil_spec.specs.Limits.{maxEntries}
@@ -21,7 +21,8 @@ use Rattle.path_laws.proofs.Laws.{gives-first}
 use Rattle.strip_laws.proofs.Laws.{one-strip}
 use Rattle.ledger_laws.specs.Line.{Line, but, numbersFrom, ownNumbers}
 use Rattle.ledger_laws.proofs.Refusals.{none-applies, first-passes}
-use Rattle.ledger_laws.proofs.Legs.{free-inside, legs-ok}
+use Rattle.zones.proofs.Free.{free-inside, bare-free}
+use Rattle.ledger_laws.proofs.Legs.{legs-ok}
 use Rattle.ledger_laws.proofs.Rules.{of-ok, to-ok}
 
 -- ---- what the steps leave
@@ -33,10 +34,6 @@ positive n h = leb-true 1 n (and-l (leb 1 n) (leb n 4096) h)
 -- a foil without entries
 abbrev pub bare : ℕ → ℕ → ℕ → Layout
 bare W H d = record { width = W; height = H; clearance = d; entries = [] }
-
-pub bare-free : (d W H x y : ℕ) → x < W → y < H → free (bare W H d) x y ≡ true
-unfolding free
-bare-free d W H x y hx hy = simp (lt-ltb x W hx, lt-ltb y H hy)
 
 pub new-fine : (W H d : ℕ) → sizeOk W ≡ true → sizeOk H ≡ true → tooFine (bare W H d) ≡ false
 unfolding tooFine stripsOf

@@ -13,7 +13,8 @@ use Rattle.foil_spec.specs.Lists.{range, each}
 use Rattle.foil_spec.specs.Limits.{maxEntries, tableSize, stripsSize}
 use Rattle.foil_spec.specs.Foil.{Layout}
 use Rattle.foil_spec.specs.Ledger.{stripsOf}
-use Rattle.foil_spec.specs.Lent.{Lent, lent, entryNumbers, stripNumbers, written, boardOf, store, entryAt, layoutOf, held}
+use Rattle.foil_spec.specs.Lent.{Lent, lent, entryNumbers, stripNumbers, written, boardOf, store, entryAt, layoutOf}
+use Rattle.foil_spec.specs.Lent.{held}
 use Rattle.foil_spec.specs.Lent.{layoutOk, sameNumbers, sound, listedStrips}
 use Rattle.list_laws.proofs.Tests.{clash, and-l, and-r, parts}
 use Rattle.list_laws.proofs.Members.{length-range}

@@ -23,117 +23,117 @@ use Rattle.path_laws.proofs.Segments.{between-join, leads-either, after
 unfoldable linked : (ℕ → ℕ → Bool) → Point → Point → Bool
 linked f p q = same p q || segment f either p q
 
--- the target T is reached from p by n segments, each of which may stand still or go on the same way
-unfoldable reachedBy : (ℕ → ℕ → Bool) → ℕ → ℕ → (Point → Bool) → ℕ → Point → Bool
-reachedBy f W H T zero p = T p && f (p .x) (p .y)
-reachedBy f W H T (suc n) p = any (λ (q : Point). linked f p q && reachedBy f W H T n q) (points W H)
+-- the target T is arrived at from p by n segments, each of which may stand still or go on the same way
+unfoldable arrivesBy : (ℕ → ℕ → Bool) → ℕ → ℕ → (Point → Bool) → ℕ → Point → Bool
+arrivesBy f W H T zero p = T p && f (p .x) (p .y)
+arrivesBy f W H T (suc n) p = any (λ (q : Point). linked f p q && arrivesBy f W H T n q) (points W H)
 
 module _ (f : ℕ → ℕ → Bool) (W H : ℕ) (inside : (x y : ℕ) → f x y ≡ true → (x < W) × (y < H)) (T : Point → Bool) where
-  abbrev reach : ℕ → Point → Bool
-  reach = reachedBy f W H T
+  abbrev arrives : ℕ → Point → Bool
+  arrives = arrivesBy f W H T
 
   of-linked : (p q : Point) → linked f p q ≡ true → (p ≡ q) ⊎ (segment f either p q ≡ true)
   unfolding linked
   of-linked p q h =
       ⊎-elim (λ k. inl (same-eq p q k)) (λ k. inr k) (or-cases (same p q) (segment f either p q) h)
 
-  of-reach : (n : ℕ) (p : Point) → reach (suc n) p ≡ true → (q : Point) × (linked f p q ≡ true) × (reach n q ≡ true)
-  unfolding reachedBy
-  of-reach n p h =
-      let r = of-any (λ (q : Point). linked f p q && reach n q) (points W H) h in
-      (r .0, and-l (linked f p (r .0)) (reach n (r .0)) (r .2), and-r (linked f p (r .0)) (reach n (r .0)) (r .2))
+  of-arrives : (n : ℕ) (p : Point) → arrives (suc n) p ≡ true → (q : Point) × (linked f p q ≡ true) × (arrives n q ≡ true)
+  unfolding arrivesBy
+  of-arrives n p h =
+      let r = of-any (λ (q : Point). linked f p q && arrives n q) (points W H) h in
+      (r .0, and-l (linked f p (r .0)) (arrives n (r .0)) (r .2), and-r (linked f p (r .0)) (arrives n (r .0)) (r .2))
 
-  reach-free : (n : ℕ) (p : Point) → reach n p ≡ true → f (p .x) (p .y) ≡ true
-  unfolding reachedBy
-  reach-free zero p h = and-r (T p) (f (p .x) (p .y)) h
-  reach-free (suc n) p h =
-      let r = of-reach n p h in
+  arrives-free : (n : ℕ) (p : Point) → arrives n p ≡ true → f (p .x) (p .y) ≡ true
+  unfolding arrivesBy
+  arrives-free zero p h = and-r (T p) (f (p .x) (p .y)) h
+  arrives-free (suc n) p h =
+      let r = of-arrives n p h in
       ⊎-elim
-      (λ (e : p ≡ r .0). subst (λ (q : Point). f (q .x) (q .y) ≡ true) (sym e) (reach-free n (r .0) (r .2)))
+      (λ (e : p ≡ r .0). subst (λ (q : Point). f (q .x) (q .y) ≡ true) (sym e) (arrives-free n (r .0) (r .2)))
       (λ (s : segment f either p (r .0) ≡ true). start-free f either p (r .0) s)
       (of-linked p (r .0) (r .1))
 
-  reach-more : (n : ℕ) (p q : Point) → linked f p q ≡ true → reach n q ≡ true → reach (suc n) p ≡ true
-  unfolding reachedBy
-  reach-more n p q l h =
-      let i = inside (q .x) (q .y) (reach-free n q h) in
-      in-any (λ (q : Point). linked f p q && reach n q) q (points W H)
+  arrives-more : (n : ℕ) (p q : Point) → linked f p q ≡ true → arrives n q ≡ true → arrives (suc n) p ≡ true
+  unfolding arrivesBy
+  arrives-more n p q l h =
+      let i = inside (q .x) (q .y) (arrives-free n q h) in
+      in-any (λ (q : Point). linked f p q && arrives n q) q (points W H)
       (in-points W H q (i .0) (i .1)) (and-i {a = linked f p q} l h)
 
-  reach-up : (n : ℕ) (p : Point) → reach n p ≡ true → reach (suc n) p ≡ true
+  arrives-up : (n : ℕ) (p : Point) → arrives n p ≡ true → arrives (suc n) p ≡ true
   unfolding linked
-  reach-up n p h = reach-more n p p (or-il (segment f either p p) (same-self p)) h
+  arrives-up n p h = arrives-more n p p (or-il (segment f either p p) (same-self p)) h
 
-  reach-mono : (k n : ℕ) (p : Point) → reach n p ≡ true → reach (k + n) p ≡ true
-  reach-mono zero n p h = rw zero-add h
-  reach-mono (suc k) n p h = rw suc-add (reach-up (k + n) p (reach-mono k n p h))
+  arrives-mono : (k n : ℕ) (p : Point) → arrives n p ≡ true → arrives (k + n) p ≡ true
+  arrives-mono zero n p h = rw zero-add h
+  arrives-mono (suc k) n p h = rw suc-add (arrives-up (k + n) p (arrives-mono k n p h))
 
-  leads-reach : (h : Heading) (p : Point) (cs : List Point)
-      → f (p .x) (p .y) ≡ true → leads f T h p cs ≡ true → reach (length cs) p ≡ true
-  unfolding leads reachedBy linked
-  leads-reach h p [] e l = and-i {a = T p} l e
-  leads-reach h p (q ∷ cs) e l =
+  leads-arrives : (h : Heading) (p : Point) (cs : List Point)
+      → f (p .x) (p .y) ≡ true → leads f T h p cs ≡ true → arrives (length cs) p ≡ true
+  unfolding leads arrivesBy linked
+  leads-arrives h p [] e l = and-i {a = T p} l e
+  leads-arrives h p (q ∷ cs) e l =
       let s : segment f h p q ≡ true = and-l (segment f h p q) (leads f T (after p q) q cs) l in
-      reach-more (length cs) p q (or-ir (same p q) (either-segment f h p q s))
-      (leads-reach (after p q) q cs (end-free f h p q s)
+      arrives-more (length cs) p q (or-ir (same p q) (either-segment f h p q s))
+      (leads-arrives (after p q) q cs (end-free f h p q s)
       (and-r (segment f h p q) (leads f T (after p q) q cs) l))
 
-  -- ---- each round reaches a point more, or none reaches more from there on
+  -- ---- each round takes in a point more, or none takes in more from there on
   abbrev Stable : ℕ → Type 0
-  Stable n = (p : Point) → reach (suc n) p ≡ true → reach n p ≡ true
+  Stable n = (p : Point) → arrives (suc n) p ≡ true → arrives n p ≡ true
 
-  stable-all : (n : ℕ) → Stable n → (k : ℕ) (p : Point) → reach (k + n) p ≡ true → reach n p ≡ true
+  stable-all : (n : ℕ) → Stable n → (k : ℕ) (p : Point) → arrives (k + n) p ≡ true → arrives n p ≡ true
   stable-all n s zero p h = rw zero-add at h
   stable-all n s (suc k) p h =
-      let g : reach (suc (k + n)) p ≡ true = rw suc-add at h in
-      let r = of-reach (k + n) p g in
-      s p (reach-more n p (r .0) (r .1) (stable-all n s k (r .0) (r .2)))
+      let g : arrives (suc (k + n)) p ≡ true = rw suc-add at h in
+      let r = of-arrives (k + n) p g in
+      s p (arrives-more n p (r .0) (r .1) (stable-all n s k (r .0) (r .2)))
 
   grown : ℕ → Point → Bool
-  grown k p = reach (suc k) p && not (reach k p)
+  grown k p = arrives (suc k) p && not (arrives k p)
 
-  not-grown : (k : ℕ) (p : Point) → grown k p ≡ false → reach (suc k) p ≡ true → reach k p ≡ true
+  not-grown : (k : ℕ) (p : Point) → grown k p ≡ false → arrives (suc k) p ≡ true → arrives k p ≡ true
   unfolding grown
-  not-grown k p e h = not-ff (reach k p) (subst (λ (b : Bool). (b && not (reach k p)) ≡ false) h e)
+  not-grown k p e h = not-ff (arrives k p) (subst (λ (b : Bool). (b && not (arrives k p)) ≡ false) h e)
 
-  stable-or : (k : ℕ) → ((n : ℕ) × (n < k) × Stable n) ⊎ (k ≤ count (reach k) (points W H))
+  stable-or : (k : ℕ) → ((n : ℕ) × (n < k) × Stable n) ⊎ (k ≤ count (arrives k) (points W H))
   unfolding grown
   stable-or zero = inr (omega arith)
   stable-or (suc k) =
       ⊎-elim
       (λ (r : (n : ℕ) × (n < k) × Stable n). let l : r .0 < suc k = omega arith in inl (r .0, l, r .2))
-      (λ (l : k ≤ count (reach k) (points W H)). next l (true-or-false (any (grown k) (points W H))))
+      (λ (l : k ≤ count (arrives k) (points W H)). next l (true-or-false (any (grown k) (points W H))))
       (stable-or k)
     where
-      next : k ≤ count (reach k) (points W H)
+      next : k ≤ count (arrives k) (points W H)
           → (any (grown k) (points W H) ≡ true) ⊎ (any (grown k) (points W H) ≡ false)
-          → ((n : ℕ) × (n < suc k) × Stable n) ⊎ (suc k ≤ count (reach (suc k)) (points W H))
+          → ((n : ℕ) × (n < suc k) × Stable n) ⊎ (suc k ≤ count (arrives (suc k)) (points W H))
       next l (inl t) =
           let r = of-any (grown k) (points W H) t in
-          let c : count (reach k) (points W H) < count (reach (suc k)) (points W H) =
-          count-lt (reach k) (reach (suc k)) (r .0) (points W H) (reach-up k) (r .1)
-          (not-t (reach k (r .0)) (and-r (reach (suc k) (r .0)) (not (reach k (r .0))) (r .2)))
-          (and-l (reach (suc k) (r .0)) (not (reach k (r .0))) (r .2)) in
+          let c : count (arrives k) (points W H) < count (arrives (suc k)) (points W H) =
+          count-lt (arrives k) (arrives (suc k)) (r .0) (points W H) (arrives-up k) (r .1)
+          (not-t (arrives k (r .0)) (and-r (arrives (suc k) (r .0)) (not (arrives k (r .0))) (r .2)))
+          (and-l (arrives (suc k) (r .0)) (not (arrives k (r .0))) (r .2)) in
           inr (omega arith)
       next l (inr t) =
           inl (
             k,
             omega arith,
             λ p h.
-                let i = inside (p .x) (p .y) (reach-free (suc k) p h) in
+                let i = inside (p .x) (p .y) (arrives-free (suc k) p h) in
                 not-grown k p (not-any (grown k) p (points W H) t (in-points W H p (i .0) (i .1))) h,
           )
 
-  -- whatever is reached is reached by W * H segments at most
-  bounded : (m : ℕ) (p : Point) → reach m p ≡ true → (n : ℕ) × (n ≤ W * H) × (reach n p ≡ true)
+  -- what arrives arrives by W * H segments at most
+  bounded : (m : ℕ) (p : Point) → arrives m p ≡ true → (n : ℕ) × (n ≤ W * H) × (arrives n p ≡ true)
   bounded m p h =
       ⊎-elim
       (λ (r : (n : ℕ) × (n < suc (W * H)) × Stable n).
       let l : r .0 ≤ W * H = omega arith in
       let e : r .0 + m ≡ m + r .0 = omega arith in
-      (r .0, l, stable-all (r .0) (r .2) m p (subst (λ (k : ℕ). reach k p ≡ true) e (reach-mono (r .0) m p h))))
-      (λ (l : suc (W * H) ≤ count (reach (suc (W * H))) (points W H)).
-      absurd (let c = count-length (reach (suc (W * H))) (points W H) in let d = length-points W H in omega arith))
+      (r .0, l, stable-all (r .0) (r .2) m p (subst (λ (k : ℕ). arrives k p ≡ true) e (arrives-mono (r .0) m p h))))
+      (λ (l : suc (W * H) ≤ count (arrives (suc (W * H))) (points W H)).
+      absurd (let c = count-length (arrives (suc (W * H))) (points W H) in let d = length-points W H in omega arith))
       (stable-or (suc (W * H)))
 
   -- ---- back from there to segments that alternate
@@ -228,11 +228,11 @@ module _ (f : ℕ → ℕ → Bool) (W H : ℕ) (inside : (x y : ℕ) → f x y 
       (of-segment f either q r (and-l (segment f either q r) (leads f T (after q r) r cs) h))
       (and-r (segment f either q r) (leads f T (after q r) r cs) h)
 
-  alternate : (n : ℕ) (p : Point) → reach n p ≡ true → Going p n
-  unfolding reachedBy leads
+  alternate : (n : ℕ) (p : Point) → arrives n p ≡ true → Going p n
+  unfolding arrivesBy leads
   alternate zero p h = ([], and-l (T p) (f (p .x) (p .y)) h, omega arith)
   alternate (suc n) p h =
-      let r = of-reach n p h in
+      let r = of-arrives n p h in
       let g = alternate n (r .0) (r .2) in
       ⊎-elim
       (λ (e : p ≡ r .0).
@@ -248,6 +248,6 @@ module _ (f : ℕ → ℕ → Bool) (W H : ℕ) (inside : (x y : ℕ) → f x y 
   pub enough : (h : Heading) (p : Point) (cs : List Point) → f (p .x) (p .y) ≡ true → leads f T h p cs ≡ true
       → (ds : List Point) × (leads f T either p ds ≡ true) × (length ds ≤ W * H)
   enough h p cs e l =
-      let b = bounded (length cs) p (leads-reach h p cs e l) in
+      let b = bounded (length cs) p (leads-arrives h p cs e l) in
       let g = alternate (b .0) p (b .2) in
       (g .0, g .1, omega arith)

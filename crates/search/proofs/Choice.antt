@@ -6,10 +6,10 @@ use mathlib.Core.Logic.{_≢_, _⊎_, inl, inr}
 use mathlib.Core.Bool.{Bool, true, false}
 use mathlib.Core.List.{List, [], _∷_}
 use lib.ListN.{getD, length}
-use Rattle.reach.specs.Reach.{Reach, flip, Path, ink, TargetFree}
-use Rattle.reach.specs.Best.{PathD, inkD, LexD, Best}
-use Rattle.reach.proofs.Greedy.{path-reach, path-within}
-use Rattle.reach.proofs.Best.{Fewest, level-fewest, upright-fewest, best-level, best-upright}
+use Rattle.courses.specs.Course.{Course, flip, Path, ink, TargetFree}
+use Rattle.courses.specs.Best.{PathD, inkD, LexD, Best}
+use Rattle.courses.proofs.Greedy.{path-course, path-within}
+use Rattle.courses.proofs.Best.{Fewest, level-fewest, upright-fewest, best-level, best-upright}
 use Rattle.grid.specs.Lines.{Rising}
 use Rattle.labels.specs.Walk.{Grounded, Trail}
 use Rattle.labels.proofs.Walk.{grounded-next}
@@ -90,9 +90,9 @@ module _ {f : ℕ → ℕ → Bool} {T : ℕ → ℕ → Type 0} (tf : TargetFre
   upright-says : Says (flip f) (flip T) n (getD rows j 0) (getD cols i 0) (along u i j)
   upright-says = B .says i i-in j j-in
 
-  -- fewer segments than the chosen label says do not reach a target
+  -- fewer segments than the chosen label says do not lead to a target
   level-low : (k m : ℕ) → Choice l u wl wu ku rows nr i j false → along l j i ≡ k + 1 → m < k
-      → Reach m (flip f) (flip T) (getD rows j 0) (getD cols i 0) → ⊥
+      → Course m (flip f) (flip T) (getD rows j 0) (getD cols i 0) → ⊥
   level-low k m (level-only z (inl x)) e lm t = upright-says .never x m (omega arith) t
   level-low k m (level-only z (inr x)) e lm t = upright-says .least (along u i j - 1) (omega arith) m (omega arith) t
   level-low k m (level-less z x lt) e lm t = upright-says .least k (omega arith) m lm t
@@ -100,7 +100,7 @@ module _ {f : ℕ → ℕ → Bool} {T : ℕ → ℕ → Type 0} (tf : TargetFre
   level-low k m (tie-level w q p kl ku i st le) e lm t = upright-says .least w ku m (omega arith) t
 
   upright-low : (k m : ℕ) → Choice l u wl wu ku rows nr i j true → along u i j ≡ k + 1 → m < k
-      → Reach m f T (getD cols i 0) (getD rows j 0) → ⊥
+      → Course m f T (getD cols i 0) (getD rows j 0) → ⊥
   upright-low k m (upright-only z (inl x)) e lm t = level-says .never x m (omega arith) t
   upright-low k m (upright-only z (inr x)) e lm t = level-says .least (along l j i - 1) (omega arith) m (omega arith) t
   upright-low k m (upright-less z x lt) e lm t = level-says .least k (omega arith) m lm t
@@ -140,13 +140,13 @@ module _ {f : ℕ → ℕ → Bool} {T : ℕ → ℕ → Type 0} (tf : TargetFre
       → Fewest f T (getD cols i 0) (getD rows j 0) k
   fewest-level k c e =
       level-fewest f T tf (getD cols i 0) (getD rows j 0) k (λ m lm t. level-says .least k e m lm t)
-      (λ m lm t. level-low k m c e lm t) (level-says .reach k e)
+      (λ m lm t. level-low k m c e lm t) (level-says .course k e)
 
   pub fewest-upright : (k : ℕ) → Choice l u wl wu ku rows nr i j true → along u i j ≡ k + 1
       → Fewest f T (getD cols i 0) (getD rows j 0) k
   fewest-upright k c e =
       upright-fewest f T tf (getD cols i 0) (getD rows j 0) k (λ m lm t. upright-low k m c e lm t)
-      (λ m lm t. upright-says .least k e m lm t) (upright-says .reach k e)
+      (λ m lm t. upright-says .least k e m lm t) (upright-says .course k e)
 
   -- what another way's ink says, where the chosen label is k + 1
   no-upright : (k : ℕ) (cs : List ℕ) → Choice l u wl wu ku rows nr i j false → along l j i ≡ k + 1
@@ -155,14 +155,14 @@ module _ {f : ℕ → ℕ → Bool} {T : ℕ → ℕ → Type 0} (tf : TargetFre
   no-upright k cs (level-only z (inl x)) e p kl =
       absurd
       (upright-says .never x (length cs) (omega arith)
-      (path-reach cs (flip f) (flip T) (getD rows j 0) (getD cols i 0) p))
+      (path-course cs (flip f) (flip T) (getD rows j 0) (getD cols i 0) p))
   no-upright k cs (level-only z (inr x)) e p kl =
       absurd
       (upright-says .least (along u i j - 1) (omega arith) (length cs) (omega arith)
-      (path-reach cs (flip f) (flip T) (getD rows j 0) (getD cols i 0) p))
+      (path-course cs (flip f) (flip T) (getD rows j 0) (getD cols i 0) p))
   no-upright k cs (level-less z x lt) e p kl = let a = upright-least k cs (omega arith) p kl in omega arith
   no-upright k cs (here x y) e p kl =
-      let a = AM .says j j-in i i-in .least 0 (omega arith) 0 (level-says .reach 0 (omega arith)) in omega arith
+      let a = AM .says j j-in i i-in .least 0 (omega arith) 0 (level-says .course 0 (omega arith)) in omega arith
   no-upright k cs (tie-level w q z x y i st le) e p kl =
       let a = upright-least k cs (omega arith) p kl in omega arith
 
@@ -171,11 +171,11 @@ module _ {f : ℕ → ℕ → Bool} {T : ℕ → ℕ → Type 0} (tf : TargetFre
       → along wu i j ≤ ink cs (getD cols i 0) (getD rows j 0)
   no-level k cs (upright-only z (inl x)) e p kl =
       absurd
-      (level-says .never x (length cs) (omega arith) (path-reach cs f T (getD cols i 0) (getD rows j 0) p))
+      (level-says .never x (length cs) (omega arith) (path-course cs f T (getD cols i 0) (getD rows j 0) p))
   no-level k cs (upright-only z (inr x)) e p kl =
       absurd
       (level-says .least (along l j i - 1) (omega arith) (length cs) (omega arith)
-      (path-reach cs f T (getD cols i 0) (getD rows j 0) p))
+      (path-course cs f T (getD cols i 0) (getD rows j 0) p))
   no-level k cs (upright-less z x lt) e p kl = let a = level-least k cs (omega arith) p kl in omega arith
   no-level k cs (tie-upright w q z x y i st le) e p kl = let a = level-least k cs (omega arith) p kl in omega arith
 
@@ -203,10 +203,10 @@ module _ {f : ℕ → ℕ → Bool} {T : ℕ → ℕ → Type 0} (tf : TargetFre
             → along wl j i ≡ ink (a ∷ cs) (getD rows j 0) (getD cols i 0) → a < getD rows j 0 → ⊥
         later (level-only z (inl x)) a cs p kl s lt =
             upright-says .never x (suc (length cs)) (omega arith)
-            (path-reach (a ∷ cs) (flip f) (flip T) (getD rows j 0) (getD cols i 0) p)
+            (path-course (a ∷ cs) (flip f) (flip T) (getD rows j 0) (getD cols i 0) p)
         later (level-only z (inr x)) a cs p kl s lt =
             upright-says .least (along u i j - 1) (omega arith) (suc (length cs)) (omega arith)
-            (path-reach (a ∷ cs) (flip f) (flip T) (getD rows j 0) (getD cols i 0) p)
+            (path-course (a ∷ cs) (flip f) (flip T) (getD rows j 0) (getD cols i 0) p)
         later (level-less z x less) a cs p kl s lt =
             let b = upright-least k (a ∷ cs) (omega arith) p kl in omega arith
         later (here x y) a cs p kl s lt = omega arith
@@ -236,11 +236,11 @@ module _ {f : ℕ → ℕ → Bool} {T : ℕ → ℕ → Type 0} (tf : TargetFre
             → along wu i j ≡ ink cs (getD cols i 0) (getD rows j 0)
             → LexD (getD rows j 0) true (coords rows cols qs) false cs
         earlier (upright-only z (inl x)) qs tr cs p kl s =
-            absurd (level-says .never x (length cs) (omega arith) (path-reach cs f T (getD cols i 0) (getD rows j 0) p))
+            absurd (level-says .never x (length cs) (omega arith) (path-course cs f T (getD cols i 0) (getD rows j 0) p))
         earlier (upright-only z (inr x)) qs tr cs p kl s =
             absurd
             (level-says .least (along l j i - 1) (omega arith) (length cs) (omega arith)
-            (path-reach cs f T (getD cols i 0) (getD rows j 0) p))
+            (path-course cs f T (getD cols i 0) (getD rows j 0) p))
         earlier (upright-less z x lt) qs tr cs p kl s =
             let b = level-least k cs (omega arith) p kl in absurd (omega arith)
         earlier (tie-upright w r z x y v st lt) [] tr cs p kl s = tt

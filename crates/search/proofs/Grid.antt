@@ -8,8 +8,8 @@ use borrow.Author.Tests.{eq-eqb}
 use Rattle.foil_spec.specs.Foil.{Point}
 use Rattle.zones.specs.Boxes.{boxFree}
 use Rattle.zones.proofs.Free.{not-covered}
-use Rattle.reach.specs.Reach.{flip}
-use Rattle.reach.specs.Best.{At}
+use Rattle.courses.specs.Course.{flip}
+use Rattle.courses.specs.Best.{At}
 use Rattle.grid.specs.Lines.{hasMark}
 use Rattle.grid.proofs.Board.{grid-marks, grid-links}
 use Rattle.labels.proofs.Faithful.{Faithful, faithful}

@@ -11,11 +11,11 @@ use Rattle.foil_spec.specs.Paths.{firstPath}
 use Rattle.zones.specs.Boxes.{boxFree}
 use Rattle.zones.proofs.Free.{not-covered}
 use Rattle.list_laws.proofs.Tests.{clash}
-use Rattle.reach.specs.Reach.{Reach, flip, TargetFree}
-use Rattle.reach.specs.Best.{PathD, Best, corners, At}
-use Rattle.reach.proofs.Greedy.{path-reach}
-use Rattle.reach.proofs.Best.{Fewest}
-use Rattle.reach.proofs.FirstPath.{best-first, none-first, fewest-first}
+use Rattle.courses.specs.Course.{Course, flip, TargetFree}
+use Rattle.courses.specs.Best.{PathD, Best, corners, At}
+use Rattle.courses.proofs.Greedy.{path-course}
+use Rattle.courses.proofs.Best.{Fewest}
+use Rattle.courses.proofs.FirstPath.{best-first, none-first, fewest-first}
 use Rattle.grid.specs.Size.{stride}
 use Rattle.grid.specs.Lines.{Lines}
 use Rattle.labels.specs.Line.{along, labelTop}
@@ -131,13 +131,13 @@ module _ {z : List ℕ} {n w h : ℕ} {S T : Point} (P : Posed z n w h S T) {col
     where
       go : (e : Bool) → PathD e ks f (At T) (start .x) (start .y)
           → ((b : ℕ) → b < nr → (a : ℕ) → a < nc → along l b a ≡ 0
-          → Reach (length ks) f (At T) (getD cols a 0) (getD rows b 0) → ⊥)
+          → Course (length ks) f (At T) (getD cols a 0) (getD rows b 0) → ⊥)
           × ((a : ℕ) → a < nc → (b : ℕ) → b < nr → along u a b ≡ 0
-          → Reach (length ks) (flip f) (flip (At T)) (getD rows b 0) (getD cols a 0) → ⊥) → ⊥
+          → Course (length ks) (flip f) (flip (At T)) (getD rows b 0) (getD cols a 0) → ⊥) → ⊥
       go false on out =
-          out .0 j (B .j-in) i (B .i-in) zl (path-reach ks f (At T) (start .x) (start .y) on)
+          out .0 j (B .j-in) i (B .i-in) zl (path-course ks f (At T) (start .x) (start .y) on)
       go true on out =
-          out .1 i (B .i-in) j (B .j-in) zu (path-reach ks (flip f) (flip (At T)) (start .y) (start .x) on)
+          out .1 i (B .i-in) j (B .j-in) zu (path-course ks (flip f) (flip (At T)) (start .y) (start .x) on)
 
   -- the start has a label, after rounds up to v
   module _ {v : ℕ} (r : Rounds kl ku cols rows nc nr (B .l₀) (B .u₀) (B .wl₀) (B .wu₀) v l u wl wu) where

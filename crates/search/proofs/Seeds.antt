@@ -8,7 +8,7 @@ use mathlib.Core.Logic.{_≢_}
 use mathlib.Core.List.{List}
 use lib.ListN.{getD, set, length, replicate, length-set}
 use lib.Seq.{getD-set-same, getD-set-other}
-use Rattle.reach.specs.Reach.{Reach, Within}
+use Rattle.courses.specs.Course.{Course, Within}
 use Rattle.grid.specs.Size.{stride, area}
 use Rattle.grid.specs.Lines.{Rising, Lines}
 use Rattle.labels.specs.Line.{along}
@@ -125,16 +125,16 @@ module _ {f : ℕ → ℕ → Bool} {T : ℕ → ℕ → Type 0} {cross : List �
       let few = C .few in
       let none = S .rest (b * stride + a) (λ e. other (omega arith)) in
       record {
-        never = λ e k z r. reached k z r;
-        reach = λ k e. absurd (omega arith);
+        never = λ e k z r. none-yet k z r;
+        course = λ k e. absurd (omega arith);
         least = λ k e. absurd (omega arith);
       }
     where
-      reached : (r : ℕ) → r ≤ 0 → Reach r f T (getD cross a 0) (getD lines b 0) → ⊥
-      reached zero z t =
+      none-yet : (r : ℕ) → r ≤ 0 → Course r f T (getD cross a 0) (getD lines b 0) → ⊥
+      none-yet zero z t =
           let o = only (getD cross a 0) (getD lines b 0) t in
           other (rising-same (C .rising) a k la lk (o .0), rising-same (L .rising) b line lb ll (o .1))
-      reached (suc r) z t = omega arith
+      none-yet (suc r) z t = omega arith
 
   pub seeded-labels : Labelled f T cross n lines m 0 lab
   seeded-labels = record { says = λ b lb a la. pick b a lb la (ℕ-discrete a k) (ℕ-discrete b line) }
@@ -147,9 +147,9 @@ module _ {f : ℕ → ℕ → Bool} {T : ℕ → ℕ → Type 0} {cross : List �
           let o : along lab b a ≡ 1 = rw (p, q) (S .one) in
           record {
             never = λ e. absurd (omega arith);
-            reach = λ r e.
+            course = λ r e.
                 let z : 0 ≡ r = omega arith in
-                subst (λ (r : ℕ). Reach r f T (getD cross a 0) (getD lines b 0)) z (rw (p, q) is);
+                subst (λ (r : ℕ). Course r f T (getD cross a 0) (getD lines b 0)) z (rw (p, q) is);
             least = λ r e s l t. omega arith;
           }
 

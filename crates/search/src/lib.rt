@@ -154,7 +154,7 @@ fn seed(labels: &mut [u32], inks: &mut [u32], queue: &mut [u16], line: usize, k:
 }
 
 // Where the first point is on the grid, and whether its crossing has a label.
-struct Reached {
+struct Arrived {
     i: usize,
     j: usize,
     found: bool,
@@ -178,7 +178,7 @@ fn label(
     sy: u16,
     tx: u16,
     ty: u16,
-) -> Reached
+) -> Arrived
     requires { ⌜ (nr * stride ≤ length (now kl)) × (nc * stride ≤ length (now ku)) × Lines (now cols) nc
         × Lines (now rows) nr ⌝ }
     requires { ⌜ LabelRoom nc nr (now level) (now upright) (now il) (now iu) (now ql) (now qu) ⌝ }
@@ -209,7 +209,7 @@ fn label(
         i,
         j,
     );
-    Reached { i, j, found }
+    Arrived { i, j, found }
 }
 
 // Whether the first path goes upright from the crossing of column i and row j, which has a label. Where both ways

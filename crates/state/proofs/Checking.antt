@@ -3,9 +3,9 @@ use Prim.Native.Nat.{ℕ, _+_, _-_, _*_, _≤_, _<_}
 use native.Mathlib.Omega.{arith}
 use mathlib.Core.Path.{_≡_, refl, sym, ap, _∙_}
 use mathlib.Core.Bool.{Bool, true, false, not}
-use mathlib.Core.List.{List, [], map}
+use mathlib.Core.List.{List, map}
 use lib.Dec.{leb}
-use lib.ListN.{length, getD, take, length-append, length-drop, length-replicate}
+use lib.ListN.{length, getD, take}
 use borrow.Author.Tests.{le-leb, leb-true, ltb-false, le-ltb, not-true, not-false}
 use Rattle.foil_spec.specs.Lists.{range, all, each}
 use Rattle.foil_spec.specs.Limits.{maxEntries, tableSize, maxStrips, stripsSize}
@@ -19,14 +19,10 @@ use Rattle.foil_spec.proofs.Written.{written-zero}
 use Rattle.list_laws.proofs.Tests.{both, clash, parts}
 use Rattle.ledger_laws.proofs.Stored.{length-entries, length-strips}
 use Rattle.ledger_laws.proofs.Rules.{of-ok, to-ok}
-use Rattle.ledger_laws.proofs.Sound.{Sound, of-sound, to-sound, length-read, read-numbers, front-written}
+use Rattle.ledger_laws.proofs.Sound.{Sound, of-sound, to-sound, sound-long, length-read, read-numbers, front-written}
 use Rattle.ledger_laws.proofs.Sound.{is-written, zeros-written}
 use Rattle.strips.specs.Told.{Told}
 use Rattle.state.specs.Tests.{Zeros, boardOk, StripsRight}
-
-length-at-least : (n : ℕ) (ns old : List ℕ) → n ≤ length (written n ns old)
-unfolding written
-length-at-least n ns old = simp (length-append, length-replicate, length-drop) (omega arith)
 
 -- ---- the strips
 
@@ -79,18 +75,10 @@ module _ (b : Board) (t s : List ℕ) where
   not-sound h = both (sound m) (λ e. absurd (h (of-sound m e))) (λ e. sym e)
 
   pub short-table : length t < tableSize → false ≡ sound m
-  unfolding store
-  short-table h =
-      not-sound (λ k.
-      let a = length-at-least tableSize (each entryNumbers (held m .entries)) t in
-      omega (arith, ap length (k .table-is)))
+  short-table h = both (sound m) (λ e. absurd (omega (arith, sound-long m e .table))) (λ e. sym e)
 
   pub short-strips : length s < stripsSize → false ≡ sound m
-  unfolding store
-  short-strips h =
-      not-sound (λ k.
-      let a = length-at-least stripsSize (each stripNumbers (stripsOf (held m))) s in
-      omega (arith, ap length (k .strips-are)))
+  short-strips h = both (sound m) (λ e. absurd (omega (arith, sound-long m e .strips))) (λ e. sym e)
 
   pub bad-board : (r : Bool) → r ≡ boardOk b → not r ≡ true → false ≡ sound m
   unfolding boardOk held layoutOf

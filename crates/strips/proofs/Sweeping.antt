@@ -1,4 +1,4 @@
--- The sweep of a row: a box before place j of the order ends at or before the column that is reached.
+-- The sweep of a row: a box before place j of the order ends at or before the column that the sweep stands at.
 use Prim.Native.Nat.{ℕ, _+_, _-_, _≤_, _<_, max}
 use native.Mathlib.Omega.{arith}
 use mathlib.Core.Path.{_≡_, refl, sym, ap, _∙_}

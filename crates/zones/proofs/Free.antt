@@ -4,7 +4,7 @@ use Prim.Native.Nat.{ℕ, zero, suc, _+_, _≤_, _<_}
 use native.Mathlib.Omega.{arith}
 use mathlib.Core.Path.{_≡_, refl, ap, ap₂, sym, _∙_}
 use mathlib.Core.Bool.{Bool, true, false, not, _&&_}
-use mathlib.Core.List.{List, map}
+use mathlib.Core.List.{List, [], map}
 use lib.Dec.{leb, ltb}
 use borrow.Author.Tests.{le-leb, lt-ltb, lt-leb, le-ltb, leb-true, ltb-true}
 use Rattle.foil_spec.specs.Lists.{range, all}
@@ -141,3 +141,9 @@ zones-same w h d n z t same x y =
     (λ k l m. same k x y (omega arith) (ltb-true x w a) (ltb-true y h b))))
     (λ b. rw (a, b) refl))
     (λ a. rw a refl)
+
+-- every point of a foil without entries is free
+pub bare-free : (d W H x y : ℕ) → x < W → y < H
+    → free (record { width = W; height = H; clearance = d; entries = [] }) x y ≡ true
+unfolding free
+bare-free d W H x y hx hy = simp (lt-ltb x W hx, lt-ltb y H hy)

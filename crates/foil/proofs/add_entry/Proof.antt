@@ -6,64 +6,76 @@ use borrow.Author.Needs.{needs}
 use Rattle.foil.proofs.add_entry.Statement.{statement}
 use Rattle.foil.proofs.add_entry.Tie as tie
 
+-- back to the start, where the test fails, rows, copy_front, append and settle
+abbrev atStart : tie.After-slice-known2 → tie.Start
+atStart c = c .before .before
+abbrev inElse : tie.After-copy-front-arg → tie.Else1
+inElse c = c .before .before
+abbrev afterCopyFront : tie.After-rows5 → tie.After-copy-front
+afterCopyFront c = c .before .before .before .before .before .before .before
+abbrev afterAppend : tie.After-rows5 → tie.After-append
+afterAppend c = c .before .before .before .before
+abbrev afterSettle : tie.After-slice-known4 → tie.After-settle
+afterSettle c = c .before .before .before .before
+abbrev afterRows : tie.After-slice-known4 → tie.After-rows
+afterRows c = afterCopyFront (afterSettle c .before) .before .before
+
 refuse-requires : tie.Need-refuse-requires
 refuse-requires c κs = search needs
 
 returns : tie.Need-returns
-returns c = table-full _ _ _ (c .before .before .before .before .pre .0) _ (c .before .before .before .before .pre .1 .0) _ (c .before .if1 .taken) _ (c .refuse .ensures)
+returns c = table-full _ _ _ (atStart (c .before .before) .pre .0) _
+    (atStart (c .before .before) .pre .1 .0) _ (c .before .if1 .taken) _ (c .refuse .ensures)
 
 slice-aggregate-copy-front : tie.Need-slice-aggregate-copy-front
 slice-aggregate-copy-front c = search needs
 
 copy-front-requires : tie.Need-copy-front-requires
-copy-front-requires c κs = (omega arith, sound-long _ (c .before .before .before .before .before .pre .0) .table)
+copy-front-requires c κs = (omega arith, sound-long _ (atStart (inElse c .before) .pre .0) .table)
 
 slice-aggregate-append : tie.Need-slice-aggregate-append
 slice-aggregate-append c = search needs
-
 append-requires : tie.Need-append-requires
 append-requires c κs = search needs
-
 slice-aggregate-settle : tie.Need-slice-aggregate-settle
 slice-aggregate-settle c = search needs
-
 add-settle : tie.Need-add-settle
 add-settle c = search needs
 
 settle-requires : tie.Need-settle-requires
 settle-requires c κs = (
-  added-table _ _ _ (c .before .before .before .before .before .before .before .before .before .before .before .before .before .pre .0) _ (c .before .before .before .before .before .before .before .before .before .before .before .before .before .pre .1 .0) _ (c .before .before .before .before .before .before .before .before .before .before .if1 .left) (c .before .before .before .before .before .before .before .before .before .before .before .before .before .pre .1 .1) _ _
-      (c .before .before .before .before .before .before .before .copy-front .ensures) (c .before .before .before .before .append .ensures),
+  added-table _ _ _ (atStart (inElse (afterCopyFront c .before) .before) .pre .0) _ (atStart (inElse (afterCopyFront c .before) .before) .pre .1 .0) _ (inElse (afterCopyFront c .before)
+  .if1 .left) (atStart (inElse (afterCopyFront c .before) .before) .pre .1 .1) _ _
+      (afterCopyFront c .copy-front .ensures)
+          (afterAppend c .append .ensures),
   (
-    added-again _ _ _ (c .before .before .before .before .before .before .before .before .before .before .before .before .before .pre .0) _ (c .before .before .before .before .before .before .before .before .before .before .before .before .before .pre .1 .0) _ (c .before .before .before .before .before .before .before .before .before .before .if1 .left) (c .before .before .before .before .before .before .before .before .before .before .before .before .before .pre .1 .1) _ _
-        (c .before .before .before .before .before .before .before .copy-front .ensures) (c .before .before .before .before .append .ensures),
-    (sound-long _ (c .before .before .before .before .before .before .before .before .before .before .before .before .before .pre .0) .table, sound-long _ (c .before .before .before .before .before .before .before .before .before .before .before .before .before .pre .0) .strips),
+    added-again _ _ _ (atStart (inElse (afterCopyFront c .before) .before) .pre .0) _ (atStart (inElse (afterCopyFront c .before) .before) .pre .1 .0) _
+    (inElse (afterCopyFront c .before) .if1 .left)
+    (atStart (inElse (afterCopyFront c .before) .before) .pre .1
+    .1) _ _
+        (afterCopyFront c .copy-front .ensures)
+            (afterAppend c .append .ensures),
+    (sound-long _ (atStart (inElse (afterCopyFront c .before) .before) .pre .0) .table, sound-long _
+    (atStart (inElse (afterCopyFront c .before) .before) .pre
+    .0) .strips),
   ),
 )
 
 same-length : tie.Need-same-length
 same-length c = search needs
-
 same-length-2 : tie.Need-same-length-2
 same-length-2 c = search needs
 
 returns-2 : tie.Need-returns-2
-returns-2 c = entry-added _ _ _ (c .before .before .before .before .before .before .before .before .before .before .before .before .before .before .before .before .before .before .pre .0) _ (c .before .before .before .before .before .before .before .before .before .before .before .before .before .before .before .before .before .before .pre .1 .0) _ (c .before .before .before .before .before .before .before .before .before .before .before .before .before .before .before .if1 .left) (c .before .before .before .before .before .before .before .before .before .before .before .before .before .before .before .before .before .before .pre .1 .1) _ _
-    (c .before .before .before .before .before .before .before .before .before .before .before .before .copy-front .ensures) (c .before .before .before .before .before .before .before .before .before .append .ensures) _ _ _ (c .before .before .before .before .settle .ensures)
+returns-2 c = entry-added _ _ _
+    (atStart (afterRows c .before .before) .pre .0) _
+    (atStart (afterRows c .before .before) .pre .1 .0) _
+    (afterRows c .before .if1 .left) (atStart (afterRows c .before .before) .pre .1 .1) _ _
+    (afterCopyFront (afterSettle c .before) .copy-front
+    .ensures) (afterAppend (afterSettle c .before) .append .ensures) _ _ _
+    (afterSettle c .settle .ensures)
 
 pub add-entry-spec : {M : Type 1} → statement M
 add-entry-spec =
-    tie.close
-    (tie.spec
-    refuse-requires
-    returns
-    slice-aggregate-copy-front
-    copy-front-requires
-    slice-aggregate-append
-    append-requires
-    slice-aggregate-settle
-    add-settle
-    settle-requires
-    same-length
-    same-length-2
-    returns-2)
+    tie.close (tie.spec refuse-requires returns slice-aggregate-copy-front copy-front-requires slice-aggregate-append
+    append-requires slice-aggregate-settle add-settle settle-requires same-length same-length-2 returns-2)

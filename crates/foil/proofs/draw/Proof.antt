@@ -8,18 +8,20 @@ use borrow.Author.Needs.{needs}
 use Rattle.foil.proofs.draw.Statement.{statement}
 use Rattle.foil.proofs.draw.Tie as tie
 
+-- back to enum_told and draw_in
+abbrev afterEnumTold : tie.After-slice-known4 → tie.After-enum-told
+afterEnumTold c = c .before .before .before .before .before .before .before
+abbrev afterDrawIn : tie.After-slice-known4 → tie.After-draw-in
+afterDrawIn c = c .before .before .before .before
+
 lent-refusal-requires : tie.Need-lent-refusal-requires
 lent-refusal-requires c κs = search needs
-
 enum-known-checked : tie.Need-enum-known-checked
 enum-known-checked c = search needs
-
 refuse-requires : tie.Need-refuse-requires
 refuse-requires c κs = search needs
-
 same-length : tie.Need-same-length
 same-length c = search needs
-
 same-length-2 : tie.Need-same-length-2
 same-length-2 c = search needs
 
@@ -32,29 +34,21 @@ enum-told : tie.Need-enum-told
 enum-told c = search needs
 
 draw-in-requires : tie.Need-draw-in-requires
-draw-in-requires c κs = ((rw (c .before .before .enum-told .given .1) at (c .before .before .before .before .lent-refusal .ensures)), omega arith)
+draw-in-requires c κs = ((rw (c .before .before .enum-told .given .1) at
+    (c .before .before .before .before .lent-refusal .ensures)), omega arith)
 
 same-length-3 : tie.Need-same-length-3
 same-length-3 c = search needs
-
 same-length-4 : tie.Need-same-length-4
 same-length-4 c = search needs
 
 returns-2 : tie.Need-returns-2
-returns-2 c = c .before .before .before .before .draw-in .ensures _ (sound-room _ (rw (c .before .before .before .before .before .before .before .enum-told .given .1) at (c .before .before .before .before .before .before .before .before .before .lent-refusal .ensures)) maxEntries 0) (limit-is _ _ _)
+returns-2 c = afterDrawIn c .draw-in .ensures _
+    (sound-room _ (rw (afterEnumTold c .enum-told .given .1) at
+    (c .before .before .before .before .before .before .before .before .before .lent-refusal .ensures)) maxEntries 0)
+    (limit-is _ _ _)
 
 pub draw-spec : {M : Type 1} → statement M
 draw-spec =
-    tie.close
-    (tie.spec
-    lent-refusal-requires
-    enum-known-checked
-    refuse-requires
-    same-length
-    same-length-2
-    returns
-    enum-told
-    draw-in-requires
-    same-length-3
-    same-length-4
-    returns-2)
+    tie.close (tie.spec lent-refusal-requires enum-known-checked refuse-requires same-length same-length-2 returns
+    enum-told draw-in-requires same-length-3 same-length-4 returns-2)

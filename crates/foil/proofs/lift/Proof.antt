@@ -6,18 +6,20 @@ use borrow.Author.Needs.{needs}
 use Rattle.foil.proofs.lift.Statement.{statement}
 use Rattle.foil.proofs.lift.Tie as tie
 
+-- back to enum_told and lift_in
+abbrev afterEnumTold : tie.After-slice-known4 → tie.After-enum-told
+afterEnumTold c = c .before .before .before .before .before .before .before
+abbrev afterLiftIn : tie.After-slice-known4 → tie.After-lift-in
+afterLiftIn c = c .before .before .before .before
+
 lent-refusal-requires : tie.Need-lent-refusal-requires
 lent-refusal-requires c κs = search needs
-
 enum-known-checked : tie.Need-enum-known-checked
 enum-known-checked c = search needs
-
 refuse-requires : tie.Need-refuse-requires
 refuse-requires c κs = search needs
-
 same-length : tie.Need-same-length
 same-length c = search needs
-
 same-length-2 : tie.Need-same-length-2
 same-length-2 c = search needs
 
@@ -30,29 +32,20 @@ enum-told : tie.Need-enum-told
 enum-told c = search needs
 
 lift-in-requires : tie.Need-lift-in-requires
-lift-in-requires c κs = (rw (c .before .before .enum-told .given .1) at (c .before .before .before .before .lent-refusal .ensures))
+lift-in-requires c κs = (rw (c .before .before .enum-told .given .1) at
+    (c .before .before .before .before .lent-refusal .ensures))
 
 same-length-3 : tie.Need-same-length-3
 same-length-3 c = search needs
-
 same-length-4 : tie.Need-same-length-4
 same-length-4 c = search needs
 
 returns-2 : tie.Need-returns-2
-returns-2 c = c .before .before .before .before .lift-in .ensures _ (sound-room _ (rw (c .before .before .before .before .before .before .before .enum-told .given .1) at (c .before .before .before .before .before .before .before .before .before .lent-refusal .ensures)) _ _)
+returns-2 c = afterLiftIn c .lift-in .ensures _
+    (sound-room _ (rw (afterEnumTold c .enum-told .given .1) at
+    (c .before .before .before .before .before .before .before .before .before .lent-refusal .ensures)) _ _)
 
 pub lift-spec : {M : Type 1} → statement M
 lift-spec =
-    tie.close
-    (tie.spec
-    lent-refusal-requires
-    enum-known-checked
-    refuse-requires
-    same-length
-    same-length-2
-    returns
-    enum-told
-    lift-in-requires
-    same-length-3
-    same-length-4
-    returns-2)
+    tie.close (tie.spec lent-refusal-requires enum-known-checked refuse-requires same-length same-length-2 returns
+    enum-told lift-in-requires same-length-3 same-length-4 returns-2)

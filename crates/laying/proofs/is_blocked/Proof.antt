@@ -8,6 +8,10 @@ use borrow.Author.Needs.{needs}
 use Rattle.laying.proofs.is_blocked.Statement.{statement}
 use Rattle.laying.proofs.is_blocked.Tie as tie
 
+-- back to the start
+abbrev atStart : tie.After-locate → tie.Start
+atStart c = c .before .before .before
+
 locate-requires : tie.Need-locate-requires
 locate-requires c κs = (
   strips-long _ _ _ (point (c .before .before .args .x) (c .before .before .args .y)) (c .before .before .pre .0),
@@ -16,22 +20,18 @@ locate-requires c κs = (
 
 enum-told : tie.Need-enum-told
 enum-told c = search needs
-
 enum-told-2 : tie.Need-enum-told-2
 enum-told-2 c = search needs
 
 returns : tie.Need-returns
-returns c = nowhere-blocked _ _ _ _ (c .before .before .before .before .before .pre .0) (c .before .before .before .before .before .pre .1 .0) (c .before .before .before .before .before .pre .1 .1) (sym (c .before .before .locate .ensures) ∙ c .enum-told2 .given .1)
+returns c = nowhere-blocked _ _ _ _ (atStart (c .before .before) .pre .0)
+    (atStart (c .before .before) .pre .1 .0) (atStart (c .before .before) .pre .1 .1)
+    (sym (c .before .before .locate .ensures) ∙ c .enum-told2 .given .1)
 
 returns-2 : tie.Need-returns-2
-returns-2 c = somewhere-free _ _ _ _ (c .before .before .before .before .before .pre .0) (c .before .before .before .before .before .pre .1 .0) (c .before .before .before .before .before .pre .1 .1) _ (sym (c .before .before .locate .ensures) ∙ c .enum-told .given .1)
+returns-2 c = somewhere-free _ _ _ _ (atStart (c .before .before) .pre .0)
+    (atStart (c .before .before) .pre .1 .0) (atStart (c .before .before) .pre .1 .1) _
+    (sym (c .before .before .locate .ensures) ∙ c .enum-told .given .1)
 
 pub is-blocked-spec : {M : Type 1} → statement M
-is-blocked-spec =
-    tie.close
-    (tie.spec
-    locate-requires
-    enum-told
-    enum-told-2
-    returns
-    returns-2)
+is-blocked-spec = tie.close (tie.spec locate-requires enum-told enum-told-2 returns returns-2)

@@ -8,18 +8,20 @@ use borrow.Author.Needs.{needs}
 use Rattle.laying.proofs.lay.Statement.{statement}
 use Rattle.laying.proofs.lay.Tie as tie
 
+-- back to enum_told and lay_in
+abbrev afterEnumTold : tie.After-lay-in-arg3 → tie.After-enum-told
+afterEnumTold c = c .before .before .before
+abbrev afterLayIn : tie.After-slice-known6 → tie.After-lay-in
+afterLayIn c = c .before .before .before .before .before .before
+
 lent-refusal-requires : tie.Need-lent-refusal-requires
 lent-refusal-requires c κs = search needs
-
 enum-known-checked : tie.Need-enum-known-checked
 enum-known-checked c = search needs
-
 refuse-requires : tie.Need-refuse-requires
 refuse-requires c κs = search needs
-
 same-length : tie.Need-same-length
 same-length c = search needs
-
 same-length-2 : tie.Need-same-length-2
 same-length-2 c = search needs
 
@@ -32,33 +34,23 @@ enum-told : tie.Need-enum-told
 enum-told c = search needs
 
 lay-in-requires : tie.Need-lay-in-requires
-lay-in-requires c κs = ((rw (c .before .before .before .enum-told .given .1) at (c .before .before .before .before .before .lent-refusal .ensures)), omega arith)
+lay-in-requires c κs = ((rw (afterEnumTold c .enum-told .given .1) at
+    (c .before .before .before .before .before .lent-refusal .ensures)), omega arith)
 
 same-length-3 : tie.Need-same-length-3
 same-length-3 c = search needs
-
 same-length-4 : tie.Need-same-length-4
 same-length-4 c = search needs
-
 same-length-5 : tie.Need-same-length-5
 same-length-5 c = search needs
 
 returns-2 : tie.Need-returns-2
-returns-2 c = c .before .before .before .before .before .before .lay-in .ensures _ (sound-room _ (rw (c .before .before .before .before .before .before .before .before .before .before .enum-told .given .1) at (c .before .before .before .before .before .before .before .before .before .before .before .before .lent-refusal .ensures)) maxEntries _) (limit-is _ _ _) (output-is _ _ _)
+returns-2 c = afterLayIn c .lay-in .ensures _
+    (sound-room _ (rw (afterEnumTold (afterLayIn c .before) .enum-told
+    .given .1) at (c .before .before .before .before .before .before .before .before .before .before .before .before
+    .lent-refusal .ensures)) maxEntries _) (limit-is _ _ _) (output-is _ _ _)
 
 pub lay-spec : {M : Type 1} → statement M
 lay-spec =
-    tie.close
-    (tie.spec
-    lent-refusal-requires
-    enum-known-checked
-    refuse-requires
-    same-length
-    same-length-2
-    returns
-    enum-told
-    lay-in-requires
-    same-length-3
-    same-length-4
-    same-length-5
-    returns-2)
+    tie.close (tie.spec lent-refusal-requires enum-known-checked refuse-requires same-length same-length-2 returns
+    enum-told lay-in-requires same-length-3 same-length-4 same-length-5 returns-2)

@@ -38,11 +38,5 @@ returns c =
 
 pub path-between-spec : {M : Type 1} → statement M
 path-between-spec =
-    tie.close
-    (tie.spec
-    slice-aggregate-zones
-    zones-requires
-    slice-aggregate-first-path
-    first-path-requires
-    same-length
-    returns)
+    tie.close (tie.spec slice-aggregate-zones zones-requires slice-aggregate-first-path first-path-requires
+    same-length returns)

@@ -42,7 +42,7 @@ fromMove c = c .before .before .before .before
 abbrev inThen : tie.After-larger Inv-loop μ-loop Inv-scan μ-scan → tie.Then1 Inv-loop μ-loop Inv-scan μ-scan
 inThen c = c .before .before .before
 
--- in the inner loop: j is a place of the order, a box stands there, and the row's end is not reached
+-- in the inner loop: j is a place of the order, a box stands there, and the row does not end there
 jlt : (c : tie.In-loop Inv-loop μ-loop Inv-scan μ-scan) → c .before .loop .j < atStart c .args .n
 jlt c = omega (arith, c .before .loop .inv .2 .jn, c .loop-test .left)
 

@@ -5,7 +5,7 @@ use mathlib.Core.Bool.{Bool, true, false}
 use mathlib.Core.List.{List, [], _∷_}
 use lib.ListN.{length}
 use Rattle.foil_spec.specs.Foil.{Point, point}
-use Rattle.reach.specs.Reach.{flip, Path, ink, Lex}
+use Rattle.courses.specs.Course.{flip, Path, ink, Lex}
 
 -- a path from (x, y) whose first segment is level or, if up, upright
 abbrev pub PathD : Bool → List ℕ → (ℕ → ℕ → Bool) → (ℕ → ℕ → Type 0) → ℕ → ℕ → Type 0

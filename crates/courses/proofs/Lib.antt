@@ -1,5 +1,5 @@
--- Laws of reach by segments.
-pub mod Reach
+-- Laws of courses.
+pub mod Course
 pub mod Slide
 pub mod Greedy
 pub mod Best

@@ -8,13 +8,13 @@ use mathlib.Core.Bool.{Bool}
 use mathlib.Core.Logic.{_⊎_, inl, inr}
 use mathlib.Core.List.{List, [], _∷_}
 use lib.ListN.{length}
-use Rattle.reach.specs.Reach.{flip, Span, Reach, Within, TargetFree, Path, ink, Greedy, Lex}
-use Rattle.reach.proofs.Reach.{reach-up, reach-merge}
+use Rattle.courses.specs.Course.{flip, Span, Course, Within, TargetFree, Path, ink, Greedy, Lex}
+use Rattle.courses.proofs.Course.{course-up, course-merge}
 
-pub path-reach : (cs : List ℕ) (f : ℕ → ℕ → Bool) (T : ℕ → ℕ → Type 0) (x y : ℕ)
-    → Path cs f T x y → Reach (length cs) f T x y
-path-reach [] f T x y p = p
-path-reach (c ∷ cs) f T x y p = (c, p .1, path-reach cs (flip f) (flip T) y c (p .2))
+pub path-course : (cs : List ℕ) (f : ℕ → ℕ → Bool) (T : ℕ → ℕ → Type 0) (x y : ℕ)
+    → Path cs f T x y → Course (length cs) f T x y
+path-course [] f T x y p = p
+path-course (c ∷ cs) f T x y p = (c, p .1, path-course cs (flip f) (flip T) y c (p .2))
 
 pub path-within : (cs : List ℕ) (f : ℕ → ℕ → Bool) (T : ℕ → ℕ → Type 0) (x y : ℕ)
     → Path cs f T x y → Within (length cs) (ink cs x y) f T x y
@@ -27,16 +27,16 @@ abbrev pub Chain : List ℕ → (ℕ → ℕ → Bool) → (ℕ → ℕ → Type
 Chain [] f T x y = T x y
 Chain (c ∷ cs) f T x y = Span f y x c × Chain cs (flip f) (flip T) y c
 
-chain-reach : (cs : List ℕ) (f : ℕ → ℕ → Bool) (T : ℕ → ℕ → Type 0) (x y : ℕ)
-    → Chain cs f T x y → Reach (length cs) f T x y
-chain-reach [] f T x y h = h
-chain-reach (c ∷ cs) f T x y h = (c, h .0, chain-reach cs (flip f) (flip T) y c (h .1))
+chain-course : (cs : List ℕ) (f : ℕ → ℕ → Bool) (T : ℕ → ℕ → Type 0) (x y : ℕ)
+    → Chain cs f T x y → Course (length cs) f T x y
+chain-course [] f T x y h = h
+chain-course (c ∷ cs) f T x y h = (c, h .0, chain-course cs (flip f) (flip T) y c (h .1))
 
-pub reach-chain : (n : ℕ) (f : ℕ → ℕ → Bool) (T : ℕ → ℕ → Type 0) (x y : ℕ)
-    → Reach n f T x y → (cs : List ℕ) × Chain cs f T x y × (length cs ≡ n)
-reach-chain zero f T x y r = ([], r, refl)
-reach-chain (suc n) f T x y r =
-    let h = reach-chain n (flip f) (flip T) y (r .0) (r .2) in
+pub course-chain : (n : ℕ) (f : ℕ → ℕ → Bool) (T : ℕ → ℕ → Type 0) (x y : ℕ)
+    → Course n f T x y → (cs : List ℕ) × Chain cs f T x y × (length cs ≡ n)
+course-chain zero f T x y r = ([], r, refl)
+course-chain (suc n) f T x y r =
+    let h = course-chain n (flip f) (flip T) y (r .0) (r .2) in
     (r .0 ∷ h .0, (r .1, h .1), ap suc (h .2))
 
 greedy-chain : (cs : List ℕ) (f : ℕ → ℕ → Bool) (T : ℕ → ℕ → Type 0) (x y : ℕ)
@@ -44,24 +44,24 @@ greedy-chain : (cs : List ℕ) (f : ℕ → ℕ → Bool) (T : ℕ → ℕ → T
 greedy-chain [] f T x y g = g
 greedy-chain (c ∷ cs) f T x y g = (g .0, greedy-chain cs (flip f) (flip T) y c (g .2))
 
--- no segment has length zero, where no fewer segments reach a target
+-- no segment has length zero, where no fewer segments lead to a target
 pub chain-path : (cs : List ℕ) (f : ℕ → ℕ → Bool) (T : ℕ → ℕ → Type 0) → TargetFree f T
     → (x y : ℕ) → Chain cs f T x y
-    → ((n : ℕ) → n < length cs → Reach n f T x y → ⊥)
-    → ((n : ℕ) → n < length cs → Reach n (flip f) (flip T) y x → ⊥) → Path cs f T x y
+    → ((n : ℕ) → n < length cs → Course n f T x y → ⊥)
+    → ((n : ℕ) → n < length cs → Course n (flip f) (flip T) y x → ⊥) → Path cs f T x y
 chain-path [] f T tf x y h l u = h
 chain-path (c ∷ cs) f T tf x y h l u = (
-  λ e. u (length cs) (omega arith) (rw e at (chain-reach cs (flip f) (flip T) y c (h .1))),
+  λ e. u (length cs) (omega arith) (rw e at (chain-course cs (flip f) (flip T) y c (h .1))),
   h .0,
   chain-path cs (flip f) (flip T) (λ a b t. tf b a t) y c (h .1)
       (λ n lt r. l (suc n) (omega arith) (c, h .0, r))
-      (λ n lt r. l (suc n) (omega arith) (reach-merge n f T x y c (h .0) (reach-up n f T tf c y r))),
+      (λ n lt r. l (suc n) (omega arith) (course-merge n f T x y c (h .0) (course-up n f T tf c y r))),
 )
 
 pub greedy-path : (cs : List ℕ) (f : ℕ → ℕ → Bool) (T : ℕ → ℕ → Type 0) → TargetFree f T
     → (x y : ℕ) → Greedy cs f T x y
-    → ((n : ℕ) → n < length cs → Reach n f T x y → ⊥)
-    → ((n : ℕ) → n < length cs → Reach n (flip f) (flip T) y x → ⊥) → Path cs f T x y
+    → ((n : ℕ) → n < length cs → Course n f T x y → ⊥)
+    → ((n : ℕ) → n < length cs → Course n (flip f) (flip T) y x → ⊥) → Path cs f T x y
 greedy-path cs f T tf x y g l u = chain-path cs f T tf x y (greedy-chain cs f T x y g) l u
 
 pub greedy-first : (cs ks : List ℕ) (f : ℕ → ℕ → Bool) (T : ℕ → ℕ → Type 0) (x y : ℕ)

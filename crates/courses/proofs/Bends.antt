@@ -1,4 +1,4 @@
--- A path of fewest bends has no more of them than any way to reach the target has, zero-length segments included.
+-- A path of fewest bends has no more of them than any course to the target has, zero-length segments included.
 use Prim.Native.Nat.{ℕ, zero, suc, _-_, _≤_, _<_}
 use native.Mathlib.Omega.{arith}
 use native.Mathlib.Decide.{decLe}
@@ -11,10 +11,10 @@ use Rattle.foil_spec.specs.Foil.{Point}
 use Rattle.foil_spec.specs.Paths.{at, isPath, bends}
 use Rattle.path_laws.proofs.Segments.{leads-either}
 use Rattle.path_laws.proofs.FirstPath.{to-path}
-use Rattle.reach.specs.Reach.{flip, Reach, TargetFree}
-use Rattle.reach.specs.Best.{corners, At}
-use Rattle.reach.proofs.Best.{Fewest, level-fewest, upright-fewest}
-use Rattle.reach.proofs.Corners.{corners-length, heading, path-leads}
+use Rattle.courses.specs.Course.{flip, Course, TargetFree}
+use Rattle.courses.specs.Best.{corners, At}
+use Rattle.courses.proofs.Best.{Fewest, level-fewest, upright-fewest}
+use Rattle.courses.proofs.Corners.{corners-length, heading, path-leads}
 
 module _ (f : ℕ → ℕ → Bool) (S T : Point) (s-free : f (S .x) (S .y) ≡ true) (t-free : TargetFree f (At T))
     (cs : List Point) (fewest : (ds : List Point) → isPath f S T ds ≡ true → bends cs ≤ bends ds) where
@@ -29,15 +29,15 @@ module _ (f : ℕ → ℕ → Bool) (S T : Point) (s-free : f (S .x) (S .y) ≡ 
       (leads-either f (at T) (heading (F .up)) S ps (path-leads f T (F .up) (F .cs) (S .x) (S .y) (F .path)))) in
       omega arith
 
-  -- T is not reached by m segments, whichever way the first goes
-  abbrev Unreached : ℕ → Type 0
-  Unreached m = (Reach m f (At T) (S .x) (S .y) → ⊥) × (Reach m (flip f) (flip (At T)) (S .y) (S .x) → ⊥)
+  -- no m segments lead to T, whichever way the first goes
+  abbrev Unmet : ℕ → Type 0
+  Unmet m = (Course m f (At T) (S .x) (S .y) → ⊥) × (Course m (flip f) (flip (At T)) (S .y) (S .x) → ⊥)
 
   -- nor by any number up to the bends of the path
-  unreached : (n m : ℕ) → m < n → n ≤ suc (bends cs) → 1 ≤ bends cs → Unreached m
-  unreached zero m l u one = absurd (omega arith)
-  unreached (suc n) m l u one =
-      let below : (k : ℕ) → k < m → Unreached k = λ k j. unreached n k (omega arith) (omega arith) one in (
+  unmet : (n m : ℕ) → m < n → n ≤ suc (bends cs) → 1 ≤ bends cs → Unmet m
+  unmet zero m l u one = absurd (omega arith)
+  unmet (suc n) m l u one =
+      let below : (k : ℕ) → k < m → Unmet k = λ k j. unmet n k (omega arith) (omega arith) one in (
         λ r.
             let b =
             beside m
@@ -50,8 +50,8 @@ module _ (f : ℕ → ℕ → Bool) (S T : Point) (s-free : f (S .x) (S .y) ≡ 
             omega arith,
       )
 
-  -- where n segments reach T, zero-length ones allowed, a path of fewest bends has no more than n − 1
-  pub bends-most : (n : ℕ) → Reach n f (At T) (S .x) (S .y) → bends cs ≤ n - 1
+  -- where n segments lead to T, zero-length ones allowed, a path of fewest bends has no more than n − 1
+  pub bends-most : (n : ℕ) → Course n f (At T) (S .x) (S .y) → bends cs ≤ n - 1
   bends-most n r =
       by-cases (decLe (bends cs) (n - 1)) (λ l. l)
-      (λ l. absurd (unreached (suc n) n (omega arith) (omega arith) (omega arith) .0 r))
+      (λ l. absurd (unmet (suc n) n (omega arith) (omega arith) (omega arith) .0 r))

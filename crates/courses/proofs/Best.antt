@@ -7,9 +7,9 @@ use mathlib.Core.Bool.{Bool, true, false}
 use mathlib.Core.Logic.{_≢_}
 use mathlib.Core.List.{List, [], _∷_}
 use lib.ListN.{length}
-use Rattle.reach.specs.Reach.{flip, Reach, TargetFree, Path, ink, Greedy}
-use Rattle.reach.specs.Best.{PathD, inkD, LexD, Best}
-use Rattle.reach.proofs.Greedy.{path-reach, reach-chain, chain-path, greedy-path, greedy-first}
+use Rattle.courses.specs.Course.{flip, Course, TargetFree, Path, ink, Greedy}
+use Rattle.courses.specs.Best.{PathD, inkD, LexD, Best}
+use Rattle.courses.proofs.Greedy.{path-course, course-chain, chain-path, greedy-path, greedy-first}
 
 -- a path of n segments, where none has fewer
 pub record Fewest (f : ℕ → ℕ → Bool) (T : ℕ → ℕ → Type 0) (x y n : ℕ) : Type 0 where
@@ -20,18 +20,18 @@ pub record Fewest (f : ℕ → ℕ → Bool) (T : ℕ → ℕ → Type 0) (x y n
   pub least : (d : Bool) (ks : List ℕ) → PathD d ks f T x y → length cs ≤ length ks
 
 module _ (f : ℕ → ℕ → Bool) (T : ℕ → ℕ → Type 0) (tf : TargetFree f T) (x y n : ℕ)
-    (lo : (m : ℕ) → m < n → Reach m f T x y → ⊥) (up : (m : ℕ) → m < n → Reach m (flip f) (flip T) y x → ⊥) where
+    (lo : (m : ℕ) → m < n → Course m f T x y → ⊥) (up : (m : ℕ) → m < n → Course m (flip f) (flip T) y x → ⊥) where
   no-fewer : (d : Bool) (ks : List ℕ) → PathD d ks f T x y → n ≤ length ks
   no-fewer d ks p = pick d p (decLe n (length ks))
     where
       pick : (d : Bool) → PathD d ks f T x y → Dec (n ≤ length ks) → n ≤ length ks
       pick d p (yes q) = q
-      pick false p (no q) = absurd (lo (length ks) (omega arith) (path-reach ks f T x y p))
-      pick true p (no q) = absurd (up (length ks) (omega arith) (path-reach ks (flip f) (flip T) y x p))
+      pick false p (no q) = absurd (lo (length ks) (omega arith) (path-course ks f T x y p))
+      pick true p (no q) = absurd (up (length ks) (omega arith) (path-course ks (flip f) (flip T) y x p))
 
-  pub level-fewest : Reach n f T x y → Fewest f T x y n
+  pub level-fewest : Course n f T x y → Fewest f T x y n
   level-fewest r =
-      let c = reach-chain n f T x y r in
+      let c = course-chain n f T x y r in
       record {
         up = false;
         cs = c .0;
@@ -42,9 +42,9 @@ module _ (f : ℕ → ℕ → Bool) (T : ℕ → ℕ → Type 0) (tf : TargetFre
         least = λ d ks p. let l = no-fewer d ks p in omega (arith, c .2);
       }
 
-  pub upright-fewest : Reach n (flip f) (flip T) y x → Fewest f T x y n
+  pub upright-fewest : Course n (flip f) (flip T) y x → Fewest f T x y n
   upright-fewest r =
-      let c = reach-chain n (flip f) (flip T) y x r in
+      let c = course-chain n (flip f) (flip T) y x r in
       record {
         up = true;
         cs = c .0;
@@ -56,8 +56,8 @@ module _ (f : ℕ → ℕ → Bool) (T : ℕ → ℕ → Type 0) (tf : TargetFre
       }
 
 module _ (f : ℕ → ℕ → Bool) (T : ℕ → ℕ → Type 0) (tf : TargetFree f T) (x y : ℕ) (cs : List ℕ)
-    (lo : (m : ℕ) → m < length cs → Reach m f T x y → ⊥)
-    (up : (m : ℕ) → m < length cs → Reach m (flip f) (flip T) y x → ⊥) where
+    (lo : (m : ℕ) → m < length cs → Course m f T x y → ⊥)
+    (up : (m : ℕ) → m < length cs → Course m (flip f) (flip T) y x → ⊥) where
   -- level first, where no path is shorter and none as short goes upright first towards smaller y
   pub best-level : Greedy cs f T x y
       → ((d : Bool) (ks : List ℕ) → PathD d ks f T x y → length cs ≡ length ks → ink cs x y ≤ inkD d ks x y)

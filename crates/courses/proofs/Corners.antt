@@ -15,8 +15,8 @@ use Rattle.list_laws.proofs.Tests.{and-l, and-r, and-i, or-cases}
 use Rattle.path_laws.proofs.Segments.{between-at, between-to, Level, Upright, of-level, of-upright}
 use Rattle.path_laws.proofs.Segments.{to-level, to-upright, after-level, after-upright, before-row, before-rows}
 use Rattle.path_laws.proofs.Goings.{before-head, before-tail}
-use Rattle.reach.specs.Reach.{flip, Span, Path, Lex}
-use Rattle.reach.specs.Best.{PathD, inkD, LexD, corners, At}
+use Rattle.courses.specs.Course.{flip, Span, Path, Lex}
+use Rattle.courses.specs.Best.{PathD, inkD, LexD, corners, At}
 
 pub corners-length : (up : Bool) (cs : List ℕ) (x y : ℕ) → length (corners up cs x y) ≡ length cs
 corners-length false [] x y = refl

@@ -9,8 +9,8 @@ use mathlib.Core.Bool.{Bool, true, false}
 use mathlib.Core.Logic.{_⊎_, inl, inr, by-cases}
 use Rattle.list_laws.proofs.Tests.{both, clash}
 use Rattle.foil_spec.specs.Paths.{gap}
-use Rattle.reach.specs.Reach.{flip, Span, Within, Marks}
-use Rattle.reach.proofs.Reach.{span-refl, span-sym, span-trans, span-start, span-end, span-part}
+use Rattle.courses.specs.Course.{flip, Span, Within, Marks}
+use Rattle.courses.proofs.Course.{span-refl, span-sym, span-trans, span-start, span-end, span-part}
 
 -- between the columns g and e nothing changes: what is free or a target there is so up to both
 pub record Between (f : ℕ → ℕ → Bool) (T : ℕ → ℕ → Type 0) (g e : ℕ) : Type 0 where

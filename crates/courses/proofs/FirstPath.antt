@@ -16,9 +16,9 @@ use Rattle.path_laws.proofs.Order.{by-length, by-corners}
 use Rattle.path_laws.proofs.FirstPath.{of-path, to-path, same-bends}
 use Rattle.path_laws.specs.First.{IsFirst}
 use Rattle.path_laws.proofs.Laws.{to-first, gives-first, gives-none, first-is, none-is}
-use Rattle.reach.specs.Best.{PathD, inkD, Best, corners, At}
-use Rattle.reach.proofs.Best.{Fewest}
-use Rattle.reach.proofs.Corners.{corners-length, corners-ink, heading, path-leads, either-path, lexd-before}
+use Rattle.courses.specs.Best.{PathD, inkD, Best, corners, At}
+use Rattle.courses.proofs.Best.{Fewest}
+use Rattle.courses.proofs.Corners.{corners-length, corners-ink, heading, path-leads, either-path, lexd-before}
 
 module _ (f : ℕ → ℕ → Bool) (W H : ℕ) (inside : (x y : ℕ) → f x y ≡ true → (x < W) × (y < H)) (S T : Point) where
   module _ (s-free : f (S .x) (S .y) ≡ true) (up : Bool) (cs : List ℕ) (B : Best up cs f (At T) (S .x) (S .y)) where

@@ -1,5 +1,6 @@
--- Reach by segments over any test f of free points (x first, then y) and any targets T. A level segment goes along
--- a row; an upright one is a level one of the flipped board, so that each notion is defined for one direction only.
+-- Courses, segments one after the other to a target, over any test f of free points (x first, then y) and any targets
+-- T. A level segment goes along a row; an upright one is a level one of the flipped board, so that each notion is
+-- defined for one direction only.
 use Prim.Native.Nat.{ℕ, zero, suc, _+_, _-_, _≤_, _<_, min, max}
 use mathlib.Core.Path.{_≡_}
 use mathlib.Core.Bool.{Bool, true, false}
@@ -17,15 +18,15 @@ unfoldable pub Span : (ℕ → ℕ → Bool) → ℕ → ℕ → ℕ → Type 0
 Span f y a b = (x : ℕ) → min a b ≤ x → x ≤ max a b → f x y ≡ true
 
 -- from (x, y) to a target by n segments, level and upright by turns, the first level, zero-length ones allowed
-abbrev pub Reach : ℕ → (ℕ → ℕ → Bool) → (ℕ → ℕ → Type 0) → ℕ → ℕ → Type 0
-Reach zero f T x y = T x y
-Reach (suc n) f T x y = (c : ℕ) × Span f y x c × Reach n (flip f) (flip T) y c
+abbrev pub Course : ℕ → (ℕ → ℕ → Bool) → (ℕ → ℕ → Type 0) → ℕ → ℕ → Type 0
+Course zero f T x y = T x y
+Course (suc n) f T x y = (c : ℕ) × Span f y x c × Course n (flip f) (flip T) y c
 
 -- every target is free
 abbrev pub TargetFree : (ℕ → ℕ → Bool) → (ℕ → ℕ → Type 0) → Type 0
 TargetFree f T = (x y : ℕ) → T x y → f x y ≡ true
 
--- as Reach, by n segments of at most len steps in all
+-- as Course, by n segments of at most len steps in all
 abbrev pub Within : ℕ → ℕ → (ℕ → ℕ → Bool) → (ℕ → ℕ → Type 0) → ℕ → ℕ → Type 0
 Within zero len f T x y = T x y
 Within (suc n) len f T x y =

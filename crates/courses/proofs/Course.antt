@@ -1,11 +1,11 @@
--- Laws of spans and of reach.
+-- Laws of spans and of courses.
 use Prim.Native.Nat.{ℕ, zero, suc, _+_, _-_, _≤_, min, max}
 use native.Mathlib.Omega.{arith}
 use native.Mathlib.Decide.{decLe}
 use mathlib.Core.Path.{_≡_, subst}
 use mathlib.Core.Bool.{Bool, true}
 use Rattle.foil_spec.specs.Paths.{gap}
-use Rattle.reach.specs.Reach.{flip, Span, Reach, Within, TargetFree}
+use Rattle.courses.specs.Course.{flip, Span, Course, Within, TargetFree}
 
 module _ (f : ℕ → ℕ → Bool) (y : ℕ) where
   pub span-refl : (a : ℕ) → f a y ≡ true → Span f y a a
@@ -39,15 +39,15 @@ module _ (f : ℕ → ℕ → Bool) (y : ℕ) where
   span-part a b c d p q h x lo hi = h x (omega arith) (omega arith)
 
 -- one segment more, of length zero, at the end
-pub reach-up : (n : ℕ) (f : ℕ → ℕ → Bool) (T : ℕ → ℕ → Type 0) → TargetFree f T
-    → (x y : ℕ) → Reach n f T x y → Reach (suc n) f T x y
-reach-up zero f T tf x y t = (x, span-refl f y x (tf x y t), t)
-reach-up (suc n) f T tf x y r = (r .0, r .1, reach-up n (flip f) (flip T) (λ a b t. tf b a t) y (r .0) (r .2))
+pub course-up : (n : ℕ) (f : ℕ → ℕ → Bool) (T : ℕ → ℕ → Type 0) → TargetFree f T
+    → (x y : ℕ) → Course n f T x y → Course (suc n) f T x y
+course-up zero f T tf x y t = (x, span-refl f y x (tf x y t), t)
+course-up (suc n) f T tf x y r = (r .0, r .1, course-up n (flip f) (flip T) (λ a b t. tf b a t) y (r .0) (r .2))
 
 -- a level segment before a level one joins it
-pub reach-merge : (n : ℕ) (f : ℕ → ℕ → Bool) (T : ℕ → ℕ → Type 0) (x y c : ℕ) → Span f y x c
-    → Reach (suc n) f T c y → Reach (suc n) f T x y
-reach-merge n f T x y c s r = (r .0, span-trans f y x c (r .0) s (r .1), r .2)
+pub course-merge : (n : ℕ) (f : ℕ → ℕ → Bool) (T : ℕ → ℕ → Type 0) (x y c : ℕ) → Span f y x c
+    → Course (suc n) f T c y → Course (suc n) f T x y
+course-merge n f T x y c s r = (r .0, span-trans f y x c (r .0) s (r .1), r .2)
 
 -- more steps allow as much
 pub within-more : (n a b : ℕ) (f : ℕ → ℕ → Bool) (T : ℕ → ℕ → Type 0) (x y : ℕ) → a ≤ b → Within n a f T x y
@@ -55,15 +55,15 @@ pub within-more : (n a b : ℕ) (f : ℕ → ℕ → Bool) (T : ℕ → ℕ → 
 within-more zero a b f T x y l w = w
 within-more (suc n) a b f T x y l w = (w .0, w .1, (let h = w .2 in omega arith), w .3, w .4)
 
--- reach, by so many steps and by any
-pub within-reach : (n len : ℕ) (f : ℕ → ℕ → Bool) (T : ℕ → ℕ → Type 0) (x y : ℕ) → Within n len f T x y
-    → Reach n f T x y
-within-reach zero len f T x y w = w
-within-reach (suc n) len f T x y w = (w .0, w .3, within-reach n (w .1) (flip f) (flip T) y (w .0) (w .4))
+-- courses of so many steps and of any
+pub within-course : (n len : ℕ) (f : ℕ → ℕ → Bool) (T : ℕ → ℕ → Type 0) (x y : ℕ) → Within n len f T x y
+    → Course n f T x y
+within-course zero len f T x y w = w
+within-course (suc n) len f T x y w = (w .0, w .3, within-course n (w .1) (flip f) (flip T) y (w .0) (w .4))
 
-pub reach-within : (n : ℕ) (f : ℕ → ℕ → Bool) (T : ℕ → ℕ → Type 0) (x y : ℕ) → Reach n f T x y
+pub course-within : (n : ℕ) (f : ℕ → ℕ → Bool) (T : ℕ → ℕ → Type 0) (x y : ℕ) → Course n f T x y
     → (len : ℕ) × Within n len f T x y
-reach-within zero f T x y r = (0, r)
-reach-within (suc n) f T x y r =
-    let h = reach-within n (flip f) (flip T) y (r .0) (r .2) in
+course-within zero f T x y r = (0, r)
+course-within (suc n) f T x y r =
+    let h = course-within n (flip f) (flip T) y (r .0) (r .2) in
     (gap x (r .0) + h .0, (r .0, h .0, omega arith, r .1, h .1))

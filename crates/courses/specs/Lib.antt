@@ -1,0 +1,3 @@
+-- Courses by segments, as the search sees them.
+pub mod Course
+pub mod Best

@@ -1,1 +1,0 @@
-// Reach by segments, over any free test: definitions in specs/, laws in proofs/, no code.
