@@ -1,5 +1,9 @@
 // The job program: reads a job file from standard input, and writes the lines of its records in turn.
+use foil_spec::CORNERS_SIZE;
+use foil_spec::STRIPS_SIZE;
+use foil_spec::TABLE_SIZE;
 use job::Next;
+use job_report::OUT_SIZE;
 use job_report::no_board;
 use job_report::report_record;
 ghost use Prim.Native.Nat.{_≤_};
@@ -19,10 +23,10 @@ fn main() {
 
 // Runs the records of a job file in turn, on a foil of its own, and writes the lines of each.
 fn write_job(bytes: &[u8]) {
-    let mut out = [0u8; 131072];
-    let mut table = [0u16; 640];
-    let mut strips = [0u16; 16384];
-    let mut corners = [0u16; 16384];
+    let mut out = [0u8; OUT_SIZE];
+    let mut table = [0u16; TABLE_SIZE];
+    let mut strips = [0u16; STRIPS_SIZE];
+    let mut corners = [0u16; CORNERS_SIZE];
     let mut board = no_board();
     let mut at: usize = 0;
     for _ in 0..RECORDS {
@@ -46,7 +50,7 @@ fn write_job(bytes: &[u8]) {
 }
 
 // Writes the first n bytes of what a record gave.
-fn write_lines(out: &[u8; 131072], n: usize)
+fn write_lines(out: &[u8; OUT_SIZE], n: usize)
     requires { ⌜ n ≤ 131072 ⌝ }
 {
     write_front(out, n);

@@ -7,12 +7,15 @@ mod show;
 use booking::in_use;
 use figures::ink_of;
 use foil_spec::Board;
+use foil_spec::CORNERS_SIZE;
 use foil_spec::Ink;
+use foil_spec::MAX_ENTRIES;
+use foil_spec::STRIPS_SIZE;
+use foil_spec::TABLE_SIZE;
 use job::Next;
-use job::Replied;
 use job::Reply;
-use job::run_record;
 use job_report::no_board;
+use job_report::run_one;
 use ohms::ohms;
 
 // One byte more than a job file may have, so that a longer one is known.
@@ -31,13 +34,13 @@ fn main() {
 
 // Runs the records of a job file in turn, on a foil of its own, and writes what is asked at its end.
 fn write_job(bytes: &[u8], ink: Ink) {
-    let mut table = [0u16; 640];
-    let mut strips = [0u16; 16384];
-    let mut corners = [0u16; 16384];
+    let mut table = [0u16; TABLE_SIZE];
+    let mut strips = [0u16; STRIPS_SIZE];
+    let mut corners = [0u16; CORNERS_SIZE];
     let mut board = no_board();
     let mut at: usize = 0;
     for _ in 0..RECORDS {
-        let done = run(&mut table, &mut strips, &mut corners, board, bytes, at);
+        let done = run_one(&mut table, &mut strips, &mut corners, board, bytes, at);
         board = done.board;
         let reply = done.reply;
         let next = after(reply, &table, &strips, board, ink);
@@ -48,21 +51,15 @@ fn write_job(bytes: &[u8], ink: Ink) {
     }
 }
 
-// Runs the record at a place, on lists as long as the calls ask for and 8,192 corner places.
-fn run(
-    table: &mut [u16; 640],
-    strips: &mut [u16; 16384],
-    corners: &mut [u16; 16384],
-    board: Board,
-    bytes: &[u8],
-    at: usize,
-) -> Replied {
-    run_record(table, strips, corners, board, bytes, at)
-}
-
 // Where the job goes on after a record. At its end the ohms are written; a file that is at fault or a
 // board that is refused ends it too, and its number is written.
-fn after(reply: Reply, table: &[u16; 640], strips: &[u16; 16384], board: Board, ink: Ink) -> Next {
+fn after(
+    reply: Reply,
+    table: &[u16; TABLE_SIZE],
+    strips: &[u16; STRIPS_SIZE],
+    board: Board,
+    ink: Ink,
+) -> Next {
     match reply {
         Reply::Refused(number) => {
             show::file(number);
@@ -81,7 +78,7 @@ fn after(reply: Reply, table: &[u16; 640], strips: &[u16; 16384], board: Board, 
 }
 
 // Writes the ohms of each net on the foil.
-fn write_nets(table: &[u16; 640], strips: &[u16; 16384], board: Board, ink: Ink) {
+fn write_nets(table: &[u16; TABLE_SIZE], strips: &[u16; STRIPS_SIZE], board: Board, ink: Ink) {
     let mut net: u16 = 0;
     while net < 999 {
         net += 1;
@@ -90,8 +87,14 @@ fn write_nets(table: &[u16; 640], strips: &[u16; 16384], board: Board, ink: Ink)
 }
 
 // Writes the ohms of a net, if it is on the foil. The places after the last entry are of net 0.
-fn write_net(table: &[u16; 640], strips: &[u16; 16384], board: Board, net: u16, ink: Ink) {
-    if in_use(table, 128, net) {
+fn write_net(
+    table: &[u16; TABLE_SIZE],
+    strips: &[u16; STRIPS_SIZE],
+    board: Board,
+    net: u16,
+    ink: Ink,
+) {
+    if in_use(table, MAX_ENTRIES, net) {
         show::answer(net, ohms(table, strips, board, net, ink));
     }
 }

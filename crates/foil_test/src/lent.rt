@@ -1,6 +1,5 @@
 // Calls that are lent too little, or a state that is broken, and records at any place. All lists are lent full of
 // sevens.
-use crate::run::no_board;
 use crate::run::number;
 use crate::show;
 use foil::Done;
@@ -10,6 +9,7 @@ use job::Next;
 use job::Replied;
 use job::Reply;
 use job::run_record;
+use job_report::no_board;
 use laying::lay;
 
 pub(crate) fn all() {

@@ -2,12 +2,16 @@
 // ended.
 use foil::Answer;
 use foil_spec::Board;
+use foil_spec::CORNERS_SIZE;
+use foil_spec::STRIPS_SIZE;
+use foil_spec::TABLE_SIZE;
 use job::Answers;
 use job::Next;
 use job::Replied;
 use job::Reply;
 use job::Told;
-use job::run_record;
+use job_report::no_board;
+use job_report::run_one;
 ghost use Prim.Native.Nat.{_<_, _≤_};
 ghost use lib.ListN.{length};
 
@@ -25,17 +29,6 @@ pub(crate) enum Ended {
 pub(crate) struct Job {
     pub(crate) board: Board,
     pub(crate) ended: Ended,
-}
-
-// The record before a foil is begun.
-pub(crate) fn no_board() -> Board {
-    Board {
-        width: 0,
-        height: 0,
-        clearance: 0,
-        entries: 0,
-        strips: 0,
-    }
 }
 
 // Adds one to the count of a step's number, if the step was run.
@@ -69,18 +62,6 @@ fn count_steps(counts: &mut [u64; 32], answers: Answers) {
     count(counts, lift);
 }
 
-// Runs the record at a place.
-fn run_one(
-    table: &mut [u16; 640],
-    strips: &mut [u16; 16384],
-    corners: &mut [u16; 16384],
-    board: Board,
-    bytes: &[u8],
-    at: usize,
-) -> Replied {
-    run_record(table, strips, corners, board, bytes, at)
-}
-
 // Counts the steps of a record by its reply, and answers the place of the next one, if there is one.
 fn follow(counts: &mut [u64; 32], done: Replied) -> Next {
     let reply = done.reply;
@@ -112,9 +93,9 @@ fn over(done: Replied) -> Job {
 
 // Runs a job file and counts its steps by their numbers.
 pub(crate) fn run(counts: &mut [u64; 32], bytes: &[u8]) -> Job {
-    let mut table = [0u16; 640];
-    let mut strips = [0u16; 16384];
-    let mut corners = [0u16; 16384];
+    let mut table = [0u16; TABLE_SIZE];
+    let mut strips = [0u16; STRIPS_SIZE];
+    let mut corners = [0u16; CORNERS_SIZE];
     let mut board = no_board();
     let mut at: usize = 0;
     for _ in 0..RECORDS {

@@ -66,7 +66,8 @@ range-append a zero j =
 range-append a (suc n) j =
     let e : suc n + j ≡ suc (n + j) = omega arith in
     let f : suc a + n ≡ a + suc n = omega arith in
-    ap (range a) e ∙ ap (λ (l : List ℕ). a ∷ l) (range-append (suc a) n j ∙ ap (λ (k : ℕ). range (suc a) n ++ range k j) f)
+    ap (range a) e
+    ∙ ap (λ (l : List ℕ). a ∷ l) (range-append (suc a) n j ∙ ap (λ (k : ℕ). range (suc a) n ++ range k j) f)
 
 -- the bits below k, then j more
 pub range-split : (k j : ℕ) → range 0 (k + j) ≡ range 0 k ++ range k j

@@ -88,8 +88,8 @@ module _ (on : ℕ → Bool) (given : List Answer) (k : ℕ) (a : Answer) (set :
 
 -- ---- the fields, each told anew or not
 
-pub tell-all : (a : Answers) (k : ℕ) (t b p c l : Told) → b ≡ cond (eqb 0 k) t (a .board) → p ≡ cond (eqb 1 k) t (a .patch)
-    → c ≡ cond (eqb 2 k) t (a .track) → l ≡ cond (eqb 3 k) t (a .lift)
+pub tell-all : (a : Answers) (k : ℕ) (t b p c l : Told) → b ≡ cond (eqb 0 k) t (a .board)
+    → p ≡ cond (eqb 1 k) t (a .patch) → c ≡ cond (eqb 2 k) t (a .track) → l ≡ cond (eqb 3 k) t (a .lift)
     → ToldMore a k t (record { board = b; patch = p; track = c; lift = l })
 unfolding byBit toldMore
 tell-all a k t b p c l e f g h = record { is = λ d q. rw (e, f, g, h, q) refl }
@@ -137,7 +137,8 @@ told-by on given k y e =
 
 -- ---- a bit's field
 
-pub told-in : (on : ℕ → Bool) (given : List Answer) (k : ℕ) → k < mapBits → toldIn (answersOf on given) k ≡ toldAt on given k
+pub told-in : (on : ℕ → Bool) (given : List Answer) (k : ℕ) → k < mapBits
+    → toldIn (answersOf on given) k ≡ toldAt on given k
 unfolding toldIn answersOf byBit
 told-in on given zero h = refl
 told-in on given (suc zero) h = refl

@@ -107,7 +107,8 @@ module _ (r : Room) (bs : List ℕ) (at : ℕ) (m : Lent) where
         ends = ltb-false (length bs) (recordEnd bs at) (rw f at ends);
       }
 
-  pub stepped : (given : List Answer) (n : Option ℕ) → callOn r (runRecord bs at) m .answer ≡ ran given n → Stepped given
+  pub stepped : (given : List Answer) (n : Option ℕ) → callOn r (runRecord bs at) m .answer ≡ ran given n
+      → Stepped given
   unfolding callOn reply actRecord
   stepped given n h =
       let a = ran-all (stepOn r) (first checks) (isEnd bs at) (steps bs at) (recordEnd bs at) m given n h in
@@ -265,7 +266,8 @@ module _ (r : Room) (bs : List ℕ) (at : ℕ) where
 
     -- what was written before does not matter, and nothing is written after
     only-last : (i : ℕ) → k ≡ suc (suc i)
-        → outputAll (ranTo r bs at (k + suc j) m .answer) out ≡ outputAfter x (outputAll (ranTo r bs at k m .answer) out)
+        → outputAll (ranTo r bs at (k + suc j) m .answer) out
+        ≡ outputAfter x (outputAll (ranTo r bs at k m .answer) out)
     only-last i e =
         ap (λ (given : List Answer). outputAll given out) whole
         ∙ outputs-append (ranTo r bs at k m .answer) (x ∷ rest) out ∙ unfold outputAll in nothing
@@ -278,7 +280,8 @@ module _ (r : Room) (bs : List ℕ) (at : ℕ) where
             (λ (q : rest ≡ actAll (stepOn r) later-steps (stepOn r (stepAt bs at k) before .state) .answer).
             rw q
             (subst (λ (n : ℕ). outputAll
-            (actAll (stepOn r) (stepsAt bs at (range (suc n) j)) (stepOn r (stepAt bs at k) before .state) .answer) o ≡ o)
+            (actAll (stepOn r) (stepsAt bs at (range (suc n) j)) (stepOn r (stepAt bs at k) before .state) .answer) o
+            ≡ o)
             (sym e) (quiet i j (stepOn r (stepAt bs at k) before .state) o)))
             (met .later)
 
@@ -287,8 +290,8 @@ module _ (r : Room) (bs : List ℕ) (at : ℕ) where
     unfolding outputAfter overFront
     lay-front i e cs n q =
         ap (λ (o : List ℕ). cornersIn o (length cs)) (only-last i e)
-        ∙ subst (λ (y : Answer). cornersIn (outputAfter y (outputAll (ranTo r bs at k m .answer) out)) (length cs) ≡ cs) (sym q)
-        (corners-read cs _)
+        ∙ subst (λ (y : Answer). cornersIn (outputAfter y (outputAll (ranTo r bs at k m .answer) out)) (length cs) ≡ cs)
+        (sym q) (corners-read cs _)
 
     laid-bit : (c : Step) → stepAt bs at k ≡ c → (net : ℕ) (S T : Point) → c ≡ lay net S T → (cs : List Point) (n : ℕ)
         → x ≡ laid cs n → length cs ≤ r .output / 2

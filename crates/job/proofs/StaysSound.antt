@@ -31,7 +31,8 @@ module _ (r : Room) where
     abbrev new : Step
     new = newFoil W H d
 
-    refusal-ends : all (λ (c : Refusal). not (c .applies) || endsJob (refused (c .number))) (refusals new r (held m)) ≡ true
+    refusal-ends : all (λ (c : Refusal). not (c .applies) || endsJob (refused (c .number))) (refusals new r (held m))
+        ≡ true
     unfolding refusals endsJob
     refusal-ends = simp or-true
 

@@ -63,7 +63,8 @@ bit-skipped limit bs at k d t s out go q n =
       is = λ r m o long few room j.
           both (has bs at k)
           (λ set.
-          let over : not (d .ended) ≡ false = ap (λ (b : Bool). b && not (d .ended)) (sym set) ∙ sym q ∙ not-true go n in
+          let over : not (d .ended) ≡ false =
+          ap (λ (b : Bool). b && not (d .ended)) (sym set) ∙ sym q ∙ not-true go n in
           one-more (ran-same (ran-ended bs at r m k (sym (j .ended) ∙ not-false (d .ended) over)) j))
           (λ unset. one-more (ran-same (ran-unset bs at r m k unset) j));
     }
@@ -148,7 +149,8 @@ bits-sound r bs at m y long (suc k) h f =
     opens : has bs at 0 ≡ true → stepsAt bs at (range 0 (suc k)) ≡ new (stepsAt bs at (range 1 k))
     opens set = unfold stepsAt in rw set refl
 
-    opened : (ss : List Step) → ss ≡ new (stepsAt bs at (range 1 k)) → any endsJob (actAll (stepOn r) ss m .answer) ≡ false
+    opened : (ss : List Step) → ss ≡ new (stepsAt bs at (range 1 k))
+        → any endsJob (actAll (stepOn r) ss m .answer) ≡ false
         → sound (actAll (stepOn r) ss m .state) ≡ true
     opened ss e g =
         rw e (unfold stepAt in first-sound r _ _ _ (stepsAt bs at (range 1 k)) m long (rw e at g))
@@ -171,7 +173,9 @@ bit-ready limit bs at m o y k d t s out j l e f =
             set = set;
             table = omega (arith, y .table);
             strips = omega (arith, y .strips);
-            fine = λ g. ap sound (j .state) ∙ bits-sound r bs at m y (ready-long bs at m y limit (length o)) k (sym (j .ended) ∙ ne) g;
+            fine = λ g.
+                ap sound (j .state)
+                ∙ bits-sound r bs at m y (ready-long bs at m y limit (length o)) k (sym (j .ended) ∙ ne) g;
           };
     }
 

@@ -107,7 +107,8 @@ module _ (limit : ℕ) (bs : List ℕ) (at : ℕ) (b : Board) (t s out : List �
   abbrev room : Room
   room = roomIn limit m (length out)
 
-  call-done : (o : Option ℕ) → first (wholeRefusals room (not (sound m)) bs at) ≡ o → (r : Replied) (t′ s′ out′ : List ℕ)
+  call-done : (o : Option ℕ) → first (wholeRefusals room (not (sound m)) bs at) ≡ o
+      → (r : Replied) (t′ s′ out′ : List ℕ)
       → Replies (has bs at) (actRecord (stepOn room) o (isEnd bs at) (steps bs at) (recordEnd bs at) m) out r t′ s′ out′
       → RecordIn limit bs at m out r t′ s′ out′
   unfolding callOn reply

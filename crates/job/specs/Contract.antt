@@ -64,7 +64,8 @@ replyOf on atEnd = AtEnd
 replyOf on (measured x) = AtEnd
 
 -- the reply, the record, the table t and the strips s are those of a, and the output list is out after that reply
-pub record Replies (on : ℕ → Bool) (a : After Outcome Lent) (out : List ℕ) (r : Replied) (t s out′ : List ℕ) : Type 0 where
+pub record Replies (on : ℕ → Bool) (a : After Outcome Lent) (out : List ℕ) (r : Replied) (t s out′ : List ℕ)
+    : Type 0 where
   pub reply : r .reply ≡ replyOf on (a .answer)
   pub board : r .board ≡ a .state .board
   pub table : t ≡ a .state .table

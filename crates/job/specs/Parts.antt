@@ -105,7 +105,7 @@ pub record RanTo (r : Room) (bs : List ℕ) (at k : ℕ) (m : Lent) (out : List 
   pub state : lent (d .board) t s ≡ ranTo r bs at k m .state
   pub output : out′ ≡ outputAll (ranTo r bs at k m .answer) out
 
--- bit k was run after the bits below it had left d, t, s and out: with it the bits up to k have left d′, t′, s′ and out′
+-- bit k was met after the bits below it had left d, t, s and out: with it the bits up to k have left d′, t′, s′, out′
 pub record GoesOn (limit : ℕ) (bs : List ℕ) (at k : ℕ) (d : Stepped) (t s out : List ℕ) (d′ : Stepped)
     (t′ s′ out′ : List ℕ) : Type 0 where
   pub is : (r : Room) (m : Lent) (o : List ℕ) → short r ≡ false → r .limit ≡ limit → r .output ≡ length out

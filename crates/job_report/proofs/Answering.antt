@@ -1,16 +1,16 @@
 -- The lines of a record's steps by the answers of the code are those by the answers of the definitions.
-use Prim.Native.Nat.{ℕ, zero, suc, _+_, _-_, _*_, _/_, _≤_, _<_}
+use Prim.Native.Nat.{ℕ, zero, suc, _+_, _-_, _*_, _/_, _≤_}
 use native.Mathlib.Omega.{arith}
-use mathlib.Core.Path.{_≡_, refl, sym, ap, ap₂, _∙_}
-use mathlib.Core.Bool.{true, cond}
+use mathlib.Core.Path.{_≡_, refl, sym, ap, _∙_}
+use mathlib.Core.Bool.{true}
 use mathlib.Core.List.{List, [], _∷_, _++_}
 use lib.ListN.{length, drop}
 use lib.Seq.{drop-drop}
-use Rattle.foil_spec.specs.Lists.{range, consIf, each}
+use Rattle.foil_spec.specs.Lists.{range, each}
 use Rattle.foil_spec.specs.Limits.{maxStrips, cornerPlaces}
 use Rattle.foil_spec.specs.Ledger.{Step, newFoil, draw, lay, lift, lookUp, stripsOf}
 use Rattle.foil_spec.specs.Ledger.{Answer, refused, accepted, laid, found, numberOf}
-use Rattle.foil_spec.specs.Lent.{Lent, cornersIn, held}
+use Rattle.foil_spec.specs.Lent.{Lent, held}
 use Rattle.foil_spec.specs.Job.{mapBits, has, stepAt, stepsAt, steps}
 use Rattle.list_laws.proofs.Tests.{both}
 use Rattle.ledger_laws.proofs.Stored.{strips-fit, length-strips}
@@ -20,13 +20,12 @@ use Rattle.foil.specs.declared.Answer.{Answer as Answered}
 use Rattle.foil.specs.declared.Answer.the-variants.{Laid}
 use Rattle.job.specs.Contract.{setBelow, toldAt, toldIn, answersOf}
 use Rattle.job.specs.Parts.{Whole}
-use Rattle.job.specs.declared.Told.{Told}
-use Rattle.job.specs.declared.Told.the-variants.{Nothing, Said}
+use Rattle.job.specs.declared.Told.the-variants.{Said}
 use Rattle.job.proofs.ByBit.{said-none, said-here, SaidBy, told-by, told-in}
 use Rattle.job.proofs.Replies.{Tracked}
 use Rattle.lines.specs.Lines.{boardLine, patchLine, trackLaid, liftLine}
 use Rattle.lines.specs.Output.{trackLine, stepLine, stepLines}
-use Rattle.job_report.specs.Told.{numberIn, layLine, lineOf, toldLine, linesOf, answerLines, InList, FromBit, FromBits}
+use Rattle.job_report.specs.Told.{numberIn, layLine, lineOf, toldLine, linesOf, answerLines, FromBits}
 
 -- ---- the line of a step
 

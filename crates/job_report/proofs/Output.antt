@@ -4,7 +4,7 @@ use Prim.Native.Nat.{ℕ, zero, suc, _+_, _≤_, _<_}
 use native.Mathlib.Omega.{arith}
 use mathlib.Core.Path.{_≡_, refl, sym, ap, _∙_, subst}
 use mathlib.Core.Bool.{Bool, true, false, cond, not, _&&_}
-use mathlib.Core.List.{List, [], _∷_, _++_, append-nil}
+use mathlib.Core.List.{List, [], _++_, append-nil}
 use mathlib.Core.Option.{Option, none, some}
 use lib.Dec.{ltb}
 use lib.ListN.{length}
@@ -16,7 +16,7 @@ use Rattle.foil_spec.specs.Ledger.{Step, first, Room, short, After, afterLent, 
 use Rattle.foil_spec.specs.Lent.{Lent, store, held, layoutOk}
 use Rattle.foil_spec.specs.Job.{jobRoom, mapBits, fieldsAt, recordEnd, steps, isEnd, recordChecks}
 use Rattle.foil_spec.specs.Calls.{runRecord, Reply, answered, ran, atEnd, measured, endsJob, actAll, actRecord}
-use Rattle.foil_spec.specs.Calls.{tooLarge, wholeRefusals, reply, ledgerCall, callOn}
+use Rattle.foil_spec.specs.Calls.{tooLarge, wholeRefusals, reply, ledgerCall}
 use Rattle.ledger_laws.proofs.Refusals.{none-applies}
 use Rattle.ledger_laws.proofs.Stored.{held-store}
 use Rattle.ledger_laws.proofs.Kept.{call-kept}
@@ -171,7 +171,8 @@ writes-output bs m = go (opening jobRoom bs noFoil m long)
     go (begins b) =
         shown-record maxBytes bs 0 noFoil m m (b .is)
         (λ p. stored maxBytes bs p (line .state) m (b .kept))
-        ∙ lines-rest (steps bs 0) (line .answer) (line .state) (λ (n : ℕ). outputFrom maxBytes bs n (line .state)) wanted
+        ∙ lines-rest (steps bs 0) (line .answer) (line .state)
+        (λ (n : ℕ). outputFrom maxBytes bs n (line .state)) wanted
         (λ n q.
         let p = next-later jobRoom bs 0 noFoil n q in
         fuel maxBytes (length bs) bs n (line .state) (p .within)

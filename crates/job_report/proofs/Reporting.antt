@@ -7,14 +7,14 @@ use mathlib.Core.List.{List, [], _∷_, append-nil}
 use mathlib.Core.Option.{Option, none, some}
 use lib.ListN.{length, drop}
 use Rattle.foil_spec.specs.Lists.{each}
-use Rattle.foil_spec.specs.Limits.{maxEntries, tableSize, maxStrips, stripsSize, cornerPlaces}
+use Rattle.foil_spec.specs.Limits.{tableSize, maxStrips, stripsSize, cornerPlaces}
 use Rattle.foil_spec.specs.Ledger.{Answer, Room, stripsOf}
-use Rattle.foil_spec.specs.Lent.{Lent, held, listedStrips, roomIn, roomOf, stepOn}
+use Rattle.foil_spec.specs.Lent.{Lent, held, listedStrips, roomIn, roomOf}
 use Rattle.foil_spec.specs.Job.{jobRoom, mapBits, has, steps}
-use Rattle.foil_spec.specs.Calls.{runRecord, Reply as Outcome, answered, ran, atEnd, actAll, callOn, answersIn, outputAll}
+use Rattle.foil_spec.specs.Calls.{runRecord, Reply as Outcome, answered, ran, atEnd, callOn, answersIn, outputAll}
 use Rattle.foil_spec.specs.Calls.{outputBy}
 use Rattle.ledger_laws.proofs.Sound.{Sound, of-sound, strips-listed}
-use Rattle.job.specs.Contract.{setBelow, answersOf, nextOf, Replies, RecordDone}
+use Rattle.job.specs.Contract.{setBelow, nextOf, Replies, RecordDone}
 use Rattle.job.specs.Parts.{ranTo}
 use Rattle.job.specs.declared.Answers.{Answers}
 use Rattle.job.specs.declared.Next.{Next}

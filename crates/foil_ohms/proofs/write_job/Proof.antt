@@ -16,8 +16,8 @@ no-board-requires c κs = search needs
 loop-holds : tie.Need-loop-holds Inv-loop μ-loop
 loop-holds c = search needs
 
-run-requires : tie.Need-run-requires Inv-loop μ-loop
-run-requires c κs = search needs
+run-one-requires : tie.Need-run-one-requires Inv-loop μ-loop
+run-one-requires c κs = search needs
 
 after-requires : tie.Need-after-requires Inv-loop μ-loop
 after-requires c κs = search needs
@@ -45,5 +45,5 @@ returns-2 c = search needs
 
 pub write-job-spec : {M : Type 1} → statement M
 write-job-spec =
-    tie.close (tie.spec Inv-loop μ-loop no-board-requires loop-holds run-requires after-requires enum-known-next
+    tie.close (tie.spec Inv-loop μ-loop no-board-requires loop-holds run-one-requires after-requires enum-known-next
     enum-told returns add-counter loop-less loop-again returns-2)

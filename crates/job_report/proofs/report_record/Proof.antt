@@ -7,6 +7,25 @@ use Rattle.job_report.proofs.Reporting.{count-few, strips-reported}
 use Rattle.job_report.proofs.report_record.Statement.{statement}
 use Rattle.job_report.proofs.report_record.Tie as tie
 
+-- back to run_one, left, the loop match_keys1's head, reply, reply2 and enum_told
+abbrev afterRunOne : tie.After-put-strips-arg3 → tie.After-run-one
+afterRunOne c = c .before .before .before .before .before .before
+
+abbrev afterLeft : tie.After-put-answers-arg3 → tie.After-left
+afterLeft c = c .before .before .before .before .before .before
+
+abbrev atMatchKeys1 : tie.After-ended → tie.At-match-keys1
+atMatchKeys1 c = c .before .before .before .before .before
+
+abbrev afterReply : tie.After-ended → tie.After-reply
+afterReply c = c .before .before .before .before
+
+abbrev afterReply2 : tie.After-put-answers-arg3 → tie.After-reply2
+afterReply2 c = c .before .before .before .before
+
+abbrev afterEnumTold : tie.After-put-strips-arg3 → tie.After-enum-told
+afterEnumTold c = c .before .before .before
+
 run-one-requires : tie.Need-run-one-requires
 run-one-requires c κs = search needs
 
@@ -25,8 +44,8 @@ enum-known-reply-2 c = search needs
 put-answers-requires : tie.Need-put-answers-requires
 put-answers-requires c κs = (
   omega arith,
-  from-bits _ _ _ _ _ _ _ _ (c .before .before .before .before .before .before .before .run-one .ensures) _ _
-      (c .before .before .before .before .reply2 .given .1) (omega arith),
+  from-bits _ _ _ _ _ _ _ _ (afterLeft c .before .run-one .ensures) _ _
+      (afterReply2 c .reply2 .given .1) (omega arith),
 )
 
 enum-told : tie.Need-enum-told
@@ -34,8 +53,7 @@ enum-told c = search needs
 
 put-strips-requires : tie.Need-put-strips-requires
 put-strips-requires c κs =
-    let few = count-few _ _ _ _ _ _ _ _ (c .before .before .before .before .before .before .run-one .ensures)
-    (c .before .before .before .enum-told .given .1) in
+    let few = count-few _ _ _ _ _ _ _ _ (afterRunOne c .run-one .ensures) (afterEnumTold c .enum-told .given .1) in
     (few, omega arith, omega (arith, few))
 
 ended-requires-2 : tie.Need-ended-requires-2
@@ -43,35 +61,24 @@ ended-requires-2 c κs = search needs
 
 returns : tie.Need-returns
 returns c =
-    let all = file-reported _ _ _ _ _ _ _ _ (c .before .before .before .before .before .before .before .run-one .ensures) _
-    (c .before .before .before .before .reply .given .1) _ _ _ (c .before .file-line .ensures .0) _ (c .ended .ensures) in
+    let all = file-reported _ _ _ _ _ _ _ _ (atMatchKeys1 c .before .before .run-one .ensures) _
+    (afterReply c .reply .given .1) _ _ _ (c .before .file-line .ensures .0) _ (c .ended .ensures) in
     (all, omega (arith, all .lines .fits, all .lines .next))
 
 returns-2 : tie.Need-returns-2
 returns-2 c =
-    let all = steps-reported _ _ _ _ _ _ _ _ (c .before .before .before .before .before .before .before .before .run-one .ensures) _ _
-    (c .before .before .before .before .before .reply2 .given .1) _ _ _ (c .put-answers .ensures) in
+    let all = steps-reported _ _ _ _ _ _ _ _ (afterLeft (c .before) .before .run-one .ensures) _ _
+    (afterReply2 (c .before) .reply2 .given .1) _ _ _ (c .put-answers .ensures) in
     (all, omega (arith, all .lines .fits, all .lines .next))
 
 returns-3 : tie.Need-returns-3
 returns-3 c =
-    let all = strips-reported _ _ _ _ _ _ _ _ (c .before .before .before .before .before .before .before .before .run-one .ensures)
-    (c .before .before .before .before .before .enum-told .given .1) _ _ _ (c .before .put-strips .ensures .0) _ (c .ended2 .ensures) in
+    let all = strips-reported _ _ _ _ _ _ _ _ (afterRunOne (c .before .before) .run-one .ensures)
+    (afterEnumTold (c .before .before) .enum-told .given .1) _ _ _ (c .before .put-strips .ensures .0) _
+    (c .ended2 .ensures) in
     (all, omega (arith, ap (λ r. r .size) (c .ended2 .ensures), c .before .put-strips .ensures .1))
 
 pub report-record-spec : {M : Type 1} → statement M
 report-record-spec =
-    tie.close
-    (tie.spec
-    run-one-requires
-    enum-known-reply
-    file-line-requires
-    ended-requires
-    enum-known-reply-2
-    put-answers-requires
-    enum-told
-    put-strips-requires
-    ended-requires-2
-    returns
-    returns-2
-    returns-3)
+    tie.close (tie.spec run-one-requires enum-known-reply file-line-requires ended-requires enum-known-reply-2
+    put-answers-requires enum-told put-strips-requires ended-requires-2 returns returns-2 returns-3)

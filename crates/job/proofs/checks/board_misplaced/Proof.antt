@@ -1,3 +1,4 @@
+-- At place 0 the board is wanted, later it is not.
 use Rattle.job.proofs.Checking.{first-board, later-board}
 use borrow.Author.Needs.{needs}
 use Rattle.job.proofs.checks.board_misplaced.Statement.{statement}

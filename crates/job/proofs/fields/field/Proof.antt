@@ -1,3 +1,4 @@
+-- The two bytes stand in the list, low byte first.
 use Prim.Native.Nat.{_+_, _*_}
 use native.Mathlib.Omega.{arith}
 use mathlib.Core.Path.{refl}
@@ -5,6 +6,10 @@ use Rattle.foil_spec.specs.Job.{number, field}
 use borrow.Author.Needs.{needs}
 use Rattle.job.proofs.fields.field.Statement.{statement}
 use Rattle.job.proofs.fields.field.Tie as tie
+
+-- back to the start
+abbrev atStart : tie.After-shared-slice-known2 → tie.Start
+atStart c = c .before .before .before
 
 fields-at-requires : tie.Need-fields-at-requires
 fields-at-requires c κs = search needs
@@ -19,12 +24,7 @@ shared-slice-read-result : tie.Need-shared-slice-read-result
 shared-slice-read-result c = search needs
 
 cast-result : tie.Need-cast-result
-cast-result c =
-    omega (
-      arith,
-      c .shared-slice-known2 .given
-          (c .before .fields-at .result + 2 * c .before .before .before .args .i),
-    )
+cast-result c = omega (arith, c .shared-slice-known2 .given (c .before .fields-at .result + 2 * atStart c .args .i))
 
 add-result : tie.Need-add-result
 add-result c = search needs
@@ -37,7 +37,7 @@ cast-result-2 c =
     omega (
       arith,
       c .shared-slice-known3 .given
-          (c .before .before .fields-at .result + 2 * c .before .before .before .before .args .i + 1),
+          (c .before .before .fields-at .result + 2 * atStart (c .before) .args .i + 1),
     )
 
 mul-result : tie.Need-mul-result
@@ -45,7 +45,7 @@ mul-result c =
     omega (
       arith,
       c .shared-slice-known3 .given
-          (c .before .before .fields-at .result + 2 * c .before .before .before .before .args .i + 1),
+          (c .before .before .fields-at .result + 2 * atStart (c .before) .args .i + 1),
     )
 
 add-result-2 : tie.Need-add-result-2
@@ -53,9 +53,9 @@ add-result-2 c =
     omega (
       arith,
       c .before .shared-slice-known2 .given
-          (c .before .before .fields-at .result + 2 * c .before .before .before .before .args .i),
+          (c .before .before .fields-at .result + 2 * atStart (c .before) .args .i),
       c .shared-slice-known3 .given
-          (c .before .before .fields-at .result + 2 * c .before .before .before .before .args .i + 1),
+          (c .before .before .fields-at .result + 2 * atStart (c .before) .args .i + 1),
     )
 
 returns : tie.Need-returns
@@ -64,16 +64,5 @@ returns c = rw (c .before .before .fields-at .ensures) refl
 
 pub field-spec : {M : Type 1} → statement M
 field-spec =
-    tie.close
-    (tie.spec
-    fields-at-requires
-    mul-place
-    add-place
-    shared-slice-read-result
-    cast-result
-    add-result
-    shared-slice-read-result-2
-    cast-result-2
-    mul-result
-    add-result-2
-    returns)
+    tie.close (tie.spec fields-at-requires mul-place add-place shared-slice-read-result cast-result add-result
+    shared-slice-read-result-2 cast-result-2 mul-result add-result-2 returns)

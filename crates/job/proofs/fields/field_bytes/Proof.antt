@@ -1,3 +1,4 @@
+-- None where the bit is not set, else two for each number.
 use native.Mathlib.Omega.{arith}
 use mathlib.Core.Path.{refl, sym, _∙_}
 use borrow.Author.Tests.{not-true, not-false}
@@ -6,6 +7,10 @@ use Rattle.job.proofs.Places.{count-small}
 use borrow.Author.Needs.{needs}
 use Rattle.job.proofs.fields.field_bytes.Statement.{statement}
 use Rattle.job.proofs.fields.field_bytes.Tie as tie
+
+-- back to the start
+abbrev atStart : tie.Else1 → tie.Start
+atStart c = c .before .before .before
 
 has-requires : tie.Need-has-requires
 has-requires c κs = search needs
@@ -20,12 +25,10 @@ array-read-result : tie.Need-array-read-result
 array-read-result c = search needs
 
 mul-result-2 : tie.Need-mul-result-2
-mul-result-2 c =
-    record { fits = unfold fieldCount in omega (arith, count-small (c .before .before .before .args .k)) }
+mul-result-2 c = record { fits = unfold fieldCount in omega (arith, count-small (atStart c .args .k)) }
 
 returns-2 : tie.Need-returns-2
 returns-2 c = rw (sym (c .before .has .ensures) ∙ not-false _ (c .if1 .left)) (unfold fieldCount in refl)
 
 pub field-bytes-spec : {M : Type 1} → statement M
-field-bytes-spec =
-    tie.close (tie.spec has-requires returns mul-result array-read-result mul-result-2 returns-2)
+field-bytes-spec = tie.close (tie.spec has-requires returns mul-result array-read-result mul-result-2 returns-2)

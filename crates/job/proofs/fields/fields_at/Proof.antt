@@ -1,3 +1,4 @@
+-- After the map byte and the fields of the bits below i.
 use Prim.Native.Nat.{_+_, _≤_, _-_}
 use native.Mathlib.Omega.{arith}
 use mathlib.Core.Path.{_≡_, refl}
@@ -11,6 +12,10 @@ Inv-loop bytes at k place₀ i₀ place i = (i ≤ k) × (place ≡ fieldsAt byt
 
 abbrev μ-loop : tie.MeasureT-loop
 μ-loop bytes at k place₀ i₀ place i = k - i
+
+-- back to the start
+abbrev atStart : tie.After-field-bytes Inv-loop μ-loop → tie.Start Inv-loop μ-loop
+atStart c = c .before .before .before .before
 
 add-place : tie.Need-add-place Inv-loop μ-loop
 add-place c = omega arith
@@ -26,11 +31,11 @@ add-place-2 : tie.Need-add-place-2 Inv-loop μ-loop
 add-place-2 c =
     omega (
       arith,
-      fields-more (c .before .before .before .before .args .bytes .now)
-          (c .before .before .before .before .args .at) (c .before .before .loop .i) _
+      fields-more (atStart c .args .bytes .now)
+          (atStart c .args .at) (c .before .before .loop .i) _
           (c .field-bytes .ensures),
-      fields-near (c .before .before .before .before .args .bytes .now)
-          (c .before .before .before .before .args .at) (c .before .before .loop .i + 1),
+      fields-near (atStart c .args .bytes .now)
+          (atStart c .args .at) (c .before .before .loop .i + 1),
     )
 
 add-i : tie.Need-add-i Inv-loop μ-loop
@@ -40,26 +45,12 @@ loop-less : tie.Need-loop-less Inv-loop μ-loop
 loop-less c = omega arith
 
 loop-again : tie.Need-loop-again Inv-loop μ-loop
-loop-again c = (
-  omega arith,
-  rw (c .before .before .loop .inv .1) (fields-more _ _ _ _ (c .field-bytes
-      .ensures)),
-)
+loop-again c = (omega arith, rw (c .before .before .loop .inv .1) (fields-more _ _ _ _ (c .field-bytes .ensures)))
 
 returns : tie.Need-returns Inv-loop μ-loop
 returns c = fields-done _ _ _ _ _ (c .before .loop .inv .1) (omega arith)
 
 pub fields-at-spec : {M : Type 1} → statement M
 fields-at-spec =
-    tie.close
-    (tie.spec
-    Inv-loop
-    μ-loop
-    add-place
-    loop-holds
-    field-bytes-requires
-    add-place-2
-    add-i
-    loop-less
-    loop-again
-    returns)
+    tie.close (tie.spec Inv-loop μ-loop add-place loop-holds field-bytes-requires add-place-2 add-i loop-less
+    loop-again returns)

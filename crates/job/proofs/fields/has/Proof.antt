@@ -1,3 +1,4 @@
+-- The bit of the byte, as the definition has it.
 use mathlib.Core.Path.{refl}
 use Rattle.foil_spec.specs.Job.{mapByte, has}
 use borrow.Author.Needs.{needs}

@@ -1,3 +1,4 @@
+-- No place where the job has ended.
 use mathlib.Core.Path.{refl}
 use Rattle.job.specs.Contract.{nextOf}
 use Rattle.job.proofs.running.next_place.Statement.{statement}

@@ -4,6 +4,16 @@ use borrow.Author.Needs.{needs}
 use Rattle.job.proofs.running.run_bit.Statement.{statement}
 use Rattle.job.proofs.running.run_bit.Tie as tie
 
+-- back to the start, where runs holds and step_of
+abbrev atStart : tie.After-step-of-arg3 → tie.Start
+atStart c = c .before .before .before .before .before .before .before .before .before
+
+abbrev runs : tie.After-step-of-arg3 → tie.Else1
+runs c = c .before .before .before
+
+abbrev afterStepOf : tie.After-ends-job → tie.After-step-of
+afterStepOf c = c .before .before .before .before .before .before .before .before .before
+
 runs-requires : tie.Need-runs-requires
 runs-requires c κs = search needs
 
@@ -12,9 +22,10 @@ returns c = bit-skipped _ _ _ _ _ _ _ _ _ (c .before .runs .ensures) (c .if1 .ta
 
 step-of-requires : tie.Need-step-of-requires
 step-of-requires c κs = (
-  c .before .before .before .before .before .before .before .before .before .pre .0 .ready (is-set _ _ _ (c .before .before .before .before .before .before .before .before .before .args .before .ended) _ (c .before .before .before .before .runs .ensures) (c .before .before .before .if1 .left))
-      (not-ended _ _ _ (c .before .before .before .before .before .before .before .before .before .args .before .ended) _ (c .before .before .before .before .runs .ensures) (c .before .before .before .if1 .left)),
-  c .before .before .before .before .before .before .before .before .before .pre .1,
+  atStart c .pre .0 .ready (is-set _ _ _ (atStart c .args .before .ended) _ (runs c .before .runs .ensures)
+      (runs c .if1 .left))
+      (not-ended _ _ _ (atStart c .args .before .ended) _ (runs c .before .runs .ensures) (runs c .if1 .left)),
+  atStart c .pre .1,
 )
 
 tell-requires : tie.Need-tell-requires
@@ -33,19 +44,11 @@ same-length-3 : tie.Need-same-length-3
 same-length-3 c = search needs
 
 returns-2 : tie.Need-returns-2
-returns-2 c = bit-run _ _ _ _ _ _ _ _ _ (c .before .before .before .before .before .before .before .before .before .before .before .before .before .before .runs .ensures) (c .before .before .before .before .before .before .before .before .before .before .before .before .before .if1 .left) _ _ _ _ (c .before .before .before .before .before .before .before .before .before .step-of .ensures) _
+returns-2 c = bit-run _ _ _ _ _ _ _ _ _ (runs (afterStepOf c .before) .before .runs .ensures)
+    (runs (afterStepOf c .before) .if1 .left) _ _ _ _ (afterStepOf c .step-of .ensures) _
     (c .before .tell .ensures) _ (c .ends-job .ensures)
 
 pub run-bit-spec : {M : Type 1} → statement M
 run-bit-spec =
-    tie.close
-    (tie.spec
-    runs-requires
-    returns
-    step-of-requires
-    tell-requires
-    ends-job-requires
-    same-length
-    same-length-2
-    same-length-3
-    returns-2)
+    tie.close (tie.spec runs-requires returns step-of-requires tell-requires ends-job-requires same-length
+    same-length-2 same-length-3 returns-2)

@@ -8,17 +8,72 @@ use borrow.Author.Needs.{needs}
 use Rattle.job.proofs.running.step_of.Statement.{statement}
 use Rattle.job.proofs.running.step_of.Tie as tie
 
+-- back to the start, field, field3, new_foil_in, where test 2 holds, field4, field7, draw_in, where test 2 fails,
+-- where test 3 holds, field9, field12, lay_in, where test 3 fails and lift_in
+abbrev atStartFromThen1 : tie.Then1 → tie.Start
+atStartFromThen1 c = c .before .before .before .before .before
+
+abbrev atStartFromThen2 : tie.Then2 → tie.Start
+atStartFromThen2 c = c .before .before .before .before .before .before
+
+abbrev atStart : tie.Else2 → tie.Start
+atStart c = c .before .before .before .before .before .before
+
+abbrev afterField3 : tie.After-slice-known5 → tie.After-field3
+afterField3 c = c .before .before .before .before .before .before .before
+
+abbrev afterNewFoilIn : tie.After-slice-known5 → tie.After-new-foil-in
+afterNewFoilIn c = c .before .before .before .before
+
+abbrev inThen2 : tie.After-draw-in-arg2 → tie.Then2
+inThen2 c = c .before .before .before .before .before .before
+
+abbrev afterField4 : tie.After-field6 → tie.After-field4
+afterField4 c = c .before .before
+
+abbrev afterField7 : tie.After-slice-known7 → tie.After-field7
+afterField7 c = c .before .before .before .before .before .before .before
+
+abbrev afterDrawIn : tie.After-slice-known7 → tie.After-draw-in
+afterDrawIn c = c .before .before .before .before
+
+abbrev inElse2 : tie.After-lay-in-arg3 → tie.Else2
+inElse2 c = c .before .before .before .before .before .before .before .before .before
+
+abbrev inThen3 : tie.After-field9 → tie.Then3
+inThen3 c = c .before .before
+
+abbrev afterLayIn : tie.After-slice-known10 → tie.After-lay-in
+afterLayIn c = c .before .before .before .before .before .before
+
+abbrev inElse3 : tie.After-lift-in-arg2 → tie.Else3
+inElse3 c = c .before .before
+
+abbrev afterLiftIn : tie.After-slice-known12 → tie.After-lift-in
+afterLiftIn c = c .before .before .before .before
+
+abbrev afterField : tie.After-slice-known5 → tie.After-field
+afterField c = afterField3 c .before .before
+
+abbrev afterField12 : tie.After-slice-known10 → tie.After-field12
+afterField12 c = afterLayIn c .before .before .before .before
+
+abbrev afterField9 : tie.After-slice-known10 → tie.After-field9
+afterField9 c = afterField12 c .before .before .before
+
 field-requires : tie.Need-field-requires
 unfolding fieldCount
-field-requires c κs = field-ready _ _ (c .before .before .before .before .before .pre .0) 0 0 (c .if1 .taken) (omega arith)
+field-requires c κs = field-ready _ _ (atStartFromThen1 c .pre .0) 0 0 (c .if1 .taken) (omega arith)
 
 field-requires-2 : tie.Need-field-requires-2
 unfolding fieldCount
-field-requires-2 c κs = field-ready _ _ (c .before .before .before .before .before .before .pre .0) 0 1 (c .before .if1 .taken) (omega arith)
+field-requires-2 c κs = field-ready _ _ (atStartFromThen1 (c .before) .pre .0) 0 1 (c .before .if1 .taken)
+    (omega arith)
 
 field-requires-3 : tie.Need-field-requires-3
 unfolding fieldCount
-field-requires-3 c κs = field-ready _ _ (c .before .before .before .before .before .before .before .pre .0) 0 2 (c .before .before .if1 .taken) (omega arith)
+field-requires-3 c κs = field-ready _ _ (atStartFromThen1 (c .before .before) .pre .0) 0 2
+    (c .before .before .if1 .taken) (omega arith)
 
 new-foil-in-requires : tie.Need-new-foil-in-requires
 new-foil-in-requires c κs = search needs
@@ -30,27 +85,33 @@ same-length-2 : tie.Need-same-length-2
 same-length-2 c = search needs
 
 returns : tie.Need-returns
-returns c = does-board _ _ _ _ _ _ _ _ _ (c .before .before .before .before .before .before .before .before .before .before .if1 .taken) _ _ _ (c .before .before .before .before .before .before .before .before .before .field .ensures) (c .before .before .before .before .before .before .before .before .field2 .ensures)
-    (c .before .before .before .before .before .before .before .field3 .ensures) (c .before .before .before .before .new-foil-in .ensures)
+returns c = does-board _ _ _ _ _ _ _ _ _ (afterField c .before .if1 .taken) _ _ _ (afterField c .field .ensures)
+    (afterField3 c .before .field2 .ensures) (afterField3 c .field3 .ensures) (afterNewFoilIn c .new-foil-in .ensures)
 
 field-requires-4 : tie.Need-field-requires-4
 unfolding fieldCount
-field-requires-4 c κs = field-ready _ _ (c .before .before .before .before .before .before .pre .0) 1 0 (c .if2 .taken) (omega arith)
+field-requires-4 c κs = field-ready _ _ (atStartFromThen2 c .pre .0) 1 0 (c .if2 .taken) (omega arith)
 
 field-requires-5 : tie.Need-field-requires-5
 unfolding fieldCount
-field-requires-5 c κs = field-ready _ _ (c .before .before .before .before .before .before .before .pre .0) 1 1 (c .before .if2 .taken) (omega arith)
+field-requires-5 c κs = field-ready _ _ (atStartFromThen2 (c .before) .pre .0) 1 1 (c .before .if2 .taken)
+    (omega arith)
 
 field-requires-6 : tie.Need-field-requires-6
 unfolding fieldCount
-field-requires-6 c κs = field-ready _ _ (c .before .before .before .before .before .before .before .before .pre .0) 1 2 (c .before .before .if2 .taken) (omega arith)
+field-requires-6 c κs = field-ready _ _ (atStartFromThen2 (c .before .before) .pre .0) 1 2
+    (c .before .before .if2 .taken) (omega arith)
 
 field-requires-7 : tie.Need-field-requires-7
 unfolding fieldCount
-field-requires-7 c κs = field-ready _ _ (c .before .before .before .before .before .before .before .before .before .pre .0) 1 3 (c .before .before .before .if2 .taken) (omega arith)
+field-requires-7 c κs = field-ready _ _ (atStartFromThen2 (afterField4 c .before) .pre .0) 1 3
+    (afterField4 c .before .if2 .taken) (omega arith)
 
 draw-in-requires : tie.Need-draw-in-requires
-draw-in-requires c κs = (ready-sound (c .before .before .before .before .before .before .before .before .before .before .before .before .pre .0) (c .before .before .before .before .before .before .before .if1 .left), c .before .before .before .before .before .before .before .before .before .before .before .before .pre .1)
+draw-in-requires c κs = (
+  ready-sound (atStartFromThen2 (inThen2 c) .pre .0) (inThen2 c .before .if1 .left),
+  atStartFromThen2 (inThen2 c) .pre .1,
+)
 
 same-length-3 : tie.Need-same-length-3
 same-length-3 c = search needs
@@ -59,31 +120,39 @@ same-length-4 : tie.Need-same-length-4
 same-length-4 c = search needs
 
 returns-2 : tie.Need-returns-2
-returns-2 c = does-patch _ _ _ _ _ _ _ _ _ (c .before .before .before .before .before .before .before .before .before .before .before .if2 .taken) _ _ _ _ (c .before .before .before .before .before .before .before .before .before .before .field4 .ensures) (c .before .before .before .before .before .before .before .before .before .field5 .ensures)
-    (c .before .before .before .before .before .before .before .before .field6 .ensures) (c .before .before .before .before .before .before .before .field7 .ensures) (c .before .before .before .before .draw-in .ensures)
+returns-2 c = does-patch _ _ _ _ _ _ _ _ _ (inThen2 (afterDrawIn c .before) .if2 .taken) _ _ _ _
+    (afterField4 (afterField7 c .before) .field4 .ensures) (afterField7 c .before .before .field5 .ensures)
+    (afterField7 c .before .field6 .ensures) (afterField7 c .field7 .ensures) (afterDrawIn c .draw-in .ensures)
 
 field-requires-8 : tie.Need-field-requires-8
 unfolding fieldCount
-field-requires-8 c κs = field-ready _ _ (c .before .before .before .before .before .before .before .pre .0) 2 0 (c .if3 .taken) (omega arith)
+field-requires-8 c κs = field-ready _ _ (atStart (c .before) .pre .0) 2 0 (c .if3 .taken) (omega arith)
 
 field-requires-9 : tie.Need-field-requires-9
 unfolding fieldCount
-field-requires-9 c κs = field-ready _ _ (c .before .before .before .before .before .before .before .before .pre .0) 2 1 (c .before .if3 .taken) (omega arith)
+field-requires-9 c κs = field-ready _ _ (atStart (c .before .before) .pre .0) 2 1 (c .before .if3 .taken)
+    (omega arith)
 
 field-requires-10 : tie.Need-field-requires-10
 unfolding fieldCount
-field-requires-10 c κs = field-ready _ _ (c .before .before .before .before .before .before .before .before .before .pre .0) 2 2 (c .before .before .if3 .taken) (omega arith)
+field-requires-10 c κs = field-ready _ _ (atStart (inThen3 c .before) .pre .0) 2 2 (inThen3 c .if3 .taken)
+    (omega arith)
 
 field-requires-11 : tie.Need-field-requires-11
 unfolding fieldCount
-field-requires-11 c κs = field-ready _ _ (c .before .before .before .before .before .before .before .before .before .before .pre .0) 2 3 (c .before .before .before .if3 .taken) (omega arith)
+field-requires-11 c κs = field-ready _ _ (atStart (inThen3 (c .before) .before) .pre .0) 2 3
+    (inThen3 (c .before) .if3 .taken) (omega arith)
 
 field-requires-12 : tie.Need-field-requires-12
 unfolding fieldCount
-field-requires-12 c κs = field-ready _ _ (c .before .before .before .before .before .before .before .before .before .before .before .pre .0) 2 4 (c .before .before .before .before .if3 .taken) (omega arith)
+field-requires-12 c κs = field-ready _ _ (atStart (inThen3 (c .before .before) .before) .pre .0) 2 4
+    (inThen3 (c .before .before) .if3 .taken) (omega arith)
 
 lay-in-requires : tie.Need-lay-in-requires
-lay-in-requires c κs = (ready-sound (c .before .before .before .before .before .before .before .before .before .before .before .before .before .before .before .pre .0) (c .before .before .before .before .before .before .before .before .before .before .if1 .left), c .before .before .before .before .before .before .before .before .before .before .before .before .before .before .before .pre .1)
+lay-in-requires c κs = (
+  ready-sound (atStart (inElse2 c) .pre .0) (inElse2 c .before .if1 .left),
+  atStart (inElse2 c) .pre .1,
+)
 
 same-length-5 : tie.Need-same-length-5
 same-length-5 c = search needs
@@ -95,16 +164,26 @@ same-length-7 : tie.Need-same-length-7
 same-length-7 c = search needs
 
 returns-3 : tie.Need-returns-3
-returns-3 c = does-track _ _ _ _ _ _ _ _ _ _ (c .before .before .before .before .before .before .before .before .before .before .before .before .before .before .before .if3 .taken) _ _ _ _ _ (c .before .before .before .before .before .before .before .before .before .before .before .before .before .before .field8 .ensures) (c .before .before .before .before .before .before .before .before .before .before .before .before .before .field9 .ensures)
-    (c .before .before .before .before .before .before .before .before .before .before .before .before .field10 .ensures) (c .before .before .before .before .before .before .before .before .before .before .before .field11 .ensures) (c .before .before .before .before .before .before .before .before .before .before .field12 .ensures) (c .before .before .before .before .before .before .lay-in .ensures)
+returns-3 c = does-track _ _ _ _ _ _ _ _ _ _ (inThen3 (afterField9 c) .if3 .taken) _ _ _ _ _
+    (afterField9 c .before .field8 .ensures) (afterField9 c .field9 .ensures)
+    (afterField12 c .before .before .field10 .ensures) (afterField12 c .before .field11 .ensures)
+    (afterField12 c .field12 .ensures) (afterLayIn c .lay-in .ensures)
 
 field-requires-13 : tie.Need-field-requires-13
 unfolding fieldCount
-field-requires-13 c κs = let e : c .before .before .before .before .before .before .before .before .before .args .k ≡ 3 = omega (arith, c .before .before .before .before .before .before .before .before .before .pre .0 .bit, c .before .before .before .before .if1 .left, c .before .before .before .if2 .left, c .before .before .if3 .left) in
-    field-ready _ _ (c .before .before .before .before .before .before .before .before .before .pre .0) 3 0 e (omega arith)
+field-requires-13 c κs = let e : atStart (inElse3 c .before) .args .k
+    ≡ 3 = omega (
+      arith,
+      atStart (inElse3 c .before) .pre .0 .bit,
+      inElse3 c .before .before .if1 .left,
+      inElse3 c .before .if2 .left,
+      inElse3 c .if3 .left,
+    ) in
+    field-ready _ _ (atStart (inElse3 c .before) .pre .0) 3 0 e (omega arith)
 
 lift-in-requires : tie.Need-lift-in-requires
-lift-in-requires c κs = ready-sound (c .before .before .before .before .before .before .before .before .before .before .pre .0) (c .before .before .before .before .before .if1 .left)
+lift-in-requires c κs = ready-sound (atStart (inElse3 (c .before) .before) .pre .0)
+    (inElse3 (c .before) .before .before .if1 .left)
 
 same-length-8 : tie.Need-same-length-8
 same-length-8 c = search needs
@@ -113,40 +192,20 @@ same-length-9 : tie.Need-same-length-9
 same-length-9 c = search needs
 
 returns-4 : tie.Need-returns-4
-returns-4 c = let e : c .before .before .before .before .before .before .before .before .before .before .before .before .before .before .before .args .k ≡ 3 = omega (arith, c .before .before .before .before .before .before .before .before .before .before .before .before .before .before .before .pre .0 .bit, c .before .before .before .before .before .before .before .before .before .before .if1 .left, c .before .before .before .before .before .before .before .before .before .if2 .left, c .before .before .before .before .before .before .before .before .if3 .left) in
-    does-lift _ _ _ _ _ _ _ _ _ e _ (c .before .before .before .before .before .field13 .ensures) (c .before .before .before .before .lift-in .ensures)
+returns-4 c = let e : atStart (inElse3 (afterLiftIn c .before .before) .before) .args .k
+    ≡ 3 = omega (
+      arith,
+      atStart (inElse3 (afterLiftIn c .before .before) .before) .pre .0 .bit,
+      inElse3 (afterLiftIn c .before .before) .before .before .if1 .left,
+      inElse3 (afterLiftIn c .before .before) .before .if2 .left,
+      inElse3 (afterLiftIn c .before .before) .if3 .left,
+    ) in
+    does-lift _ _ _ _ _ _ _ _ _ e _ (afterLiftIn c .before .field13 .ensures) (afterLiftIn c .lift-in .ensures)
 
 pub step-of-spec : {M : Type 1} → statement M
 step-of-spec =
-    tie.close
-    (tie.spec
-    field-requires
-    field-requires-2
-    field-requires-3
-    new-foil-in-requires
-    same-length
-    same-length-2
-    returns
-    field-requires-4
-    field-requires-5
-    field-requires-6
-    field-requires-7
-    draw-in-requires
-    same-length-3
-    same-length-4
-    returns-2
-    field-requires-8
-    field-requires-9
-    field-requires-10
-    field-requires-11
-    field-requires-12
-    lay-in-requires
-    same-length-5
-    same-length-6
-    same-length-7
-    returns-3
-    field-requires-13
-    lift-in-requires
-    same-length-8
-    same-length-9
-    returns-4)
+    tie.close (tie.spec field-requires field-requires-2 field-requires-3 new-foil-in-requires same-length
+    same-length-2 returns field-requires-4 field-requires-5 field-requires-6 field-requires-7 draw-in-requires
+    same-length-3 same-length-4 returns-2 field-requires-8 field-requires-9 field-requires-10 field-requires-11
+    field-requires-12 lay-in-requires same-length-5 same-length-6 same-length-7 returns-3 field-requires-13
+    lift-in-requires same-length-8 same-length-9 returns-4)

@@ -4,6 +4,10 @@ use borrow.Author.Needs.{needs}
 use Rattle.job.proofs.running.tell.Statement.{statement}
 use Rattle.job.proofs.running.tell.Tie as tie
 
+-- back to newer
+abbrev afterNewer : tie.After-newer4 → tie.After-newer
+afterNewer c = c .before .before .before
+
 newer-requires : tie.Need-newer-requires
 newer-requires c κs = search needs
 
@@ -17,8 +21,8 @@ newer-requires-4 : tie.Need-newer-requires-4
 newer-requires-4 c κs = search needs
 
 returns : tie.Need-returns
-returns c = tell-all _ _ _ _ _ _ _ (c .before .before .before .newer .ensures) (c .before .before .newer2 .ensures) (c .before .newer3 .ensures) (c .newer4 .ensures)
+returns c = tell-all _ _ _ _ _ _ _ (afterNewer c .newer .ensures) (c .before .before .newer2 .ensures)
+    (c .before .newer3 .ensures) (c .newer4 .ensures)
 
 pub tell-spec : {M : Type 1} → statement M
-tell-spec =
-    tie.close (tie.spec newer-requires newer-requires-2 newer-requires-3 newer-requires-4 returns)
+tell-spec = tie.close (tie.spec newer-requires newer-requires-2 newer-requires-3 newer-requires-4 returns)

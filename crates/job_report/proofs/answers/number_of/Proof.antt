@@ -1,4 +1,4 @@
--- `job_report::answers::number_of` meets its contract: a refusal has its number, any other answer 0.
+-- A refusal has its number, any other answer 0.
 use borrow.Author.Needs.{needs}
 use Rattle.job.proofs.Ending.{no-refusal}
 use Rattle.job_report.proofs.Telling.{number-refused, number-other}
@@ -15,9 +15,4 @@ returns-2 : tie.Need-returns-2
 returns-2 c = number-refused _ _ (c .before .answer .given .1)
 
 pub number-of-spec : {M : Type 1} → statement M
-number-of-spec =
-    tie.close
-    (tie.spec
-    enum-known-answer
-    returns
-    returns-2)
+number-of-spec = tie.close (tie.spec enum-known-answer returns returns-2)

@@ -18,6 +18,16 @@ Inv-loop out₀ answers corners bytes place a₀ k₀ out a k =
 abbrev μ-loop : tie.MeasureT-loop
 μ-loop out₀ answers corners bytes place a₀ k₀ out a k = mapBits - k
 
+-- back to the start, the loop's head and told_by
+abbrev atStart : tie.After-told-by Inv-loop μ-loop → tie.Start Inv-loop μ-loop
+atStart c = c .before .before .before .before .before .before .before
+
+abbrev atLoop : tie.After-told-by Inv-loop μ-loop → tie.At-loop Inv-loop μ-loop
+atLoop c = c .before .before .before
+
+abbrev afterToldBy : tie.After-slice-known2 Inv-loop μ-loop → tie.After-told-by Inv-loop μ-loop
+afterToldBy c = c .before .before .before
+
 loop-holds : tie.Need-loop-holds Inv-loop μ-loop
 loop-holds c = (omega arith, lines-none _ _ _ _, omega arith)
 
@@ -26,8 +36,8 @@ told-by-requires c κs = omega arith
 
 put-bit-requires : tie.Need-put-bit-requires Inv-loop μ-loop
 put-bit-requires c κs = (
-  (omega arith, c .before .before .before .loop .inv .2, omega (arith, put-length (c .before .before .before .loop .inv .1))),
-  rw (c .told-by .ensures) (c .before .before .before .before .before .before .before .pre .1 .bit _ (omega arith)),
+  (omega arith, atLoop c .loop .inv .2, omega (arith, put-length (atLoop c .loop .inv .1))),
+  rw (c .told-by .ensures) (atStart c .pre .1 .bit _ (omega arith)),
 )
 
 add-k : tie.Need-add-k Inv-loop μ-loop
@@ -39,7 +49,8 @@ loop-less c = omega arith
 loop-again : tie.Need-loop-again Inv-loop μ-loop
 loop-again c = (
   omega arith,
-  lines-more _ _ _ _ _ _ (c .before .before .before .told-by .ensures) (c .before .before .before .before .before .before .loop .inv .1) (c .before .before .put-bit .ensures .0),
+  lines-more _ _ _ _ _ _ (afterToldBy c .told-by .ensures) (atLoop (afterToldBy c) .loop .inv .1)
+      (c .before .before .put-bit .ensures .0),
   c .before .before .put-bit .ensures .1,
 )
 
@@ -52,15 +63,5 @@ returns c = let last : c .before .loop .k ≡ mapBits = omega arith in
 
 pub put-answers-spec : {M : Type 1} → statement M
 put-answers-spec =
-    tie.close
-    (tie.spec
-    Inv-loop
-    μ-loop
-    loop-holds
-    told-by-requires
-    put-bit-requires
-    add-k
-    loop-less
-    loop-again
-    same-length
-    returns)
+    tie.close (tie.spec Inv-loop μ-loop loop-holds told-by-requires put-bit-requires add-k loop-less loop-again
+    same-length returns)

@@ -1,4 +1,4 @@
--- `job_report::strip_lines::put_strips` meets its contract: the loop has put the lines of the first k strips.
+-- The lines of the first k strips are put.
 use Prim.Native.Nat.{_-_, _*_, _≤_}
 use native.Mathlib.Omega.{arith}
 use Rattle.foil_spec.specs.Lists.{each}
@@ -16,6 +16,13 @@ Inv-loop out₀ list count a₀ k₀ out a k =
 
 abbrev μ-loop : tie.MeasureT-loop
 μ-loop out₀ list count a₀ k₀ out a k = count - k
+
+-- back to the loop's head and the loop's turn
+abbrev atLoop : tie.After-shared-slice-known5 Inv-loop μ-loop → tie.At-loop Inv-loop μ-loop
+atLoop c = c .before .before .before .before .before .before
+
+abbrev inLoop : tie.After-slice-known2 Inv-loop μ-loop → tie.In-loop Inv-loop μ-loop
+inLoop c = c .before .before .before .before .before .before .before .before
 
 loop-holds : tie.Need-loop-holds Inv-loop μ-loop
 loop-holds c = (omega arith, strips-none _ _, omega arith)
@@ -66,7 +73,7 @@ shared-slice-read-strip-line-4 : tie.Need-shared-slice-read-strip-line-4 Inv-loo
 shared-slice-read-strip-line-4 c = omega arith
 
 strip-line-requires : tie.Need-strip-line-requires Inv-loop μ-loop
-strip-line-requires c κs = omega (arith, put-length (c .before .before .before .before .before .before .loop .inv .1))
+strip-line-requires c κs = omega (arith, put-length (atLoop c .loop .inv .1))
 
 add-k : tie.Need-add-k Inv-loop μ-loop
 add-k c = omega arith
@@ -76,11 +83,11 @@ loop-less c = omega arith
 
 loop-again : tie.Need-loop-again Inv-loop μ-loop
 unfolding listedStrip
-loop-again c =
-    let line = c .before .before in
-    let reads = line .before .before .before in
-    let turn = reads .before .before .before .before in
-    (omega arith, strips-more _ _ (turn .loop .inv .1) (line .strip-line .ensures .0), omega arith)
+loop-again c = (
+  omega arith,
+  strips-more _ _ (inLoop c .before .loop .inv .1) (c .before .before .strip-line .ensures .0),
+  omega arith,
+)
 
 same-length : tie.Need-same-length Inv-loop μ-loop
 same-length c = put-length (c .before .loop .inv .1)
@@ -90,29 +97,7 @@ returns c = (strips-all _ _ _ (omega arith) (omega arith) (c .before .loop .inv 
 
 pub put-strips-spec : {M : Type 1} → statement M
 put-strips-spec =
-    tie.close
-    (tie.spec
-    Inv-loop
-    μ-loop
-    loop-holds
-    mul-strip-line
-    mul-strip-line-2
-    shared-slice-read-strip-line
-    mul-strip-line-3
-    add-strip-line
-    mul-strip-line-4
-    shared-slice-read-strip-line-2
-    mul-strip-line-5
-    add-strip-line-2
-    mul-strip-line-6
-    shared-slice-read-strip-line-3
-    mul-strip-line-7
-    add-strip-line-3
-    mul-strip-line-8
-    shared-slice-read-strip-line-4
-    strip-line-requires
-    add-k
-    loop-less
-    loop-again
-    same-length
-    returns)
+    tie.close (tie.spec Inv-loop μ-loop loop-holds mul-strip-line mul-strip-line-2 shared-slice-read-strip-line
+    mul-strip-line-3 add-strip-line mul-strip-line-4 shared-slice-read-strip-line-2 mul-strip-line-5 add-strip-line-2
+    mul-strip-line-6 shared-slice-read-strip-line-3 mul-strip-line-7 add-strip-line-3 mul-strip-line-8
+    shared-slice-read-strip-line-4 strip-line-requires add-k loop-less loop-again same-length returns)
