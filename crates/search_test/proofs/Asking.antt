@@ -2,16 +2,14 @@
 use Prim.Native.Nat.{ℕ, _≤_}
 use native.Mathlib.Omega.{arith}
 use mathlib.Core.Path.{_≡_, ap, _∙_}
-use mathlib.Core.Bool.{Bool, true, not}
+use mathlib.Core.Bool.{Bool, true}
 use mathlib.Core.List.{List}
 use lib.ListN.{length}
-use borrow.Author.Tests.{lt-ltb}
-use Rattle.foil_spec.specs.Foil.{Entry, point, blocks, free}
-use Rattle.foil_spec.specs.Lent.{entryAt, layoutOf}
-use Rattle.list_laws.proofs.Tests.{and-i, not-f}
-use Rattle.list_laws.proofs.Members.{all-places}
+use Rattle.foil_spec.specs.Foil.{point, free}
+use Rattle.foil_spec.specs.Lent.{layoutOf}
 use Rattle.zones.specs.Boxes.{Zoned}
 use Rattle.zones.specs.Table.{Table}
+use Rattle.zones.proofs.Free.{free-at}
 use Rattle.search.specs.Grid.{Posed}
 use Rattle.plain.specs.Free.{Unblocked}
 use Rattle.search_test.specs.Box.{AllBoxes}
@@ -32,10 +30,7 @@ module _ {t : List ℕ} {n d w h : ℕ} where
       }
 
   is-free : {x y : ℕ} → Unblocked t n d w h x y → free (layoutOf w h d n t) x y ≡ true
-  unfolding free layoutOf
-  is-free {x} {y} u =
-      and-i (and-i (lt-ltb x w (u .x-on)) (lt-ltb y h (u .y-on)))
-      (all-places (λ (e : Entry). not (blocks d e x y)) (entryAt t) n (λ k l. not-f (u .none k l)))
+  is-free {x} {y} u = free-at w h d n t x y (u .x-on) (u .y-on) (u .none)
 
   pub posed : {z : List ℕ} {c sx sy tx ty : ℕ} → Zoned (free (layoutOf w h d n t)) w h z c → Unblocked t n d w h sx sy
       → Unblocked t n d w h tx ty → Posed z c w h (point sx sy) (point tx ty)
