@@ -6,11 +6,12 @@ use native.Mathlib.Numerals.{add-one}
 use mathlib.Core.Path.{_≡_, refl, sym, ap, _∙_, subst}
 use mathlib.Core.Bool.{Bool, true, false, _||_}
 use mathlib.Core.List.{List, [], _∷_, _++_, map, append-nil}
-use lib.ListN.{length, getD, length-append}
+use lib.ListN.{length, length-append}
 use lib.Dec.{leb, ltb}
 use borrow.Author.Tests.{eq-eqb, ne-eqb, ltb-true, leb-true}
 use Rattle.foil_spec.specs.Lists.{range, keep, consIf, any, all}
-use Rattle.foil_spec.specs.Foil.{Entry, entry, boxOk, entryOk}
+use Rattle.foil_spec.specs.Limits.{maxEntries}
+use Rattle.foil_spec.specs.Foil.{Entry, boxOk, entryOk}
 use Rattle.foil_spec.specs.Ledger.{ofNet, inUse}
 use Rattle.foil_spec.specs.Lent.{entryAt}
 use Rattle.list_laws.proofs.Tests.{clash, parts, and-l, and-r}
@@ -23,14 +24,6 @@ steps-append : (es ds : List Entry) → stepsOf (es ++ ds) ≡ stepsOf es + step
 unfolding stepsOf
 steps-append [] ds = sym (zero-add (stepsOf ds))
 steps-append (e ∷ es) ds = omega (arith, steps-append es ds)
-
--- entry k of a table as a patch: its net says nothing of its steps
-abbrev boxed : List ℕ → ℕ → Entry
-boxed t k = entry 0 (getD t (k * 5 + 1) 0) (getD t (k * 5 + 2) 0) (getD t (k * 5 + 3) 0) (getD t (k * 5 + 4) 0)
-
-pub box-at : (t : List ℕ) (k : ℕ) → Box (entryAt t k) → Box (boxed t k)
-unfolding entryAt
-box-at t k b = record { x-order = b .x-order; y-order = b .y-order; x-end = b .x-end; y-end = b .y-end }
 
 pub steps-most : (e : Entry) → Box e → legSteps e ≤ 8190
 unfolding legSteps
@@ -46,16 +39,16 @@ module _ (t : List ℕ) (k net : ℕ) where
       ∙ ap (λ (n : ℕ). keep (ofNet net) (map (entryAt t) (range 0 k)) ++ keep (ofNet net) (entryAt t n ∷ []))
       (zero-add k)
 
-  other : (getD t (k * 5) 0 ≡ net → ⊥) → legsTo t (k + 1) net ≡ legsTo t k net
-  unfolding legsOf ofNet entryAt
-  other n = one-more ∙ rw (ne-eqb (getD t (k * 5) 0) net n) (append-nil (legsTo t k net))
+  other : (entryAt t k .net ≡ net → ⊥) → legsTo t (k + 1) net ≡ legsTo t k net
+  unfolding legsOf ofNet
+  other n = one-more ∙ rw (ne-eqb (entryAt t k .net) net n) (append-nil (legsTo t k net))
 
-  its-own : getD t (k * 5) 0 ≡ net → legsTo t (k + 1) net ≡ legsTo t k net ++ entryAt t k ∷ []
-  unfolding legsOf ofNet entryAt
-  its-own e = one-more ∙ rw (eq-eqb (getD t (k * 5) 0) net e) refl
+  its-own : entryAt t k .net ≡ net → legsTo t (k + 1) net ≡ legsTo t k net ++ entryAt t k ∷ []
+  unfolding legsOf ofNet
+  its-own e = one-more ∙ rw (eq-eqb (entryAt t k .net) net e) refl
 
   module _ (r : Track) (o : Measured t k net r) where
-    pub measured-skip : (getD t (k * 5) 0 ≡ net → ⊥) → Measured t (k + 1) net r
+    pub measured-skip : (entryAt t k .net ≡ net → ⊥) → Measured t (k + 1) net r
     measured-skip n =
         record {
           legs = o .legs ∙ ap (λ (es : List Entry). length es) (sym (other n));
@@ -64,9 +57,9 @@ module _ (t : List ℕ) (k net : ℕ) where
           short = omega (arith, o .short);
         }
 
-    pub measured-more : (n : ℕ) → getD t (k * 5) 0 ≡ net → Box (entryAt t k) → n ≡ legSteps (boxed t k)
+    pub measured-more : (n : ℕ) → entryAt t k .net ≡ net → Box (entryAt t k) → n ≡ legSteps (entryAt t k)
         → Measured t (k + 1) net (record { legs = r .legs + 1; steps = r .steps + n })
-    unfolding stepsOf legSteps entryAt
+    unfolding stepsOf legSteps
     measured-more n e b q =
         record {
           legs =
@@ -124,7 +117,7 @@ box-of W H e w h o =
       y-end = omega (arith, leb-true (e .y1) H d);
     }
 
-pub boxes-of : (t : List ℕ) (n W H : ℕ) → n * 5 ≤ length t → n ≤ 128 → W ≤ 4096 → H ≤ 4096
+pub boxes-of : (t : List ℕ) (n W H : ℕ) → n * 5 ≤ length t → n ≤ maxEntries → W ≤ 4096 → H ≤ 4096
     → all (entryOk W H) (map (entryAt t) (range 0 n)) ≡ true → Boxes t n
 boxes-of t n W H l few w h o =
     record {

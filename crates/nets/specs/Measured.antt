@@ -4,6 +4,7 @@ use mathlib.Core.Path.{_≡_}
 use mathlib.Core.List.{List, map}
 use lib.ListN.{length}
 use Rattle.foil_spec.specs.Lists.{range}
+use Rattle.foil_spec.specs.Limits.{maxEntries}
 use Rattle.foil_spec.specs.Foil.{Entry}
 use Rattle.foil_spec.specs.Lent.{entryAt}
 use Rattle.foil_spec.specs.Nets.{legsOf, stepsOf}
@@ -19,7 +20,7 @@ pub record Box (e : Entry) : Type 0 where
 -- the first n entries of a table are such
 pub record Boxes (t : List ℕ) (n : ℕ) : Type 0 where
   pub len : n * 5 ≤ length t
-  pub few : n ≤ 128
+  pub few : n ≤ maxEntries
   pub box : (k : ℕ) → k < n → Box (entryAt t k)
 
 -- the legs of a net among the first n entries of a table

@@ -1,8 +1,10 @@
 // A net's legs in a table: how many there are, and how long they are together.
+use foil_spec::Entry;
+use foil_spec::entry_at;
 ghost use mathlib.Core.Path.{_≡_};
 ghost use Prim.Native.Nat.{_+_, _*_, _<_, _≤_};
 ghost use lib.ListN.{length};
-ghost use Rattle.foil_spec.specs.Foil.{entry};
+ghost use Rattle.foil_spec.specs.Limits.{maxEntries};
 ghost use Rattle.foil_spec.specs.Lent.{entryAt};
 ghost use Rattle.foil_spec.specs.Nets.{legSteps};
 ghost use Rattle.nets.specs.Measured.{Box, Boxes, Measured};
@@ -29,20 +31,16 @@ pub fn measure(table: &[u16], n: usize, net: u16) -> Track
 
 // Counts entry k of the table too, if it is of the net.
 fn with_entry(track: Track, table: &[u16], k: usize, net: u16) -> Track
-    requires { ⌜ (k < 128) × (k * 5 + 5 ≤ length (now table)) ⌝ }
+    requires { ⌜ (k < maxEntries) × (k * 5 + 5 ≤ length (now table)) ⌝ }
     requires { ⌜ Box (entryAt (now table) k) ⌝ }
     requires { ⌜ Measured (now table) k net track ⌝ }
     ensures { λ r. ⌜ Measured (now (table .entry)) (k + 1) net r ⌝ }
 {
-    if table[k * 5] != net {
+    let leg = entry_at(table, k);
+    if leg.net != net {
         return track;
     }
-    let more = leg_steps(
-        table[k * 5 + 1],
-        table[k * 5 + 2],
-        table[k * 5 + 3],
-        table[k * 5 + 4],
-    );
+    let more = leg_steps(leg);
     Track {
         legs: track.legs + 1,
         steps: track.steps + more,
@@ -50,11 +48,11 @@ fn with_entry(track: Track, table: &[u16], k: usize, net: u16) -> Track
 }
 
 // The steps from one end of a leg to the other.
-fn leg_steps(x0: u16, y0: u16, x1: u16, y1: u16) -> u32
-    requires { ⌜ Box (entry 0 x0 y0 x1 y1) ⌝ }
-    ensures { λ r. ⌜ r ≡ legSteps (entry 0 x0 y0 x1 y1) ⌝ }
+fn leg_steps(leg: Entry) -> u32
+    requires { ⌜ Box leg ⌝ }
+    ensures { λ r. ⌜ r ≡ legSteps leg ⌝ }
 {
-    let across = x1 - x0 - 1;
-    let down = y1 - y0 - 1;
+    let across = leg.x1 - leg.x0 - 1;
+    let down = leg.y1 - leg.y0 - 1;
     across as u32 + down as u32
 }
