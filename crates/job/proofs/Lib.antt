@@ -1,7 +1,6 @@
 -- Laws that the proofs of a record use.
 pub mod Places
 pub mod Checking
-pub mod StaysSound
 pub mod Acting
 pub mod Ending
 pub mod ByBit

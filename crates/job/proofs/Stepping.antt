@@ -25,7 +25,7 @@ use Rattle.job.specs.declared.Answers.{Answers}
 use Rattle.job.specs.declared.Next.{Next}
 use Rattle.job.specs.declared.Reply.the-variants.{Ran}
 use Rattle.job.specs.declared.running.Stepped.{Stepped}
-use Rattle.job.proofs.StaysSound.{steps-sound, first-sound}
+use Rattle.ledger_laws.proofs.StaysSound.{steps-sound, first-sound}
 use Rattle.job.proofs.Acting.{ran-unset, ran-ended, ran-more, ran-length}
 use Rattle.job.proofs.ByBit.{none-told, answers-more}
 

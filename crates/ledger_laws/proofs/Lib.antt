@@ -10,6 +10,7 @@ pub mod Steps
 pub mod Sound
 pub mod Lay
 pub mod Lending
+pub mod StaysSound
 pub mod Moments
 pub mod Told
 pub mod Demand2
