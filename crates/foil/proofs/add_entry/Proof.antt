@@ -9,14 +9,19 @@ use Rattle.foil.proofs.add_entry.Tie as tie
 -- back to the start, where the test fails, rows, copy_front, append and settle
 abbrev atStart : tie.After-slice-known2 → tie.Start
 atStart c = c .before .before
+
 abbrev inElse : tie.After-copy-front-arg → tie.Else1
 inElse c = c .before .before
+
 abbrev afterCopyFront : tie.After-rows5 → tie.After-copy-front
 afterCopyFront c = c .before .before .before .before .before .before .before
+
 abbrev afterAppend : tie.After-rows5 → tie.After-append
 afterAppend c = c .before .before .before .before
+
 abbrev afterSettle : tie.After-slice-known4 → tie.After-settle
 afterSettle c = c .before .before .before .before
+
 abbrev afterRows : tie.After-slice-known4 → tie.After-rows
 afterRows c = afterCopyFront (afterSettle c .before) .before .before
 
@@ -35,34 +40,41 @@ copy-front-requires c κs = (omega arith, sound-long _ (atStart (inElse c .befor
 
 slice-aggregate-append : tie.Need-slice-aggregate-append
 slice-aggregate-append c = search needs
+
 append-requires : tie.Need-append-requires
 append-requires c κs = search needs
+
 slice-aggregate-settle : tie.Need-slice-aggregate-settle
 slice-aggregate-settle c = search needs
+
 add-settle : tie.Need-add-settle
 add-settle c = search needs
 
 settle-requires : tie.Need-settle-requires
 settle-requires c κs = (
   added-table _ _ _ (atStart (inElse (afterCopyFront c .before) .before) .pre .0) _ (atStart (inElse (afterCopyFront c .before) .before) .pre .1 .0) _ (inElse (afterCopyFront c .before)
-  .if1 .left) (atStart (inElse (afterCopyFront c .before) .before) .pre .1 .1) _ _
+      .if1 .left) (atStart (inElse (afterCopyFront c .before) .before) .pre .1 .1) _ _
       (afterCopyFront c .copy-front .ensures)
-          (afterAppend c .append .ensures),
+      (afterAppend c .append .ensures),
   (
     added-again _ _ _ (atStart (inElse (afterCopyFront c .before) .before) .pre .0) _ (atStart (inElse (afterCopyFront c .before) .before) .pre .1 .0) _
-    (inElse (afterCopyFront c .before) .if1 .left)
-    (atStart (inElse (afterCopyFront c .before) .before) .pre .1
-    .1) _ _
+        (inElse (afterCopyFront c .before) .if1 .left)
+        (atStart (inElse (afterCopyFront c .before) .before) .pre .1
+        .1) _ _
         (afterCopyFront c .copy-front .ensures)
-            (afterAppend c .append .ensures),
-    (sound-long _ (atStart (inElse (afterCopyFront c .before) .before) .pre .0) .table, sound-long _
-    (atStart (inElse (afterCopyFront c .before) .before) .pre
-    .0) .strips),
+        (afterAppend c .append .ensures),
+    (
+      sound-long _ (atStart (inElse (afterCopyFront c .before) .before) .pre .0) .table,
+      sound-long _
+          (atStart (inElse (afterCopyFront c .before) .before) .pre
+          .0) .strips,
+    ),
   ),
 )
 
 same-length : tie.Need-same-length
 same-length c = search needs
+
 same-length-2 : tie.Need-same-length-2
 same-length-2 c = search needs
 

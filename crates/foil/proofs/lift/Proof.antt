@@ -9,17 +9,22 @@ use Rattle.foil.proofs.lift.Tie as tie
 -- back to enum_told and lift_in
 abbrev afterEnumTold : tie.After-slice-known4 → tie.After-enum-told
 afterEnumTold c = c .before .before .before .before .before .before .before
+
 abbrev afterLiftIn : tie.After-slice-known4 → tie.After-lift-in
 afterLiftIn c = c .before .before .before .before
 
 lent-refusal-requires : tie.Need-lent-refusal-requires
 lent-refusal-requires c κs = search needs
+
 enum-known-checked : tie.Need-enum-known-checked
 enum-known-checked c = search needs
+
 refuse-requires : tie.Need-refuse-requires
 refuse-requires c κs = search needs
+
 same-length : tie.Need-same-length
 same-length c = search needs
+
 same-length-2 : tie.Need-same-length-2
 same-length-2 c = search needs
 
@@ -37,6 +42,7 @@ lift-in-requires c κs = (rw (c .before .before .enum-told .given .1) at
 
 same-length-3 : tie.Need-same-length-3
 same-length-3 c = search needs
+
 same-length-4 : tie.Need-same-length-4
 same-length-4 c = search needs
 

@@ -11,21 +11,28 @@ use Rattle.foil.proofs.lift_in.Tie as tie
 -- back to the start, net_ok, where net_ok holds, where in_use holds, without and settle
 abbrev atStart : tie.After-net-ok → tie.Start
 atStart c = c .before .before .before
+
 abbrev afterNetOk : tie.After-without-arg → tie.After-net-ok
 afterNetOk c = c .before .before .before .before .before .before
+
 abbrev netOk : tie.After-refuse2 → tie.Else1
 netOk c = c .before .before .before .before
+
 abbrev inUse : tie.After-rows3 → tie.Else2
 inUse c = c .before .before .before .before .before .before .before
+
 abbrev afterWithout : tie.After-rows3 → tie.After-without
 afterWithout c = c .before .before .before .before
+
 abbrev afterSettle : tie.After-slice-known4 → tie.After-settle
 afterSettle c = c .before .before .before .before
+
 abbrev beforeInUse : tie.After-rows3 → tie.After-in-use-arg
 beforeInUse c = inUse c .before .before
 
 net-ok-requires : tie.Need-net-ok-requires
 net-ok-requires c κs = search needs
+
 refuse-requires : tie.Need-refuse-requires
 refuse-requires c κs = search needs
 
@@ -34,11 +41,15 @@ returns c = no-net _ _ _ _ (atStart (c .before .before) .pre) _ (c .before .befo
     (c .before .if1 .taken) _ (c .refuse .ensures)
 
 in-use-requires : tie.Need-in-use-requires
-in-use-requires c κs = omega (arith, sound-long _ (atStart (c .before .before) .pre) .table,
-    held-limits _ _ _ (of-sound _ (atStart (c .before .before) .pre)) .few)
+in-use-requires c κs = omega (
+  arith,
+  sound-long _ (atStart (c .before .before) .pre) .table,
+  held-limits _ _ _ (of-sound _ (atStart (c .before .before) .pre)) .few,
+)
 
 refuse-requires-2 : tie.Need-refuse-requires-2
 refuse-requires-2 c κs = search needs
+
 same-length : tie.Need-same-length
 same-length c = search needs
 
@@ -53,10 +64,13 @@ slice-aggregate-without c = search needs
 without-requires : tie.Need-without-requires
 without-requires c κs = (
   held-limits _ _ _ (of-sound _ (atStart (afterNetOk c) .pre))
-  .few,
-  omega (arith, sound-long _ (atStart (afterNetOk c) .pre) .table,
-  held-limits _ _ _ (of-sound _ (atStart (afterNetOk c) .pre))
-  .few),
+      .few,
+  omega (
+    arith,
+    sound-long _ (atStart (afterNetOk c) .pre) .table,
+    held-limits _ _ _ (of-sound _ (atStart (afterNetOk c) .pre))
+        .few,
+  ),
   no-rows,
 )
 
@@ -66,26 +80,30 @@ slice-aggregate-settle c = search needs
 settle-requires : tie.Need-settle-requires
 settle-requires c κs = (
   lifted-table _ _ _ _ (atStart (beforeInUse c .before .before) .pre) _
-  (beforeInUse c .before .before .net-ok .ensures)
-  (beforeInUse c .before .if1 .left) _
-  (inUse c .before .in-use .ensures)
+      (beforeInUse c .before .before .net-ok .ensures)
+      (beforeInUse c .before .if1 .left) _
+      (inUse c .before .in-use .ensures)
       (inUse c .if2 .left) _ _
-          (afterWithout c .without .ensures),
+      (afterWithout c .without .ensures),
   (
     lifted-again _ _ _ _ (atStart (beforeInUse c .before .before) .pre) _
-    (beforeInUse c .before .before .net-ok .ensures)
-    (beforeInUse c .before .if1 .left) _
-    (inUse c .before .in-use .ensures)
+        (beforeInUse c .before .before .net-ok .ensures)
+        (beforeInUse c .before .if1 .left) _
+        (inUse c .before .in-use .ensures)
         (inUse c .if2 .left) _ _
-            (afterWithout c .without .ensures),
-    (sound-long _ (atStart (beforeInUse c .before .before) .pre) .table, sound-long _
-    (atStart (beforeInUse c .before .before)
-    .pre) .strips),
+        (afterWithout c .without .ensures),
+    (
+      sound-long _ (atStart (beforeInUse c .before .before) .pre) .table,
+      sound-long _
+          (atStart (beforeInUse c .before .before)
+          .pre) .strips,
+    ),
   ),
 )
 
 same-length-2 : tie.Need-same-length-2
 same-length-2 c = search needs
+
 same-length-3 : tie.Need-same-length-3
 same-length-3 c = search needs
 

@@ -6,6 +6,7 @@ use Rattle.foil.proofs.look_up.Tie as tie
 
 lent-refusal-requires : tie.Need-lent-refusal-requires
 lent-refusal-requires c κs = search needs
+
 enum-known-checked : tie.Need-enum-known-checked
 enum-known-checked c = search needs
 

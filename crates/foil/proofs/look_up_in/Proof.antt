@@ -11,12 +11,16 @@ use Rattle.foil.proofs.look_up_in.Tie as tie
 -- back to the start, where test 1 fails, where test 2 fails and locate
 abbrev atStartFromTest1 : tie.After-struct-known → tie.Start
 atStartFromTest1 c = c .before .before .before
+
 abbrev atStart : tie.After-struct-known2 → tie.Start
 atStart c = c .before .before .before .before .before
+
 abbrev inElse1 : tie.After-known-told → tie.Else1
 inElse1 c = c .before .before .before .before .before .before
+
 abbrev inElse2 : tie.After-enum-told → tie.Else2
 inElse2 c = c .before .before .before
+
 abbrev afterLocate : tie.After-known-told → tie.After-locate
 afterLocate c = c .before .before .before
 
@@ -29,13 +33,14 @@ returns-2 c = off-below _ _ _ _ (atStart (c .before) .pre) (c .if2 .taken)
 locate-requires : tie.Need-locate-requires
 locate-requires c κs = (
   strips-long _ _ _ (point (atStart (c .before) .args .x)
-  (atStart (c .before) .args .y))
-  (atStart (c .before) .pre),
+      (atStart (c .before) .args .y))
+      (atStart (c .before) .pre),
   by-row-of _ (of-sound _ (atStart (c .before) .pre)),
 )
 
 enum-known-place : tie.Need-enum-known-place
 enum-known-place c = search needs
+
 enum-told : tie.Need-enum-told
 enum-told c = search needs
 

@@ -9,17 +9,22 @@ use Rattle.foil.proofs.new_foil.Tie as tie
 -- back to the start, where lists_short fails and new_foil_in
 abbrev atStart : tie.After-new-foil-in-arg2 → tie.Start
 atStart c = c .before .before .before .before .before .before .before .before
+
 abbrev notListsShort : tie.After-new-foil-in-arg2 → tie.Else1
 notListsShort c = c .before .before
+
 abbrev afterNewFoilIn : tie.After-slice-known4 → tie.After-new-foil-in
 afterNewFoilIn c = c .before .before .before .before
 
 lists-short-requires : tie.Need-lists-short-requires
 lists-short-requires c κs = search needs
+
 refuse-requires : tie.Need-refuse-requires
 refuse-requires c κs = search needs
+
 same-length : tie.Need-same-length
 same-length c = search needs
+
 same-length-2 : tie.Need-same-length-2
 same-length-2 c = search needs
 
@@ -35,6 +40,7 @@ new-foil-in-requires c κs = let n = long-enough
 
 same-length-3 : tie.Need-same-length-3
 same-length-3 c = search needs
+
 same-length-4 : tie.Need-same-length-4
 same-length-4 c = search needs
 

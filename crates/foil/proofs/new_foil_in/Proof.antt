@@ -9,21 +9,28 @@ use Rattle.foil.proofs.new_foil_in.Tie as tie
 -- back to the start, size_ok, where size_ok holds, size_ok2, where clearance_ok holds and settle
 abbrev afterSizeOk : tie.After-refuse3 → tie.After-size-ok
 afterSizeOk c = c .before .before .before .before .before .before
+
 abbrev sizeOk : tie.After-refuse2 → tie.Else1
 sizeOk c = c .before .before .before
+
 abbrev afterSizeOk2 : tie.After-rows → tie.After-size-ok2
 afterSizeOk2 c = c .before .before .before .before .before .before
+
 abbrev sizeOkFromRefuse3 : tie.After-refuse3 → tie.Else2
 sizeOkFromRefuse3 c = c .before .before .before
+
 abbrev clearanceOk : tie.After-rows → tie.Else3
 clearanceOk c = c .before .before .before
+
 abbrev afterSettle : tie.After-slice-known4 → tie.After-settle
 afterSettle c = c .before .before .before .before
+
 abbrev atStart : tie.After-rows → tie.Start
 atStart c = afterSizeOk2 c .before .before .before .before .before
 
 size-ok-requires : tie.Need-size-ok-requires
 size-ok-requires c κs = search needs
+
 refuse-requires : tie.Need-refuse-requires
 refuse-requires c κs = search needs
 
@@ -34,6 +41,7 @@ returns c = λ room long.
 
 size-ok-requires-2 : tie.Need-size-ok-requires-2
 size-ok-requires-2 c κs = search needs
+
 refuse-requires-2 : tie.Need-refuse-requires-2
 refuse-requires-2 c κs = search needs
 
@@ -45,6 +53,7 @@ returns-2 c = λ room long.
 
 clearance-ok-requires : tie.Need-clearance-ok-requires
 clearance-ok-requires c κs = search needs
+
 refuse-requires-3 : tie.Need-refuse-requires-3
 refuse-requires-3 c κs = search needs
 
@@ -62,16 +71,17 @@ settle-requires : tie.Need-settle-requires
 settle-requires c κs = (
   bare-table _ _ _
       (sym (afterSizeOk2 c .before .before .size-ok .ensures)
-          ∙ not-false _ (afterSizeOk2 c .before .if1 .left))
+      ∙ not-false _ (afterSizeOk2 c .before .if1 .left))
       (sym (afterSizeOk2 c .size-ok2 .ensures)
-          ∙ not-false _ (clearanceOk c .before .before .if2 .left))
+      ∙ not-false _ (clearanceOk c .before .before .if2 .left))
       (sym (clearanceOk c .before .clearance-ok .ensures)
-          ∙ not-false _ (clearanceOk c .if3 .left)),
+      ∙ not-false _ (clearanceOk c .if3 .left)),
   (no-rows, atStart c .pre),
 )
 
 same-length : tie.Need-same-length
 same-length c = search needs
+
 same-length-2 : tie.Need-same-length-2
 same-length-2 c = search needs
 

@@ -7,14 +7,19 @@ use Rattle.foil.proofs.settle.Tie as tie
 
 take-over-requires : tie.Need-take-over-requires
 take-over-requires c κs = search needs
+
 enum-known-booked : tie.Need-enum-known-booked
 enum-known-booked c = search needs
+
 enum-told : tie.Need-enum-told
 enum-told c = search needs
+
 refuse-requires : tie.Need-refuse-requires
 refuse-requires c κs = search needs
+
 same-length : tie.Need-same-length
 same-length c = search needs
+
 same-length-2 : tie.Need-same-length-2
 same-length-2 c = search needs
 
@@ -25,6 +30,7 @@ returns c = not-taken _ _ _ _ _ _ _
 
 same-length-3 : tie.Need-same-length-3
 same-length-3 c = search needs
+
 same-length-4 : tie.Need-same-length-4
 same-length-4 c = search needs
 

@@ -11,17 +11,22 @@ use Rattle.laying.proofs.lay.Tie as tie
 -- back to enum_told and lay_in
 abbrev afterEnumTold : tie.After-lay-in-arg3 → tie.After-enum-told
 afterEnumTold c = c .before .before .before
+
 abbrev afterLayIn : tie.After-slice-known6 → tie.After-lay-in
 afterLayIn c = c .before .before .before .before .before .before
 
 lent-refusal-requires : tie.Need-lent-refusal-requires
 lent-refusal-requires c κs = search needs
+
 enum-known-checked : tie.Need-enum-known-checked
 enum-known-checked c = search needs
+
 refuse-requires : tie.Need-refuse-requires
 refuse-requires c κs = search needs
+
 same-length : tie.Need-same-length
 same-length c = search needs
+
 same-length-2 : tie.Need-same-length-2
 same-length-2 c = search needs
 
@@ -34,13 +39,18 @@ enum-told : tie.Need-enum-told
 enum-told c = search needs
 
 lay-in-requires : tie.Need-lay-in-requires
-lay-in-requires c κs = ((rw (afterEnumTold c .enum-told .given .1) at
-    (c .before .before .before .before .before .lent-refusal .ensures)), omega arith)
+lay-in-requires c κs = (
+  (rw (afterEnumTold c .enum-told .given .1) at
+      (c .before .before .before .before .before .lent-refusal .ensures)),
+  omega arith,
+)
 
 same-length-3 : tie.Need-same-length-3
 same-length-3 c = search needs
+
 same-length-4 : tie.Need-same-length-4
 same-length-4 c = search needs
+
 same-length-5 : tie.Need-same-length-5
 same-length-5 c = search needs
 

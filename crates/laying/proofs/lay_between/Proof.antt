@@ -11,36 +11,52 @@ use Rattle.laying.proofs.lay_between.Tie as tie
 -- rows, copy_front, append_legs, rows5, take_over, booked and copy_front2
 abbrev atStartFromPathBetween : tie.After-path-between-arg → tie.Start
 atStartFromPathBetween c = c .before .before .before .before .before
+
 abbrev beforePathBetween : tie.After-copy-front-arg → tie.After-path-between-arg
 beforePathBetween c = c .before .before .before .before .before .before .before .before
+
 abbrev afterPathBetween : tie.Else1 → tie.After-path-between
 afterPathBetween c = c .before .before
+
 abbrev afterPath2 : tie.After-refuse → tie.After-path2
 afterPath2 c = c .before .before
+
 abbrev inElse2FromRefuse3 : tie.After-refuse3 → tie.Else2
 inElse2FromRefuse3 c = c .before .before .before
+
 abbrev inElse3 : tie.After-path3 → tie.Else3
 inElse3 c = c .before .before .before .before .before .before
+
 abbrev afterRows : tie.After-path4 → tie.After-rows
 afterRows c = c .before .before .before .before .before .before .before .before .before .before .before .before .before .before .before .before .before .before .before .before
+
 abbrev afterCopyFront : tie.After-rows5 → tie.After-copy-front
 afterCopyFront c = c .before .before .before .before .before .before .before .before
+
 abbrev afterAppendLegs : tie.After-rows5 → tie.After-append-legs
 afterAppendLegs c = c .before .before .before .before
+
 abbrev afterRows5 : tie.After-refuse4 → tie.After-rows5
 afterRows5 c = c .before .before .before .before .before .before .before .before
+
 abbrev afterBooked : tie.After-bend-count → tie.After-booked
 afterBooked c = c .before .before .before .before .before .before .before
+
 abbrev afterCopyFront2 : tie.After-bend-count → tie.After-copy-front2
 afterCopyFront2 c = c .before .before .before
+
 abbrev atStart : tie.Else2 → tie.Start
 atStart c = atStartFromPathBetween (afterPathBetween (c .before) .before)
+
 abbrev inElse1 : tie.After-path3 → tie.Else1
 inElse1 c = inElse3 c .before .before .before
+
 abbrev afterLegCount : tie.After-rows5 → tie.After-leg-count
 afterLegCount c = inElse3 (afterAppendLegs c .before) .before
+
 abbrev afterTakeOver : tie.After-bend-count → tie.After-take-over
 afterTakeOver c = afterBooked c .before .before .before .before .before .before
+
 abbrev inElse2 : tie.After-path4 → tie.Else2
 inElse2 c = afterRows c .before .before .before
 
@@ -48,12 +64,15 @@ slice-aggregate-path-between : tie.Need-slice-aggregate-path-between
 slice-aggregate-path-between c = search needs
 
 path-between-requires : tie.Need-path-between-requires
-path-between-requires c κs = (posed _ _ _ (atStartFromPathBetween c .args .corners .now) _ _ _ _
-    (atStartFromPathBetween c .pre .1) (atStartFromPathBetween c .pre .0),
-    omega arith)
+path-between-requires c κs = (
+  posed _ _ _ (atStartFromPathBetween c .args .corners .now) _ _ _ _
+      (atStartFromPathBetween c .pre .1) (atStartFromPathBetween c .pre .0),
+  omega arith,
+)
 
 refuse-requires : tie.Need-refuse-requires
 refuse-requires c κs = search needs
+
 same-length : tie.Need-same-length
 same-length c = search needs
 
@@ -65,6 +84,7 @@ returns c = no-path _ _ _ (atStartFromPathBetween (afterPath2 c .before .before)
 
 refuse-requires-2 : tie.Need-refuse-requires-2
 refuse-requires-2 c κs = search needs
+
 same-length-2 : tie.Need-same-length-2
 same-length-2 c = search needs
 
@@ -80,13 +100,18 @@ leg-count-requires : tie.Need-leg-count-requires
 leg-count-requires c κs = search needs
 
 add-if3 : tie.Need-add-if3
-add-if3 c = omega (arith, c .leg-count .ensures, c .before .if2 .left,
-    limits _ _ _ (atStart (c .before) .args .corners
-    .now) _ _ _ _ (atStart (c .before) .pre .1)
-    (atStart (c .before) .pre .0) .few)
+add-if3 c = omega (
+  arith,
+  c .leg-count .ensures,
+  c .before .if2 .left,
+  limits _ _ _ (atStart (c .before) .args .corners
+      .now) _ _ _ _ (atStart (c .before) .pre .1)
+      (atStart (c .before) .pre .0) .few,
+)
 
 refuse-requires-3 : tie.Need-refuse-requires-3
 refuse-requires-3 c κs = search needs
+
 same-length-3 : tie.Need-same-length-3
 same-length-3 c = search needs
 
@@ -102,14 +127,17 @@ slice-aggregate-copy-front : tie.Need-slice-aggregate-copy-front
 slice-aggregate-copy-front c = search needs
 
 copy-front-requires : tie.Need-copy-front-requires
-copy-front-requires c κs = (omega arith,
-    lists-long _ _ _ (atStartFromPathBetween (beforePathBetween c) .args .corners .now) _ _ _ _
-    (atStartFromPathBetween (beforePathBetween c) .pre
-    .1) (atStartFromPathBetween (beforePathBetween c)
-    .pre .0) .0)
+copy-front-requires c κs = (
+  omega arith,
+  lists-long _ _ _ (atStartFromPathBetween (beforePathBetween c) .args .corners .now) _ _ _ _
+      (atStartFromPathBetween (beforePathBetween c) .pre
+      .1) (atStartFromPathBetween (beforePathBetween c)
+      .pre .0) .0,
+)
 
 slice-aggregate-append-legs : tie.Need-slice-aggregate-append-legs
 slice-aggregate-append-legs c = search needs
+
 slice-aggregate-append-legs-2 : tie.Need-slice-aggregate-append-legs-2
 slice-aggregate-append-legs-2 c = search needs
 
@@ -122,16 +150,17 @@ append-legs-requires c κs = let fits = sums _ _ _
     (inElse1 c .if1 .left)
     (inElse3 c .before .before .if2 .left) _
     (inElse3 c .before .leg-count .ensures)
-    (inElse3 c .if3 .left) in
-    ((fits .0, fits .1, fits .2, omega arith),
-    small _ _ _ (atStart (inElse3 c .before .before) .args .corners .now) _ _ _ _
-    (atStart (inElse3 c .before .before) .pre .1)
-    (atStart (inElse3 c .before .before) .pre .0) _ _ _
-    (afterPathBetween (inElse1 c) .path-between .ensures)
-    (inElse1 c .if1 .left)
-    (inElse3 c .before .before .if2 .left) _
-    (inElse3 c .before .leg-count .ensures)
-    (inElse3 c .if3 .left))
+    (inElse3 c .if3 .left) in (
+      (fits .0, fits .1, fits .2, omega arith),
+      small _ _ _ (atStart (inElse3 c .before .before) .args .corners .now) _ _ _ _
+          (atStart (inElse3 c .before .before) .pre .1)
+          (atStart (inElse3 c .before .before) .pre .0) _ _ _
+          (afterPathBetween (inElse1 c) .path-between .ensures)
+          (inElse1 c .if1 .left)
+          (inElse3 c .before .before .if2 .left) _
+          (inElse3 c .before .leg-count .ensures)
+          (inElse3 c .if3 .left),
+    )
 
 slice-aggregate-take-over : tie.Need-slice-aggregate-take-over
 slice-aggregate-take-over c = search needs
@@ -139,34 +168,38 @@ slice-aggregate-take-over c = search needs
 take-over-requires : tie.Need-take-over-requires
 take-over-requires c κs = (
   laid-table _ _ _ (atStart (afterLegCount c .before) .args .corners .now) _ _ _ _
-  (atStart (afterLegCount c .before) .pre .1)
-  (atStart (afterLegCount c .before) .pre .0) _ _ _
-  (afterPathBetween (afterLegCount c .before .before) .path-between .ensures)
-    (afterLegCount c .before .before
-    .if1 .left) (afterLegCount c .before .if2 .left) _ (afterLegCount c .leg-count .ensures) (inElse3 (afterAppendLegs c .before) .if3 .left) _ _ _ (afterCopyFront c .copy-front .ensures)
-    (afterAppendLegs c .append-legs .ensures),
+      (atStart (afterLegCount c .before) .pre .1)
+      (atStart (afterLegCount c .before) .pre .0) _ _ _
+      (afterPathBetween (afterLegCount c .before .before) .path-between .ensures)
+      (afterLegCount c .before .before
+      .if1 .left) (afterLegCount c .before .if2 .left) _ (afterLegCount c .leg-count .ensures) (inElse3 (afterAppendLegs c .before) .if3 .left) _ _ _ (afterCopyFront c .copy-front .ensures)
+      (afterAppendLegs c .append-legs .ensures),
   (
     laid-again _ _ _ (atStart (afterLegCount c .before) .args .corners .now) _ _ _
-    _ (atStart (afterLegCount c .before) .pre .1)
-    (atStart (afterLegCount c .before) .pre .0) _ _ _
-    (afterPathBetween (afterLegCount c .before .before) .path-between .ensures)
-    (afterLegCount c .before .before
-    .if1 .left) (afterLegCount c .before .if2 .left) _ (afterLegCount c .leg-count .ensures) (inElse3 (afterAppendLegs c .before) .if3 .left) _ _ _ (afterCopyFront c .copy-front .ensures)
-    (afterAppendLegs c .append-legs .ensures),
+        _ (atStart (afterLegCount c .before) .pre .1)
+        (atStart (afterLegCount c .before) .pre .0) _ _ _
+        (afterPathBetween (afterLegCount c .before .before) .path-between .ensures)
+        (afterLegCount c .before .before
+        .if1 .left) (afterLegCount c .before .if2 .left) _ (afterLegCount c .leg-count .ensures) (inElse3 (afterAppendLegs c .before) .if3 .left) _ _ _ (afterCopyFront c .copy-front .ensures)
+        (afterAppendLegs c .append-legs .ensures),
     lists-long _ _ _ (atStart (afterLegCount c .before) .args .corners .now) _ _ _
-    _ (atStart (afterLegCount c .before) .pre .1)
-    (atStart (afterLegCount c .before) .pre .0),
+        _ (atStart (afterLegCount c .before) .pre .1)
+        (atStart (afterLegCount c .before) .pre .0),
   ),
 )
 
 enum-known-booked : tie.Need-enum-known-booked
 enum-known-booked c = search needs
+
 enum-told : tie.Need-enum-told
 enum-told c = search needs
+
 refuse-requires-4 : tie.Need-refuse-requires-4
 refuse-requires-4 c κs = search needs
+
 same-length-4 : tie.Need-same-length-4
 same-length-4 c = search needs
+
 same-length-5 : tie.Need-same-length-5
 same-length-5 c = search needs
 
@@ -187,37 +220,42 @@ slice-aggregate-copy-front-2 : tie.Need-slice-aggregate-copy-front-2
 slice-aggregate-copy-front-2 c = search needs
 
 mul-copy-front : tie.Need-mul-copy-front
-mul-copy-front c = omega (arith,
-    sums _ _ _ (atStart (inElse2 c) .args .corners .now) _ _ _ _
-    (atStart (inElse2 c) .pre .1)
-    (atStart (inElse2 c) .pre .0) _ _ _
-    (afterPathBetween (inElse2 c .before) .path-between
-    .ensures)
-    (inElse2 c .before .if1 .left)
-    (inElse2 c .if2 .left) _
-    (afterRows c .before .before .leg-count .ensures)
-    (afterRows c .before .if3 .left) .1)
+mul-copy-front c = omega (
+  arith,
+  sums _ _ _ (atStart (inElse2 c) .args .corners .now) _ _ _ _
+      (atStart (inElse2 c) .pre .1)
+      (atStart (inElse2 c) .pre .0) _ _ _
+      (afterPathBetween (inElse2 c .before) .path-between
+      .ensures)
+      (inElse2 c .before .if1 .left)
+      (inElse2 c .if2 .left) _
+      (afterRows c .before .before .leg-count .ensures)
+      (afterRows c .before .if3 .left) .1,
+)
 
 copy-front-requires-2 : tie.Need-copy-front-requires-2
 copy-front-requires-2 c κs = (
   omega (arith, inElse2 c .if2 .left),
   small _ _ _ (atStart (inElse2 c) .args .corners .now) _ _ _ _
-  (atStart (inElse2 c) .pre .1)
-  (atStart (inElse2 c) .pre .0) _ _ _
-  (afterPathBetween (inElse2 c .before) .path-between
-  .ensures)
-    (inElse2 c .before .if1 .left)
-    (inElse2 c .if2 .left) _
-    (afterRows c .before .before .leg-count .ensures)
-    (afterRows c .before .if3 .left) .long,
+      (atStart (inElse2 c) .pre .1)
+      (atStart (inElse2 c) .pre .0) _ _ _
+      (afterPathBetween (inElse2 c .before) .path-between
+      .ensures)
+      (inElse2 c .before .if1 .left)
+      (inElse2 c .if2 .left) _
+      (afterRows c .before .before .leg-count .ensures)
+      (afterRows c .before .if3 .left) .long,
 )
 
 bend-count-requires : tie.Need-bend-count-requires
 bend-count-requires c κs = search needs
+
 same-length-6 : tie.Need-same-length-6
 same-length-6 c = search needs
+
 same-length-7 : tie.Need-same-length-7
 same-length-7 c = search needs
+
 same-length-8 : tie.Need-same-length-8
 same-length-8 c = search needs
 

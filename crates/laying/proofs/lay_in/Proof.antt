@@ -11,35 +11,51 @@ use Rattle.laying.proofs.lay_in.Tie as tie
 -- is_blocked, where is_blocked fails and lay_between
 abbrev atStart : tie.After-net-ok → tie.Start
 atStart c = c .before .before .before .before
+
 abbrev netOk : tie.Else2 → tie.Else1
 netOk c = c .before .before .before
+
 abbrev beforeInUse : tie.After-refuse2 → tie.After-in-use-arg
 beforeInUse c = c .before .before .before
+
 abbrev afterInUse : tie.After-is-blocked → tie.After-in-use
 afterInUse c = c .before .before .before .before .before .before .before .before
+
 abbrev notInUseFromRefuse4 : tie.After-refuse4 → tie.Else2
 notInUseFromRefuse4 c = c .before .before .before .before .before
+
 abbrev afterOffFoil : tie.After-refuse3 → tie.After-off-foil
 afterOffFoil c = c .before .before
+
 abbrev notOffFoil : tie.Else4 → tie.Else3
 notOffFoil c = c .before .before
+
 abbrev notOffFoilFromIsBlocked : tie.After-is-blocked → tie.Else4
 notOffFoilFromIsBlocked c = c .before .before .before
+
 abbrev afterIsBlocked : tie.After-refuse6 → tie.After-is-blocked
 afterIsBlocked c = c .before .before .before .before .before .before
+
 abbrev notBlocked : tie.After-is-blocked-arg4 → tie.Else5
 notBlocked c = c .before .before
+
 abbrev notBlockedFromLayBetween : tie.After-lay-between-arg3 → tie.Else6
 notBlockedFromLayBetween c = c .before .before .before
+
 abbrev afterLayBetween : tie.After-slice-known6 → tie.After-lay-between
 afterLayBetween c = c .before .before .before .before .before .before
+
 abbrev afterNetOk : tie.After-is-blocked → tie.After-net-ok
 afterNetOk c = afterInUse c .before .before .before
+
 abbrev notInUse : tie.After-lay-between-arg3 → tie.Else2
-notInUse c = notOffFoil (notOffFoilFromIsBlocked (notBlocked (notBlockedFromLayBetween c .before .before) .before)) .before .before
+notInUse c =
+    notOffFoil (notOffFoilFromIsBlocked (notBlocked (notBlockedFromLayBetween c .before .before) .before)) .before
+    .before
 
 net-ok-requires : tie.Need-net-ok-requires
 net-ok-requires c κs = search needs
+
 refuse-requires : tie.Need-refuse-requires
 refuse-requires c κs = search needs
 
@@ -49,11 +65,15 @@ returns c = no-net _ _ _ _ _ _ _ _ (atStart (c .before .before) .pre .0) _
 
 in-use-requires : tie.Need-in-use-requires
 in-use-requires c κs =
-    omega (arith, sound-long _ (atStart (c .before .before) .pre .0) .table,
-    held-limits _ _ _ (of-sound _ (atStart (c .before .before) .pre .0)) .few)
+    omega (
+      arith,
+      sound-long _ (atStart (c .before .before) .pre .0) .table,
+      held-limits _ _ _ (of-sound _ (atStart (c .before .before) .pre .0)) .few,
+    )
 
 refuse-requires-2 : tie.Need-refuse-requires-2
 refuse-requires-2 c κs = search needs
+
 same-length : tie.Need-same-length
 same-length c = search needs
 
@@ -64,8 +84,10 @@ returns-2 c = used _ _ _ _ _ _ _ _ (atStart (beforeInUse c .before .before) .pre
 
 off-foil-requires : tie.Need-off-foil-requires
 off-foil-requires c κs = search needs
+
 refuse-requires-3 : tie.Need-refuse-requires-3
 refuse-requires-3 c κs = search needs
+
 same-length-2 : tie.Need-same-length-2
 same-length-2 c = search needs
 
@@ -80,8 +102,10 @@ returns-3 c = s-off _ _ _ _ _ _ _ _
 
 off-foil-requires-2 : tie.Need-off-foil-requires-2
 off-foil-requires-2 c κs = search needs
+
 refuse-requires-4 : tie.Need-refuse-requires-4
 refuse-requires-4 c κs = search needs
+
 same-length-3 : tie.Need-same-length-3
 same-length-3 c = search needs
 
@@ -95,13 +119,18 @@ returns-4 c = t-off _ _ _ _ _ _ _ _
     (c .before .if4 .taken) _ (c .refuse4 .ensures)
 
 is-blocked-requires : tie.Need-is-blocked-requires
-is-blocked-requires c κs = (atStart (netOk (notOffFoil (c .before .before) .before .before) .before) .pre .0, on-foil _ _ _ (notOffFoil (c .before .before) .before .off-foil .ensures)
-    (notOffFoil (c .before .before) .if3 .left))
+is-blocked-requires c κs = (
+  atStart (netOk (notOffFoil (c .before .before) .before .before) .before) .pre .0,
+  on-foil _ _ _ (notOffFoil (c .before .before) .before .off-foil .ensures)
+      (notOffFoil (c .before .before) .if3 .left),
+)
 
 refuse-requires-5 : tie.Need-refuse-requires-5
 refuse-requires-5 c κs = search needs
+
 same-length-4 : tie.Need-same-length-4
 same-length-4 c = search needs
+
 same-length-5 : tie.Need-same-length-5
 same-length-5 c = search needs
 
@@ -119,14 +148,18 @@ returns-5 c = s-blocked _ _ _ _ _ _ _ _
     (c .before .if5 .taken) _ (c .refuse5 .ensures)
 
 is-blocked-requires-2 : tie.Need-is-blocked-requires-2
-is-blocked-requires-2 c κs = (atStart (afterNetOk (notBlocked c .before)) .pre .0,
-    on-foil _ _ _ (notOffFoilFromIsBlocked (notBlocked c .before) .before .off-foil2 .ensures)
-    (notOffFoilFromIsBlocked (notBlocked c .before) .if4 .left))
+is-blocked-requires-2 c κs = (
+  atStart (afterNetOk (notBlocked c .before)) .pre .0,
+  on-foil _ _ _ (notOffFoilFromIsBlocked (notBlocked c .before) .before .off-foil2 .ensures)
+      (notOffFoilFromIsBlocked (notBlocked c .before) .if4 .left),
+)
 
 refuse-requires-6 : tie.Need-refuse-requires-6
 refuse-requires-6 c κs = search needs
+
 same-length-6 : tie.Need-same-length-6
 same-length-6 c = search needs
+
 same-length-7 : tie.Need-same-length-7
 same-length-7 c = search needs
 
@@ -145,21 +178,23 @@ returns-6 c = t-blocked _ _ _ _ _ _ _ _
 lay-between-requires : tie.Need-lay-between-requires
 lay-between-requires c κs = (
   ready-to-lay _ _ _ (atStart (netOk (notInUse c) .before) .args .corners .now)
-  _ _ _ (atStart (netOk (notInUse c) .before) .args .limit)
-  (atStart (netOk (notInUse c) .before) .pre .0) _
-  (netOk (notInUse c) .before .net-ok .ensures)
-  (netOk (notInUse c) .if1 .left) _
-  (notInUse c .before .in-use .ensures)
-    (notInUse c .if2 .left) _ (notBlocked (notBlockedFromLayBetween c .before .before) .before .is-blocked .ensures)
+      _ _ _ (atStart (netOk (notInUse c) .before) .args .limit)
+      (atStart (netOk (notInUse c) .before) .pre .0) _
+      (netOk (notInUse c) .before .net-ok .ensures)
+      (netOk (notInUse c) .if1 .left) _
+      (notInUse c .before .in-use .ensures)
+      (notInUse c .if2 .left) _ (notBlocked (notBlockedFromLayBetween c .before .before) .before .is-blocked .ensures)
       (notBlocked (notBlockedFromLayBetween c .before .before) .if5 .left) _
-          (notBlockedFromLayBetween c .before .is-blocked2 .ensures) (notBlockedFromLayBetween c .if6 .left),
+      (notBlockedFromLayBetween c .before .is-blocked2 .ensures) (notBlockedFromLayBetween c .if6 .left),
   atStart (netOk (notInUse c) .before) .pre .1,
 )
 
 same-length-8 : tie.Need-same-length-8
 same-length-8 c = search needs
+
 same-length-9 : tie.Need-same-length-9
 same-length-9 c = search needs
+
 same-length-10 : tie.Need-same-length-10
 same-length-10 c = search needs
 

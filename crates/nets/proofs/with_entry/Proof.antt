@@ -12,6 +12,7 @@ use Rattle.nets.proofs.with_entry.Tie as tie
 -- back to the start and where the test fails
 abbrev atStart : tie.After-struct-known → tie.Start
 atStart c = c .before .before .before
+
 abbrev inElse : tie.After-struct-known3 → tie.Else1
 inElse c = c .before .before .before
 
@@ -30,8 +31,14 @@ add-t8 c = search needs
 
 add-t9 : tie.Need-add-t9
 add-t9 c = let start = atStart (inElse c .before) in
-    omega (arith, start .pre .0 .0, start .pre .1 .1 .short, c .before .before .leg-steps .ensures,
-    ap legSteps (inElse c .before .before .entry-at .ensures), steps-most _ (start .pre .1 .0))
+    omega (
+      arith,
+      start .pre .0 .0,
+      start .pre .1 .1 .short,
+      c .before .before .leg-steps .ensures,
+      ap legSteps (inElse c .before .before .entry-at .ensures),
+      steps-most _ (start .pre .1 .0),
+    )
 
 returns-2 : tie.Need-returns-2
 returns-2 c = let start = atStart (inElse c .before) in
