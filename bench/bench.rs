@@ -338,7 +338,7 @@ fn finest_foil(bench: &mut Bench, figures: &mut Vec<Figure>) {
     }
 }
 
-// Jobs as long as a file may be: a record again and again. They are run with no more than 2 MB of stack.
+// Jobs as long as a file may be: a record again and again. They are run with no more than 2,150 KB of stack.
 fn long_jobs(bench: &Bench, figures: &mut Vec<Figure>) {
     println!("\n### Jobs of 60,000 bytes\n");
     println!("| Job | Steps | Ours, s | Plain, s |\n|---|--:|--:|--:|");
@@ -348,7 +348,7 @@ fn long_jobs(bench: &Bench, figures: &mut Vec<Figure>) {
         let whole = [start, again.repeat(times), END.to_vec()].concat();
         let began = Instant::now();
         let mut small = Command::new("sh");
-        small.args(["-c", "ulimit -s 2048 && exec \"$0\""]).arg(&bench.ours);
+        small.args(["-c", "ulimit -s 2150 && exec \"$0\""]).arg(&bench.ours);
         let lines = bench.lines(small, &whole);
         let seconds = began.elapsed().as_secs_f64();
         let mut plain = "not run".to_string();
@@ -374,10 +374,10 @@ fn long_jobs(bench: &Bench, figures: &mut Vec<Figure>) {
 
 // Where our instructions go: those within each function that the compiler keeps as one, and what it calls.
 fn parts(bench: &mut Bench) {
-    println!("\n### Where the instructions go, M (state checks and a lay's search and booking build strips too)\n");
-    println!("| Step | In all | State checks | Search and booking | Building strips | Filling with zeros |");
-    println!("|---|--:|--:|--:|--:|--:|");
-    let names = ["", "*is_sound", "*lay_between", "*rebuild", "*memset*"];
+    println!("\n### Where the instructions go, M (strips are built for the check of the state and anew)\n");
+    println!("| Step | In all | The search | Building strips | Filling lists |");
+    println!("|---|--:|--:|--:|--:|");
+    let names = ["", "*path_in", "*rebuild", "*memset*"];
     let large = scattered(4096, 120, 60);
     let (s, t) = COSTLIEST;
     let steps = [
