@@ -1,4 +1,5 @@
 // The lines of the strips that are left at the end of a job.
+use foil_spec::strip_at;
 use lines::strip_line;
 ghost use Prim.Native.Nat.{_*_, _≤_};
 ghost use lib.ListN.{length};
@@ -18,14 +19,7 @@ pub(crate) fn put_strips(out: &mut [u8], list: &[u16], count: usize) -> usize
     let mut a = 0;
     let mut k = 0;
     while k < count {
-        a = strip_line(
-            out,
-            a,
-            list[k * 4],
-            list[k * 4 + 1],
-            list[k * 4 + 2],
-            list[k * 4 + 3],
-        );
+        a = strip_line(out, a, strip_at(list, k));
         k += 1;
     }
     a

@@ -3,6 +3,7 @@
 // room enough; the `requires` says how much.
 mod put;
 
+use foil_spec::Strip;
 use put::put_bytes;
 use put::put_corners;
 use put::put_item;
@@ -76,17 +77,16 @@ pub fn lift_line(out: &mut [u8], at: usize, net: u16, number: u8) -> usize
 }
 
 // The line of a strip: its ends.
-pub fn strip_line(out: &mut [u8], at: usize, x0: u16, y0: u16, x1: u16, y1: u16) -> usize
+pub fn strip_line(out: &mut [u8], at: usize, strip: Strip) -> usize
     requires { ⌜ at + 64 ≤ length (now out) ⌝ }
-    ensures { λ r. ⌜ Put (now (out .entry)) at (stripLine (record { x0 = x0; y0 = y0; x1 = x1; y1 = y1 }))
-        (now (out .exit)) r ⌝ }
+    ensures { λ r. ⌜ Put (now (out .entry)) at (stripLine strip) (now (out .exit)) r ⌝ }
     ensures { λ r. ⌜ r ≤ at + 30 ⌝ }
 {
     let a = put_bytes(out, at, b"strip");
-    let b = put_item(out, a, x0);
-    let c = put_item(out, b, y0);
-    let d = put_item(out, c, x1);
-    let e = put_item(out, d, y1);
+    let b = put_item(out, a, strip.x0);
+    let c = put_item(out, b, strip.y0);
+    let d = put_item(out, c, strip.x1);
+    let e = put_item(out, d, strip.y1);
     put_bytes(out, e, b"\n")
 }
 

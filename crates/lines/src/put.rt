@@ -1,8 +1,9 @@
 // Bytes, numbers and corners written at a place of a lent list. Each function answers the place after them.
+use foil_spec::Point;
+use foil_spec::corner_at;
 ghost use Prim.Native.Nat.{_+_, _*_, _≤_};
 ghost use lib.ListN.{length};
 ghost use Rattle.foil_spec.specs.Lists.{each};
-ghost use Rattle.foil_spec.specs.Foil.{point};
 ghost use Rattle.foil_spec.specs.Lent.{cornersIn};
 ghost use Rattle.lines.specs.Lines.{decimal, item, cornerItem};
 ghost use Rattle.lines.specs.Put.{Put};
@@ -42,14 +43,14 @@ pub fn put_item(out: &mut [u8], at: usize, n: u16) -> usize
 }
 
 // Puts a blank and a corner as x,y, which are 12 bytes at most.
-pub fn put_corner(out: &mut [u8], at: usize, x: u16, y: u16) -> usize
+pub fn put_corner(out: &mut [u8], at: usize, corner: Point) -> usize
     requires { ⌜ at + 27 ≤ length (now out) ⌝ }
-    ensures { λ r. ⌜ Put (now (out .entry)) at (cornerItem (point x y)) (now (out .exit)) r ⌝ }
+    ensures { λ r. ⌜ Put (now (out .entry)) at (cornerItem corner) (now (out .exit)) r ⌝ }
     ensures { λ r. ⌜ r ≤ at + 12 ⌝ }
 {
-    let a = put_item(out, at, x);
+    let a = put_item(out, at, corner.x);
     let b = put_bytes(out, a, b",");
-    put_number(out, b, y as u64)
+    put_number(out, b, corner.y as u64)
 }
 
 // Puts the first `count` corners of the list.
@@ -63,7 +64,7 @@ pub fn put_corners(out: &mut [u8], at: usize, corners: &[u16], count: usize) -> 
     let mut a = at;
     let mut k = 0;
     while k < count {
-        a = put_corner(out, a, corners[k * 2], corners[k * 2 + 1]);
+        a = put_corner(out, a, corner_at(corners, k));
         k += 1;
     }
     a

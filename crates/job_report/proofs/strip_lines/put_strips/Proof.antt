@@ -2,7 +2,7 @@
 use Prim.Native.Nat.{_-_, _*_, _≤_}
 use native.Mathlib.Omega.{arith}
 use Rattle.foil_spec.specs.Lists.{each}
-use Rattle.foil_spec.specs.Lent.{listedStrip, listedStrips}
+use Rattle.foil_spec.specs.Lent.{listedStrips}
 use Rattle.lines.specs.Lines.{stripLine}
 use Rattle.lines.specs.Put.{Put}
 use Rattle.lines.proofs.Putting.{put-length}
@@ -18,59 +18,17 @@ abbrev μ-loop : tie.MeasureT-loop
 μ-loop out₀ list count a₀ k₀ out a k = count - k
 
 -- back to the loop's head and the loop's turn
-abbrev atLoop : tie.After-shared-slice-known5 Inv-loop μ-loop → tie.At-loop Inv-loop μ-loop
-atLoop c = c .before .before .before .before .before .before
+abbrev atLoop : tie.After-strip-at Inv-loop μ-loop → tie.At-loop Inv-loop μ-loop
+atLoop c = c .before .before .before
 
 abbrev inLoop : tie.After-slice-known2 Inv-loop μ-loop → tie.In-loop Inv-loop μ-loop
-inLoop c = c .before .before .before .before .before .before .before .before
+inLoop c = c .before .before .before .before .before
 
 loop-holds : tie.Need-loop-holds Inv-loop μ-loop
 loop-holds c = (omega arith, strips-none _ _, omega arith)
 
-mul-strip-line : tie.Need-mul-strip-line Inv-loop μ-loop
-mul-strip-line c = omega arith
-
-mul-strip-line-2 : tie.Need-mul-strip-line-2 Inv-loop μ-loop
-mul-strip-line-2 c = omega arith
-
-shared-slice-read-strip-line : tie.Need-shared-slice-read-strip-line Inv-loop μ-loop
-shared-slice-read-strip-line c = omega arith
-
-mul-strip-line-3 : tie.Need-mul-strip-line-3 Inv-loop μ-loop
-mul-strip-line-3 c = omega arith
-
-add-strip-line : tie.Need-add-strip-line Inv-loop μ-loop
-add-strip-line c = omega arith
-
-mul-strip-line-4 : tie.Need-mul-strip-line-4 Inv-loop μ-loop
-mul-strip-line-4 c = omega arith
-
-shared-slice-read-strip-line-2 : tie.Need-shared-slice-read-strip-line-2 Inv-loop μ-loop
-shared-slice-read-strip-line-2 c = omega arith
-
-mul-strip-line-5 : tie.Need-mul-strip-line-5 Inv-loop μ-loop
-mul-strip-line-5 c = omega arith
-
-add-strip-line-2 : tie.Need-add-strip-line-2 Inv-loop μ-loop
-add-strip-line-2 c = omega arith
-
-mul-strip-line-6 : tie.Need-mul-strip-line-6 Inv-loop μ-loop
-mul-strip-line-6 c = omega arith
-
-shared-slice-read-strip-line-3 : tie.Need-shared-slice-read-strip-line-3 Inv-loop μ-loop
-shared-slice-read-strip-line-3 c = omega arith
-
-mul-strip-line-7 : tie.Need-mul-strip-line-7 Inv-loop μ-loop
-mul-strip-line-7 c = omega arith
-
-add-strip-line-3 : tie.Need-add-strip-line-3 Inv-loop μ-loop
-add-strip-line-3 c = omega arith
-
-mul-strip-line-8 : tie.Need-mul-strip-line-8 Inv-loop μ-loop
-mul-strip-line-8 c = omega arith
-
-shared-slice-read-strip-line-4 : tie.Need-shared-slice-read-strip-line-4 Inv-loop μ-loop
-shared-slice-read-strip-line-4 c = omega arith
+strip-at-requires : tie.Need-strip-at-requires Inv-loop μ-loop
+strip-at-requires c κs = omega arith
 
 strip-line-requires : tie.Need-strip-line-requires Inv-loop μ-loop
 strip-line-requires c κs = omega (arith, put-length (atLoop c .loop .inv .1))
@@ -82,10 +40,10 @@ loop-less : tie.Need-loop-less Inv-loop μ-loop
 loop-less c = omega arith
 
 loop-again : tie.Need-loop-again Inv-loop μ-loop
-unfolding listedStrip
 loop-again c = (
   omega arith,
-  strips-more _ _ (inLoop c .before .loop .inv .1) (c .before .before .strip-line .ensures .0),
+  strips-more _ _ (inLoop c .before .loop .inv .1)
+      (rw (c .before .before .before .strip-at .ensures) at (c .before .before .strip-line .ensures .0)),
   omega arith,
 )
 
@@ -97,7 +55,6 @@ returns c = (strips-all _ _ _ (omega arith) (omega arith) (c .before .loop .inv 
 
 pub put-strips-spec : {M : Type 1} → statement M
 put-strips-spec =
-    tie.close (tie.spec Inv-loop μ-loop loop-holds mul-strip-line mul-strip-line-2 shared-slice-read-strip-line
-    mul-strip-line-3 add-strip-line mul-strip-line-4 shared-slice-read-strip-line-2 mul-strip-line-5 add-strip-line-2
-    mul-strip-line-6 shared-slice-read-strip-line-3 mul-strip-line-7 add-strip-line-3 mul-strip-line-8
-    shared-slice-read-strip-line-4 strip-line-requires add-k loop-less loop-again same-length returns)
+    tie.close
+    (tie.spec Inv-loop μ-loop loop-holds strip-at-requires strip-line-requires add-k loop-less loop-again same-length
+    returns)

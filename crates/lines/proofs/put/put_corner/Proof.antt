@@ -9,10 +9,14 @@ use Rattle.lines.proofs.put.put_corner.Tie as tie
 
 -- back to the start, put_item and put_bytes
 abbrev atComma : tie.After-slice-known4 → tie.After-put-bytes
-atComma c = c .before .before .before .before .before .before
+atComma c = c .before .before .before .before .before .before .before
 
 abbrev afterPutItem : tie.After-slice-known4 → tie.After-put-item
 afterPutItem c = atComma c .before .before .before .before .before
+
+-- what is known of the corner's numbers
+abbrev atCorner : tie.After-slice-known4 → tie.After-struct-known
+atCorner c = c .before .before .before
 
 abbrev atStart : tie.After-slice-known4 → tie.Start
 atStart c = afterPutItem c .before .before .before
@@ -26,6 +30,9 @@ slice-aggregate-put-bytes c = search needs
 put-bytes-requires : tie.Need-put-bytes-requires
 put-bytes-requires c κs = omega arith
 
+cast-put-number : tie.Need-cast-put-number
+cast-put-number c = omega (arith, c .struct-known .given .1 .0)
+
 put-number-requires : tie.Need-put-number-requires
 put-number-requires c κs = omega arith
 
@@ -37,10 +44,10 @@ unfolding cornerItem
 returns c = (
   put-then (put-then (afterPutItem c .put-item .ensures .0) (atComma c .put-bytes .ensures))
       (c .before .before .put-number .ensures .0),
-  omega (arith, decimal-short (atStart c .args .y) (atStart c .fits .y .fits)),
+  omega (arith, decimal-short (atStart c .args .corner .y) (atCorner c .struct-known .given .1 .0 .fits)),
 )
 
 pub put-corner-spec : {M : Type 1} → statement M
 put-corner-spec =
-    tie.close (tie.spec put-item-requires slice-aggregate-put-bytes put-bytes-requires put-number-requires same-length
-    returns)
+    tie.close (tie.spec put-item-requires slice-aggregate-put-bytes put-bytes-requires cast-put-number
+    put-number-requires same-length returns)

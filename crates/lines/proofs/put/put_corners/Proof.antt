@@ -2,7 +2,7 @@
 use Prim.Native.Nat.{_+_, _-_, _*_, _≤_}
 use native.Mathlib.Omega.{arith}
 use Rattle.foil_spec.specs.Lists.{each}
-use Rattle.foil_spec.specs.Lent.{cornerAt, cornersIn}
+use Rattle.foil_spec.specs.Lent.{cornersIn}
 use Rattle.lines.specs.Lines.{cornerItem}
 use Rattle.lines.specs.Put.{Put}
 use Rattle.lines.proofs.Putting.{put-length}
@@ -18,35 +18,17 @@ abbrev μ-loop : tie.MeasureT-loop
 μ-loop out₀ at corners count a₀ k₀ out a k = count - k
 
 -- back to the loop's head and the loop's turn
-abbrev atLoop : tie.After-shared-slice-known3 Inv-loop μ-loop → tie.At-loop Inv-loop μ-loop
-atLoop c = c .before .before .before .before
+abbrev atLoop : tie.After-corner-at Inv-loop μ-loop → tie.At-loop Inv-loop μ-loop
+atLoop c = c .before .before .before
 
 abbrev inLoop : tie.After-slice-known2 Inv-loop μ-loop → tie.In-loop Inv-loop μ-loop
-inLoop c = c .before .before .before .before .before .before
+inLoop c = c .before .before .before .before .before
 
 loop-holds : tie.Need-loop-holds Inv-loop μ-loop
 loop-holds c = (omega arith, corners-none _ _ _ (omega arith), omega arith)
 
-mul-put-corner : tie.Need-mul-put-corner Inv-loop μ-loop
-mul-put-corner c = omega arith
-
-mul-put-corner-2 : tie.Need-mul-put-corner-2 Inv-loop μ-loop
-mul-put-corner-2 c = omega arith
-
-shared-slice-read-put-corner : tie.Need-shared-slice-read-put-corner Inv-loop μ-loop
-shared-slice-read-put-corner c = omega arith
-
-mul-put-corner-3 : tie.Need-mul-put-corner-3 Inv-loop μ-loop
-mul-put-corner-3 c = omega arith
-
-add-put-corner : tie.Need-add-put-corner Inv-loop μ-loop
-add-put-corner c = omega arith
-
-mul-put-corner-4 : tie.Need-mul-put-corner-4 Inv-loop μ-loop
-mul-put-corner-4 c = omega arith
-
-shared-slice-read-put-corner-2 : tie.Need-shared-slice-read-put-corner-2 Inv-loop μ-loop
-shared-slice-read-put-corner-2 c = omega arith
+corner-at-requires : tie.Need-corner-at-requires Inv-loop μ-loop
+corner-at-requires c κs = omega arith
 
 put-corner-requires : tie.Need-put-corner-requires Inv-loop μ-loop
 put-corner-requires c κs = omega (arith, put-length (atLoop c .loop .inv .1))
@@ -58,11 +40,10 @@ loop-less : tie.Need-loop-less Inv-loop μ-loop
 loop-less c = omega arith
 
 loop-again : tie.Need-loop-again Inv-loop μ-loop
-unfolding cornerAt
 loop-again c = (
   omega arith,
   corners-more _ _ (inLoop c .before .loop .inv .1)
-      (c .before .before .put-corner .ensures .0),
+      (rw (c .before .before .before .corner-at .ensures) at (c .before .before .put-corner .ensures .0)),
   omega arith,
 )
 
@@ -74,6 +55,6 @@ returns c = (corners-all _ _ _ (omega arith) (omega arith) (c .before .loop .inv
 
 pub put-corners-spec : {M : Type 1} → statement M
 put-corners-spec =
-    tie.close (tie.spec Inv-loop μ-loop loop-holds mul-put-corner mul-put-corner-2 shared-slice-read-put-corner
-    mul-put-corner-3 add-put-corner mul-put-corner-4 shared-slice-read-put-corner-2 put-corner-requires add-k
-    loop-less loop-again same-length returns)
+    tie.close
+    (tie.spec Inv-loop μ-loop loop-holds corner-at-requires put-corner-requires add-k loop-less loop-again same-length
+    returns)
