@@ -9,10 +9,10 @@ use lib.Seq.{paste}
 use borrow.Author.Tests.{lt-ltb, le-ltb}
 use Rattle.foil_spec.specs.Lists.{range, each}
 use Rattle.foil_spec.specs.Limits.{maxEntries, tableSize, maxStrips, stripsSize}
-use Rattle.foil_spec.specs.Foil.{Layout}
+use Rattle.foil_spec.specs.Foil.{entryNumbers, Layout}
 use Rattle.foil_spec.specs.Strips.{Strip}
 use Rattle.foil_spec.specs.Ledger.{stripsOf, tooFine}
-use Rattle.foil_spec.specs.Lent.{entryNumbers, stripNumbers, written, boardOf, entryAt, layoutOf}
+use Rattle.foil_spec.specs.Lent.{stripNumbers, written, boardOf, entryAt, layoutOf}
 use Rattle.ledger_laws.proofs.Stored.{length-entries, length-strips}
 use Rattle.ledger_laws.proofs.Sound.{length-read, front-written}
 use Rattle.booking.specs.Rows.{rowsOf}

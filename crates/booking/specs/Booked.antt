@@ -5,9 +5,9 @@ use mathlib.Core.List.{List}
 use Prim.Native.Nat.{ℕ}
 use Rattle.foil_spec.specs.Lists.{each}
 use Rattle.foil_spec.specs.Limits.{tableSize, stripsSize}
-use Rattle.foil_spec.specs.Foil.{Layout}
+use Rattle.foil_spec.specs.Foil.{entryNumbers, Layout}
 use Rattle.foil_spec.specs.Ledger.{stripsOf, tooFine}
-use Rattle.foil_spec.specs.Lent.{entryNumbers, stripNumbers, written, boardOf}
+use Rattle.foil_spec.specs.Lent.{stripNumbers, written, boardOf}
 use Rattle.foil_spec.specs.declared.Board.{Board}
 use Rattle.booking.specs.declared.Booked.{Booked}
 use Rattle.booking.specs.declared.Booked.the-variants.{Taken, TooFine}

@@ -6,9 +6,9 @@ use mathlib.Core.List.{List, [], _∷_, _++_, map}
 use lib.ListN.{length}
 use Rattle.foil_spec.specs.Lists.{range, keep, each}
 use Rattle.foil_spec.specs.Limits.{tableSize}
-use Rattle.foil_spec.specs.Foil.{Entry}
+use Rattle.foil_spec.specs.Foil.{Entry, entryNumbers}
 use Rattle.foil_spec.specs.Ledger.{ofNet}
-use Rattle.foil_spec.specs.Lent.{entryNumbers, written, entryAt}
+use Rattle.foil_spec.specs.Lent.{written, entryAt}
 
 -- the entries, and zeros in the unused places
 unfoldable pub rowsOf : List Entry → List ℕ

@@ -8,8 +8,8 @@ use lib.ListN.{length, drop, replicate}
 use lib.Seq.{paste}
 use Rattle.foil_spec.specs.Lists.{range, all, each}
 use Rattle.foil_spec.specs.Limits.{maxEntries, tableSize}
-use Rattle.foil_spec.specs.Foil.{Entry, entryOk}
-use Rattle.foil_spec.specs.Lent.{Lent, entryNumbers, written, store, entryAt, layoutOf, held}
+use Rattle.foil_spec.specs.Foil.{Entry, entryNumbers, entryOk}
+use Rattle.foil_spec.specs.Lent.{Lent, written, store, entryAt, layoutOf, held}
 use Rattle.ledger_laws.proofs.Stored.{read-back, entries-fit}
 use Rattle.ledger_laws.proofs.Sound.{Sound}
 use Rattle.zones.specs.Table.{Table}

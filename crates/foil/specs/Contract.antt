@@ -8,11 +8,11 @@ use lib.ListN.{length}
 use Rattle.foil_spec.specs.Foil.{Point, Entry, Layout}
 use Rattle.foil_spec.specs.Ledger.{withEntries, Room, short, tooLong, tooFine, Step, lookUp, Refusal, _⇒_, first, afterLent}
 use Rattle.foil_spec.specs.Ledger.{After, settle}
-use Rattle.foil_spec.specs.Ledger.{Answer as Outcome, refused, accepted, laid, found}
+use Rattle.foil_spec.specs.Ledger.{Answer as Outcome, refused, accepted, laid, found, wrote}
 use Rattle.foil_spec.specs.Lent.{Lent, lent, held, store, sound, roomIn, roomOf, stepOn, outputAfter}
 use Rattle.foil_spec.specs.declared.Board.{Board}
 use Rattle.foil.specs.declared.Answer.{Answer}
-use Rattle.foil.specs.declared.Answer.the-variants.{Refused, Accepted, Laid, Found}
+use Rattle.foil.specs.declared.Answer.the-variants.{Refused, Accepted, Laid, Found, Wrote as WroteBytes}
 use Rattle.foil.specs.declared.Done.{Done}
 use Rattle.foil.specs.declared.lent.Checked.{Checked}
 use Rattle.foil.specs.declared.lent.Checked.the-variants as checked
@@ -23,6 +23,7 @@ answerOf (refused n) = Refused n
 answerOf accepted = Accepted
 answerOf (laid cs n) = Laid (length cs) n
 answerOf (found k) = Found k
+answerOf (wrote bs) = WroteBytes (length bs)
 
 -- the answer, the record, the table t and the strips s are those of a
 pub record Gave (a : After Outcome Lent) (d : Done) (t s : List ℕ) : Type 0 where
@@ -57,6 +58,12 @@ OutputIn c limit m out d t s out′ =
 pub record Looked (p : Point) (m : Lent) (r : Answer) : Type 0 where
   pub answer : r ≡ answerOf (stepOn (roomOf m 0) (lookUp p) m .answer)
   pub state : m ≡ stepOn (roomOf m 0) (lookUp p) m .state
+
+-- a step that only reads what it was lent of the foil, m, answered r and left its output list out as out′
+pub record WriteDone (c : Step) (m : Lent) (out : List ℕ) (r : Answer) (out′ : List ℕ) : Type 0 where
+  pub answer : r ≡ answerOf (stepOn (roomOf m (length out)) c m .answer)
+  pub state : m ≡ stepOn (roomOf m (length out)) c m .state
+  pub output : out′ ≡ outputAfter (stepOn (roomOf m (length out)) c m .answer) out
 
 -- a refusal by its number
 abbrev pub refusedBy : ℕ → Board → Done

@@ -39,12 +39,14 @@ ghost use Rattle.booking.specs.Rows.{rowsOf};
 ghost use Rattle.foil.specs.Contract.{Gave, StepDone, StepIn, Looked, takenOver, entryAdded, refusedBy};
 
 // What a call answers: the number of a refusal, or that it is accepted, with the numbers of corners
-// and bends after a lay, and with the strip's place after a look up.
+// and bends after a lay, with the strip's place after a look up, and with the number of bytes after
+// a save.
 pub enum Answer {
     Refused(u8),
     Accepted,
     Laid(usize, usize),
     Found(usize),
+    Wrote(usize),
 }
 
 // An answer, and the board's record after it.

@@ -1,4 +1,5 @@
--- The starred test foils of document 01, and the ohms of its track: one list of cases, and one fact over it.
+-- The starred test foils of document 01, the ohms of its track, and legs as booked with the file of their foil: one list of
+-- cases, and one fact over it.
 use Prim.Native.Nat.{ℕ}
 use mathlib.Core.Path.{_≡_, refl}
 use mathlib.Core.Bool.{true, false, xor}
@@ -7,15 +8,18 @@ use mathlib.Core.Option.{some}
 use lib.IntN.{pos, negsuc}
 use lib.Ieee.{Float, nan, inf, fin, binary64, ofInt, ofBits, add, mul, div, lt, le, eq}
 use Rattle.foil_spec.specs.Foil.{Point, point, Entry, entry, Layout, noFoil}
-use Rattle.foil_spec.specs.Foil.{sizeOk, clearanceOk, netOk, boxOk, within, blocks, free}
+use Rattle.foil_spec.specs.Foil.{entryNumbers, sizeOk, clearanceOk, netOk, boxOk, shapeOk, entryOk}
+use Rattle.foil_spec.specs.Foil.{within, blocks, free}
 use Rattle.foil_spec.specs.Strips.{Strip, stopIn, stop, scan, scanAt, starts, isRun, isTop, begun}
 use Rattle.foil_spec.specs.Strips.{stripsFrom, holds, placeOf}
 use Rattle.foil_spec.specs.Paths.{after, between, levelFree, uprightFree, segment, bends, points, goings}
 use Rattle.foil_spec.specs.Paths.{stepsFrom, shortest, firstFrom, firstPathTo}
+use Rattle.foil_spec.specs.Saving.{twoBytes, boardBytes, patchBytes, legBytes, entryBytes, jobOf}
 use Rattle.foil_spec.specs.Ledger.{stripsOf, pathOf, noPath, cornersOf, leg, legsFrom, legs, ofNet, inUse}
-use Rattle.foil_spec.specs.Ledger.{offFoil, blocked, short, cornerRoom, tooLong, tooFine, next, says}
+use Rattle.foil_spec.specs.Ledger.{offFoil, blocked, short, cornerRoom, tooLong, tooFine, beginningTooFine, next, says}
 use Rattle.foil_spec.specs.Ledger.{first, reads, refusals, afterLent, settle, refusalOf, ledgerStep}
-use Rattle.foil_spec.specs.Ledger.{newFoil, draw, lay, lift, lookUp, refused, accepted, laid, found}
+use Rattle.foil_spec.specs.Ledger.{newFoil, draw, lay, lift, lookUp, putLeg, save}
+use Rattle.foil_spec.specs.Ledger.{refused, accepted, laid, found, wrote}
 use Rattle.foil_spec.specs.Job.{number, fieldCount, mapByte, has, fieldsAt, recordEnd, field, stepAt}
 use Rattle.foil_spec.specs.Job.{jobRoom, stepsAt, steps, isEnd, recordChecks}
 use Rattle.foil_spec.specs.Nets.{legsOf, legSteps, stepsOf, netLength, netBends}
@@ -59,6 +63,32 @@ jobEntries = entry 0 2 0 3 3 ∷ entry 5 0 0 1 4 ∷ entry 5 0 3 5 4 ∷ entry 5
 
 abbrev jobStrips : List Strip
 jobStrips = strip 1 0 2 3 ∷ strip 3 0 4 3 ∷ strip 5 0 6 4 ∷ []
+
+-- a job whose legs are a good one, one of net 0, and one that is two points wide
+legJob : List ℕ
+legJob =
+    0x03 ∷ 0x06 ∷ 0x00 ∷ 0x04 ∷ 0x00 ∷ 0x00 ∷ 0x00 ∷ 0x02 ∷ 0x00 ∷ 0x00 ∷ 0x00 ∷ 0x03 ∷ 0x00 ∷ 0x03 ∷ 0x00
+    ∷ 0x10 ∷ 0x05 ∷ 0x00 ∷ 0x00 ∷ 0x00 ∷ 0x00 ∷ 0x00 ∷ 0x01 ∷ 0x00 ∷ 0x04 ∷ 0x00
+    ∷ 0x10 ∷ 0x00 ∷ 0x00 ∷ 0x00 ∷ 0x00 ∷ 0x00 ∷ 0x00 ∷ 0x01 ∷ 0x00 ∷ 0x01 ∷ 0x00
+    ∷ 0x10 ∷ 0x07 ∷ 0x00 ∷ 0x00 ∷ 0x00 ∷ 0x00 ∷ 0x00 ∷ 0x02 ∷ 0x00 ∷ 0x02 ∷ 0x00
+    ∷ 0x00 ∷ []
+
+-- the entries of a foil that is saved: those of the job, and two legs
+abbrev savedEntries : List Entry
+savedEntries =
+    entry 0 2 0 3 3 ∷ entry 5 0 0 1 4 ∷ entry 5 0 3 5 4 ∷ entry 5 4 0 5 4 ∷ entry 5 0 0 1 2 ∷ entry 7 5 0 6 4 ∷ []
+
+-- and its file
+savedBytes : List ℕ
+savedBytes =
+    0x01 ∷ 0x06 ∷ 0x00 ∷ 0x04 ∷ 0x00 ∷ 0x00 ∷ 0x00
+    ∷ 0x02 ∷ 0x02 ∷ 0x00 ∷ 0x00 ∷ 0x00 ∷ 0x03 ∷ 0x00 ∷ 0x03 ∷ 0x00
+    ∷ 0x10 ∷ 0x05 ∷ 0x00 ∷ 0x00 ∷ 0x00 ∷ 0x00 ∷ 0x00 ∷ 0x01 ∷ 0x00 ∷ 0x04 ∷ 0x00
+    ∷ 0x10 ∷ 0x05 ∷ 0x00 ∷ 0x00 ∷ 0x00 ∷ 0x03 ∷ 0x00 ∷ 0x05 ∷ 0x00 ∷ 0x04 ∷ 0x00
+    ∷ 0x10 ∷ 0x05 ∷ 0x00 ∷ 0x04 ∷ 0x00 ∷ 0x00 ∷ 0x00 ∷ 0x05 ∷ 0x00 ∷ 0x04 ∷ 0x00
+    ∷ 0x10 ∷ 0x05 ∷ 0x00 ∷ 0x00 ∷ 0x00 ∷ 0x00 ∷ 0x00 ∷ 0x01 ∷ 0x00 ∷ 0x02 ∷ 0x00
+    ∷ 0x10 ∷ 0x07 ∷ 0x00 ∷ 0x05 ∷ 0x00 ∷ 0x00 ∷ 0x00 ∷ 0x06 ∷ 0x00 ∷ 0x04 ∷ 0x00
+    ∷ 0x00 ∷ []
 
 -- the ohms of a net for R, w and c
 abbrev asked : ℕ → Float → Float → Float → Call
@@ -217,16 +247,48 @@ cases =
             strips = jobStrips;
           };
     }
+    -- legs as booked: the net is tried before box and shape, and a leg may lie on blocked points; then the foil is saved
+    ∷ record {
+      calls =
+          step (newFoil 6 4 0) ∷ step (draw 2 0 3 3) ∷ step (lay 5 (point 0 0) (point 4 0))
+          ∷ step (putLeg (entry 5 0 0 1 2)) ∷ step (putLeg (entry 0 0 0 1 1)) ∷ step (putLeg (entry 1000 9 9 9 9))
+          ∷ step (putLeg (entry 7 0 0 2 2)) ∷ step (putLeg (entry 7 3 0 7 1)) ∷ step (putLeg (entry 7 3 1 3 2))
+          ∷ step (putLeg (entry 7 5 0 6 4)) ∷ step save ∷ [];
+      outcome =
+          record {
+            replies =
+                answered accepted ∷ answered accepted ∷ answered (laid jobCorners 2) ∷ answered accepted
+                ∷ answered (refused 4) ∷ answered (refused 4) ∷ answered (refused 3) ∷ answered (refused 3)
+                ∷ answered (refused 3) ∷ answered accepted ∷ answered (wrote savedBytes) ∷ [];
+            entries = savedEntries;
+            strips = strip 1 0 2 3 ∷ strip 3 0 4 3 ∷ [];
+          };
+    }
+    -- legs in a job file
+    ∷ record {
+      calls =
+          runRecord legJob 0 ∷ runRecord legJob 15 ∷ runRecord legJob 26 ∷ runRecord legJob 37
+          ∷ runRecord legJob 48 ∷ [];
+      outcome =
+          record {
+            replies =
+                ran (accepted ∷ accepted ∷ []) (some 15) ∷ ran (accepted ∷ []) (some 26)
+                ∷ ran (refused 4 ∷ []) (some 37) ∷ ran (refused 3 ∷ []) (some 48) ∷ atEnd ∷ [];
+            entries = entry 0 2 0 3 3 ∷ entry 5 0 0 1 4 ∷ [];
+            strips = strip 1 0 2 3 ∷ strip 3 0 6 3 ∷ strip 1 3 6 4 ∷ [];
+          };
+    }
     ∷ []
 
 -- every case comes out as document 01 says
 starred : map (λ (c : Case). outcomeFrom noFoil [] (c .calls)) cases ≡ map (λ (c : Case). c .outcome) cases
-unfolding outcomeFrom cases jobBytes
-    sizeOk clearanceOk netOk boxOk within blocks free
+unfolding outcomeFrom cases jobBytes legJob savedBytes
+    entryNumbers sizeOk clearanceOk netOk boxOk shapeOk entryOk within blocks free
     stopIn stop scan scanAt starts isRun isTop begun stripsFrom holds placeOf
     after between levelFree uprightFree segment bends points goings stepsFrom shortest firstFrom firstPathTo
     stripsOf pathOf noPath cornersOf leg legsFrom legs ofNet inUse offFoil blocked
-    short cornerRoom tooLong tooFine next says first reads refusals afterLent settle refusalOf ledgerStep
+    twoBytes boardBytes patchBytes legBytes entryBytes jobOf
+    short cornerRoom tooLong tooFine beginningTooFine next says first reads refusals afterLent settle refusalOf ledgerStep
     jobRoom number fieldCount mapByte has fieldsAt recordEnd field stepAt stepsAt steps isEnd recordChecks
     endsJob andThen actAll actRecord tooLarge wholeRefusals ohmsReply reply ledgerCall xor
     legsOf legSteps stepsOf netLength netBends whole sheetOk widthOk bendOk inkOk formula ohmsRefusals ohmsOf half bits

@@ -1,5 +1,5 @@
 -- The calls, on the ledger and on what is lent.
-use Prim.Native.Nat.{ℕ}
+use Prim.Native.Nat.{ℕ, zero, suc}
 use mathlib.Core.Bool.{Bool, true, false, cond, not, _&&_, _||_}
 use mathlib.Core.List.{List, [], _∷_}
 use mathlib.Core.Option.{Option, none, some}
@@ -9,7 +9,7 @@ use lib.Ieee.{Float}
 use Rattle.foil_spec.specs.Lists.{any}
 use Rattle.foil_spec.specs.Limits.{maxBytes}
 use Rattle.foil_spec.specs.Foil.{Layout}
-use Rattle.foil_spec.specs.Ledger.{Step, Answer, refused, accepted, laid, found, Refusal, _⇒_, first}
+use Rattle.foil_spec.specs.Ledger.{Step, Answer, refused, accepted, laid, found, wrote, Refusal, _⇒_, first}
 use Rattle.foil_spec.specs.Ledger.{Room, afterLent, After, ledgerStep}
 use Rattle.foil_spec.specs.Lent.{Lent, held, sound, stepOn, outputAfter}
 use Rattle.foil_spec.specs.Ohms.{ohmsRefusals, ohmsOf}
@@ -36,6 +36,7 @@ endsJob (refused n) = eqb n 1 || eqb n 2
 endsJob accepted = false
 endsJob (laid cs n) = false
 endsJob (found n) = false
+endsJob (wrote bs) = false
 
 -- a step's answer in front of those of the steps after it, which are not done where it ends the job
 unfoldable pub andThen : {S : Type 0} → After Answer S → After (List Answer) S → After (List Answer) S
@@ -105,3 +106,29 @@ outputAll (a ∷ given) out = outputAll given (outputAfter a out)
 -- an output list after a reply
 unfoldable pub outputBy : Reply → List ℕ → List ℕ
 outputBy r out = outputAll (answersIn r) out
+
+-- where a job goes on after a reply
+unfoldable pub placeAfter : Reply → Option ℕ
+placeAfter (answered a) = none
+placeAfter (ran given place) = place
+placeAfter atEnd = none
+placeAfter (measured x) = none
+
+-- the replies to the records of a job file from a place on, at most n of them, each on what the last one left
+unfoldable pub readFrom : Room → List ℕ → ℕ → Option ℕ → Lent → After (List Reply) Lent
+readFrom r bs zero place m = record { answer = []; state = m }
+readFrom r bs (suc n) none m = record { answer = []; state = m }
+readFrom r bs (suc n) (some at) m =
+    record {
+      answer =
+          callOn r (runRecord bs at) m .answer
+          ∷ readFrom r bs n (placeAfter (callOn r (runRecord bs at) m .answer)) (callOn r (runRecord bs at) m .state)
+          .answer;
+      state =
+          readFrom r bs n (placeAfter (callOn r (runRecord bs at) m .answer)) (callOn r (runRecord bs at) m .state)
+          .state;
+    }
+
+-- those of a whole job file, which has no more records than bytes
+unfoldable pub readJob : Room → List ℕ → Lent → After (List Reply) Lent
+readJob r bs m = readFrom r bs (length bs) (some 0) m

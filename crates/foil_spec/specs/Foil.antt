@@ -1,7 +1,7 @@
 -- The foil: its limits, the entries of its table, what an entry blocks, and which points are free.
 use Prim.Native.Nat.{ℕ, suc, _+_}
 use mathlib.Core.Bool.{Bool, not, _&&_, _||_}
-use mathlib.Core.List.{List, []}
+use mathlib.Core.List.{List, [], _∷_}
 use lib.Dec.{leb, ltb, eqb}
 use Rattle.foil_spec.specs.Lists.{all}
 use Rattle.foil_spec.specs.declared.Point as declaredPoint
@@ -26,6 +26,10 @@ Entry = declaredEntry.Entry
 -- an entry from its five numbers
 abbrev pub entry : ℕ → ℕ → ℕ → ℕ → ℕ → Entry
 entry net x0 y0 x1 y1 = record { net = net; x0 = x0; y0 = y0; x1 = x1; y1 = y1 }
+
+-- its five numbers
+unfoldable pub entryNumbers : Entry → List ℕ
+entryNumbers e = e .net ∷ e .x0 ∷ e .y0 ∷ e .x1 ∷ e .y1 ∷ []
 
 -- what a record and a table say: W, H, the clearance (document 01: reach) and the row of entries
 pub record Layout : Type 0 where

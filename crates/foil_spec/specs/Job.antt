@@ -6,8 +6,8 @@ use lib.Dec.{leb, ltb, eqb}
 use lib.ListN.{length, getD}
 use Rattle.foil_spec.specs.Lists.{range, consIf}
 use Rattle.foil_spec.specs.Limits.{maxEntries, maxStrips, cornerPlaces}
-use Rattle.foil_spec.specs.Foil.{point}
-use Rattle.foil_spec.specs.Ledger.{Room, Step, newFoil, draw, lay, lift, Refusal, _⇒_}
+use Rattle.foil_spec.specs.Foil.{point, entry}
+use Rattle.foil_spec.specs.Ledger.{Room, Step, newFoil, draw, lay, lift, putLeg, Refusal, _⇒_}
 
 -- the job program lends whole lists and all corner places
 unfoldable pub jobRoom : Room
@@ -17,16 +17,16 @@ jobRoom = record { table = maxEntries; strips = maxStrips; output = 2 * cornerPl
 unfoldable pub number : List ℕ → ℕ → ℕ
 number bs at = getD bs at 0 + 256 * getD bs (at + 1) 0
 
--- how many numbers belong to each bit: W, H, reach; a patch; net, S and T to lay; net to lift
+-- how many numbers belong to each bit: W, H, reach; a patch; net, S and T to lay; net to lift; net and ends of a leg
 abbrev pub fieldCounts : List ℕ
-fieldCounts = 3 ∷ 4 ∷ 5 ∷ 1 ∷ []
+fieldCounts = 3 ∷ 4 ∷ 5 ∷ 1 ∷ 5 ∷ []
 
 unfoldable pub fieldCount : ℕ → ℕ
 fieldCount k = getD fieldCounts k 0
 
 -- how many bits a map byte may use
 abbrev pub mapBits : ℕ
-mapBits = 4
+mapBits = 5
 
 -- the record that begins at a place of the bytes
 module _ (bs : List ℕ) (at : ℕ) where
@@ -56,7 +56,8 @@ module _ (bs : List ℕ) (at : ℕ) where
   stepAt zero = newFoil (field 0 0) (field 0 1) (field 0 2)
   stepAt (suc zero) = draw (field 1 0) (field 1 1) (field 1 2) (field 1 3)
   stepAt (suc (suc zero)) = lay (field 2 0) (point (field 2 1) (field 2 2)) (point (field 2 3) (field 2 4))
-  stepAt (suc (suc (suc k))) = lift (field 3 0)
+  stepAt (suc (suc (suc zero))) = lift (field 3 0)
+  stepAt (suc (suc (suc (suc k)))) = putLeg (entry (field 4 0) (field 4 1) (field 4 2) (field 4 3) (field 4 4))
 
   -- the steps of the bits of a list that are set, in its order
   unfoldable pub stepsAt : List ℕ → List Step

@@ -4,12 +4,13 @@ use mathlib.Core.Bool.{Bool, cond, true, false, not, _&&_, _||_}
 use mathlib.Core.List.{List, [], _∷_, _++_}
 use mathlib.Core.Option.{Option, none, some, Option·getD}
 use lib.Dec.{leb, ltb, eqb}
-use lib.ListN.{length}
-use Rattle.foil_spec.specs.Lists.{keep, any}
+use lib.ListN.{length, take}
+use Rattle.foil_spec.specs.Lists.{range, keep, any}
 use Rattle.foil_spec.specs.Limits.{maxEntries, maxStrips}
-use Rattle.foil_spec.specs.Foil.{Point, Entry, entry, Layout, sizeOk, clearanceOk, netOk, boxOk, free}
+use Rattle.foil_spec.specs.Foil.{Point, Entry, entry, Layout, sizeOk, clearanceOk, netOk, boxOk, entryOk, free}
 use Rattle.foil_spec.specs.Strips.{Strip, strips, placeOf}
 use Rattle.foil_spec.specs.Paths.{firstPath, bends}
+use Rattle.foil_spec.specs.Saving.{jobOf}
 
 -- the strips of a layout
 unfoldable pub stripsOf : Layout → List Strip
@@ -88,6 +89,11 @@ tooLong r l = ltb (min maxEntries (r .limit)) (length (l .entries))
 unfoldable pub tooFine : Layout → Bool
 tooFine l = ltb maxStrips (length (stripsOf l))
 
+-- some beginning of the row of entries alone has more strips than that
+unfoldable pub beginningTooFine : Layout → Bool
+beginningTooFine l =
+    any (λ (n : ℕ). tooFine (withEntries l (take n (l .entries)))) (range 0 (suc (length (l .entries))))
+
 -- the calls that are one step
 pub data Step : Type 0 where
   newFoil : ℕ → ℕ → ℕ → Step
@@ -95,13 +101,17 @@ pub data Step : Type 0 where
   lay : ℕ → Point → Point → Step
   lift : ℕ → Step
   lookUp : Point → Step
+  putLeg : Entry → Step
+  save : Step
 
--- a refusal number; or accepted, with corners and bends after a lay, with a strip's place after a look up
+-- a refusal number; or accepted, with corners and bends after a lay, with a strip's place after a look up, with the bytes
+-- that were written after a save
 pub data Answer : Type 0 where
   refused : ℕ → Answer
   accepted : Answer
   laid : List Point → ℕ → Answer
   found : ℕ → Answer
+  wrote : List ℕ → Answer
 
 -- the refusal number, 0 if accepted
 unfoldable pub numberOf : Answer → ℕ
@@ -109,6 +119,7 @@ numberOf (refused n) = n
 numberOf accepted = 0
 numberOf (laid cs n) = 0
 numberOf (found n) = 0
+numberOf (wrote bs) = 0
 
 -- what an accepted step leaves
 unfoldable pub next : Step → Layout → Layout
@@ -117,6 +128,8 @@ next (draw x0 y0 x1 y1) l = withEntries l (l .entries ++ entry 0 x0 y0 x1 y1 ∷
 next (lay net S T) l = withEntries l (l .entries ++ legs net (cornersOf l S T))
 next (lift net) l = withEntries l (keep (λ (e : Entry). not (ofNet net e)) (l .entries))
 next (lookUp p) l = l
+next (putLeg e) l = withEntries l (l .entries ++ e ∷ [])
+next save l = l
 
 -- what an accepted step answers
 unfoldable pub says : Step → Layout → Answer
@@ -125,6 +138,8 @@ says (draw x0 y0 x1 y1) l = accepted
 says (lay net S T) l = laid (cornersOf l S T) (bends (cornersOf l S T))
 says (lift net) l = accepted
 says (lookUp p) l = found (placeOf p (stripsOf l))
+says (putLeg e) l = accepted
+says save l = wrote (jobOf l)
 
 -- a refusal: when it applies, and its number
 pub record Refusal : Type 0 where
@@ -148,6 +163,8 @@ reads (draw x0 y0 x1 y1) = true
 reads (lay net S T) = true
 reads (lift net) = true
 reads (lookUp p) = true
+reads (putLeg e) = true
+reads save = true
 
 -- a step's own refusals in their order
 unfoldable pub refusals : Step → Room → Layout → List Refusal
@@ -173,6 +190,13 @@ refusals (lift net) r l =
     ∷ (tooFine (next (lift net) l) ⇒ 11)
     ∷ []
 refusals (lookUp p) r l = (offFoil l p ⇒ 7) ∷ (blocked l p ⇒ 8) ∷ []
+refusals (putLeg e) r l =
+    (not (netOk (e .net)) ⇒ 4)
+    ∷ (not (entryOk (l .width) (l .height) e) ⇒ 3)
+    ∷ (tooLong r (next (putLeg e) l) ⇒ 10)
+    ∷ (tooFine (next (putLeg e) l) ⇒ 11)
+    ∷ []
+refusals save r l = (beginningTooFine l ⇒ 11) ∷ (ltb (r .output) (length (jobOf l)) ⇒ 12) ∷ []
 
 -- a call's own refusals after those for what is lent, which every call begins with; `broken` says that the call reads a
 -- state that breaks a rule

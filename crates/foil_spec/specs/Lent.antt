@@ -6,9 +6,9 @@ use lib.Dec.{leb, eqb}
 use lib.ListN.{length, getD, drop, replicate}
 use Rattle.foil_spec.specs.Lists.{range, all, each}
 use Rattle.foil_spec.specs.Limits.{maxEntries, tableSize, stripsSize}
-use Rattle.foil_spec.specs.Foil.{Point, point, Entry, entry, Layout, sizeOk, clearanceOk, entryOk}
+use Rattle.foil_spec.specs.Foil.{Point, point, Entry, entry, entryNumbers, Layout, sizeOk, clearanceOk, entryOk}
 use Rattle.foil_spec.specs.Strips.{Strip}
-use Rattle.foil_spec.specs.Ledger.{stripsOf, tooFine, Room, Step, Answer, refused, accepted, laid, found}
+use Rattle.foil_spec.specs.Ledger.{stripsOf, tooFine, Room, Step, Answer, refused, accepted, laid, found, wrote}
 use Rattle.foil_spec.specs.Ledger.{says, next, After, settle, refusalOf}
 use Rattle.foil_spec.specs.declared.Board.{Board}
 
@@ -21,10 +21,6 @@ pub record Lent : Type 0 where
 -- the same from its three parts
 abbrev pub lent : Board → List ℕ → List ℕ → Lent
 lent b t s = record { board = b; table = t; strips = s }
-
--- a place of the table is five numbers
-unfoldable pub entryNumbers : Entry → List ℕ
-entryNumbers e = e .net ∷ e .x0 ∷ e .y0 ∷ e .x1 ∷ e .y1 ∷ []
 
 -- a place of the strip list is four numbers
 unfoldable pub stripNumbers : Strip → List ℕ
@@ -131,9 +127,10 @@ stepOn r s m =
     settle (refusalOf r (not (sound m)) s (held m))
     (record { answer = says s (held m); state = store (next s (held m)) m }) m
 
--- an output list after an answer: an accepted lay's corners stand at its front
+-- an output list after an answer: the corners of a track that was laid, or the bytes that were written, at its front
 unfoldable pub outputAfter : Answer → List ℕ → List ℕ
 outputAfter (refused n) out = out
 outputAfter accepted out = out
 outputAfter (laid cs n) out = overFront (each pointNumbers cs) out
 outputAfter (found n) out = out
+outputAfter (wrote bs) out = overFront bs out

@@ -16,8 +16,8 @@ use mir.Val.{Val}
 use denote.Laws.{Is}
 use denote.Struct.Laws as LL
 use Rattle.foil_spec.specs.Lists.{range, each}
-use Rattle.foil_spec.specs.Foil.{Entry}
-use Rattle.foil_spec.specs.Lent.{entryNumbers, entryAt}
+use Rattle.foil_spec.specs.Foil.{Entry, entryNumbers}
+use Rattle.foil_spec.specs.Lent.{entryAt}
 use Rattle.strips.specs.Told.{Told}
 use Rattle.ledger_laws.proofs.Sound.{read-numbers}
 use Rattle.list_laws.proofs.Members.{map-last}

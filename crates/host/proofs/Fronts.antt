@@ -10,10 +10,10 @@ use lib.Seq.{take-at, drop-append-le}
 use borrow.Author.Tests.{le-ltb}
 use Rattle.foil_spec.specs.Lists.{each}
 use Rattle.foil_spec.specs.Limits.{maxEntries, tableSize}
-use Rattle.foil_spec.specs.Foil.{Layout}
+use Rattle.foil_spec.specs.Foil.{entryNumbers, Layout}
 use Rattle.foil_spec.specs.Ledger.{Step, Answer, first, Room, short, reads, afterLent, After, says, next}
 use Rattle.foil_spec.specs.Ledger.{settle, refusalOf}
-use Rattle.foil_spec.specs.Lent.{Lent, lent, written, entryNumbers, boardOf, store, held, layoutOk, sound, roomIn}
+use Rattle.foil_spec.specs.Lent.{Lent, lent, written, boardOf, store, held, layoutOk, sound, roomIn}
 use Rattle.foil_spec.specs.Lent.{stepOn}
 use Rattle.foil_spec.specs.Calls.{runRecord, ohms, ohmsReply, endsJob, andThen, actAll, actRecord, wholeRefusals}
 use Rattle.foil_spec.specs.Calls.{reply, callOn}

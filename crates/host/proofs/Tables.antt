@@ -9,9 +9,9 @@ use lib.ListN.{length, take, drop, length-take, length-drop, length-append, drop
 use lib.Seq.{take-at}
 use Rattle.foil_spec.specs.Lists.{range, each}
 use Rattle.foil_spec.specs.Limits.{maxEntries, tableSize}
-use Rattle.foil_spec.specs.Foil.{Point, Entry}
+use Rattle.foil_spec.specs.Foil.{Point, Entry, entryNumbers}
 use Rattle.foil_spec.specs.Ledger.{Room, Step, lookUp}
-use Rattle.foil_spec.specs.Lent.{lent, entryNumbers, entryAt, stepOn, outputAfter}
+use Rattle.foil_spec.specs.Lent.{lent, entryAt, stepOn, outputAfter}
 use Rattle.foil_spec.specs.declared.Board.{Board}
 use Rattle.foil_spec.specs.declared.Ink.{Ink}
 use Rattle.list_laws.proofs.Tests.{lt-or-le}

@@ -3,9 +3,9 @@ use Prim.Native.Nat.{ℕ}
 use mathlib.Core.Path.{_≡_}
 use mathlib.Core.List.{List}
 use Rattle.foil_spec.specs.Lists.{each}
-use Rattle.foil_spec.specs.Foil.{Point, Entry}
+use Rattle.foil_spec.specs.Foil.{Point, Entry, entryNumbers}
 use Rattle.foil_spec.specs.Ledger.{Step}
-use Rattle.foil_spec.specs.Lent.{lent, entryNumbers}
+use Rattle.foil_spec.specs.Lent.{lent}
 use Rattle.foil_spec.specs.Ohms.{whole}
 use Rattle.foil_spec.specs.declared.Board.{Board}
 use Rattle.foil_spec.specs.declared.Ink.{Ink}

@@ -4,8 +4,8 @@ use mathlib.Core.Path.{_≡_}
 use mathlib.Core.Bool.{Bool, true, false}
 use mathlib.Core.List.{List}
 use Rattle.foil_spec.specs.Lists.{each}
-use Rattle.foil_spec.specs.Foil.{Entry}
-use Rattle.foil_spec.specs.Lent.{lent, entryNumbers}
+use Rattle.foil_spec.specs.Foil.{Entry, entryNumbers}
+use Rattle.foil_spec.specs.Lent.{lent}
 use Rattle.foil_spec.specs.declared.Board.{Board}
 use Rattle.job.specs.declared.Told.{Told}
 use Rattle.job.specs.declared.Told.the-variants.{Nothing, Said}

@@ -23,7 +23,7 @@ use Rattle.ledger_laws.proofs.Kept.{call-kept}
 use Rattle.ledger_laws.proofs.Steps.{shown, call-is}
 use Rattle.ledger_laws.proofs.Opening.{Over, Opening, over, begins, opening}
 use Rattle.lines.specs.Output.{stepLines, replyLines, outputFrom, output}
-use Rattle.job_report.specs.Report.{ranRecord, recordLines, placeAfter, onward, reportFrom, WritesOutput}
+use Rattle.job_report.specs.Report.{ranRecord, recordLines, onward, reportFrom, WritesOutput}
 
 -- ---- the lines of a record, and those from the next place on
 

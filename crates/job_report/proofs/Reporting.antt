@@ -25,7 +25,7 @@ use Rattle.job.proofs.Replies.{was-refused, HasRun, has-run, Stepped, stepped, 
 use Rattle.lines.specs.Lines.{fileLine, stripLine}
 use Rattle.lines.specs.Output.{stepLines, replyLines}
 use Rattle.lines.specs.Put.{Put}
-use Rattle.job_report.specs.Report.{ranRecord, recordLines, placeAfter, RecordReported}
+use Rattle.job_report.specs.Report.{ranRecord, recordLines, RecordReported}
 use Rattle.job_report.specs.Told.{answerLines, FromBits}
 use Rattle.job_report.specs.declared.Reported.{Reported}
 use Rattle.job_report.proofs.Answering.{answers-lines, answers-from, strips-few}

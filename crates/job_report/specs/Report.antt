@@ -7,7 +7,7 @@ use Rattle.foil_spec.specs.Limits.{maxBytes}
 use Rattle.foil_spec.specs.Ledger.{After}
 use Rattle.foil_spec.specs.Lent.{Lent, held}
 use Rattle.foil_spec.specs.Job.{jobRoom, steps}
-use Rattle.foil_spec.specs.Calls.{runRecord, Reply, answered, ran, atEnd, measured, callOn, outputBy}
+use Rattle.foil_spec.specs.Calls.{runRecord, Reply, callOn, outputBy, placeAfter}
 use Rattle.job.specs.Contract.{nextOf}
 use Rattle.lines.specs.Output.{replyLines, output}
 use Rattle.lines.specs.Put.{Put}
@@ -21,13 +21,6 @@ ranRecord bs at m = callOn jobRoom (runRecord bs at) m
 unfoldable pub recordLines : List ℕ → ℕ → Lent → List ℕ
 recordLines bs at m =
     replyLines (steps bs at) (ranRecord bs at m .answer) (held (ranRecord bs at m .state)) (λ (n : ℕ). [])
-
--- the place of the next record by a reply, if there is one
-unfoldable pub placeAfter : Reply → Option ℕ
-placeAfter (answered a) = none
-placeAfter (ran given n) = n
-placeAfter atEnd = none
-placeAfter (measured x) = none
 
 -- the record at a place was lent m, the corner list out and the byte list `old`: it left its lines at the front of the
 -- byte list, answered r, and left the table t, the strips s and the corner list out′

@@ -11,10 +11,10 @@ use borrow.Author.Tests.{ltb-false}
 use lib.ListN.{length, length-take, take-append-drop}
 use Rattle.foil_spec.specs.Lists.{each, consIf}
 use Rattle.foil_spec.specs.Limits.{maxEntries, tableSize, maxStrips, stripsSize}
-use Rattle.foil_spec.specs.Foil.{Layout}
+use Rattle.foil_spec.specs.Foil.{entryNumbers, Layout}
 use Rattle.foil_spec.specs.Ledger.{stripsOf, says, next, Refusal, _⇒_, first, Room, short, reads, refusals, afterLent}
 use Rattle.foil_spec.specs.Ledger.{After, settle, refusalOf, ledgerStep, Step, newFoil, Answer, refused, accepted}
-use Rattle.foil_spec.specs.Lent.{Lent, lent, entryNumbers, stripNumbers, store, held, layoutOk, sound, roomIn, stepOn}
+use Rattle.foil_spec.specs.Lent.{Lent, lent, stripNumbers, store, held, layoutOk, sound, roomIn, stepOn}
 use Rattle.foil_spec.specs.Job.{has, stepAt, stepsAt, steps, isEnd, recordEnd, recordChecks}
 use Rattle.foil_spec.specs.Calls.{Call, step, runRecord, ohms, Reply, answered, ran, endsJob, andThen, actAll}
 use Rattle.foil_spec.specs.Calls.{actRecord, tooLarge, wholeRefusals, ohmsReply, reply, ledgerCall, callOn}

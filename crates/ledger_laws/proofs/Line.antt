@@ -12,14 +12,15 @@ use Rattle.foil_spec.specs.Lists.{all, keep, consIf}
 use Rattle.foil_spec.specs.Limits.{maxEntries}
 use Rattle.foil_spec.specs.Foil.{Point, Entry, entry, Layout, sizeOk, clearanceOk, netOk, boxOk, shapeOk, entryOk, free}
 use Rattle.foil_spec.specs.Paths.{at}
+use Rattle.foil_spec.specs.Saving.{jobOf}
 use Rattle.foil_spec.specs.Ledger.{stripsOf, pathOf, cornersOf, legs, ofNet, withEntries, Room, cornerRoom, tooLong}
-use Rattle.foil_spec.specs.Ledger.{tooFine, Step, newFoil, draw, lay, lift, lookUp, numberOf, next, says}
+use Rattle.foil_spec.specs.Ledger.{tooFine, Step, newFoil, draw, lay, lift, lookUp, putLeg, save, numberOf, next, says}
 use Rattle.foil_spec.specs.Ledger.{refused, Refusal, first, reads, refusals, settle}
 use Rattle.foil_spec.specs.Lent.{layoutOk}
 use Rattle.list_laws.proofs.Tests.{and-l, and-r, and-i, not-ff, both, all-append, all-keep}
 use Rattle.path_laws.proofs.Laws.{gives-first}
 use Rattle.strip_laws.proofs.Laws.{one-strip}
-use Rattle.ledger_laws.specs.Line.{Line, but, numbersFrom, ownNumbers}
+use Rattle.ledger_laws.specs.Line.{Line, Lacks, corners, bytes, but, numbersFrom, ownNumbers}
 use Rattle.ledger_laws.proofs.Refusals.{none-applies, first-passes}
 use Rattle.zones.proofs.Free.{free-inside, bare-free}
 use Rattle.ledger_laws.proofs.Legs.{legs-ok}
@@ -54,11 +55,9 @@ laid-ok l net S T (some cs) e h =
     (gives-first (free l) (l .width) (l .height) i S (at T) cs e .path)
 
 -- no more entries than a foil may have are no more than a table has places
-within-limit : (r : Room) (l : Layout) → tooLong r l ≡ false → leb (length (l .entries)) maxEntries ≡ true
+few-after : (r : Room) (l : Layout) → tooLong r l ≡ false → length (l .entries) ≤ maxEntries
 unfolding tooLong
-within-limit r l h =
-    le-leb (length (l .entries)) maxEntries
-    (omega (arith, ltb-false (min maxEntries (r .limit)) (length (l .entries)) h))
+few-after r l h = omega (arith, ltb-false (min maxEntries (r .limit)) (length (l .entries)) h)
 
 length-consIf : {A : Type 0} (t : Bool) (x : A) (xs : List A) → length (consIf t x xs) ≤ suc (length xs)
 length-consIf true x xs = omega arith
@@ -81,7 +80,7 @@ appended r l es g ok long fine =
       height = k .height;
       clearance = k .clearance;
       entries = all-append (entryOk (l .width) (l .height)) (l .entries) es (k .entries) ok;
-      long = within-limit r _ long;
+      long = le-leb (length (l .entries ++ es)) maxEntries (few-after r _ long);
       fine = fine;
     })
 
@@ -110,11 +109,19 @@ no-12 rs h e = true≢false (sym (first-passes (but 12) rs h 12 e))
 
 -- a lay that is refused by 12 has more corners than places
 lay-12 : (net : ℕ) (S T : Point) (r : Room) (l : Layout) → first (refusals (lay net S T) r l) ≡ some 12
-    → cornerRoom r < length (cornersOf l S T)
+    → Lacks r l
 unfolding refusals but
 lay-12 net S T r l e =
     both (ltb (cornerRoom r) (length (cornersOf l S T)))
-    (λ t. ltb-true (cornerRoom r) (length (cornersOf l S T)) t)
+    (λ t. corners S T (ltb-true (cornerRoom r) (length (cornersOf l S T)) t))
+    (λ t. absurd (no-12 _ (simp (t, or-true)) e))
+
+-- a save that is refused by 12 has more bytes than are lent
+save-12 : (r : Room) (l : Layout) → first (refusals save r l) ≡ some 12 → Lacks r l
+unfolding refusals but
+save-12 r l e =
+    both (ltb (r .output) (length (jobOf l)))
+    (λ t. bytes (ltb-true (r .output) (length (jobOf l)) t))
     (λ t. absurd (no-12 _ (simp (t, or-true)) e))
 
 -- ---- rooms with as much output and the same limit
@@ -152,6 +159,7 @@ module _ (W H d : ℕ) where
           fine = new-fine W H d (s .0) (s .1);
         });
     fine = λ r l g h. let s = sizes r l h in new-fine W H d (s .0) (s .1);
+    few = λ r l g h. omega arith;
     accepts = λ l. refl;
     numbers = λ r l. refl;
     unbroken = refl;
@@ -170,6 +178,7 @@ draw-line x0 y0 x1 y1 = record {
       (and-i {a = entryOk (l .width) (l .height) (entry 0 x0 y0 x1 y1)} e refl)
       (search none-applies) (search none-applies depth 9);
   fine = λ r l g h. search none-applies depth 9;
+  few = λ r l g h. few-after r (next (draw x0 y0 x1 y1) l) (search none-applies depth 9);
   accepts = λ l. refl;
   numbers = λ r l. refl;
   unbroken = refl;
@@ -186,12 +195,13 @@ lay-line net S T = record {
       (laid-ok l net S T (pathOf l S T) refl (not-ff (netOk net) (search none-applies)))
       (search none-applies depth 12) (search none-applies depth 12);
   fine = λ r l g h. search none-applies depth 12;
+  few = λ r l g h. few-after r (next (lay net S T) l) (search none-applies depth 12);
   accepts = λ l. refl;
   numbers = λ r l. refl;
   unbroken = refl;
   of-room = λ r r′ l e f. rw (same-long r r′ _ f, same-corners r r′ e) refl;
   blind = λ z. absurd (true≢false z);
-  output = λ r l h. (refl, S, T, lay-12 net S T r l h);
+  output = λ r l h. (refl, lay-12 net S T r l h);
 }
 
 lift-line : (net : ℕ) → Line (lift net)
@@ -199,6 +209,7 @@ unfolding next says numberOf numbersFrom ownNumbers but refusals reads
 lift-line net = record {
   kept = λ r l g h. taken-out l (λ e. not (ofNet net e)) (g refl) (search none-applies depth 9);
   fine = λ r l g h. search none-applies depth 9;
+  few = λ r l g h. omega (arith, g, length-keep (λ (e : Entry). not (ofNet net e)) (l .entries));
   accepts = λ l. refl;
   numbers = λ r l. refl;
   unbroken = refl;
@@ -212,12 +223,44 @@ unfolding next says numberOf numbersFrom ownNumbers but refusals reads
 look-line p = record {
   kept = λ r l g h. g refl;
   fine = λ r l g h. g;
+  few = λ r l g h. g;
   accepts = λ l. refl;
   numbers = λ r l. refl;
   unbroken = refl;
   of-room = λ r r′ l e f. refl;
   blind = λ z. absurd (true≢false z);
   output = λ r l h. absurd (no-12 _ (simp or-true) h);
+}
+
+leg-line : (e : Entry) → Line (putLeg e)
+unfolding next says numberOf numbersFrom ownNumbers but refusals reads
+leg-line e = record {
+  kept = λ r l g h.
+      appended r l (e ∷ []) (g refl)
+      (and-i {a = entryOk (l .width) (l .height) e} (not-ff _ (search none-applies)) refl)
+      (search none-applies depth 9) (search none-applies depth 9);
+  fine = λ r l g h. search none-applies depth 9;
+  few = λ r l g h. few-after r (next (putLeg e) l) (search none-applies depth 9);
+  accepts = λ l. refl;
+  numbers = λ r l. refl;
+  unbroken = refl;
+  of-room = λ r r′ l e f. rw (same-long r r′ _ f) refl;
+  blind = λ z. absurd (true≢false z);
+  output = λ r l h. absurd (no-12 _ (simp or-true) h);
+}
+
+save-line : Line save
+unfolding next says numberOf numbersFrom ownNumbers but refusals reads
+save-line = record {
+  kept = λ r l g h. g refl;
+  fine = λ r l g h. g;
+  few = λ r l g h. g;
+  accepts = λ l. refl;
+  numbers = λ r l. refl;
+  unbroken = refl;
+  of-room = λ r r′ l e f. rw e refl;
+  blind = λ z. absurd (true≢false z);
+  output = λ r l h. (refl, save-12 r l h);
 }
 
 -- what every step keeps
@@ -227,6 +270,8 @@ line (draw x0 y0 x1 y1) = draw-line x0 y0 x1 y1
 line (lay net S T) = lay-line net S T
 line (lift net) = lift-line net
 line (lookUp p) = look-line p
+line (putLeg e) = leg-line e
+line save = save-line
 
 -- a step that answers a refusal was refused by its number
 pub settled-refused : {A : Type 0} (o : Option ℕ) (s : Step) (l : Layout) (new old : A) (n : ℕ) → 0 < n

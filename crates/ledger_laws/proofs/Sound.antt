@@ -11,9 +11,9 @@ use lib.ListN.{getD-replicate, take-append-drop}
 use lib.Seq.{ext-getD, take-add, drop-drop, getD-take, getD-drop, length-take-le, take-at}
 use Rattle.foil_spec.specs.Lists.{range, each}
 use Rattle.foil_spec.specs.Limits.{maxEntries, tableSize, stripsSize}
-use Rattle.foil_spec.specs.Foil.{Layout}
+use Rattle.foil_spec.specs.Foil.{entryNumbers, Layout}
 use Rattle.foil_spec.specs.Ledger.{stripsOf}
-use Rattle.foil_spec.specs.Lent.{Lent, lent, entryNumbers, stripNumbers, written, boardOf, store, entryAt, layoutOf}
+use Rattle.foil_spec.specs.Lent.{Lent, lent, stripNumbers, written, boardOf, store, entryAt, layoutOf}
 use Rattle.foil_spec.specs.Lent.{held}
 use Rattle.foil_spec.specs.Lent.{layoutOk, sameNumbers, sound, listedStrips}
 use Rattle.list_laws.proofs.Tests.{clash, and-l, and-r, parts}

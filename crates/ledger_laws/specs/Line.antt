@@ -1,5 +1,5 @@
 -- What every step has to keep, so that lists of calls behave as the ledger: one clause a step, in proofs/Line.
-use Prim.Native.Nat.{ℕ, _<_}
+use Prim.Native.Nat.{ℕ, _≤_, _<_}
 use mathlib.Core.Path.{_≡_}
 use mathlib.Core.Bool.{Bool, true, false, not}
 use mathlib.Core.List.{List, map}
@@ -7,7 +7,9 @@ use mathlib.Core.Option.{none, some}
 use lib.Dec.{eqb}
 use lib.ListN.{length}
 use Rattle.foil_spec.specs.Lists.{all, keep}
+use Rattle.foil_spec.specs.Limits.{maxEntries}
 use Rattle.foil_spec.specs.Foil.{Point, Layout, noFoil}
+use Rattle.foil_spec.specs.Saving.{jobOf}
 use Rattle.foil_spec.specs.Ledger.{cornersOf, Room, cornerRoom, tooFine, Step, numberOf, next, says, Refusal, first}
 use Rattle.foil_spec.specs.Ledger.{reads, refusals}
 use Rattle.foil_spec.specs.Lent.{layoutOk}
@@ -25,6 +27,11 @@ unfoldable pub ownNumbers : Step → List ℕ
 ownNumbers s =
     keep (but 12) (numbersFrom (refusals s (record { table = 0; strips = 0; output = 0; limit = 0 }) noFoil))
 
+-- what an output list is too short for: the corners of a path, or the bytes of the foil's file
+pub data Lacks (r : Room) (l : Layout) : Type 0 where
+  corners : (S T : Point) → cornerRoom r < length (cornersOf l S T) → Lacks r l
+  bytes : r .output < length (jobOf l) → Lacks r l
+
 -- the step s on the ledger
 pub record Line (s : Step) : Type 0 where
   -- accepted, it leaves a layout that keeps the rules, if the one that it reads does
@@ -32,6 +39,9 @@ pub record Line (s : Step) : Type 0 where
       → layoutOk (next s l) ≡ true
   -- it leaves no more strips than a list has places, if the layout has no more, whatever rule that breaks
   pub fine : (r : Room) (l : Layout) → tooFine l ≡ false → first (refusals s r l) ≡ none → tooFine (next s l) ≡ false
+  -- nor more entries than a table has places, likewise
+  pub few : (r : Room) (l : Layout) → length (l .entries) ≤ maxEntries → first (refusals s r l) ≡ none
+      → length (next s l .entries) ≤ maxEntries
   -- its answer is no refusal then
   pub accepts : (l : Layout) → numberOf (says s l) ≡ 0
   -- it has the same numbers on every foil, and 13 is none of its own
@@ -43,6 +53,5 @@ pub record Line (s : Step) : Type 0 where
   -- a step that reads nothing of the foil is the same on every foil
   pub blind : reads s ≡ false → (r : Room) (l l′ : Layout)
       → (refusals s r l ≡ refusals s r l′) × (says s l ≡ says s l′) × (next s l ≡ next s l′)
-  -- its own 12 is for want of corner places, on a foil that it reads
-  pub output : (r : Room) (l : Layout) → first (refusals s r l) ≡ some 12
-      → (reads s ≡ true) × (S : Point) × (T : Point) × (cornerRoom r < length (cornersOf l S T))
+  -- its own 12 is for want of output, on a foil that it reads
+  pub output : (r : Room) (l : Layout) → first (refusals s r l) ≡ some 12 → (reads s ≡ true) × Lacks r l

@@ -9,10 +9,10 @@ use lib.ListN.{length, getD, take}
 use borrow.Author.Tests.{le-leb, leb-true, ltb-false, le-ltb, not-true, not-false}
 use Rattle.foil_spec.specs.Lists.{range, all, each}
 use Rattle.foil_spec.specs.Limits.{maxEntries, tableSize, maxStrips, stripsSize}
-use Rattle.foil_spec.specs.Foil.{Layout, sizeOk, clearanceOk, entryOk}
+use Rattle.foil_spec.specs.Foil.{entryNumbers, Layout, sizeOk, clearanceOk, entryOk}
 use Rattle.foil_spec.specs.Strips.{Strip}
 use Rattle.foil_spec.specs.Ledger.{stripsOf, tooFine}
-use Rattle.foil_spec.specs.Lent.{Lent, lent, entryNumbers, stripNumbers, written, store, entryAt, layoutOf, held}
+use Rattle.foil_spec.specs.Lent.{Lent, lent, stripNumbers, written, store, entryAt, layoutOf, held}
 use Rattle.foil_spec.specs.Lent.{layoutOk, sound}
 use Rattle.foil_spec.specs.declared.Board.{Board}
 use Rattle.foil_spec.proofs.Written.{written-zero}
