@@ -4,14 +4,15 @@ use native.Mathlib.Omega.{arith}
 use mathlib.Core.Path.{_≡_, refl, sym, ap, _∙_, subst}
 use mathlib.Core.Bool.{true, false, not, or-true}
 use mathlib.Core.List.{List}
+use mathlib.Core.Logic.{_↔_}
 use mathlib.Core.Option.{Option, none, some}
 use lib.ListN.{length, take}
 use Rattle.foil_spec.specs.Lists.{each}
 use Rattle.foil_spec.specs.Limits.{tableSize, stripsSize}
 use Rattle.foil_spec.specs.Foil.{entryNumbers, Layout}
 use Rattle.foil_spec.specs.Saving.{jobOf}
-use Rattle.foil_spec.specs.Ledger.{stripsOf, beginningTooFine, Room, save, wrote, says, first, reads, refusals, After}
-use Rattle.foil_spec.specs.Ledger.{settle, refusalOf}
+use Rattle.foil_spec.specs.Ledger.{stripsOf, beginningTooFine, Room, short, save, refused, wrote, says, first, reads}
+use Rattle.foil_spec.specs.Ledger.{refusals, After, settle, refusalOf}
 use Rattle.foil_spec.specs.Lent.{Lent, stripNumbers, written, store, layoutOf, held, layoutOk, sound, stepOn}
 use Rattle.foil_spec.specs.Calls.{Reply, readJob}
 use Rattle.list_laws.proofs.Tests.{both, clash, not-ff}
@@ -89,21 +90,26 @@ reads-back r r′ m m′ bs e long fits =
 
 -- ---- 11
 
--- save's own refusals give 11 exactly when some beginning is too fine
+-- save's own refusals give 11 only where some beginning is too fine
 own-11 : (r : Room) (l : Layout) → first (refusals save r l) ≡ some 11 → beginningTooFine l ≡ true
 unfolding refusals but
 own-11 r l e =
     both (beginningTooFine l) (λ t. t)
     (λ t. clash (first-passes (but 11) (refusals save r l) (simp (t, or-true)) 11 e) refl)
 
-pub refuses-unreadable : RefusesUnreadable
+-- on a foil that keeps the rules it answers 11 exactly there
+save-11 : (r : Room) (m : Lent) → short r ≡ false → sound m ≡ true
+    → (stepOn r save m .answer ≡ refused 11) ↔ (beginningTooFine (held m) ≡ true)
 unfolding stepOn settle refusals first
-refuses-unreadable r r′ m m′ long ok long′ fits =
-    let l : Layout = held m in
-    let k = of-sound m ok in
-    let own : refusalOf r (not (sound m)) save l ≡ first (refusals save r l) =
-    own-refused r save l (not (sound m)) long (rw ok refl) in
-    let read = refuses r′ long′ l (k .kept) (omega (arith, fits, counted m)) m′ in (
-      (λ e. read ∙ own-11 r l (sym own ∙ settled-refused _ save l _ m 11 (omega arith) e)),
-      (λ e. rw (own, sym read ∙ e) refl),
+save-11 r m long ok =
+    let own : refusalOf r (not (sound m)) save (held m) ≡ first (refusals save r (held m)) =
+    own-refused r save (held m) (not (sound m)) long (rw ok refl) in (
+      (λ e. own-11 r (held m) (sym own ∙ settled-refused _ save (held m) _ m 11 (omega arith) e)),
+      (λ e. rw (own, e) refl),
     )
+
+pub refuses-unreadable : RefusesUnreadable
+refuses-unreadable r r′ m m′ long ok long′ fits =
+    let eleven = save-11 r m long ok in
+    let read = refuses r′ long′ (held m) (of-sound m ok .kept) (omega (arith, fits, counted m)) m′ in
+    (λ e. read ∙ eleven .0 e, λ e. eleven .1 (sym read ∙ e))
