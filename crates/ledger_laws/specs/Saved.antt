@@ -25,7 +25,7 @@ entryReplies at (e ∷ es) =
 unfoldable pub allAccepted : Layout → List Reply
 allAccepted l = ran (accepted ∷ []) (some (length (boardBytes l))) ∷ entryReplies (length (boardBytes l)) (l .entries)
 
--- where the last of some records is read, the first being at a place, by their replies
+-- where the last of some records is read: the first at a place, each next one where the reply before it says
 unfoldable pub lastPlace : ℕ → List Reply → ℕ
 lastPlace at [] = at
 lastPlace at (r ∷ rs) = lastPlace (Option·getD (placeAfter r) at) rs
@@ -40,12 +40,15 @@ pub record SameFoil (m m′ : Lent) : Type 0 where
 pub record ReadBack (r : Room) (bs : List ℕ) (m m′ : Lent) : Type 0 where
   -- every step is accepted, and the end mark is met
   pub replies : readJob r bs m′ .answer ≡ allAccepted (held m)
-  -- it is the last byte
+  -- as the last byte
   pub ends : lastPlace 0 (readJob r bs m′ .answer) + 1 ≡ length bs
+  -- the file is not too large for a job
   pub small : length bs ≤ maxBytes
+  -- the record, the table and the strips are those of m
   pub same : SameFoil m (readJob r bs m′ .state)
 
--- the bytes that save wrote read back, on lists that are long enough and hold anything, where as many entries may be
+-- the bytes that save wrote read back, on lists that are long enough and hold anything, in a room that allows as many
+-- entries
 abbrev pub ReadsBack : Type 0
 ReadsBack =
     (r r′ : Room) (m m′ : Lent) (bs : List ℕ) → stepOn r save m .answer ≡ wrote bs → short r′ ≡ false
