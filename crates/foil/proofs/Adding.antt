@@ -48,7 +48,8 @@ module _ (b : Board) (t s : List ℕ) (g : sound (lent b t s) ≡ true) (limit :
     unfolding first tooLong
     table-full l r q room is =
         gave-refused _ _ m 10 r
-        (rw (lt-ltb (min maxEntries (room .limit)) (length (held m .entries ++ e ∷ [])) (omega (arith, one-longer))) refl) q
+        (rw (lt-ltb (min maxEntries (room .limit)) (length (held m .entries ++ e ∷ [])) (omega (arith, one-longer))) refl)
+        q
 
     module _ (few : b .entries < limit) (ok : entryOk (b .width) (b .height) e ≡ true) (rows : List ℕ) (old : List ℕ)
         (copied : old ≡ paste (replicate tableSize 0) 0 t tableSize) (added : Appended old rows (b .entries) e) where
@@ -93,7 +94,8 @@ module _ (b : Board) (t s : List ℕ) (g : sound (lent b t s) ≡ true) (limit :
     abbrev PastOwn : Type 0
     PastOwn =
         (room : Room)
-        → settle (first (refusals c room (held m))) (record { answer = says c (held m); state = store (next c (held m)) m }) m
+        → settle (first (refusals c room (held m)))
+        (record { answer = says c (held m); state = store (next c (held m)) m }) m
         ≡ entryAdded room e m
 
     step-added : PastOwn → (r : Done) (t′ s′ : List ℕ) → Added e r t′ s′ → StepIn c limit m r t′ s′

@@ -116,7 +116,8 @@ module _ (c : Step) (m : Lent) (n : ℕ) (d : Done) (q : d ≡ refusedBy n (m .b
   pub own-done : sound m ≡ true → (r : Room) → short r ≡ false → first (refusals c r (held m)) ≡ some n
       → Gave (stepOn r c m) d (m .table) (m .strips)
   own-done g r long e =
-      step-refused r (ap (λ (b : Bool). refusalOf r (not b) c (held m)) g ∙ own-refused r c (held m) false long refl ∙ e)
+      step-refused r
+      (ap (λ (b : Bool). refusalOf r (not b) c (held m)) g ∙ own-refused r c (held m) false long refl ∙ e)
 
   pub own-wrote : sound m ≡ true → (r : Room) (out : List ℕ) → short r ≡ false → first (refusals c r (held m)) ≡ some n
       → Wrote c r m out d (m .table) (m .strips) out
