@@ -34,6 +34,10 @@ trackLaid net n cs = ascii "track" ++ item net ++ item 0 ++ item n ++ each corne
 unfoldable pub liftLine : ℕ → ℕ → List ℕ
 liftLine net n = ascii "lift" ++ item net ++ item n ++ ascii "\n"
 
+-- the line of a leg: the net and the refusal number, 0 if accepted
+unfoldable pub legLine : ℕ → ℕ → List ℕ
+legLine net n = ascii "leg" ++ item net ++ item n ++ ascii "\n"
+
 -- the line of a strip
 unfoldable pub stripLine : Strip → List ℕ
 stripLine s = ascii "strip" ++ item (s .x0) ++ item (s .y0) ++ item (s .x1) ++ item (s .y1) ++ ascii "\n"

@@ -15,7 +15,7 @@ ghost use Rattle.foil_spec.specs.Lent.{cornersIn};
 ghost use Rattle.putting.specs.Put.{Put};
 ghost use Rattle.putting.specs.Text.{ascii};
 ghost use Rattle.lines.specs.Lines.{item, boardLine, patchLine, trackRefused, trackLaid};
-ghost use Rattle.lines.specs.Lines.{liftLine, stripLine, fileLine};
+ghost use Rattle.lines.specs.Lines.{liftLine, legLine, stripLine, fileLine};
 
 // The line of a new foil: the refusal number, 0 if accepted.
 pub fn board_line(out: &mut [u8], at: usize, number: u8) -> usize
@@ -75,6 +75,15 @@ pub fn lift_line(out: &mut [u8], at: usize, net: u16, number: u8) -> usize
     ensures { λ r. ⌜ r ≤ at + 64 ⌝ }
 {
     net_line(out, at, b"lift", net, number)
+}
+
+// The line of a leg: the net and the refusal number, 0 if accepted.
+pub fn leg_line(out: &mut [u8], at: usize, net: u16, number: u8) -> usize
+    requires { ⌜ at + 64 ≤ length (now out) ⌝ }
+    ensures { λ r. ⌜ Put (now (out .entry)) at (legLine net number) (now (out .exit)) r ⌝ }
+    ensures { λ r. ⌜ r ≤ at + 64 ⌝ }
+{
+    net_line(out, at, b"leg", net, number)
 }
 
 // The line of a strip: its ends.
