@@ -45,12 +45,13 @@ loop-less c = omega arith
 
 loop-again : tie.Need-loop-again Inv-loop μ-loop
 unfolding listedStrips
-loop-again c = (
-  omega arith,
-  row-more stripLine (listedStrip _) _ (inLoop c .before .loop .inv .1)
-      (rw (c .before .before .before .strip-at .ensures) at (c .before .before .strip-line .ensures .0)),
-  omega arith,
-)
+loop-again c =
+    let put = c .before .before in (
+      omega arith,
+      row-more stripLine (listedStrip _) _ (inLoop c .before .loop .inv .1)
+          (rw (put .before .strip-at .ensures) at (put .strip-line .ensures .0)),
+      omega arith,
+    )
 
 same-length : tie.Need-same-length Inv-loop μ-loop
 same-length c = put-length (c .before .loop .inv .1)
