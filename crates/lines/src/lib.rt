@@ -4,17 +4,18 @@
 mod put;
 
 use foil_spec::Strip;
-use put::put_bytes;
 use put::put_corners;
 use put::put_item;
-use put::put_number;
+use putting::put_bytes;
+use putting::put_number;
 ghost use Prim.Native.Nat.{_+_, _*_, _≤_};
 ghost use mathlib.Core.List.{_++_};
 ghost use lib.ListN.{length};
 ghost use Rattle.foil_spec.specs.Lent.{cornersIn};
-ghost use Rattle.lines.specs.Lines.{ascii, item, boardLine, patchLine, trackRefused};
-ghost use Rattle.lines.specs.Lines.{trackLaid, liftLine, stripLine, fileLine};
-ghost use Rattle.lines.specs.Put.{Put};
+ghost use Rattle.putting.specs.Put.{Put};
+ghost use Rattle.putting.specs.Text.{ascii};
+ghost use Rattle.lines.specs.Lines.{item, boardLine, patchLine, trackRefused, trackLaid};
+ghost use Rattle.lines.specs.Lines.{liftLine, stripLine, fileLine};
 
 // The line of a new foil: the refusal number, 0 if accepted.
 pub fn board_line(out: &mut [u8], at: usize, number: u8) -> usize
