@@ -1,6 +1,6 @@
 -- Paths (document 01: ways), over any test f of free points (x first, then y), a width W and a height H.
 use Prim.Native.Nat.{ℕ, zero, suc, _+_, _-_, _*_, min, max}
-use mathlib.Core.Bool.{Bool, cond, false, not, _&&_, _||_}
+use mathlib.Core.Bool.{Bool, cond, true, false, not, _&&_, _||_}
 use mathlib.Core.List.{List, [], _∷_, map}
 use mathlib.Core.Option.{Option, none, some}
 use lib.Dec.{ltb, eqb}
@@ -58,6 +58,11 @@ module _ (f : ℕ → ℕ → Bool) where
   -- the corners are a path from S to the point T
   abbrev pub isPath : Point → Point → List Point → Bool
   isPath S T cs = isPathTo S (at T) cs
+
+  -- the corners are a way, whoever drew it: a path from the first of them to wherever it leads
+  unfoldable pub isWay : List Point → Bool
+  isWay [] = false
+  isWay (p ∷ cs) = isPathTo p (λ (q : Point). true) (p ∷ cs)
 
 -- the corners less two, and 0 for one or two corners
 unfoldable pub bends : List Point → ℕ
