@@ -12,6 +12,10 @@ use Rattle.foil_spec.specs.Foil.{Point, point, same}
 abbrev pub at : Point → Point → Bool
 at T = λ p. same p T
 
+-- and this one by every point
+abbrev pub anywhere : Point → Bool
+anywhere p = true
+
 -- which way the next segment (document 01: leg) may go
 pub data Heading : Type 0 where
   either level upright : Heading
@@ -59,10 +63,10 @@ module _ (f : ℕ → ℕ → Bool) where
   abbrev pub isPath : Point → Point → List Point → Bool
   isPath S T cs = isPathTo S (at T) cs
 
-  -- the corners are a way, whoever drew it: a path from the first of them to wherever it leads
+  -- the corners are a way, whoever drew it: a path from the first of them to wherever they lead
   unfoldable pub isWay : List Point → Bool
   isWay [] = false
-  isWay (p ∷ cs) = isPathTo p (λ (q : Point). true) (p ∷ cs)
+  isWay (p ∷ cs) = isPathTo p anywhere (p ∷ cs)
 
 -- the corners less two, and 0 for one or two corners
 unfoldable pub bends : List Point → ℕ
