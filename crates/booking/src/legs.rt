@@ -8,7 +8,7 @@ ghost use Prim.Native.Nat.{suc, _+_, _*_, _≤_, _<_};
 ghost use lib.ListN.{length};
 ghost use Rattle.foil_spec.specs.Limits.{maxEntries, tableSize};
 ghost use Rattle.foil_spec.specs.Ledger.{leg};
-ghost use Rattle.foil_spec.specs.Lent.{cornerAt};
+ghost use Rattle.foil_spec.specs.Corners.{cornerAt};
 ghost use Rattle.booking.specs.Rows.{Appended};
 ghost use Rattle.booking.specs.Legs.{Corners, Legs};
 
