@@ -4,6 +4,7 @@ pub mod Limits
 pub mod Foil
 pub mod Strips
 pub mod Paths
+pub mod Corners
 pub mod Saving
 pub mod Ledger
 pub mod Lent

@@ -11,14 +11,16 @@ use lib.ListN.{length}
 use Rattle.foil_spec.specs.Lists.{all, keep, consIf}
 use Rattle.foil_spec.specs.Limits.{maxEntries}
 use Rattle.foil_spec.specs.Foil.{Point, Entry, entry, Layout, sizeOk, clearanceOk, netOk, boxOk, shapeOk, entryOk, free}
-use Rattle.foil_spec.specs.Paths.{at}
+use Rattle.foil_spec.specs.Paths.{at, isWay}
+use Rattle.foil_spec.specs.Corners.{drawn}
 use Rattle.foil_spec.specs.Saving.{jobOf}
 use Rattle.foil_spec.specs.Ledger.{stripsOf, pathOf, cornersOf, legs, ofNet, withEntries, Room, cornerRoom, tooLong}
-use Rattle.foil_spec.specs.Ledger.{tooFine, Step, newFoil, draw, lay, lift, lookUp, putLeg, save, numberOf, next, says}
-use Rattle.foil_spec.specs.Ledger.{refused, Refusal, first, reads, refusals, settle}
+use Rattle.foil_spec.specs.Ledger.{tooFine, Step, newFoil, draw, lay, lift, lookUp, putLeg, save, find, book}
+use Rattle.foil_spec.specs.Ledger.{numberOf, next, says, refused, Refusal, first, reads, refusals, settle}
 use Rattle.foil_spec.specs.Lent.{layoutOk}
 use Rattle.list_laws.proofs.Tests.{and-l, and-r, and-i, not-ff, both, all-append, all-keep}
 use Rattle.path_laws.proofs.Laws.{gives-first}
+use Rattle.path_laws.proofs.Ways.{path-way}
 use Rattle.strip_laws.proofs.Laws.{one-strip}
 use Rattle.ledger_laws.specs.Line.{Line, Lacks, corners, bytes, but, numbersFrom, ownNumbers}
 use Rattle.ledger_laws.proofs.Refusals.{none-applies, first-passes}
@@ -45,14 +47,17 @@ pub patch-ok : (W H : ℕ) (x0 y0 x1 y1 : ℕ) → boxOk W H (entry 0 x0 y0 x1 y
 unfolding entryOk shapeOk
 patch-ok W H x0 y0 x1 y1 h = rw h refl
 
-pub laid-ok : (l : Layout) (net : ℕ) (S T : Point) (o : Option (List Point)) → pathOf l S T ≡ o → netOk net ≡ true
+pub booked-ok : (l : Layout) (net : ℕ) (cs : List Point) → netOk net ≡ true → isWay (free l) cs ≡ true
+    → all (entryOk (l .width) (l .height)) (legs net cs) ≡ true
+booked-ok l net cs h w = legs-ok (l .width) (l .height) net h (free l) (free-inside l) cs w
+
+laid-ok : (l : Layout) (net : ℕ) (S T : Point) (o : Option (List Point)) → pathOf l S T ≡ o → netOk net ≡ true
     → all (entryOk (l .width) (l .height)) (legs net (Option·getD o [])) ≡ true
-unfolding pathOf legs
-laid-ok l net S T none e h = refl
+unfolding pathOf
+laid-ok l net S T none e h = unfold legs in refl
 laid-ok l net S T (some cs) e h =
-    let i = free-inside l in
-    legs-ok (l .width) (l .height) net h (free l) i T S cs
-    (gives-first (free l) (l .width) (l .height) i S (at T) cs e .path)
+    let p = gives-first (free l) (l .width) (l .height) (free-inside l) S (at T) cs e .path in
+    booked-ok l net cs h (path-way (free l) S (at T) cs p)
 
 -- no more entries than a foil may have are no more than a table has places
 few-after : (r : Room) (l : Layout) → tooLong r l ≡ false → length (l .entries) ≤ maxEntries
@@ -107,14 +112,15 @@ no-12 : (rs : List Refusal) → all (λ (c : Refusal). not (c .applies) || but 1
 unfolding but
 no-12 rs h e = true≢false (sym (first-passes (but 12) rs h 12 e))
 
--- a lay that is refused by 12 has more corners than places
-lay-12 : (net : ℕ) (S T : Point) (r : Room) (l : Layout) → first (refusals (lay net S T) r l) ≡ some 12
-    → Lacks r l
-unfolding refusals but
-lay-12 net S T r l e =
+-- a step that is refused by 12, but not where the corners of the path have room, has more corners than places
+corners-12 : (S T : Point) (r : Room) (l : Layout) (rs : List Refusal)
+    → (ltb (cornerRoom r) (length (cornersOf l S T)) ≡ false
+    → all (λ (c : Refusal). not (c .applies) || but 12 (c .number)) rs ≡ true)
+    → first rs ≡ some 12 → Lacks r l
+corners-12 S T r l rs h e =
     both (ltb (cornerRoom r) (length (cornersOf l S T)))
     (λ t. corners S T (ltb-true (cornerRoom r) (length (cornersOf l S T)) t))
-    (λ t. absurd (no-12 _ (simp (t, or-true)) e))
+    (λ t. absurd (no-12 rs (h t) e))
 
 -- a save that is refused by 12 has more bytes than are lent
 save-12 : (r : Room) (l : Layout) → first (refusals save r l) ≡ some 12 → Lacks r l
@@ -126,7 +132,7 @@ save-12 r l e =
 
 -- ---- rooms with as much output and the same limit
 
-same-long : (r r′ : Room) (l : Layout) → r .limit ≡ r′ .limit → tooLong r l ≡ tooLong r′ l
+pub same-long : (r r′ : Room) (l : Layout) → r .limit ≡ r′ .limit → tooLong r l ≡ tooLong r′ l
 unfolding tooLong
 same-long r r′ l f = ap (λ (n : ℕ). ltb (min maxEntries n) (length (l .entries))) f
 
@@ -201,7 +207,7 @@ lay-line net S T = record {
   unbroken = refl;
   of-room = λ r r′ l e f. rw (same-long r r′ _ f, same-corners r r′ e) refl;
   blind = λ z. absurd (true≢false z);
-  output = λ r l h. (refl, lay-12 net S T r l h);
+  output = λ r l h. (refl, corners-12 S T r l _ (λ t. simp (t, or-true)) h);
 }
 
 lift-line : (net : ℕ) → Line (lift net)
@@ -263,6 +269,37 @@ save-line = record {
   output = λ r l h. (refl, save-12 r l h);
 }
 
+find-line : (S T : Point) → Line (find S T)
+unfolding next says numberOf numbersFrom ownNumbers but refusals reads
+find-line S T = record {
+  kept = λ r l g h. g refl;
+  fine = λ r l g h. g;
+  few = λ r l g h. g;
+  accepts = λ l. refl;
+  numbers = λ r l. refl;
+  unbroken = refl;
+  of-room = λ r r′ l e f. rw (same-corners r r′ e) refl;
+  blind = λ z. absurd (true≢false z);
+  output = λ r l h. (refl, corners-12 S T r l _ (λ t. simp (t, or-true)) h);
+}
+
+book-line : (net : ℕ) (ks : List ℕ) → Line (book net ks)
+unfolding next says numberOf numbersFrom ownNumbers but refusals reads
+book-line net ks = record {
+  kept = λ r l g h.
+      appended r l (legs net (drawn ks)) (g refl)
+      (booked-ok l net (drawn ks) (not-ff (netOk net) (search none-applies)) (not-ff _ (search none-applies)))
+      (search none-applies depth 9) (search none-applies depth 9);
+  fine = λ r l g h. search none-applies depth 9;
+  few = λ r l g h. few-after r (next (book net ks) l) (search none-applies depth 9);
+  accepts = λ l. refl;
+  numbers = λ r l. refl;
+  unbroken = refl;
+  of-room = λ r r′ l e f. rw (same-long r r′ _ f) refl;
+  blind = λ z. absurd (true≢false z);
+  output = λ r l h. absurd (no-12 _ (simp or-true) h);
+}
+
 -- what every step keeps
 pub line : (s : Step) → Line s
 line (newFoil W H d) = new-line W H d
@@ -272,6 +309,8 @@ line (lift net) = lift-line net
 line (lookUp p) = look-line p
 line (putLeg e) = leg-line e
 line save = save-line
+line (find S T) = find-line S T
+line (book net ks) = book-line net ks
 
 -- a step that answers a refusal was refused by its number
 pub settled-refused : {A : Type 0} (o : Option ℕ) (s : Step) (l : Layout) (new old : A) (n : ℕ) → 0 < n
