@@ -3,14 +3,16 @@ use Prim.Native.Nat.{ℕ, suc, _/_, min, max}
 use mathlib.Core.Bool.{Bool, cond, true, false, not, _&&_, _||_}
 use mathlib.Core.List.{List, [], _∷_, _++_}
 use mathlib.Core.Option.{Option, none, some, Option·getD}
-use lib.Dec.{leb, ltb, eqb}
+use lib.Dec.{leb, ltb}
 use lib.ListN.{length, take}
 use Rattle.foil_spec.specs.Lists.{range, keep, any}
 use Rattle.foil_spec.specs.Limits.{maxEntries, maxStrips}
 use Rattle.foil_spec.specs.Foil.{Point, Entry, entry, Layout, sizeOk, clearanceOk, netOk, boxOk, entryOk, free}
 use Rattle.foil_spec.specs.Strips.{Strip, strips, placeOf}
 use Rattle.foil_spec.specs.Paths.{firstPath, bends}
+use Rattle.foil_spec.specs.Nets.{ofNet, inUse}
 use Rattle.foil_spec.specs.Saving.{jobOf}
+use Rattle.foil_spec.specs.Slip.{slipOf}
 
 -- the strips of a layout
 unfoldable pub stripsOf : Layout → List Strip
@@ -44,14 +46,6 @@ unfoldable pub legs : ℕ → List Point → List Entry
 legs net [] = []
 legs net (p ∷ []) = leg net p p ∷ []
 legs net (p ∷ q ∷ cs) = legsFrom net p (q ∷ cs)
-
--- the entry is of the net
-unfoldable pub ofNet : ℕ → Entry → Bool
-ofNet net e = eqb (e .net) net
-
--- the net is in the table
-unfoldable pub inUse : ℕ → List Entry → Bool
-inUse net es = any (ofNet net) es
 
 -- the layout with another row of entries
 abbrev pub withEntries : Layout → List Entry → Layout
@@ -103,9 +97,10 @@ pub data Step : Type 0 where
   lookUp : Point → Step
   putLeg : Entry → Step
   save : Step
+  slip : Step
 
--- a refusal number; or accepted, with corners and bends after a lay, with a strip's place after a look up, with the bytes
--- that were written after a save
+-- a refusal number; or accepted, with corners and bends after a lay, with a strip's place after a look up, with the
+-- bytes that were written after a save or a slip
 pub data Answer : Type 0 where
   refused : ℕ → Answer
   accepted : Answer
@@ -130,6 +125,7 @@ next (lift net) l = withEntries l (keep (λ (e : Entry). not (ofNet net e)) (l .
 next (lookUp p) l = l
 next (putLeg e) l = withEntries l (l .entries ++ e ∷ [])
 next save l = l
+next slip l = l
 
 -- what an accepted step answers
 unfoldable pub says : Step → Layout → Answer
@@ -140,6 +136,7 @@ says (lift net) l = accepted
 says (lookUp p) l = found (placeOf p (stripsOf l))
 says (putLeg e) l = accepted
 says save l = wrote (jobOf l)
+says slip l = wrote (slipOf l)
 
 -- a refusal: when it applies, and its number
 pub record Refusal : Type 0 where
@@ -165,6 +162,7 @@ reads (lift net) = true
 reads (lookUp p) = true
 reads (putLeg e) = true
 reads save = true
+reads slip = true
 
 -- a step's own refusals in their order
 unfoldable pub refusals : Step → Room → Layout → List Refusal
@@ -197,6 +195,7 @@ refusals (putLeg e) r l =
     ∷ (tooFine (next (putLeg e) l) ⇒ 11)
     ∷ []
 refusals save r l = (beginningTooFine l ⇒ 11) ∷ (ltb (r .output) (length (jobOf l)) ⇒ 12) ∷ []
+refusals slip r l = (ltb (r .output) (length (slipOf l)) ⇒ 12) ∷ []
 
 -- a call's own refusals after those for what is lent, which every call begins with; `broken` says that the call reads a
 -- state that breaks a rule

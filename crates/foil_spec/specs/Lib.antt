@@ -4,11 +4,13 @@ pub mod Limits
 pub mod Foil
 pub mod Strips
 pub mod Paths
+pub mod Nets
+pub mod Text
 pub mod Saving
+pub mod Slip
 pub mod Ledger
 pub mod Lent
 pub mod Job
-pub mod Nets
 pub mod Ohms
 pub mod Calls
 pub mod Sequence

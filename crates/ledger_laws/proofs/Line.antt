@@ -13,7 +13,8 @@ use Rattle.foil_spec.specs.Limits.{maxEntries}
 use Rattle.foil_spec.specs.Foil.{Point, Entry, entry, Layout, sizeOk, clearanceOk, netOk, boxOk, shapeOk, entryOk, free}
 use Rattle.foil_spec.specs.Paths.{at}
 use Rattle.foil_spec.specs.Saving.{jobOf}
-use Rattle.foil_spec.specs.Ledger.{stripsOf, pathOf, cornersOf, legs, ofNet, withEntries, Room, cornerRoom, tooLong}
+use Rattle.foil_spec.specs.Nets.{ofNet}
+use Rattle.foil_spec.specs.Ledger.{stripsOf, pathOf, cornersOf, legs, withEntries, Room, cornerRoom, tooLong}
 use Rattle.foil_spec.specs.Ledger.{tooFine, Step, newFoil, draw, lay, lift, lookUp, putLeg, save, numberOf, next, says}
 use Rattle.foil_spec.specs.Ledger.{refused, Refusal, first, reads, refusals, settle}
 use Rattle.foil_spec.specs.Lent.{layoutOk}

@@ -12,11 +12,10 @@ use borrow.Author.Tests.{eq-eqb, ne-eqb, ltb-true, leb-true}
 use Rattle.foil_spec.specs.Lists.{range, keep, consIf, any, all}
 use Rattle.foil_spec.specs.Limits.{maxEntries}
 use Rattle.foil_spec.specs.Foil.{Entry, boxOk, entryOk}
-use Rattle.foil_spec.specs.Ledger.{ofNet, inUse}
 use Rattle.foil_spec.specs.Lent.{entryAt}
 use Rattle.list_laws.proofs.Tests.{clash, parts, and-l, and-r}
 use Rattle.list_laws.proofs.Members.{keep-append, map-last, at-place}
-use Rattle.foil_spec.specs.Nets.{legsOf, legSteps, stepsOf}
+use Rattle.foil_spec.specs.Nets.{ofNet, inUse, legsOf, legSteps, stepsOf}
 use Rattle.nets.specs.Measured.{Box, Boxes, legsTo, Measured}
 use Rattle.nets.specs.declared.Track.{Track}
 
