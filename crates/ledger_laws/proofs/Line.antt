@@ -13,15 +13,16 @@ use Rattle.foil_spec.specs.Limits.{maxEntries}
 use Rattle.foil_spec.specs.Foil.{Point, Entry, entry, Layout, sizeOk, clearanceOk, netOk, boxOk, shapeOk, entryOk, free}
 use Rattle.foil_spec.specs.Paths.{at}
 use Rattle.foil_spec.specs.Saving.{jobOf}
+use Rattle.foil_spec.specs.Slip.{slipOf}
 use Rattle.foil_spec.specs.Nets.{ofNet}
 use Rattle.foil_spec.specs.Ledger.{stripsOf, pathOf, cornersOf, legs, withEntries, Room, cornerRoom, tooLong}
-use Rattle.foil_spec.specs.Ledger.{tooFine, Step, newFoil, draw, lay, lift, lookUp, putLeg, save, numberOf, next, says}
-use Rattle.foil_spec.specs.Ledger.{refused, Refusal, first, reads, refusals, settle}
+use Rattle.foil_spec.specs.Ledger.{tooFine, Step, newFoil, draw, lay, lift, lookUp, putLeg, save, slip}
+use Rattle.foil_spec.specs.Ledger.{numberOf, next, says, refused, Refusal, first, reads, refusals, settle}
 use Rattle.foil_spec.specs.Lent.{layoutOk}
 use Rattle.list_laws.proofs.Tests.{and-l, and-r, and-i, not-ff, both, all-append, all-keep}
 use Rattle.path_laws.proofs.Laws.{gives-first}
 use Rattle.strip_laws.proofs.Laws.{one-strip}
-use Rattle.ledger_laws.specs.Line.{Line, Lacks, corners, bytes, but, numbersFrom, ownNumbers}
+use Rattle.ledger_laws.specs.Line.{Line, Lacks, corners, bytes, page, but, numbersFrom, ownNumbers}
 use Rattle.ledger_laws.proofs.Refusals.{none-applies, first-passes}
 use Rattle.zones.proofs.Free.{free-inside, bare-free}
 use Rattle.ledger_laws.proofs.Legs.{legs-ok}
@@ -124,6 +125,14 @@ save-12 r l e =
     both (ltb (r .output) (length (jobOf l)))
     (λ t. bytes (ltb-true (r .output) (length (jobOf l)) t))
     (λ t. absurd (no-12 _ (simp (t, or-true)) e))
+
+-- so has a slip
+slip-12 : (r : Room) (l : Layout) → first (refusals slip r l) ≡ some 12 → Lacks r l
+unfolding refusals but
+slip-12 r l e =
+    both (ltb (r .output) (length (slipOf l)))
+    (λ t. page (ltb-true (r .output) (length (slipOf l)) t))
+    (λ t. absurd (no-12 _ (simp t) e))
 
 -- ---- rooms with as much output and the same limit
 
@@ -264,6 +273,20 @@ save-line = record {
   output = λ r l h. (refl, save-12 r l h);
 }
 
+slip-line : Line slip
+unfolding next says numberOf numbersFrom ownNumbers but refusals reads
+slip-line = record {
+  kept = λ r l g h. g refl;
+  fine = λ r l g h. g;
+  few = λ r l g h. g;
+  accepts = λ l. refl;
+  numbers = λ r l. refl;
+  unbroken = refl;
+  of-room = λ r r′ l e f. rw e refl;
+  blind = λ z. absurd (true≢false z);
+  output = λ r l h. (refl, slip-12 r l h);
+}
+
 -- what every step keeps
 pub line : (s : Step) → Line s
 line (newFoil W H d) = new-line W H d
@@ -273,6 +296,7 @@ line (lift net) = lift-line net
 line (lookUp p) = look-line p
 line (putLeg e) = leg-line e
 line save = save-line
+line slip = slip-line
 
 -- a step that answers a refusal was refused by its number
 pub settled-refused : {A : Type 0} (o : Option ℕ) (s : Step) (l : Layout) (new old : A) (n : ℕ) → 0 < n

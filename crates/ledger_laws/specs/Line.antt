@@ -10,6 +10,7 @@ use Rattle.foil_spec.specs.Lists.{all, keep}
 use Rattle.foil_spec.specs.Limits.{maxEntries}
 use Rattle.foil_spec.specs.Foil.{Point, Layout, noFoil}
 use Rattle.foil_spec.specs.Saving.{jobOf}
+use Rattle.foil_spec.specs.Slip.{slipOf}
 use Rattle.foil_spec.specs.Ledger.{cornersOf, Room, cornerRoom, tooFine, Step, numberOf, next, says, Refusal, first}
 use Rattle.foil_spec.specs.Ledger.{reads, refusals}
 use Rattle.foil_spec.specs.Lent.{layoutOk}
@@ -27,10 +28,11 @@ unfoldable pub ownNumbers : Step → List ℕ
 ownNumbers s =
     keep (but 12) (numbersFrom (refusals s (record { table = 0; strips = 0; output = 0; limit = 0 }) noFoil))
 
--- what an output list is too short for: the corners of a path, or the bytes of the foil's file
+-- what an output list is too short for: the corners of a path, the bytes of the foil's file, or those of its slip
 pub data Lacks (r : Room) (l : Layout) : Type 0 where
   corners : (S T : Point) → cornerRoom r < length (cornersOf l S T) → Lacks r l
   bytes : r .output < length (jobOf l) → Lacks r l
+  page : r .output < length (slipOf l) → Lacks r l
 
 -- the step s on the ledger
 pub record Line (s : Step) : Type 0 where
