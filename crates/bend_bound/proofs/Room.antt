@@ -1,4 +1,5 @@
--- A foil that is kept has at most 4,096 strips, so by the bound on bends no track needs more than 8,192 corner places.
+-- A foil that is kept has at most 4,096 strips, so by the bound on bends no track needs more than 8,192 corner places;
+-- and at most 128 entries, so its file has fewer bytes than these places have numbers.
 use Prim.Native.Nat.{ℕ, _≤_}
 use native.Mathlib.Omega.{arith}
 use native.Mathlib.Decide.{ℕ-discrete}
@@ -11,7 +12,7 @@ use lib.Dec.{leb}
 use lib.ListN.{length}
 use borrow.Author.Tests.{eq-eqb, ne-eqb, ltb-false, leb-true}
 use Rattle.foil_spec.specs.Lists.{all}
-use Rattle.foil_spec.specs.Limits.{maxStrips, cornerPlaces}
+use Rattle.foil_spec.specs.Limits.{maxEntries, maxStrips, cornerPlaces}
 use Rattle.foil_spec.specs.Foil.{Point, Layout, noFoil}
 use Rattle.foil_spec.specs.Strips.{stripsFrom}
 use Rattle.foil_spec.specs.Paths.{bends}
@@ -25,7 +26,7 @@ use Rattle.foil_spec.specs.Calls.{Reply, wholeRefusals}
 use Rattle.foil_spec.specs.Sequence.{Lending, roomFor, told, Left, leaves, runLent, runLedger}
 use Rattle.list_laws.proofs.Tests.{clash, both, not-ff, parts}
 use Rattle.list_laws.proofs.Members.{of-all}
-use Rattle.ledger_laws.specs.Line.{but, ownNumbers}
+use Rattle.ledger_laws.specs.Line.{but, ownNumbers, Lacks, corners, bytes}
 use Rattle.ledger_laws.specs.Numbers.{numbersOf}
 use Rattle.ledger_laws.proofs.Refusals.{first-passes, broken-refused, own-refused, unrefused-own}
 use Rattle.ledger_laws.proofs.Rules.{of-ok}
@@ -34,6 +35,7 @@ use Rattle.ledger_laws.proofs.Kept.{call-keeps}
 use Rattle.ledger_laws.proofs.Sound.{of-sound}
 use Rattle.ledger_laws.proofs.Lending.{step-short, begins-anew}
 use Rattle.ledger_laws.proofs.Demand3.{behaves-as-ledger}
+use Rattle.ledger_laws.proofs.FileSize.{file-small}
 use Rattle.ledger_laws.proofs.Numbers.{call-passes, Passes, run-passes, not-among, lent-passes, own-passes}
 use Rattle.bend_bound.specs.Bound.{bendBound}
 use Rattle.bend_bound.specs.Room.{TrackCorners, EnoughCorners, lentEnough, NeverShort}
@@ -57,35 +59,43 @@ corners-few l S T h = go (pathOf l S T) refl
     go none e = omega arith
     go (some cs) e = omega (arith, track-corners l S T cs e, ltb-false maxStrips (length (stripsOf l)) h)
 
+-- no more strips and entries than their lists have places, whatever rule the foil breaks
+pub record Fine (l : Layout) : Type 0 where
+  pub strips : tooFine l ≡ false
+  pub entries : length (l .entries) ≤ maxEntries
+
 -- ---- one step
 
 module _ (r : Room) (room : cornerPlaces ≤ cornerRoom r) where
-  -- a step has a 12 of its own only on a foil that is too fine, which it reads
-  own-12 : (s : Step) (l : Layout) → first (refusals s r l) ≡ some 12 → (reads s ≡ true) × (tooFine l ≡ true)
-  own-12 s l e =
-      let (read, S, T, more) = line s .output r l e in
-      (read, both (tooFine l) (λ t. t) (λ t. absurd (omega (arith, more, corners-few l S T t))))
+  -- on a foil that is fine nothing lacks output
+  none-lacks : (l : Layout) → Fine l → Lacks r l → ⊥
+  none-lacks l fine (corners S T more) = omega (arith, more, corners-few l S T (fine .strips))
+  none-lacks l fine (bytes more) =
+      unfold cornerRoom in omega (arith, room, more, file-small l (fine .entries))
+
+  -- a step has a 12 of its own only on a foil that is not fine, which it reads
+  own-12 : (s : Step) (l : Layout) → first (refusals s r l) ≡ some 12 → (reads s ≡ true) × (Fine l → ⊥)
+  own-12 s l e = let (read, lacks) = line s .output r l e in (read, λ fine. none-lacks l fine lacks)
 
   module _ (long : short r ≡ false) where
-    -- on lists that hold anything, where those that keep the rules are not too fine
-    not-12 : (s : Step) (broken : Bool) (l : Layout) → (broken ≡ false → tooFine l ≡ false)
+    -- on lists that hold anything, where those that keep the rules are fine
+    not-12 : (s : Step) (broken : Bool) (l : Layout) → (broken ≡ false → Fine l)
         → refusalOf r broken s l ≡ some 12 → ⊥
-    not-12 s false l fine e = clash (own-12 s l (sym (own-refused r s l false long refl) ∙ e) .1) (fine refl)
+    not-12 s false l fine e = own-12 s l (sym (own-refused r s l false long refl) ∙ e) .1 (fine refl)
     not-12 s true l fine e =
         both (reads s)
         (λ t. let z : _≡_ {A = ℕ} 13 12 = cc (broken-refused r s l long t) in omega arith)
         (λ t. clash (own-12 s l (sym (own-refused r s l true long t) ∙ e) .0) t)
 
     -- on the ledger, a number that the step is refused by passes a test that its own numbers pass
-    pub step-passes : (p : ℕ → Bool) (s : Step) → all p (ownNumbers s) ≡ true → (l : Layout) → tooFine l ≡ false
+    pub step-passes : (p : ℕ → Bool) (s : Step) → all p (ownNumbers s) ≡ true → (l : Layout) → Fine l
         → (n : ℕ) → refusalOf r false s l ≡ some n → p n ≡ true
     unfolding refusalOf
     step-passes p s h l fine =
         lent-passes p r (refusals s r l) (λ t. clash t long)
-        (own-passes p s r l h (λ e. clash (own-12 s l e .1) fine))
+        (own-passes p s r l h (λ e. absurd (own-12 s l e .1 fine)))
 
-    step-but-12 : (s : Step) (l : Layout) → tooFine l ≡ false → (n : ℕ) → refusalOf r false s l ≡ some n
-        → but 12 n ≡ true
+    step-but-12 : (s : Step) (l : Layout) → Fine l → (n : ℕ) → refusalOf r false s l ≡ some n → but 12 n ≡ true
     unfolding but
     step-but-12 s l fine n e =
         by-cases (ℕ-discrete 12 n)
@@ -96,8 +106,10 @@ pub enough-corners : EnoughCorners
 unfolding stepOn
 enough-corners r s m room = (only-short, λ e. ap (λ (a : After Answer Lent). a .answer) (step-short r s m e))
   where
-    kept : not (sound m) ≡ false → tooFine (held m) ≡ false
-    kept e = of-ok (held m) (of-sound m (not-ff (sound m) e) .kept) .fine
+    kept : not (sound m) ≡ false → Fine (held m)
+    kept e =
+        let k = of-ok (held m) (of-sound m (not-ff (sound m) e) .kept) in
+        record { strips = k .fine; entries = leb-true (length (held m .entries)) maxEntries (k .long) }
 
     only-short : stepOn r s m .answer ≡ refused 12 → short r ≡ true
     only-short h =
@@ -118,17 +130,16 @@ ohms-but-12 : (r : Room) → short r ≡ false → (net : ℕ) (i : Ink) (l : La
 unfolding afterLent ohmsRefusals but
 ohms-but-12 r long net i l = first-passes (but 12) _ (simp (long, or-true))
 
--- what every call keeps
-abbrev pub Fine : Layout → Type 0
-Fine l = tooFine l ≡ false
-
+-- an accepted step leaves a foil that is fine
 pub fine-kept : (r : Room) (s : Step) (l : Layout) → Fine l → refusalOf r false s l ≡ none → Fine (next s l)
-fine-kept r s l g e = line s .fine r l g (unrefused-own r s l false e)
+fine-kept r s l g e =
+    let own = unrefused-own r s l false e in
+    record { strips = line s .fine r l (g .strips) own; entries = line s .few r l (g .entries) own }
 
--- a ledger that holds no foil yet is not too fine
-pub no-foil-fine : tooFine noFoil ≡ false
+-- a ledger that holds no foil yet is fine
+pub no-foil-fine : Fine noFoil
 unfolding tooFine stripsOf stripsFrom
-no-foil-fine = refl
+no-foil-fine = record { strips = refl; entries = omega arith }
 
 fine-passes : (m : Lent) (c : Lending) → lentEnough m c ≡ true → Passes (but 12) Fine m c
 unfolding lentEnough told but

@@ -1,4 +1,5 @@
--- With 8,192 corner places lent no track lacks room for its corners, as it is stated: K is at most 4,096.
+-- With 8,192 corner places lent no track lacks room for its corners, as it is stated: K is at most 4,096. So many
+-- places are room for the bytes of any foil's file too.
 use Prim.Native.Nat.{_*_, _≤_, max}
 use mathlib.Core.Path.{_≡_}
 use mathlib.Core.Bool.{Bool, true, false, not, _&&_}

@@ -17,3 +17,4 @@ pub mod Demand2
 pub mod Demand3
 pub mod Opening
 pub mod Numbers
+pub mod FileSize

@@ -1,11 +1,11 @@
--- `lines::put::put_bytes` meets its contract: the loop has put the first i bytes.
+-- `putting::put_bytes` meets its contract: the loop has put the first i bytes.
 use Prim.Native.Nat.{_+_, _-_, _≤_}
 use native.Mathlib.Omega.{arith}
 use lib.ListN.{length, take}
-use Rattle.lines.specs.Put.{Put}
-use Rattle.lines.proofs.Putting.{put-length, copied-none, copied-more, copied-all}
-use Rattle.lines.proofs.put.put_bytes.Statement.{statement}
-use Rattle.lines.proofs.put.put_bytes.Tie as tie
+use Rattle.putting.specs.Put.{Put}
+use Rattle.putting.proofs.Putting.{put-length, copied-none, copied-more, copied-all}
+use Rattle.putting.proofs.put_bytes.Statement.{statement}
+use Rattle.putting.proofs.put_bytes.Tie as tie
 
 abbrev Inv-loop : tie.InvT-loop
 Inv-loop out₀ at bytes i₀ out i = (i ≤ length bytes) × Put out₀ at (take i bytes) out (at + i)

@@ -1,9 +1,9 @@
--- `lines::put::put_number` meets its contract: `io::decimal` gives the fewest digits, at most 20.
+-- `putting::put_number` meets its contract: `io::decimal` gives the fewest digits, at most 20.
 use native.Mathlib.Omega.{arith}
 use borrow.Author.Needs.{needs}
-use Rattle.lines.proofs.Decimals.{fewest-short, number-put}
-use Rattle.lines.proofs.put.put_number.Statement.{statement}
-use Rattle.lines.proofs.put.put_number.Tie as tie
+use Rattle.putting.proofs.Decimals.{fewest-short, number-put}
+use Rattle.putting.proofs.put_number.Statement.{statement}
+use Rattle.putting.proofs.put_number.Tie as tie
 
 -- back to the start and decimal
 abbrev atStart : tie.After-decimal → tie.Start

@@ -1,21 +1,23 @@
 -- Bytes put at a place of a list, and others after them.
 use Prim.Native.Nat.{ℕ, suc, _+_, _≤_, _<_}
 use native.Mathlib.Omega.{arith}
-use native.Mathlib.Nat.{add-zero}
+use native.Mathlib.Nat.{add-zero, zero-add}
 use native.Mathlib.Numerals.{add-one}
 use mathlib.Core.Path.{_≡_, refl, sym, ap, _∙_}
-use mathlib.Core.List.{List, [], _∷_, _++_, append-assoc}
+use mathlib.Core.List.{List, [], _∷_, _++_, map, append-assoc, append-nil}
 use lib.ListN.{length, getD, take, drop, set, length-append, length-take, length-drop}
 use lib.Seq.{paste-zero, set-split, append-snoc, take-suc, take-all, length-take-le, take-at}
 use lib.Seq.{drop-append-add, drop-drop}
-use Rattle.lines.specs.Put.{Put}
+use Rattle.foil_spec.specs.Lists.{range, each}
+use Rattle.list_laws.proofs.Members.{map-last}
+use Rattle.putting.specs.Put.{Put}
 
 -- no bytes
 pub put-none : (o : List ℕ) (at : ℕ) → at ≤ length o → Put o at [] o at
 put-none o at l = record { fits = omega arith; is = paste-zero o at []; next = sym (add-zero at) }
 
 -- one byte
-put-one : (o : List ℕ) (at b : ℕ) → at < length o → Put o at (b ∷ []) (set o at b) (at + 1)
+pub put-one : (o : List ℕ) (at b : ℕ) → at < length o → Put o at (b ∷ []) (set o at b) (at + 1)
 put-one o at b l =
     record {
       fits = omega arith;
@@ -89,3 +91,22 @@ module _ (d : List ℕ) (at : ℕ) (s l : List ℕ) (i : ℕ) where
 
   pub copied-all : length s ≤ i → Put d at (take i s) l (at + i) → Put d at s l (at + i)
   copied-all g p = rw (take-all i s g) at p
+
+each-last : {A B : Type 0} (g : A → List B) (xs : List A) (x : A) → each g (xs ++ (x ∷ [])) ≡ each g xs ++ g x
+each-last g [] x = append-nil (g x)
+each-last {A} {B} g (y ∷ ys) x =
+    ap (λ (l : List B). g y ++ l) (each-last g ys x) ∙ sym (append-assoc (g y) (each g ys) (g x))
+
+-- a numbered row of things: what k of them from a place on give, and one more
+pub each-more : {A : Type 0} (g : A → List ℕ) (f : ℕ → A) (a k : ℕ)
+    → each g (map f (range a (k + 1))) ≡ each g (map f (range a k)) ++ g (f (a + k))
+each-more g f a k =
+    ap (λ (j : ℕ). each g (map f (range a j))) (add-one k)
+    ∙ ap (each g) (map-last f a k)
+    ∙ each-last g (map f (range a k)) (f (a + k))
+
+-- one more of them is put after the first k
+pub row-more : {A : Type 0} (g : A → List ℕ) (f : ℕ → A) {o o₁ o₂ : List ℕ} {at a r : ℕ} (k : ℕ)
+    → Put o at (each g (map f (range 0 k))) o₁ a → Put o₁ a (g (f k)) o₂ r
+    → Put o at (each g (map f (range 0 (k + 1)))) o₂ r
+row-more g f k p q = rw (each-more g f 0 k, zero-add k) (put-then p q)

@@ -9,8 +9,8 @@ use lib.ListN.{length, length-append}
 use borrow.Author.Tests.{lt-ltb, le-ltb}
 use Rattle.io.specs.Digits.{glyph, digits, Fewest}
 use Rattle.list_laws.proofs.Tests.{lt-or-le}
-use Rattle.lines.specs.Lines.{digitsIn, decimal}
-use Rattle.lines.specs.Put.{Put}
+use Rattle.putting.specs.Text.{digitsIn, decimal}
+use Rattle.putting.specs.Put.{Put}
 
 -- one digit
 digits-one : (most n : ℕ) → n < 10 → digitsIn (suc most) n ≡ (48 + n) ∷ []
