@@ -1,5 +1,5 @@
 -- Each step of the ledger keeps what lists of calls ask of it.
-use Prim.Native.Nat.{ℕ, suc, _/_, min, _≤_, _<_}
+use Prim.Native.Nat.{ℕ, _/_, min, _≤_, _<_}
 use native.Mathlib.Omega.{arith}
 use mathlib.Core.Path.{_≡_, refl, sym, ap, _∙_}
 use mathlib.Core.Bool.{Bool, true, false, not, _&&_, _||_, or-true, true≢false}
@@ -8,7 +8,7 @@ use mathlib.Core.Option.{Option, none, some, Option·getD}
 use lib.Dec.{leb, ltb}
 use borrow.Author.Tests.{ltb-true, ltb-false, leb-true, le-leb}
 use lib.ListN.{length}
-use Rattle.foil_spec.specs.Lists.{all, keep, consIf}
+use Rattle.foil_spec.specs.Lists.{all, keep}
 use Rattle.foil_spec.specs.Limits.{maxEntries}
 use Rattle.foil_spec.specs.Foil.{Point, Entry, entry, Layout, sizeOk, clearanceOk, netOk, boxOk, shapeOk, entryOk, free}
 use Rattle.foil_spec.specs.Paths.{at}
@@ -20,6 +20,7 @@ use Rattle.foil_spec.specs.Ledger.{tooFine, Step, newFoil, draw, lay, lift, loo
 use Rattle.foil_spec.specs.Ledger.{numberOf, next, says, refused, Refusal, first, reads, refusals, settle}
 use Rattle.foil_spec.specs.Lent.{layoutOk}
 use Rattle.list_laws.proofs.Tests.{and-l, and-r, and-i, not-ff, both, all-append, all-keep}
+use Rattle.list_laws.proofs.Members.{length-keep}
 use Rattle.path_laws.proofs.Laws.{gives-first}
 use Rattle.strip_laws.proofs.Laws.{one-strip}
 use Rattle.ledger_laws.specs.Line.{Line, Lacks, corners, bytes, page, but, numbersFrom, ownNumbers}
@@ -60,14 +61,6 @@ laid-ok l net S T (some cs) e h =
 few-after : (r : Room) (l : Layout) → tooLong r l ≡ false → length (l .entries) ≤ maxEntries
 unfolding tooLong
 few-after r l h = omega (arith, ltb-false (min maxEntries (r .limit)) (length (l .entries)) h)
-
-length-consIf : {A : Type 0} (t : Bool) (x : A) (xs : List A) → length (consIf t x xs) ≤ suc (length xs)
-length-consIf true x xs = omega arith
-length-consIf false x xs = omega arith
-
-length-keep : {A : Type 0} (p : A → Bool) (xs : List A) → length (keep p xs) ≤ length xs
-length-keep p [] = omega arith
-length-keep p (x ∷ xs) = omega (arith, length-consIf (p x) x (keep p xs), length-keep p xs)
 
 -- ---- the rules are kept by entries that are appended, or taken out
 

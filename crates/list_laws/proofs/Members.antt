@@ -85,6 +85,14 @@ module _ {A : Type 0} where
   none-of p [] h = refl
   none-of p (x ∷ xs) h = rw (h x (inl refl)) (none-of p xs (λ y k. h y (inr k)))
 
+  keep-fewer : (b : Bool) (x : A) (xs ys : List A) → length xs ≤ length ys → length (consIf b x xs) ≤ suc (length ys)
+  keep-fewer true x xs ys l = omega arith
+  keep-fewer false x xs ys l = omega arith
+
+  pub length-keep : (p : A → Bool) (xs : List A) → length (keep p xs) ≤ length xs
+  length-keep p [] = omega arith
+  length-keep p (x ∷ xs) = keep-fewer (p x) x (keep p xs) xs (length-keep p xs)
+
   -- a list in order: each element comes before all that follow
   abbrev pub Sorted : (A → A → Bool) → List A → Type 0
   Sorted r [] = Unit {0}
