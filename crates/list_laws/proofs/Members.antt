@@ -8,7 +8,7 @@ use mathlib.Core.List.{List, [], _∷_, _++_, map, append-assoc}
 use mathlib.Core.Logic.{_⊎_, inl, inr, ⊎-elim, by-cases}
 use native.Mathlib.Decide.{ℕ-discrete}
 use lib.Dec.{ltb}
-use lib.ListN.{length}
+use lib.ListN.{length, getD}
 use borrow.Author.Tests.{lt-ltb}
 use Rattle.foil_spec.specs.Lists.{range, keep, consIf, all, any, each}
 use Rattle.list_laws.proofs.Tests.{both, clash, and-l, and-r, and-i, or-l, or-r, or-cases, or-il, or-ir}
@@ -17,6 +17,11 @@ module _ {A : Type 0} where
   abbrev pub In : A → List A → Type 0
   In x [] = ⊥
   In x (y ∷ ys) = (x ≡ y) ⊎ In x ys
+
+  pub in-place : (xs : List A) (i : ℕ) (d : A) → i < length xs → In (getD xs i d) xs
+  in-place [] i d l = absurd (omega arith)
+  in-place (x ∷ xs) zero d l = inl refl
+  in-place (x ∷ xs) (suc i) d l = inr (in-place xs i d (omega arith))
 
   pub in-left : (x : A) (xs ys : List A) → In x xs → In x (xs ++ ys)
   in-left x [] ys h = absurd h
