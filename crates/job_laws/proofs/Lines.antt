@@ -26,7 +26,7 @@ use Rattle.ledger_laws.proofs.Refusals.{first-passes}
 use Rattle.ledger_laws.proofs.Kept.{step-keeps, call-keeps}
 use Rattle.ledger_laws.proofs.Lay.{Laid, first-laid}
 use Rattle.ledger_laws.proofs.Numbers.{answer-passes}
-use Rattle.bend_bound.proofs.Room.{corners-few, step-passes, Fine, fine-kept, no-foil-fine}
+use Rattle.bend_bound.proofs.Room.{corners-few, step-passes, Fine, small, fine-kept, no-foil-fine}
 use Rattle.lines.specs.Lines.{stripLine}
 use Rattle.lines.specs.Output.{trackLine, stepLine, stepLines, replyLines, outputFrom, output}
 use Rattle.job_laws.specs.JobLines.{Line, board, patch, refusedTrack, laidTrack, lifted, leg, strip, file}
@@ -75,7 +75,7 @@ laid-possible l net S T fine e =
     let first-is = first-laid jobRoom false l net S T cs (bends cs) laid .0 in
     simp (
       le-leb 1 (length cs) (omega (arith, ap length (of-path (free l) S (at T) cs (first-is .path) .is))),
-      le-leb (length cs) cornerPlaces (corners-few l S T (fine .strips)),
+      le-leb (length cs) cornerPlaces (corners-few l S T (small l fine .strips)),
       eq-eqb (bends cs) (bends cs) refl,
     )
 

@@ -10,16 +10,17 @@ use borrow.Author.Tests.{ltb-true, ltb-false, leb-true, le-leb}
 use lib.ListN.{length}
 use Rattle.foil_spec.specs.Lists.{all, keep}
 use Rattle.foil_spec.specs.Limits.{maxEntries}
-use Rattle.foil_spec.specs.Foil.{Point, Entry, entry, Layout, sizeOk, clearanceOk, netOk, boxOk, shapeOk, entryOk, free}
+use Rattle.foil_spec.specs.Foil.{Point, Entry, entry, Layout, noFoil, sizeOk, clearanceOk, netOk}
+use Rattle.foil_spec.specs.Foil.{boxOk, shapeOk, entryOk, free}
 use Rattle.foil_spec.specs.Paths.{at}
 use Rattle.foil_spec.specs.Saving.{jobOf}
 use Rattle.foil_spec.specs.Slip.{slipOf}
 use Rattle.foil_spec.specs.Nets.{ofNet}
-use Rattle.foil_spec.specs.Ledger.{stripsOf, pathOf, cornersOf, legs, withEntries, Room, cornerRoom, tooLong}
+use Rattle.foil_spec.specs.Ledger.{stripsOf, pathOf, cornersOf, legs, withEntries, offFoil, Room, cornerRoom, tooLong}
 use Rattle.foil_spec.specs.Ledger.{tooFine, Step, newFoil, draw, lay, lift, lookUp, putLeg, save, slip}
 use Rattle.foil_spec.specs.Ledger.{numberOf, next, says, refused, Refusal, first, reads, refusals, settle}
 use Rattle.foil_spec.specs.Lent.{layoutOk}
-use Rattle.list_laws.proofs.Tests.{and-l, and-r, and-i, not-ff, both, all-append, all-keep}
+use Rattle.list_laws.proofs.Tests.{clash, and-l, and-r, and-i, or-l, not-ff, both, parts, all-append, all-keep}
 use Rattle.list_laws.proofs.Members.{length-keep}
 use Rattle.path_laws.proofs.Laws.{gives-first}
 use Rattle.strip_laws.proofs.Laws.{one-strip}
@@ -127,6 +128,19 @@ slip-12 r l e =
     (λ t. page (ltb-true (r .output) (length (slipOf l)) t))
     (λ t. absurd (no-12 _ (simp t) e))
 
+-- ---- where no foil is begun
+
+no-box : (e : Entry) → boxOk 0 0 e ≡ true → ⊥
+unfolding boxOk
+no-box e h =
+    let a : ltb (e .x0) (e .x1) ≡ true = search parts in
+    let b : leb (e .x1) 0 ≡ true = search parts in
+    omega (arith, ltb-true (e .x0) (e .x1) a, leb-true (e .x1) 0 b)
+
+all-off : (p : Point) → offFoil noFoil p ≡ true
+unfolding offFoil
+all-off p = simp (le-leb 0 (p .x) (omega arith))
+
 -- ---- rooms with as much output and the same limit
 
 same-long : (r r′ : Room) (l : Layout) → r .limit ≡ r′ .limit → tooLong r l ≡ tooLong r′ l
@@ -148,7 +162,7 @@ module _ (W H d : ℕ) where
       (and-l (sizeOk W) (sizeOk H) s, and-r (sizeOk W) (sizeOk H) s, not-ff (clearanceOk d) (search none-applies))
 
   new-line : Line (newFoil W H d)
-  unfolding next says numberOf numbersFrom ownNumbers but refusals
+  unfolding next says numberOf numbersFrom ownNumbers but refusals reads
   new-line = record {
     kept = λ r l g h.
         let s = sizes r l h in
@@ -161,8 +175,7 @@ module _ (W H d : ℕ) where
           long = refl;
           fine = new-fine W H d (s .0) (s .1);
         });
-    fine = λ r l g h. let s = sizes r l h in new-fine W H d (s .0) (s .1);
-    few = λ r l g h. omega arith;
+    unbegun = λ z. clash z refl;
     accepts = λ l. refl;
     numbers = λ r l. refl;
     unbroken = refl;
@@ -180,8 +193,7 @@ draw-line x0 y0 x1 y1 = record {
       appended r l (entry 0 x0 y0 x1 y1 ∷ []) (g refl)
       (and-i {a = entryOk (l .width) (l .height) (entry 0 x0 y0 x1 y1)} e refl)
       (search none-applies) (search none-applies depth 9);
-  fine = λ r l g h. search none-applies depth 9;
-  few = λ r l g h. few-after r (next (draw x0 y0 x1 y1) l) (search none-applies depth 9);
+  unbegun = λ t r h. absurd (no-box (entry 0 x0 y0 x1 y1) (not-ff _ (search none-applies)));
   accepts = λ l. refl;
   numbers = λ r l. refl;
   unbroken = refl;
@@ -197,8 +209,7 @@ lay-line net S T = record {
       appended r l (legs net (cornersOf l S T)) (g refl)
       (laid-ok l net S T (pathOf l S T) refl (not-ff (netOk net) (search none-applies)))
       (search none-applies depth 12) (search none-applies depth 12);
-  fine = λ r l g h. search none-applies depth 12;
-  few = λ r l g h. few-after r (next (lay net S T) l) (search none-applies depth 12);
+  unbegun = λ t r h. clash (all-off S) (or-l (offFoil noFoil S) (offFoil noFoil T) (search none-applies));
   accepts = λ l. refl;
   numbers = λ r l. refl;
   unbroken = refl;
@@ -211,8 +222,7 @@ lift-line : (net : ℕ) → Line (lift net)
 unfolding next says numberOf numbersFrom ownNumbers but refusals reads
 lift-line net = record {
   kept = λ r l g h. taken-out l (λ e. not (ofNet net e)) (g refl) (search none-applies depth 9);
-  fine = λ r l g h. search none-applies depth 9;
-  few = λ r l g h. omega (arith, g, length-keep (λ (e : Entry). not (ofNet net e)) (l .entries));
+  unbegun = λ t r h. refl;
   accepts = λ l. refl;
   numbers = λ r l. refl;
   unbroken = refl;
@@ -225,8 +235,7 @@ look-line : (p : Point) → Line (lookUp p)
 unfolding next says numberOf numbersFrom ownNumbers but refusals reads
 look-line p = record {
   kept = λ r l g h. g refl;
-  fine = λ r l g h. g;
-  few = λ r l g h. g;
+  unbegun = λ t r h. refl;
   accepts = λ l. refl;
   numbers = λ r l. refl;
   unbroken = refl;
@@ -236,14 +245,13 @@ look-line p = record {
 }
 
 leg-line : (e : Entry) → Line (putLeg e)
-unfolding next says numberOf numbersFrom ownNumbers but refusals reads
+unfolding next says numberOf numbersFrom ownNumbers but refusals reads entryOk
 leg-line e = record {
   kept = λ r l g h.
       appended r l (e ∷ []) (g refl)
       (and-i {a = entryOk (l .width) (l .height) e} (not-ff _ (search none-applies)) refl)
       (search none-applies depth 9) (search none-applies depth 9);
-  fine = λ r l g h. search none-applies depth 9;
-  few = λ r l g h. few-after r (next (putLeg e) l) (search none-applies depth 9);
+  unbegun = λ t r h. absurd (no-box e (and-l (boxOk 0 0 e) (shapeOk e) (not-ff _ (search none-applies))));
   accepts = λ l. refl;
   numbers = λ r l. refl;
   unbroken = refl;
@@ -256,8 +264,7 @@ save-line : Line save
 unfolding next says numberOf numbersFrom ownNumbers but refusals reads
 save-line = record {
   kept = λ r l g h. g refl;
-  fine = λ r l g h. g;
-  few = λ r l g h. g;
+  unbegun = λ t r h. refl;
   accepts = λ l. refl;
   numbers = λ r l. refl;
   unbroken = refl;
@@ -270,8 +277,7 @@ slip-line : Line slip
 unfolding next says numberOf numbersFrom ownNumbers but refusals reads
 slip-line = record {
   kept = λ r l g h. g refl;
-  fine = λ r l g h. g;
-  few = λ r l g h. g;
+  unbegun = λ t r h. refl;
   accepts = λ l. refl;
   numbers = λ r l. refl;
   unbroken = refl;
