@@ -94,7 +94,7 @@ fn strips_ok(table: &[u16], strips: &[u16], board: Board) -> bool
 }
 
 // Whether the entry is one that a table of a foil of w by h may hold.
-fn entry_ok(e: Entry, w: u16, h: u16) -> bool
+pub fn entry_ok(e: Entry, w: u16, h: u16) -> bool
     ensures { λ r. ⌜ r ≡ entryOk w h e ⌝ }
 {
     if !limits::box_ok(w, h, e.x0, e.y0, e.x1, e.y1) {
