@@ -11,7 +11,7 @@ use Rattle.foil_spec.specs.Limits.{maxEntries}
 use Rattle.foil_spec.specs.Foil.{Entry, entryNumbers, Layout}
 use Rattle.foil_spec.specs.Saving.{twoBytes, boardBytes, patchBytes, legBytes, entryBytes, jobOf}
 
--- an entry has at least one byte, and those of a leg at most
+-- there are some bytes, and no more than a leg has
 pub record Sized (bs : List ℕ) : Type 0 where
   pub some-bytes : 1 ≤ length bs
   pub few : length bs ≤ 11

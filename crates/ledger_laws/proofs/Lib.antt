@@ -18,3 +18,7 @@ pub mod Demand3
 pub mod Opening
 pub mod Numbers
 pub mod FileSize
+pub mod RecordBytes
+pub mod SavedReplies
+pub mod ReadAgain
+pub mod Saved
