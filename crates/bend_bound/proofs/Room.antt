@@ -1,9 +1,9 @@
 -- A foil that is kept has at most 4,096 strips, so by the bound on bends no track needs more than 8,192 corner places;
--- and at most 128 entries, so its file has fewer bytes than these places have numbers.
-use Prim.Native.Nat.{ℕ, _≤_}
+-- and at most 128 entries, so its file and its slip have fewer bytes than these places have numbers.
+use Prim.Native.Nat.{ℕ, _*_, _≤_}
 use native.Mathlib.Omega.{arith}
 use native.Mathlib.Decide.{ℕ-discrete}
-use mathlib.Core.Path.{_≡_, refl, sym, ap, _∙_}
+use mathlib.Core.Path.{_≡_, refl, sym, ap, _∙_, subst}
 use mathlib.Core.Bool.{Bool, true, false, not, or-true}
 use mathlib.Core.List.{List, [], _∷_}
 use mathlib.Core.Logic.{by-cases}
@@ -16,9 +16,11 @@ use Rattle.foil_spec.specs.Limits.{maxEntries, maxStrips, cornerPlaces}
 use Rattle.foil_spec.specs.Foil.{Point, Layout, noFoil}
 use Rattle.foil_spec.specs.Strips.{stripsFrom}
 use Rattle.foil_spec.specs.Paths.{bends}
+use Rattle.foil_spec.specs.Nets.{inUse, netsOf}
+use Rattle.foil_spec.specs.Slip.{slipOf}
 use Rattle.foil_spec.specs.Ledger.{stripsOf, pathOf, cornersOf, Room, short, cornerRoom, tooFine, Step, Answer, refused}
 use Rattle.foil_spec.specs.Ledger.{next, first, reads, refusals, afterLent, After, refusalOf}
-use Rattle.foil_spec.specs.Lent.{Lent, store, held, sound, stepOn}
+use Rattle.foil_spec.specs.Lent.{Lent, store, held, layoutOk, sound, stepOn}
 use Rattle.foil_spec.specs.Job.{recordChecks}
 use Rattle.foil_spec.specs.Ohms.{ohmsRefusals}
 use Rattle.foil_spec.specs.declared.Ink.{Ink}
@@ -26,7 +28,7 @@ use Rattle.foil_spec.specs.Calls.{Reply, wholeRefusals}
 use Rattle.foil_spec.specs.Sequence.{Lending, roomFor, told, Left, leaves, runLent, runLedger}
 use Rattle.list_laws.proofs.Tests.{clash, both, not-ff, parts}
 use Rattle.list_laws.proofs.Members.{of-all}
-use Rattle.ledger_laws.specs.Line.{but, ownNumbers, Lacks, corners, bytes}
+use Rattle.ledger_laws.specs.Line.{but, ownNumbers, Lacks, corners, bytes, page}
 use Rattle.ledger_laws.specs.Numbers.{numbersOf}
 use Rattle.ledger_laws.proofs.Refusals.{first-passes, broken-refused, own-refused, unrefused-own}
 use Rattle.ledger_laws.proofs.Rules.{of-ok}
@@ -37,6 +39,7 @@ use Rattle.ledger_laws.proofs.Lending.{step-short, begins-anew}
 use Rattle.ledger_laws.proofs.Demand3.{behaves-as-ledger}
 use Rattle.ledger_laws.proofs.FileSize.{file-small}
 use Rattle.ledger_laws.proofs.Numbers.{call-passes, Passes, run-passes, not-among, lent-passes, own-passes}
+use Rattle.slip_laws.proofs.Pages.{slip-small}
 use Rattle.bend_bound.specs.Bound.{bendBound}
 use Rattle.bend_bound.specs.Room.{TrackCorners, EnoughCorners, lentEnough, NeverShort}
 use Rattle.bend_bound.proofs.Bound.{track-bends}
@@ -59,19 +62,36 @@ corners-few l S T h = go (pathOf l S T) refl
     go none e = omega arith
     go (some cs) e = omega (arith, track-corners l S T cs e, ltb-false maxStrips (length (stripsOf l)) h)
 
--- no more strips and entries than their lists have places, whatever rule the foil breaks
-pub record Fine (l : Layout) : Type 0 where
+-- a foil that keeps the rules, or none that is begun
+pub data Fine (l : Layout) : Type 0 where
+  begun : layoutOk l ≡ true → Fine l
+  unbegun : l ≡ noFoil → Fine l
+
+-- it has no more strips and entries than their lists have places, and a slip of 33 bytes for each entry at most
+pub record Small (l : Layout) : Type 0 where
   pub strips : tooFine l ≡ false
   pub entries : length (l .entries) ≤ maxEntries
+  pub page : length (slipOf l) ≤ 33 * maxEntries
+
+no-foil-small : Small noFoil
+unfolding tooFine stripsOf stripsFrom slipOf netsOf inUse
+no-foil-small = record { strips = refl; entries = omega arith; page = omega arith }
+
+pub small : (l : Layout) → Fine l → Small l
+small l (begun g) =
+    let k = of-ok l g in
+    record { strips = k .fine; entries = leb-true (length (l .entries)) maxEntries (k .long); page = slip-small l g }
+small l (unbegun e) = subst Small (sym e) no-foil-small
 
 -- ---- one step
 
 module _ (r : Room) (room : cornerPlaces ≤ cornerRoom r) where
   -- on a foil that is fine nothing lacks output
   none-lacks : (l : Layout) → Fine l → Lacks r l → ⊥
-  none-lacks l fine (corners S T more) = omega (arith, more, corners-few l S T (fine .strips))
-  none-lacks l fine (bytes more) =
-      unfold cornerRoom in omega (arith, room, more, file-small l (fine .entries))
+  unfolding cornerRoom
+  none-lacks l fine (corners S T more) = omega (arith, more, corners-few l S T (small l fine .strips))
+  none-lacks l fine (bytes more) = omega (arith, room, more, file-small l (small l fine .entries))
+  none-lacks l fine (page more) = omega (arith, room, more, small l fine .page)
 
   -- a step has a 12 of its own only on a foil that is not fine, which it reads
   own-12 : (s : Step) (l : Layout) → first (refusals s r l) ≡ some 12 → (reads s ≡ true) × (Fine l → ⊥)
@@ -107,9 +127,7 @@ unfolding stepOn
 enough-corners r s m room = (only-short, λ e. ap (λ (a : After Answer Lent). a .answer) (step-short r s m e))
   where
     kept : not (sound m) ≡ false → Fine (held m)
-    kept e =
-        let k = of-ok (held m) (of-sound m (not-ff (sound m) e) .kept) in
-        record { strips = k .fine; entries = leb-true (length (held m .entries)) maxEntries (k .long) }
+    kept e = begun (of-sound m (not-ff (sound m) e) .kept)
 
     only-short : stepOn r s m .answer ≡ refused 12 → short r ≡ true
     only-short h =
@@ -131,15 +149,21 @@ unfolding afterLent ohmsRefusals but
 ohms-but-12 r long net i l = first-passes (but 12) _ (simp (long, or-true))
 
 -- an accepted step leaves a foil that is fine
+unbegun-kept : (r : Room) (s : Step) → refusalOf r false s noFoil ≡ none → Fine (next s noFoil)
+unbegun-kept r s e =
+    let own = unrefused-own r s noFoil false e in
+    both (reads s)
+    (λ t. unbegun (line s .unbegun t r own))
+    (λ f. begun (line s .kept r noFoil (λ t. clash t f) own))
+
 pub fine-kept : (r : Room) (s : Step) (l : Layout) → Fine l → refusalOf r false s l ≡ none → Fine (next s l)
-fine-kept r s l g e =
-    let own = unrefused-own r s l false e in
-    record { strips = line s .fine r l (g .strips) own; entries = line s .few r l (g .entries) own }
+fine-kept r s l (begun g) e = begun (line s .kept r l (λ _. g) (unrefused-own r s l false e))
+fine-kept r s l (unbegun z) e =
+    subst (λ (x : Layout). refusalOf r false s x ≡ none → Fine (next s x)) (sym z) (unbegun-kept r s) e
 
 -- a ledger that holds no foil yet is fine
 pub no-foil-fine : Fine noFoil
-unfolding tooFine stripsOf stripsFrom
-no-foil-fine = record { strips = refl; entries = omega arith }
+no-foil-fine = unbegun refl
 
 fine-passes : (m : Lent) (c : Lending) → lentEnough m c ≡ true → Passes (but 12) Fine m c
 unfolding lentEnough told but

@@ -11,7 +11,7 @@ use borrow.Author.Tests.{eq-eqb, ne-eqb}
 use Rattle.foil_spec.specs.Lists.{range, keep, each}
 use Rattle.foil_spec.specs.Limits.{maxEntries, tableSize}
 use Rattle.foil_spec.specs.Foil.{Entry, entry, entryNumbers}
-use Rattle.foil_spec.specs.Ledger.{ofNet}
+use Rattle.foil_spec.specs.Nets.{ofNet}
 use Rattle.foil_spec.specs.Lent.{written, entryAt}
 use Rattle.list_laws.proofs.Members.{each-append, keep-append, map-last}
 use Rattle.ledger_laws.proofs.Stored.{length-entries}

@@ -7,7 +7,7 @@ use lib.ListN.{length}
 use Rattle.foil_spec.specs.Lists.{range, keep, each}
 use Rattle.foil_spec.specs.Limits.{tableSize}
 use Rattle.foil_spec.specs.Foil.{Entry, entryNumbers}
-use Rattle.foil_spec.specs.Ledger.{ofNet}
+use Rattle.foil_spec.specs.Nets.{ofNet}
 use Rattle.foil_spec.specs.Lent.{written, entryAt}
 
 -- the entries, and zeros in the unused places

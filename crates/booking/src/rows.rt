@@ -8,7 +8,7 @@ ghost use lib.Seq.{paste};
 ghost use Rattle.foil_spec.specs.Lists.{range};
 ghost use Rattle.foil_spec.specs.Limits.{maxEntries, tableSize};
 ghost use Rattle.foil_spec.specs.Foil.{entry};
-ghost use Rattle.foil_spec.specs.Ledger.{inUse};
+ghost use Rattle.foil_spec.specs.Nets.{inUse};
 ghost use Rattle.foil_spec.specs.Lent.{entryAt};
 ghost use Rattle.booking.specs.Rows.{rowsOf, Appended, Kept};
 

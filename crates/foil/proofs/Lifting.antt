@@ -7,7 +7,8 @@ use mathlib.Core.List.{List, map}
 use borrow.Author.Tests.{not-true, not-false}
 use Rattle.foil_spec.specs.Lists.{range, all}
 use Rattle.foil_spec.specs.Foil.{Entry, Layout, netOk, entryOk}
-use Rattle.foil_spec.specs.Ledger.{lift, ofNet, inUse, Room, short, next, says, first, refusals, After, settle}
+use Rattle.foil_spec.specs.Nets.{ofNet, inUse}
+use Rattle.foil_spec.specs.Ledger.{lift, Room, short, next, says, first, refusals, After, settle}
 use Rattle.foil_spec.specs.Ledger.{Answer as Outcome}
 use Rattle.foil_spec.specs.Lent.{Lent, lent, store, entryAt, layoutOf, held, sound, stepOn}
 use Rattle.foil_spec.specs.declared.Board.{Board}

@@ -1,9 +1,9 @@
--- The starred test foils of document 01, the ohms of its track, legs as booked with the file of their foil, and drawn
--- ways: one list of cases, and one fact over it.
+-- The starred test foils of document 01, the ohms of its track, legs as booked with the file of their foil, drawn ways,
+-- and the slip of two tracks: one list of cases, and one fact over it.
 use Prim.Native.Nat.{ℕ}
 use mathlib.Core.Path.{_≡_, refl}
 use mathlib.Core.Bool.{true, false, xor}
-use mathlib.Core.List.{List, [], _∷_, map, reverse}
+use mathlib.Core.List.{List, [], _∷_, _++_, map, reverse}
 use mathlib.Core.Option.{some}
 use lib.IntN.{pos, negsuc}
 use lib.Ieee.{Float, nan, inf, fin, binary64, ofInt, ofBits, add, mul, div, lt, le, eq}
@@ -15,15 +15,17 @@ use Rattle.foil_spec.specs.Strips.{stripsFrom, holds, placeOf}
 use Rattle.foil_spec.specs.Paths.{after, between, levelFree, uprightFree, segment, bends, points, goings}
 use Rattle.foil_spec.specs.Paths.{leads, isPathTo, isWay, stepsFrom, shortest, firstFrom, firstPathTo}
 use Rattle.foil_spec.specs.Corners.{cornerAt, cornersIn, drawn}
+use Rattle.foil_spec.specs.Nets.{ofNet, inUse, netsOf, legsOf, legSteps, stepsOf, netLength, netBends, firstPoint}
+use Rattle.foil_spec.specs.Text.{ascii, digitsIn, decimal}
 use Rattle.foil_spec.specs.Saving.{twoBytes, boardBytes, patchBytes, legBytes, entryBytes, jobOf}
-use Rattle.foil_spec.specs.Ledger.{stripsOf, pathOf, noPath, cornersOf, leg, legsFrom, legs, ofNet, inUse}
-use Rattle.foil_spec.specs.Ledger.{offFoil, blocked, short, cornerRoom, tooLong, tooFine, beginningTooFine, next, says}
-use Rattle.foil_spec.specs.Ledger.{first, reads, refusals, afterLent, settle, refusalOf, ledgerStep}
-use Rattle.foil_spec.specs.Ledger.{newFoil, draw, lay, lift, lookUp, putLeg, save, find, book}
+use Rattle.foil_spec.specs.Slip.{setRight, column, slipLine, netLine, slipOf}
+use Rattle.foil_spec.specs.Ledger.{stripsOf, pathOf, noPath, cornersOf, leg, legsFrom, legs}
+use Rattle.foil_spec.specs.Ledger.{offFoil, blocked, short, cornerRoom, tooLong, tooFine, beginningTooFine}
+use Rattle.foil_spec.specs.Ledger.{next, says, first, reads, refusals, afterLent, settle, refusalOf, ledgerStep}
+use Rattle.foil_spec.specs.Ledger.{newFoil, draw, lay, lift, lookUp, putLeg, save, find, book, slip}
 use Rattle.foil_spec.specs.Ledger.{refused, accepted, laid, found, wrote, booked}
 use Rattle.foil_spec.specs.Job.{number, fieldCount, mapByte, has, fieldsAt, recordEnd, field, stepAt}
 use Rattle.foil_spec.specs.Job.{jobRoom, stepsAt, steps, isEnd, recordChecks}
-use Rattle.foil_spec.specs.Nets.{legsOf, legSteps, stepsOf, netLength, netBends}
 use Rattle.foil_spec.specs.Ohms.{whole, sheetOk, widthOk, bendOk, inkOk, formula, ohmsRefusals, ohmsOf}
 use Rattle.foil_spec.specs.Calls.{Call, step, runRecord, ohms, Reply, answered, ran, atEnd, measured}
 use Rattle.foil_spec.specs.Calls.{endsJob, andThen, actAll, actRecord, tooLarge, wholeRefusals, ohmsReply}
@@ -94,6 +96,10 @@ savedBytes =
 -- a booking of the net by the numbers of a corner list
 abbrev drew : ℕ → List ℕ → Call
 drew net ks = step (book net ks)
+
+-- the slip of the job's track and of net 3 from (1, 2) to (1, 0)
+jobSlip : List ℕ
+jobSlip = ascii "  3    1       2     1     0    \n" ++ ascii "  5    3      10     0     0    \n"
 
 -- the ohms of a net for R, w and c
 abbrev asked : ℕ → Float → Float → Float → Call
@@ -252,7 +258,8 @@ cases =
             strips = jobStrips;
           };
     }
-    -- legs as booked: the net is tried before box and shape, and a leg may lie on blocked points; then the foil is saved
+    -- legs as booked: the net is tried before box and shape, and a leg may lie on blocked points; then the foil is
+    -- saved
     ∷ record {
       calls =
           step (newFoil 6 4 0) ∷ step (draw 2 0 3 3) ∷ step (lay 5 (point 0 0) (point 4 0))
@@ -338,18 +345,34 @@ cases =
             strips = strip 0 1 1 2 ∷ [];
           };
     }
+    -- the slip of a foil without tracks, and of one with two, the lower net laid last
+    ∷ record {
+      calls =
+          step (newFoil 6 4 0) ∷ step (draw 2 0 3 3) ∷ step slip ∷ step (lay 5 (point 0 0) (point 4 0))
+          ∷ step (lay 3 (point 1 2) (point 1 0)) ∷ step slip ∷ [];
+      outcome =
+          record {
+            replies =
+                answered accepted ∷ answered accepted ∷ answered (wrote []) ∷ answered (laid jobCorners 2)
+                ∷ answered (laid (point 1 2 ∷ point 1 0 ∷ []) 0) ∷ answered (wrote jobSlip) ∷ [];
+            entries = jobEntries ++ (entry 3 1 0 2 3 ∷ []);
+            strips = strip 3 0 4 3 ∷ strip 5 0 6 4 ∷ [];
+          };
+    }
     ∷ []
 
 -- every case comes out as document 01 says
 starred : map (λ (c : Case). outcomeFrom noFoil [] (c .calls)) cases ≡ map (λ (c : Case). c .outcome) cases
-unfolding outcomeFrom cases jobBytes legJob savedBytes
+unfolding outcomeFrom cases jobBytes legJob savedBytes jobSlip
     entryNumbers sizeOk clearanceOk netOk boxOk shapeOk entryOk within blocks free
     stopIn stop scan scanAt starts isRun isTop begun stripsFrom holds placeOf
     after between levelFree uprightFree segment leads isPathTo isWay bends points goings stepsFrom shortest firstFrom
     firstPathTo cornerAt cornersIn drawn
     stripsOf pathOf noPath cornersOf leg legsFrom legs ofNet inUse offFoil blocked
     twoBytes boardBytes patchBytes legBytes entryBytes jobOf
-    short cornerRoom tooLong tooFine beginningTooFine next says first reads refusals afterLent settle refusalOf ledgerStep
+    netsOf firstPoint digitsIn decimal setRight column slipLine netLine slipOf
+    short cornerRoom tooLong tooFine beginningTooFine
+    next says first reads refusals afterLent settle refusalOf ledgerStep
     jobRoom number fieldCount mapByte has fieldsAt recordEnd field stepAt stepsAt steps isEnd recordChecks
     endsJob andThen actAll actRecord tooLarge wholeRefusals ohmsReply reply ledgerCall xor
     legsOf legSteps stepsOf netLength netBends whole sheetOk widthOk bendOk inkOk formula ohmsRefusals ohmsOf half bits

@@ -3,7 +3,7 @@ use Prim.Native.Nat.{ℕ, suc, _/_, min, max}
 use mathlib.Core.Bool.{Bool, cond, true, false, not, _&&_, _||_}
 use mathlib.Core.List.{List, [], _∷_, _++_}
 use mathlib.Core.Option.{Option, none, some, Option·getD}
-use lib.Dec.{leb, ltb, eqb}
+use lib.Dec.{leb, ltb}
 use lib.ListN.{length, take}
 use Rattle.foil_spec.specs.Lists.{range, keep, any}
 use Rattle.foil_spec.specs.Limits.{maxEntries, maxStrips}
@@ -11,7 +11,9 @@ use Rattle.foil_spec.specs.Foil.{Point, Entry, entry, Layout, sizeOk, cl
 use Rattle.foil_spec.specs.Strips.{Strip, strips, placeOf}
 use Rattle.foil_spec.specs.Paths.{firstPath, isWay, bends}
 use Rattle.foil_spec.specs.Corners.{drawn}
+use Rattle.foil_spec.specs.Nets.{ofNet, inUse}
 use Rattle.foil_spec.specs.Saving.{jobOf}
+use Rattle.foil_spec.specs.Slip.{slipOf}
 
 -- the strips of a layout
 unfoldable pub stripsOf : Layout → List Strip
@@ -45,14 +47,6 @@ unfoldable pub legs : ℕ → List Point → List Entry
 legs net [] = []
 legs net (p ∷ []) = leg net p p ∷ []
 legs net (p ∷ q ∷ cs) = legsFrom net p (q ∷ cs)
-
--- the entry is of the net
-unfoldable pub ofNet : ℕ → Entry → Bool
-ofNet net e = eqb (e .net) net
-
--- the net is in the table
-unfoldable pub inUse : ℕ → List Entry → Bool
-inUse net es = any (ofNet net) es
 
 -- the layout with another row of entries
 abbrev pub withEntries : Layout → List Entry → Layout
@@ -106,9 +100,10 @@ pub data Step : Type 0 where
   save : Step
   find : Point → Point → Step
   book : ℕ → List ℕ → Step
+  slip : Step
 
--- a refusal number; or accepted, with corners and bends after a lay or a find, with a strip's place after a look up,
--- with the bytes that were written after a save, with the numbers of corners and bends after a booking
+-- a refusal number; or accepted, with corners and bends after a lay or a find, with a strip's place after a look up, with
+-- the bytes that were written after a save or a slip, with the numbers of corners and bends after a booking
 pub data Answer : Type 0 where
   refused : ℕ → Answer
   accepted : Answer
@@ -137,6 +132,7 @@ next (putLeg e) l = withEntries l (l .entries ++ e ∷ [])
 next save l = l
 next (find S T) l = l
 next (book net ks) l = withEntries l (l .entries ++ legs net (drawn ks))
+next slip l = l
 
 -- what an accepted step answers
 unfoldable pub says : Step → Layout → Answer
@@ -149,6 +145,7 @@ says (putLeg e) l = accepted
 says save l = wrote (jobOf l)
 says (find S T) l = laid (cornersOf l S T) (bends (cornersOf l S T))
 says (book net ks) l = booked (length (drawn ks)) (bends (drawn ks))
+says slip l = wrote (slipOf l)
 
 -- a refusal: when it applies, and its number
 pub record Refusal : Type 0 where
@@ -176,6 +173,7 @@ reads (putLeg e) = true
 reads save = true
 reads (find S T) = true
 reads (book net ks) = true
+reads slip = true
 
 -- a step's own refusals in their order
 unfoldable pub refusals : Step → Room → Layout → List Refusal
@@ -221,6 +219,7 @@ refusals (book net ks) r l =
     ∷ (tooLong r (next (book net ks) l) ⇒ 10)
     ∷ (tooFine (next (book net ks) l) ⇒ 11)
     ∷ []
+refusals slip r l = (ltb (r .output) (length (slipOf l)) ⇒ 12) ∷ []
 
 -- a call's own refusals after those for what is lent, which every call begins with; `broken` says that the call reads a
 -- state that breaks a rule

@@ -5,11 +5,13 @@ pub mod Foil
 pub mod Strips
 pub mod Paths
 pub mod Corners
+pub mod Nets
+pub mod Text
 pub mod Saving
+pub mod Slip
 pub mod Ledger
 pub mod Lent
 pub mod Job
-pub mod Nets
 pub mod Ohms
 pub mod Calls
 pub mod Sequence

@@ -1,10 +1,23 @@
--- A net on the foil: its legs, their steps, and its bends.
+-- The nets of a row of entries: which there are, and of each its legs, their steps, its bends and its first point.
 use Prim.Native.Nat.{ℕ, _+_, _-_}
+use mathlib.Core.Bool.{Bool}
 use mathlib.Core.List.{List, [], _∷_}
+use lib.Dec.{eqb}
 use lib.ListN.{length}
-use Rattle.foil_spec.specs.Lists.{keep}
-use Rattle.foil_spec.specs.Foil.{Entry, Layout}
-use Rattle.foil_spec.specs.Ledger.{ofNet}
+use Rattle.foil_spec.specs.Lists.{range, keep, any}
+use Rattle.foil_spec.specs.Foil.{Point, point, Entry, Layout}
+
+-- the entry is of the net
+unfoldable pub ofNet : ℕ → Entry → Bool
+ofNet net e = eqb (e .net) net
+
+-- the net is in the table
+unfoldable pub inUse : ℕ → List Entry → Bool
+inUse net es = any (ofNet net) es
+
+-- the nets of tracks that are in the table, rising
+unfoldable pub netsOf : List Entry → List ℕ
+netsOf es = keep (λ (net : ℕ). inUse net es) (range 1 999)
 
 -- the net's entries, in order
 unfoldable pub legsOf : ℕ → List Entry → List Entry
@@ -26,3 +39,8 @@ netLength net l = stepsOf (legsOf net (l .entries))
 -- B: the net's entries less one
 unfoldable pub netBends : ℕ → Layout → ℕ
 netBends net l = length (legsOf net (l .entries)) - 1
+
+-- x0 and y0 of the first of some legs
+unfoldable pub firstPoint : List Entry → Point
+firstPoint [] = point 0 0
+firstPoint (e ∷ es) = point (e .x0) (e .y0)

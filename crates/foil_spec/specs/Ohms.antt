@@ -6,8 +6,8 @@ use lib.IntN.{pos}
 use lib.Ieee.{Float, binary64, ofInt, add, mul, div, lt, le}
 use lib.Ieee.Scale.{finite}
 use Rattle.foil_spec.specs.Foil.{Layout, netOk}
-use Rattle.foil_spec.specs.Ledger.{inUse, Refusal, _⇒_}
-use Rattle.foil_spec.specs.Nets.{netLength, netBends}
+use Rattle.foil_spec.specs.Nets.{inUse, netLength, netBends}
+use Rattle.foil_spec.specs.Ledger.{Refusal, _⇒_}
 use Rattle.foil_spec.specs.declared.Ink.{Ink}
 
 -- a whole number as an f64

@@ -16,7 +16,7 @@ use Rattle.foil_spec.specs.Strips.{Strip}
 use Rattle.list_laws.proofs.Tests.{clash, or-l, or-r, any-append}
 use Rattle.list_laws.proofs.Members.{In, in-right, in-any, of-all, not-any}
 use Rattle.ledger_laws.specs.Numbers.{among}
-use Rattle.putting.specs.Text.{ascii, decimal}
+use Rattle.foil_spec.specs.Text.{ascii, decimal}
 use Rattle.lines.specs.Lines.{item, cornerItem, boardLine, patchLine, trackRefused, trackLaid, liftLine, legLine}
 use Rattle.lines.specs.Lines.{stripLine, fileLine}
 use Rattle.lines.specs.Output.{output}

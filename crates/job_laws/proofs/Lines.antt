@@ -13,7 +13,7 @@ use Rattle.foil_spec.specs.Foil.{Point, Layout, noFoil, free}
 use Rattle.foil_spec.specs.Strips.{Strip}
 use Rattle.foil_spec.specs.Paths.{at, bends}
 use Rattle.foil_spec.specs.Ledger.{stripsOf, cornersOf, short, cornerRoom, next, says, first}
-use Rattle.foil_spec.specs.Ledger.{Step, newFoil, draw, lay, lift, lookUp, putLeg, save, Answer, numberOf}
+use Rattle.foil_spec.specs.Ledger.{Step, newFoil, draw, lay, lift, lookUp, putLeg, save, slip, Answer, numberOf}
 use Rattle.foil_spec.specs.Ledger.{refusals, afterLent, After, settle, refusalOf, ledgerStep}
 use Rattle.foil_spec.specs.Job.{jobRoom, steps, isEnd, recordEnd, recordChecks}
 use Rattle.foil_spec.specs.Calls.{runRecord, ran, endsJob, andThen, actAll, actRecord, wholeRefusals, reply, ledgerCall}
@@ -26,7 +26,7 @@ use Rattle.ledger_laws.proofs.Refusals.{first-passes}
 use Rattle.ledger_laws.proofs.Kept.{step-keeps, call-keeps}
 use Rattle.ledger_laws.proofs.Lay.{Laid, first-laid}
 use Rattle.ledger_laws.proofs.Numbers.{answer-passes}
-use Rattle.bend_bound.proofs.Room.{corners-few, step-passes, Fine, fine-kept, no-foil-fine}
+use Rattle.bend_bound.proofs.Room.{corners-few, step-passes, Fine, small, fine-kept, no-foil-fine}
 use Rattle.lines.specs.Lines.{stripLine}
 use Rattle.lines.specs.Output.{trackLine, stepLine, stepLines, replyLines, outputFrom, output}
 use Rattle.job_laws.specs.JobLines.{Line, board, patch, refusedTrack, laidTrack, lifted, leg, strip, file}
@@ -75,7 +75,7 @@ laid-possible l net S T fine e =
     let first-is = first-laid jobRoom false l net S T cs (bends cs) laid .0 in
     simp (
       le-leb 1 (length cs) (omega (arith, ap length (of-path (free l) S (at T) cs (first-is .path) .is))),
-      le-leb (length cs) cornerPlaces (corners-few l S T (fine .strips)),
+      le-leb (length cs) cornerPlaces (corners-few l S T (small l fine .strips)),
       eq-eqb (bends cs) (bends cs) refl,
     )
 
@@ -103,6 +103,7 @@ module _ (l : Layout) (fine : Fine l) where
   step-line (putLeg e) =
       one-line (leg (e .net) _) (number-passes (λ n. possible (leg (e .net) n)) (putLeg e) l fine refl refl)
   step-line save = no-line
+  step-line slip = no-line
 
 -- ---- a record's lines
 

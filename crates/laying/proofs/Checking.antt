@@ -7,7 +7,8 @@ use lib.Dec.{leb}
 use borrow.Author.Tests.{lt-leb, le-leb, leb-false, not-true, not-false}
 use Rattle.foil_spec.specs.Lists.{range}
 use Rattle.foil_spec.specs.Foil.{Point, netOk}
-use Rattle.foil_spec.specs.Ledger.{lay, inUse, offFoil, blocked, first, refusals}
+use Rattle.foil_spec.specs.Nets.{inUse}
+use Rattle.foil_spec.specs.Ledger.{lay, offFoil, blocked, first, refusals}
 use Rattle.foil_spec.specs.Lent.{Lent, lent, entryAt, layoutOf, held, sound}
 use Rattle.foil_spec.specs.declared.Board.{Board}
 use Rattle.list_laws.proofs.Tests.{or-l, or-r, not-ff}

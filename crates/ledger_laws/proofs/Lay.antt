@@ -12,7 +12,8 @@ use lib.ListN.{length}
 use Rattle.foil_spec.specs.Lists.{keep, any}
 use Rattle.foil_spec.specs.Foil.{Point, Entry, Layout, netOk, free}
 use Rattle.foil_spec.specs.Paths.{at, isPath, isPathTo, bends}
-use Rattle.foil_spec.specs.Ledger.{pathOf, noPath, cornersOf, leg, legsFrom, legs, ofNet, inUse, withEntries}
+use Rattle.foil_spec.specs.Nets.{ofNet, inUse}
+use Rattle.foil_spec.specs.Ledger.{pathOf, noPath, cornersOf, leg, legsFrom, legs, withEntries}
 use Rattle.foil_spec.specs.Ledger.{offFoil, blocked, Room, short, cornerRoom, tooLong, tooFine, next, says, _⇒_, first}
 use Rattle.foil_spec.specs.Ledger.{reads, refusals, afterLent, settle, refusalOf, ledgerStep}
 use Rattle.foil_spec.specs.Ledger.{Step, lay, lift, find, refused, accepted, laid}

@@ -1,5 +1,5 @@
 -- Each step of the ledger keeps what lists of calls ask of it.
-use Prim.Native.Nat.{ℕ, suc, _/_, min, _≤_, _<_}
+use Prim.Native.Nat.{ℕ, _/_, min, _≤_, _<_}
 use native.Mathlib.Omega.{arith}
 use mathlib.Core.Path.{_≡_, refl, sym, ap, _∙_}
 use mathlib.Core.Bool.{Bool, true, false, not, _&&_, _||_, or-true, true≢false}
@@ -8,21 +8,25 @@ use mathlib.Core.Option.{Option, none, some, Option·getD}
 use lib.Dec.{leb, ltb}
 use borrow.Author.Tests.{ltb-true, ltb-false, leb-true, le-leb}
 use lib.ListN.{length}
-use Rattle.foil_spec.specs.Lists.{all, keep, consIf}
+use Rattle.foil_spec.specs.Lists.{all, keep}
 use Rattle.foil_spec.specs.Limits.{maxEntries}
-use Rattle.foil_spec.specs.Foil.{Point, Entry, entry, Layout, sizeOk, clearanceOk, netOk, boxOk, shapeOk, entryOk, free}
-use Rattle.foil_spec.specs.Paths.{at, isWay}
+use Rattle.foil_spec.specs.Foil.{Point, Entry, entry, Layout, noFoil, sizeOk, clearanceOk, netOk}
+use Rattle.foil_spec.specs.Foil.{boxOk, shapeOk, entryOk, free}
+use Rattle.foil_spec.specs.Paths.{at, anywhere, either, leads, isWay}
 use Rattle.foil_spec.specs.Corners.{drawn}
 use Rattle.foil_spec.specs.Saving.{jobOf}
-use Rattle.foil_spec.specs.Ledger.{stripsOf, pathOf, cornersOf, legs, ofNet, withEntries, Room, cornerRoom, tooLong}
-use Rattle.foil_spec.specs.Ledger.{tooFine, Step, newFoil, draw, lay, lift, lookUp, putLeg, save, find, book}
+use Rattle.foil_spec.specs.Slip.{slipOf}
+use Rattle.foil_spec.specs.Nets.{ofNet}
+use Rattle.foil_spec.specs.Ledger.{stripsOf, pathOf, cornersOf, legs, withEntries, offFoil, Room, cornerRoom, tooLong}
+use Rattle.foil_spec.specs.Ledger.{tooFine, Step, newFoil, draw, lay, lift, lookUp, putLeg, save, find, book, slip}
 use Rattle.foil_spec.specs.Ledger.{numberOf, next, says, refused, Refusal, first, reads, refusals, settle}
 use Rattle.foil_spec.specs.Lent.{layoutOk}
-use Rattle.list_laws.proofs.Tests.{and-l, and-r, and-i, not-ff, both, all-append, all-keep}
+use Rattle.list_laws.proofs.Tests.{clash, and-l, and-r, and-i, or-l, not-ff, both, parts, all-append, all-keep}
+use Rattle.list_laws.proofs.Members.{length-keep}
 use Rattle.path_laws.proofs.Laws.{gives-first}
-use Rattle.path_laws.proofs.Ways.{path-way}
+use Rattle.path_laws.proofs.Ways.{path-way, way-is}
 use Rattle.strip_laws.proofs.Laws.{one-strip}
-use Rattle.ledger_laws.specs.Line.{Line, Lacks, corners, bytes, but, numbersFrom, ownNumbers}
+use Rattle.ledger_laws.specs.Line.{Line, Lacks, corners, bytes, page, but, numbersFrom, ownNumbers}
 use Rattle.ledger_laws.proofs.Refusals.{none-applies, first-passes}
 use Rattle.zones.proofs.Free.{free-inside, bare-free}
 use Rattle.ledger_laws.proofs.Legs.{legs-ok}
@@ -63,14 +67,6 @@ laid-ok l net S T (some cs) e h =
 few-after : (r : Room) (l : Layout) → tooLong r l ≡ false → length (l .entries) ≤ maxEntries
 unfolding tooLong
 few-after r l h = omega (arith, ltb-false (min maxEntries (r .limit)) (length (l .entries)) h)
-
-length-consIf : {A : Type 0} (t : Bool) (x : A) (xs : List A) → length (consIf t x xs) ≤ suc (length xs)
-length-consIf true x xs = omega arith
-length-consIf false x xs = omega arith
-
-length-keep : {A : Type 0} (p : A → Bool) (xs : List A) → length (keep p xs) ≤ length xs
-length-keep p [] = omega arith
-length-keep p (x ∷ xs) = omega (arith, length-consIf (p x) x (keep p xs), length-keep p xs)
 
 -- ---- the rules are kept by entries that are appended, or taken out
 
@@ -130,6 +126,35 @@ save-12 r l e =
     (λ t. bytes (ltb-true (r .output) (length (jobOf l)) t))
     (λ t. absurd (no-12 _ (simp (t, or-true)) e))
 
+-- so has a slip
+slip-12 : (r : Room) (l : Layout) → first (refusals slip r l) ≡ some 12 → Lacks r l
+unfolding refusals but
+slip-12 r l e =
+    both (ltb (r .output) (length (slipOf l)))
+    (λ t. page (ltb-true (r .output) (length (slipOf l)) t))
+    (λ t. absurd (no-12 _ (simp t) e))
+
+-- ---- where no foil is begun
+
+no-box : (e : Entry) → boxOk 0 0 e ≡ true → ⊥
+unfolding boxOk
+no-box e h =
+    let a : ltb (e .x0) (e .x1) ≡ true = search parts in
+    let b : leb (e .x1) 0 ≡ true = search parts in
+    omega (arith, ltb-true (e .x0) (e .x1) a, leb-true (e .x1) 0 b)
+
+all-off : (p : Point) → offFoil noFoil p ≡ true
+unfolding offFoil
+all-off p = simp (le-leb 0 (p .x) (omega arith))
+
+no-drawing : (cs : List Point) → isWay (free noFoil) cs ≡ true → ⊥
+unfolding isWay
+no-drawing [] w = true≢false (sym w)
+no-drawing (p ∷ cs) w =
+    let k : (free noFoil (p .x) (p .y) && leads (free noFoil) anywhere either p cs) ≡ true =
+    sym (way-is (free noFoil) p cs) ∙ w in
+    omega (arith, free-inside noFoil (p .x) (p .y) (and-l _ _ k) .0)
+
 -- ---- rooms with as much output and the same limit
 
 pub same-long : (r r′ : Room) (l : Layout) → r .limit ≡ r′ .limit → tooLong r l ≡ tooLong r′ l
@@ -151,7 +176,7 @@ module _ (W H d : ℕ) where
       (and-l (sizeOk W) (sizeOk H) s, and-r (sizeOk W) (sizeOk H) s, not-ff (clearanceOk d) (search none-applies))
 
   new-line : Line (newFoil W H d)
-  unfolding next says numberOf numbersFrom ownNumbers but refusals
+  unfolding next says numberOf numbersFrom ownNumbers but refusals reads
   new-line = record {
     kept = λ r l g h.
         let s = sizes r l h in
@@ -164,8 +189,7 @@ module _ (W H d : ℕ) where
           long = refl;
           fine = new-fine W H d (s .0) (s .1);
         });
-    fine = λ r l g h. let s = sizes r l h in new-fine W H d (s .0) (s .1);
-    few = λ r l g h. omega arith;
+    unbegun = λ z. clash z refl;
     accepts = λ l. refl;
     numbers = λ r l. refl;
     unbroken = refl;
@@ -183,8 +207,7 @@ draw-line x0 y0 x1 y1 = record {
       appended r l (entry 0 x0 y0 x1 y1 ∷ []) (g refl)
       (and-i {a = entryOk (l .width) (l .height) (entry 0 x0 y0 x1 y1)} e refl)
       (search none-applies) (search none-applies depth 9);
-  fine = λ r l g h. search none-applies depth 9;
-  few = λ r l g h. few-after r (next (draw x0 y0 x1 y1) l) (search none-applies depth 9);
+  unbegun = λ t r h. absurd (no-box (entry 0 x0 y0 x1 y1) (not-ff _ (search none-applies)));
   accepts = λ l. refl;
   numbers = λ r l. refl;
   unbroken = refl;
@@ -200,8 +223,7 @@ lay-line net S T = record {
       appended r l (legs net (cornersOf l S T)) (g refl)
       (laid-ok l net S T (pathOf l S T) refl (not-ff (netOk net) (search none-applies)))
       (search none-applies depth 12) (search none-applies depth 12);
-  fine = λ r l g h. search none-applies depth 12;
-  few = λ r l g h. few-after r (next (lay net S T) l) (search none-applies depth 12);
+  unbegun = λ t r h. clash (all-off S) (or-l (offFoil noFoil S) (offFoil noFoil T) (search none-applies));
   accepts = λ l. refl;
   numbers = λ r l. refl;
   unbroken = refl;
@@ -214,8 +236,7 @@ lift-line : (net : ℕ) → Line (lift net)
 unfolding next says numberOf numbersFrom ownNumbers but refusals reads
 lift-line net = record {
   kept = λ r l g h. taken-out l (λ e. not (ofNet net e)) (g refl) (search none-applies depth 9);
-  fine = λ r l g h. search none-applies depth 9;
-  few = λ r l g h. omega (arith, g, length-keep (λ (e : Entry). not (ofNet net e)) (l .entries));
+  unbegun = λ t r h. refl;
   accepts = λ l. refl;
   numbers = λ r l. refl;
   unbroken = refl;
@@ -228,8 +249,7 @@ look-line : (p : Point) → Line (lookUp p)
 unfolding next says numberOf numbersFrom ownNumbers but refusals reads
 look-line p = record {
   kept = λ r l g h. g refl;
-  fine = λ r l g h. g;
-  few = λ r l g h. g;
+  unbegun = λ t r h. refl;
   accepts = λ l. refl;
   numbers = λ r l. refl;
   unbroken = refl;
@@ -239,14 +259,13 @@ look-line p = record {
 }
 
 leg-line : (e : Entry) → Line (putLeg e)
-unfolding next says numberOf numbersFrom ownNumbers but refusals reads
+unfolding next says numberOf numbersFrom ownNumbers but refusals reads entryOk
 leg-line e = record {
   kept = λ r l g h.
       appended r l (e ∷ []) (g refl)
       (and-i {a = entryOk (l .width) (l .height) e} (not-ff _ (search none-applies)) refl)
       (search none-applies depth 9) (search none-applies depth 9);
-  fine = λ r l g h. search none-applies depth 9;
-  few = λ r l g h. few-after r (next (putLeg e) l) (search none-applies depth 9);
+  unbegun = λ t r h. absurd (no-box e (and-l (boxOk 0 0 e) (shapeOk e) (not-ff _ (search none-applies))));
   accepts = λ l. refl;
   numbers = λ r l. refl;
   unbroken = refl;
@@ -259,8 +278,7 @@ save-line : Line save
 unfolding next says numberOf numbersFrom ownNumbers but refusals reads
 save-line = record {
   kept = λ r l g h. g refl;
-  fine = λ r l g h. g;
-  few = λ r l g h. g;
+  unbegun = λ t r h. refl;
   accepts = λ l. refl;
   numbers = λ r l. refl;
   unbroken = refl;
@@ -273,8 +291,7 @@ find-line : (S T : Point) → Line (find S T)
 unfolding next says numberOf numbersFrom ownNumbers but refusals reads
 find-line S T = record {
   kept = λ r l g h. g refl;
-  fine = λ r l g h. g;
-  few = λ r l g h. g;
+  unbegun = λ t r h. refl;
   accepts = λ l. refl;
   numbers = λ r l. refl;
   unbroken = refl;
@@ -290,14 +307,26 @@ book-line net ks = record {
       appended r l (legs net (drawn ks)) (g refl)
       (booked-ok l net (drawn ks) (not-ff (netOk net) (search none-applies)) (not-ff _ (search none-applies)))
       (search none-applies depth 9) (search none-applies depth 9);
-  fine = λ r l g h. search none-applies depth 9;
-  few = λ r l g h. few-after r (next (book net ks) l) (search none-applies depth 9);
+  unbegun = λ t r h. absurd (no-drawing (drawn ks) (not-ff _ (search none-applies)));
   accepts = λ l. refl;
   numbers = λ r l. refl;
   unbroken = refl;
   of-room = λ r r′ l e f. rw (same-long r r′ _ f) refl;
   blind = λ z. absurd (true≢false z);
   output = λ r l h. absurd (no-12 _ (simp or-true) h);
+}
+
+slip-line : Line slip
+unfolding next says numberOf numbersFrom ownNumbers but refusals reads
+slip-line = record {
+  kept = λ r l g h. g refl;
+  unbegun = λ t r h. refl;
+  accepts = λ l. refl;
+  numbers = λ r l. refl;
+  unbroken = refl;
+  of-room = λ r r′ l e f. rw e refl;
+  blind = λ z. absurd (true≢false z);
+  output = λ r l h. (refl, slip-12 r l h);
 }
 
 -- what every step keeps
@@ -311,6 +340,7 @@ line (putLeg e) = leg-line e
 line save = save-line
 line (find S T) = find-line S T
 line (book net ks) = book-line net ks
+line slip = slip-line
 
 -- a step that answers a refusal was refused by its number
 pub settled-refused : {A : Type 0} (o : Option ℕ) (s : Step) (l : Layout) (new old : A) (n : ℕ) → 0 < n

@@ -1,5 +1,5 @@
 -- What every step has to keep, so that lists of calls behave as the ledger: one clause a step, in proofs/Line.
-use Prim.Native.Nat.{ℕ, _≤_, _<_}
+use Prim.Native.Nat.{ℕ, _<_}
 use mathlib.Core.Path.{_≡_}
 use mathlib.Core.Bool.{Bool, true, false, not}
 use mathlib.Core.List.{List, map}
@@ -7,10 +7,10 @@ use mathlib.Core.Option.{none, some}
 use lib.Dec.{eqb}
 use lib.ListN.{length}
 use Rattle.foil_spec.specs.Lists.{all, keep}
-use Rattle.foil_spec.specs.Limits.{maxEntries}
 use Rattle.foil_spec.specs.Foil.{Point, Layout, noFoil}
 use Rattle.foil_spec.specs.Saving.{jobOf}
-use Rattle.foil_spec.specs.Ledger.{cornersOf, Room, cornerRoom, tooFine, Step, numberOf, next, says, Refusal, first}
+use Rattle.foil_spec.specs.Slip.{slipOf}
+use Rattle.foil_spec.specs.Ledger.{cornersOf, Room, cornerRoom, Step, numberOf, next, says, Refusal, first}
 use Rattle.foil_spec.specs.Ledger.{reads, refusals}
 use Rattle.foil_spec.specs.Lent.{layoutOk}
 
@@ -27,21 +27,19 @@ unfoldable pub ownNumbers : Step → List ℕ
 ownNumbers s =
     keep (but 12) (numbersFrom (refusals s (record { table = 0; strips = 0; output = 0; limit = 0 }) noFoil))
 
--- what an output list is too short for: the corners of a path, or the bytes of the foil's file
+-- what an output list is too short for: the corners of a path, the bytes of the foil's file, or those of its slip
 pub data Lacks (r : Room) (l : Layout) : Type 0 where
   corners : (S T : Point) → cornerRoom r < length (cornersOf l S T) → Lacks r l
   bytes : r .output < length (jobOf l) → Lacks r l
+  page : r .output < length (slipOf l) → Lacks r l
 
 -- the step s on the ledger
 pub record Line (s : Step) : Type 0 where
   -- accepted, it leaves a layout that keeps the rules, if the one that it reads does
   pub kept : (r : Room) (l : Layout) → (reads s ≡ true → layoutOk l ≡ true) → first (refusals s r l) ≡ none
       → layoutOk (next s l) ≡ true
-  -- it leaves no more strips than a list has places, if the layout has no more, whatever rule that breaks
-  pub fine : (r : Room) (l : Layout) → tooFine l ≡ false → first (refusals s r l) ≡ none → tooFine (next s l) ≡ false
-  -- nor more entries than a table has places, likewise
-  pub few : (r : Room) (l : Layout) → length (l .entries) ≤ maxEntries → first (refusals s r l) ≡ none
-      → length (next s l .entries) ≤ maxEntries
+  -- accepted where no foil is begun that it could read, it leaves none
+  pub unbegun : reads s ≡ true → (r : Room) → first (refusals s r noFoil) ≡ none → next s noFoil ≡ noFoil
   -- its answer is no refusal then
   pub accepts : (l : Layout) → numberOf (says s l) ≡ 0
   -- it has the same numbers on every foil, and 13 is none of its own

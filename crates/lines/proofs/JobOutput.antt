@@ -5,7 +5,8 @@ use Rattle.foil_spec.specs.Foil.{sizeOk, clearanceOk, netOk, boxOk, within, blo
 use Rattle.foil_spec.specs.Strips.{stopIn, stop, scan, scanAt, starts, isRun, isTop, begun, stripsFrom}
 use Rattle.foil_spec.specs.Paths.{after, between, levelFree, uprightFree, segment, bends, points, goings}
 use Rattle.foil_spec.specs.Paths.{stepsFrom, shortest, firstFrom, firstPathTo}
-use Rattle.foil_spec.specs.Ledger.{stripsOf, pathOf, noPath, cornersOf, leg, legsFrom, legs, ofNet, inUse}
+use Rattle.foil_spec.specs.Nets.{ofNet, inUse}
+use Rattle.foil_spec.specs.Ledger.{stripsOf, pathOf, noPath, cornersOf, leg, legsFrom, legs}
 use Rattle.foil_spec.specs.Ledger.{offFoil, blocked, short, cornerRoom, tooLong, tooFine, next, says, first, reads}
 use Rattle.foil_spec.specs.Ledger.{refusals, afterLent, settle, refusalOf, numberOf, ledgerStep}
 use Rattle.foil_spec.specs.Job.{jobRoom, number, fieldCount, mapByte, has, fieldsAt, recordEnd, field, stepAt}
@@ -13,7 +14,7 @@ use Rattle.foil_spec.specs.Job.{stepsAt, steps, isEnd, recordChecks}
 use Rattle.foil_spec.specs.Calls.{endsJob, andThen, actAll, actRecord, tooLarge, wholeRefusals, reply}
 use Rattle.foil_spec.specs.Calls.{ledgerCall}
 use Rattle.foil_spec.proofs.Starred.{jobBytes}
-use Rattle.putting.specs.Text.{ascii, digitsIn, decimal}
+use Rattle.foil_spec.specs.Text.{ascii, digitsIn, decimal}
 use Rattle.lines.specs.Lines.{item, cornerItem}
 use Rattle.lines.specs.Lines.{boardLine, patchLine, trackLaid, stripLine}
 use Rattle.lines.specs.Output.{trackLine, stepLine, stepLines, replyLines, outputFrom, output}

@@ -4,7 +4,7 @@ use mathlib.Core.List.{List, _++_}
 use Rattle.foil_spec.specs.Lists.{each}
 use Rattle.foil_spec.specs.Foil.{Point}
 use Rattle.foil_spec.specs.Strips.{Strip}
-use Rattle.putting.specs.Text.{ascii, decimal}
+use Rattle.foil_spec.specs.Text.{ascii, decimal}
 
 -- a blank and the number
 unfoldable pub item : ℕ → List ℕ

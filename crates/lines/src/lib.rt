@@ -13,7 +13,7 @@ ghost use mathlib.Core.List.{_++_};
 ghost use lib.ListN.{length};
 ghost use Rattle.foil_spec.specs.Lent.{cornersIn};
 ghost use Rattle.putting.specs.Put.{Put};
-ghost use Rattle.putting.specs.Text.{ascii};
+ghost use Rattle.foil_spec.specs.Text.{ascii};
 ghost use Rattle.lines.specs.Lines.{item, boardLine, patchLine, trackRefused, trackLaid};
 ghost use Rattle.lines.specs.Lines.{liftLine, legLine, stripLine, fileLine};
 

@@ -1,13 +1,17 @@
--- How many elements of a list pass a test.
-use Prim.Native.Nat.{ℕ, _+_, _≤_, _<_}
+-- How many elements of a list pass a test, and how many numbers some elements have.
+use Prim.Native.Nat.{ℕ, zero, suc, _+_, _≤_, _<_}
 use native.Mathlib.Omega.{arith}
+use native.Mathlib.Decide.{ℕ-discrete}
 use mathlib.Core.Path.{_≡_, refl, sym, ap, _∙_}
-use mathlib.Core.Bool.{Bool, true, false}
+use mathlib.Core.Bool.{Bool, true, false, _||_}
 use mathlib.Core.List.{List, [], _∷_}
-use mathlib.Core.Logic.{inl, inr}
+use mathlib.Core.Logic.{inl, inr, by-cases}
+use lib.Dec.{eqb}
 use lib.ListN.{length}
+use borrow.Author.Tests.{eq-eqb, ne-eqb}
+use Rattle.foil_spec.specs.Lists.{range, keep, consIf, any}
 use Rattle.list_laws.proofs.Tests.{clash}
-use Rattle.list_laws.proofs.Members.{In}
+use Rattle.list_laws.proofs.Members.{In, of-range}
 
 -- 1 where the test passed, else 0
 one : Bool → ℕ
@@ -57,3 +61,46 @@ module _ {A : Type 0} where
   unfolding count
   count-length p [] = omega arith
   count-length p (x ∷ xs) = omega (arith, one-most (p x), count-length p xs)
+
+-- ---- what is kept by a test
+
+module _ {A : Type 0} where
+  keep-none : (p : A → Bool) (xs : List A) → ((x : A) → In x xs → p x ≡ false) → keep p xs ≡ []
+  keep-none p [] h = refl
+  keep-none p (x ∷ xs) h = rw (h x (inl refl)) (keep-none p xs (λ y k. h y (inr k)))
+
+  keep-both : (a b : Bool) (x : A) (us vs ws : List A) → length us ≤ length vs + length ws
+      → length (consIf (a || b) x us) ≤ length (consIf a x vs) + length (consIf b x ws)
+  keep-both true true x us vs ws l = omega arith
+  keep-both true false x us vs ws l = omega arith
+  keep-both false true x us vs ws l = omega arith
+  keep-both false false x us vs ws l = l
+
+  -- by either of two tests no more is kept than by both, one after the other
+  keep-either : (p q : A → Bool) (xs : List A)
+      → length (keep (λ (x : A). p x || q x) xs) ≤ length (keep p xs) + length (keep q xs)
+  keep-either p q [] = omega arith
+  keep-either p q (x ∷ xs) = keep-both (p x) (q x) x _ (keep p xs) (keep q xs) (keep-either p q xs)
+
+-- a number stands at most once among those from a on
+once : (k a n : ℕ) → length (keep (eqb k) (range a n)) ≤ 1
+once k a zero = omega arith
+once k a (suc n) =
+    by-cases (ℕ-discrete k a)
+    (λ e.
+    let later = keep-none (eqb k) (range (suc a) n)
+    (λ i h. ne-eqb k i (λ z. let r = of-range i (suc a) n h in omega arith)) in
+    rw (eq-eqb k a e, later) (omega arith))
+    (λ d. rw (ne-eqb k a d) (once k (suc a) n))
+
+-- elements have no more numbers than they are many
+pub few-numbers : {A : Type 0} (f : A → ℕ) (xs : List A) (a n : ℕ)
+    → length (keep (λ (i : ℕ). any (λ (x : A). eqb (f x) i) xs) (range a n)) ≤ length xs
+few-numbers f [] a n = rw (keep-none (λ (i : ℕ). false) (range a n) (λ i h. refl)) (omega arith)
+few-numbers {A} f (x ∷ xs) a n =
+    omega (
+      arith,
+      keep-either (eqb (f x)) (λ (i : ℕ). any (λ (y : A). eqb (f y) i) xs) (range a n),
+      once (f x) a n,
+      few-numbers f xs a n,
+    )

@@ -1,4 +1,5 @@
--- Laws of tests and lists that the other laws are proved with.
+-- Laws of tests, lists and digits that the other laws are proved with.
 pub mod Tests
 pub mod Members
 pub mod Counting
+pub mod Digits

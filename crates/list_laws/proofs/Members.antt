@@ -8,7 +8,7 @@ use mathlib.Core.List.{List, [], _∷_, _++_, map, append-assoc}
 use mathlib.Core.Logic.{_⊎_, inl, inr, ⊎-elim, by-cases}
 use native.Mathlib.Decide.{ℕ-discrete}
 use lib.Dec.{ltb}
-use lib.ListN.{length}
+use lib.ListN.{length, getD}
 use borrow.Author.Tests.{lt-ltb}
 use Rattle.foil_spec.specs.Lists.{range, keep, consIf, all, any, each}
 use Rattle.list_laws.proofs.Tests.{both, clash, and-l, and-r, and-i, or-l, or-r, or-cases, or-il, or-ir}
@@ -17,6 +17,11 @@ module _ {A : Type 0} where
   abbrev pub In : A → List A → Type 0
   In x [] = ⊥
   In x (y ∷ ys) = (x ≡ y) ⊎ In x ys
+
+  pub in-place : (xs : List A) (i : ℕ) (d : A) → i < length xs → In (getD xs i d) xs
+  in-place [] i d l = absurd (omega arith)
+  in-place (x ∷ xs) zero d l = inl refl
+  in-place (x ∷ xs) (suc i) d l = inr (in-place xs i d (omega arith))
 
   pub in-left : (x : A) (xs ys : List A) → In x xs → In x (xs ++ ys)
   in-left x [] ys h = absurd h
@@ -84,6 +89,14 @@ module _ {A : Type 0} where
   pub none-of : (p : A → Bool) (xs : List A) → ((x : A) → In x xs → p x ≡ false) → any p xs ≡ false
   none-of p [] h = refl
   none-of p (x ∷ xs) h = rw (h x (inl refl)) (none-of p xs (λ y k. h y (inr k)))
+
+  keep-fewer : (b : Bool) (x : A) (xs ys : List A) → length xs ≤ length ys → length (consIf b x xs) ≤ suc (length ys)
+  keep-fewer true x xs ys l = omega arith
+  keep-fewer false x xs ys l = omega arith
+
+  pub length-keep : (p : A → Bool) (xs : List A) → length (keep p xs) ≤ length xs
+  length-keep p [] = omega arith
+  length-keep p (x ∷ xs) = keep-fewer (p x) x (keep p xs) xs (length-keep p xs)
 
   -- a list in order: each element comes before all that follow
   abbrev pub Sorted : (A → A → Bool) → List A → Type 0

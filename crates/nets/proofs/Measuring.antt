@@ -1,5 +1,5 @@
 -- A net's legs and their steps, one entry a turn.
-use Prim.Native.Nat.{ℕ, suc, _+_, _*_, _≤_, _<_}
+use Prim.Native.Nat.{ℕ, _+_, _*_, _≤_, _<_}
 use native.Mathlib.Omega.{arith}
 use native.Mathlib.Nat.{zero-add}
 use native.Mathlib.Numerals.{add-one}
@@ -12,11 +12,10 @@ use borrow.Author.Tests.{eq-eqb, ne-eqb, ltb-true, leb-true}
 use Rattle.foil_spec.specs.Lists.{range, keep, consIf, any, all}
 use Rattle.foil_spec.specs.Limits.{maxEntries}
 use Rattle.foil_spec.specs.Foil.{Entry, boxOk, entryOk}
-use Rattle.foil_spec.specs.Ledger.{ofNet, inUse}
 use Rattle.foil_spec.specs.Lent.{entryAt}
 use Rattle.list_laws.proofs.Tests.{clash, parts, and-l, and-r}
-use Rattle.list_laws.proofs.Members.{keep-append, map-last, at-place}
-use Rattle.foil_spec.specs.Nets.{legsOf, legSteps, stepsOf}
+use Rattle.list_laws.proofs.Members.{length-keep, keep-append, map-last, at-place}
+use Rattle.foil_spec.specs.Nets.{ofNet, inUse, legsOf, legSteps, stepsOf}
 use Rattle.nets.specs.Measured.{Box, Boxes, legsTo, Measured}
 use Rattle.nets.specs.declared.Track.{Track}
 
@@ -128,14 +127,9 @@ boxes-of t n W H l few w h o =
 
 -- ---- how many they are
 
-few-kept : (b : Bool) (e : Entry) (xs : List Entry) (n : ℕ) → length xs ≤ n → length (consIf b e xs) ≤ suc n
-few-kept true e xs n l = omega arith
-few-kept false e xs n l = omega arith
-
 pub few-legs : (net : ℕ) (es : List Entry) → length (legsOf net es) ≤ length es
 unfolding legsOf
-few-legs net [] = omega arith
-few-legs net (e ∷ es) = few-kept (ofNet net e) e (keep (ofNet net) es) (length es) (few-legs net es)
+few-legs net es = length-keep (ofNet net) es
 
 pub few-steps : (W H : ℕ) (es : List Entry) → W ≤ 4096 → H ≤ 4096 → all (entryOk W H) es ≡ true
     → stepsOf es ≤ length es * 8190

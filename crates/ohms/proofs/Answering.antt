@@ -10,10 +10,10 @@ use borrow.Author.Tests.{not-true, not-false}
 use Rattle.foil_spec.specs.Lists.{range}
 use Rattle.foil_spec.specs.Limits.{maxEntries}
 use Rattle.foil_spec.specs.Foil.{Entry, Layout, netOk}
-use Rattle.foil_spec.specs.Ledger.{numberOf, inUse, first, afterLent}
+use Rattle.foil_spec.specs.Ledger.{numberOf, first, afterLent}
 use Rattle.foil_spec.specs.Lent.{Lent, lent, entryAt, layoutOf, held, sound}
 use Rattle.foil_spec.specs.declared.Board.{Board}
-use Rattle.foil_spec.specs.Nets.{netLength, netBends}
+use Rattle.foil_spec.specs.Nets.{inUse, netLength, netBends}
 use Rattle.foil_spec.specs.Ohms.{inkOk, formula, ohmsRefusals, ohmsOf}
 use Rattle.foil_spec.specs.declared.Ink.{Ink}
 use Rattle.foil_spec.specs.Calls.{ohmsReply, reply, callOn}

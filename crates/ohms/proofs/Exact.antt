@@ -15,14 +15,14 @@ use borrow.Author.Tests.{eqb-true, not-false, ltb-true, leb-true}
 use Rattle.foil_spec.specs.Lists.{any}
 use Rattle.foil_spec.specs.Foil.{sizeOk, entryOk}
 use Rattle.foil_spec.specs.Limits.{maxEntries}
-use Rattle.foil_spec.specs.Ledger.{Room, ofNet, first, afterLent}
+use Rattle.foil_spec.specs.Ledger.{Room, first, afterLent}
 use Rattle.foil_spec.specs.Lent.{Lent, held, sound}
 use Rattle.list_laws.proofs.Tests.{and-r, all-keep, parts}
 use Rattle.list_laws.proofs.Members.{of-any, of-all}
 use Rattle.ledger_laws.proofs.Refusals.{none-applies}
 use Rattle.ledger_laws.proofs.Rules.{Keeps, of-ok}
 use Rattle.ledger_laws.proofs.Sound.{of-sound}
-use Rattle.foil_spec.specs.Nets.{legsOf, netLength, netBends}
+use Rattle.foil_spec.specs.Nets.{ofNet, legsOf, netLength, netBends}
 use Rattle.foil_spec.specs.Ohms.{whole, sheetOk, bendOk, inkOk, formula, ohmsRefusals, ohmsOf}
 use Rattle.foil_spec.specs.Calls.{ohms, measured, ohmsReply, reply, callOn}
 use Rattle.ohms.specs.Exact.{widths, Named, squares, ExactOhms}

@@ -1,26 +1,16 @@
--- A number in decimal is the fewest digits that hold it; how many these are.
+-- A number in decimal is the fewest digits that hold it.
 use Prim.Native.Nat.{ℕ, zero, suc, _+_, _-_, _*_, _/_, _%_, _^_, _≤_, _<_}
 use native.Mathlib.Omega.{arith}
 use native.Mathlib.Nat.{mod-eq-of-lt, pow-suc, pow-le-pow-right, one-le-pow}
 use mathlib.Core.Path.{_≡_, sym, ap, ap₂, _∙_, subst}
 use mathlib.Core.List.{List, [], _∷_, _++_}
 use mathlib.Core.Logic.{⊎-elim}
-use lib.ListN.{length, length-append}
-use borrow.Author.Tests.{lt-ltb, le-ltb}
+use borrow.Author.Tests.{lt-ltb}
 use Rattle.io.specs.Digits.{glyph, digits, Fewest}
+use Rattle.foil_spec.specs.Text.{digitsIn, decimal}
 use Rattle.list_laws.proofs.Tests.{lt-or-le}
-use Rattle.putting.specs.Text.{digitsIn, decimal}
+use Rattle.list_laws.proofs.Digits.{digits-one, digits-more}
 use Rattle.putting.specs.Put.{Put}
-
--- one digit
-digits-one : (most n : ℕ) → n < 10 → digitsIn (suc most) n ≡ (48 + n) ∷ []
-unfolding digitsIn
-digits-one most n l = rw (lt-ltb n 10 l, digitsIn)
-
--- the last digit after the others
-digits-more : (most n : ℕ) → 10 ≤ n → digitsIn (suc most) n ≡ digitsIn most (n / 10) ++ ((48 + n % 10) ∷ [])
-unfolding digitsIn
-digits-more most n l = rw (le-ltb n 10 l, digitsIn)
 
 glyph-digit : (d : ℕ) → d < 10 → glyph d ≡ 48 + d
 glyph-digit d l = rw (lt-ltb d 10 l)
@@ -53,44 +43,26 @@ fewest-digits (suc (suc k)) (suc most) n l f =
     ∙ sym (digits-more most n h)
 
 -- the fewest digits are the number in decimal
-decimal-is : (k n : ℕ) → Fewest 10 1 n k → digits 10 k n ≡ decimal n
+pub decimal-is : (k n : ℕ) → Fewest 10 1 n k → digits 10 k n ≡ decimal n
 unfolding decimal
 decimal-is k n f = fewest-digits k (suc n) n (omega arith) f
 
--- a number of 64 bits has at most 20 digits
-pub fewest-short : (k n : ℕ) → n < 2 ^ 64 → Fewest 10 1 n k → k ≤ 20
-fewest-short k n l f = ⊎-elim (λ (h : 20 < k). absurd (long h)) (λ (h : k ≤ 20). h) (lt-or-le 20 k)
+-- a number below 10 to the power of w has at most w digits
+pub fewest-fits : (k w n : ℕ) → 1 ≤ w → n < 10 ^ w → Fewest 10 1 n k → k ≤ w
+fewest-fits k w n one l f = ⊎-elim (λ (h : w < k). absurd (long h)) (λ (h : k ≤ w). h) (lt-or-le w k)
   where
-    long : 20 < k → ⊥
+    long : w < k → ⊥
     long h =
         let low : 10 ^ (k - 1) ≤ n = f .2 (omega arith) in
-        let more : 20 ≤ k - 1 = omega arith in
-        let p : 10 ^ 20 ≤ 10 ^ (k - 1) = pow-le-pow-right {n = 10} (omega arith) more in
+        let more : w ≤ k - 1 = omega arith in
+        let p : 10 ^ w ≤ 10 ^ (k - 1) = pow-le-pow-right {n = 10} (omega arith) more in
         omega arith
+
+-- so one of 64 bits has at most 20
+pub fewest-short : (k n : ℕ) → n < 2 ^ 64 → Fewest 10 1 n k → k ≤ 20
+fewest-short k n l f = fewest-fits k 20 n (omega arith) (omega arith) f
 
 -- digits that were put are the number in decimal
 pub number-put : {o bs o′ : List ℕ} {at r : ℕ} (k n : ℕ) → Fewest 10 1 n k → bs ≡ digits 10 k n → Put o at bs o′ r
     → Put o at (decimal n) o′ r
 number-put {o} {bs} {o′} {at} {r} k n f e p = subst (λ (ds : List ℕ). Put o at ds o′ r) (e ∙ decimal-is k n f) p
-
--- how long it is
-one-short : (k most n : ℕ) → n < 10 → length (digitsIn (suc most) n) ≤ suc k
-one-short k most n h = rw (digits-one most n h) (omega arith)
-
-digits-short : (k most n : ℕ) → n < 10 ^ suc k → length (digitsIn most n) ≤ suc k
-unfolding digitsIn
-digits-short zero zero n l = omega arith
-digits-short zero (suc most) n l = one-short 0 most n l
-digits-short (suc k) zero n l = omega arith
-digits-short (suc k) (suc most) n l =
-    let p : 10 ^ suc (suc k) ≡ 10 ^ suc k * 10 = pow-suc 10 (suc k) in
-    let less : length (digitsIn most (n / 10)) ≤ suc k = digits-short k most (n / 10) (omega arith) in
-    ⊎-elim
-    (λ (h : n < 10). one-short (suc k) most n h)
-    (λ (h : 10 ≤ n). rw (digits-more most n h) (simp length-append (omega arith)))
-    (lt-or-le n 10)
-
--- a number of 16 bits has at most five digits
-pub decimal-short : (n : ℕ) → n < 65536 → length (decimal n) ≤ 5
-unfolding decimal
-decimal-short n l = digits-short 4 (suc n) n (omega arith)

@@ -1,3 +1,2 @@
--- What it means that bytes are put into a list, and text as bytes.
+-- What it means that bytes are put into a list.
 pub mod Put
-pub mod Text

@@ -2,8 +2,8 @@
 // room enough; the `requires` says how much.
 ghost use Prim.Native.Nat.{_+_, _≤_};
 ghost use lib.ListN.{length};
+ghost use Rattle.foil_spec.specs.Text.{decimal};
 ghost use Rattle.putting.specs.Put.{Put};
-ghost use Rattle.putting.specs.Text.{decimal};
 
 // Puts the bytes there.
 pub fn put_bytes(out: &mut [u8], at: usize, bytes: &[u8]) -> usize

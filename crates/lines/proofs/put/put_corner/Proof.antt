@@ -2,7 +2,7 @@
 use native.Mathlib.Omega.{arith}
 use borrow.Author.Needs.{needs}
 use Rattle.lines.specs.Lines.{cornerItem}
-use Rattle.putting.proofs.Decimals.{decimal-short}
+use Rattle.list_laws.proofs.Digits.{decimal-short}
 use Rattle.putting.proofs.Putting.{put-then}
 use Rattle.lines.proofs.put.put_corner.Statement.{statement}
 use Rattle.lines.proofs.put.put_corner.Tie as tie

@@ -1,0 +1,2 @@
+-- What a packer reads on a slip.
+pub mod Page
