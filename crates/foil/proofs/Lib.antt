@@ -2,6 +2,7 @@
 pub mod Limits
 pub mod Making
 pub mod Giving
+pub mod Writing
 pub mod Beginning
 pub mod Adding
 pub mod Lifting

@@ -3,7 +3,7 @@ use Prim.Native.Nat.{ℕ, zero, suc, _+_, _≤_, _<_}
 use native.Mathlib.Omega.{arith}
 use native.Mathlib.Nat.{add-zero}
 use mathlib.Core.Path.{_≡_, refl, sym, ap, _∙_, subst}
-use mathlib.Core.Bool.{Bool, true, false}
+use mathlib.Core.Bool.{Bool, true, false, cond}
 use mathlib.Core.List.{List, [], _∷_, _++_, map, append-assoc}
 use mathlib.Core.Logic.{_⊎_, inl, inr, ⊎-elim, by-cases}
 use native.Mathlib.Decide.{ℕ-discrete}
@@ -149,6 +149,17 @@ module _ {A B : Type 0} where
   each-append f [] ys = refl
   each-append f (x ∷ xs) ys =
       ap (λ (l : List B). f x ++ l) (each-append f xs ys) ∙ sym (append-assoc (f x) (each f xs) (each f ys))
+
+  -- what the elements that pass a test give, by each element
+  pub each-keep : (p : A → Bool) (f : A → List B) (xs : List A)
+      → each f (keep p xs) ≡ each (λ (x : A). cond (p x) (f x) []) xs
+  each-keep p f [] = refl
+  each-keep p f (x ∷ xs) = go (p x) (each-keep p f xs)
+    where
+      go : (b : Bool) → each f (keep p xs) ≡ each (λ (y : A). cond (p y) (f y) []) xs
+          → each f (consIf b x (keep p xs)) ≡ cond b (f x) [] ++ each (λ (y : A). cond (p y) (f y) []) xs
+      go true e = ap (λ (l : List B). f x ++ l) e
+      go false e = e
 
   -- lists in order one after the other are in order, where what earlier elements give comes before the rest
   pub sorted-each : (q : A → A → Bool) (r : B → B → Bool) (f : A → List B) (xs : List A) → Sorted q xs

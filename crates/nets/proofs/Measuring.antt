@@ -11,10 +11,13 @@ use lib.Dec.{leb, ltb}
 use borrow.Author.Tests.{eq-eqb, ne-eqb, ltb-true, leb-true}
 use Rattle.foil_spec.specs.Lists.{range, keep, consIf, any, all}
 use Rattle.foil_spec.specs.Limits.{maxEntries}
-use Rattle.foil_spec.specs.Foil.{Entry, boxOk, entryOk}
-use Rattle.foil_spec.specs.Lent.{entryAt}
+use Rattle.foil_spec.specs.Foil.{Entry, sizeOk, boxOk, entryOk}
+use Rattle.foil_spec.specs.Lent.{lent, entryAt, layoutOf, held, sound}
+use Rattle.foil_spec.specs.declared.Board.{Board}
 use Rattle.list_laws.proofs.Tests.{clash, parts, and-l, and-r}
 use Rattle.list_laws.proofs.Members.{length-keep, keep-append, map-last, at-place}
+use Rattle.ledger_laws.proofs.Rules.{of-ok}
+use Rattle.ledger_laws.proofs.Sound.{Sound, of-sound, sound-long}
 use Rattle.foil_spec.specs.Nets.{ofNet, inUse, legsOf, legSteps, stepsOf}
 use Rattle.nets.specs.Measured.{Box, Boxes, legsTo, Measured}
 use Rattle.nets.specs.declared.Track.{Track}
@@ -124,6 +127,19 @@ boxes-of t n W H l few w h o =
       few = few;
       box = λ k i. box-of W H (entryAt t k) w h (at-place (entryOk W H) (entryAt t) n o k i);
     }
+
+-- those of a table that keeps the rules are on the foil
+pub size-most : (n : ℕ) → sizeOk n ≡ true → n ≤ 4096
+unfolding sizeOk
+size-most n h = leb-true n 4096 (and-r (leb 1 n) (leb n 4096) h)
+
+pub sound-boxes : (b : Board) (t s : List ℕ) → sound (lent b t s) ≡ true → Boxes t (b .entries)
+unfolding held layoutOf
+sound-boxes b t s g =
+    let facts : Sound (lent b t s) = of-sound (lent b t s) g in
+    let k = of-ok (held (lent b t s)) (facts .kept) in
+    boxes-of t (b .entries) (b .width) (b .height) (omega (arith, sound-long (lent b t s) g .table, facts .few))
+    (facts .few) (size-most (b .width) (k .width)) (size-most (b .height) (k .height)) (k .entries)
 
 -- ---- how many they are
 

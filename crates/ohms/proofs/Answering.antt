@@ -17,15 +17,12 @@ use Rattle.foil_spec.specs.Nets.{inUse, netLength, netBends}
 use Rattle.foil_spec.specs.Ohms.{inkOk, formula, ohmsRefusals, ohmsOf}
 use Rattle.foil_spec.specs.declared.Ink.{Ink}
 use Rattle.foil_spec.specs.Calls.{ohmsReply, reply, callOn}
-use Rattle.ledger_laws.proofs.Rules.{of-ok}
-use Rattle.ledger_laws.proofs.Sound.{Sound, of-sound, sound-long}
 use Rattle.foil.specs.Contract.{LentChecked}
 use Rattle.foil.specs.declared.lent.Checked.the-variants as checked
 use Rattle.foil.proofs.Giving.{sound-room}
-use Rattle.foil.proofs.Limits.{Held, held-limits}
-use Rattle.nets.specs.Measured.{Boxes, legsTo, Measured}
+use Rattle.nets.specs.Measured.{legsTo, Measured}
 use Rattle.nets.specs.declared.Track.{Track}
-use Rattle.nets.proofs.Measuring.{boxes-of, used-leg}
+use Rattle.nets.proofs.Measuring.{used-leg}
 use Rattle.ohms.specs.Contract.{resistanceOf, OhmsAnswered, NetAnswered}
 use Rattle.ohms.specs.declared.Resistance.{Resistance}
 use Rattle.ohms.specs.declared.Resistance.the-variants.{Refused, Ohms}
@@ -85,15 +82,6 @@ has-leg net t n u u-is used r m =
 module _ (b : Board) (t s : List ℕ) where
   abbrev m : Lent
   m = lent b t s
-
-  -- the entries of a sound table are on the foil
-  pub boxes : sound m ≡ true → Boxes t (b .entries)
-  unfolding held layoutOf
-  boxes g =
-      let facts : Sound m = of-sound m g in
-      let h : Held b = held-limits b t s facts in
-      boxes-of t (b .entries) (b .width) (b .height) (omega (arith, sound-long m g .table, h .few)) (h .few)
-      (h .wide) (h .high) (of-ok (held m) (facts .kept) .entries)
 
   module _ (net : ℕ) (i : Ink) where
     pub lent-refused : (k : ℕ) → LentChecked m (checked.Refused k) → OhmsAnswered net i m (Refused k)

@@ -10,11 +10,11 @@ use lib.ListN.{length}
 use borrow.Author.Tests.{eqb-true, ne-eqb, leb-true}
 use Rattle.foil_spec.specs.Lists.{keep, consIf, all}
 use Rattle.foil_spec.specs.Limits.{maxEntries}
-use Rattle.foil_spec.specs.Foil.{Entry, Layout, sizeOk, netOk, boxOk, shapeOk, entryOk}
+use Rattle.foil_spec.specs.Foil.{Entry, Layout, netOk, boxOk, shapeOk, entryOk}
 use Rattle.foil_spec.specs.Nets.{ofNet, legsOf, legSteps, stepsOf, netLength, firstPoint}
 use Rattle.list_laws.proofs.Tests.{and-l, and-r, or-cases, all-keep}
 use Rattle.ledger_laws.proofs.Rules.{of-ok}
-use Rattle.nets.proofs.Measuring.{box-of, few-legs}
+use Rattle.nets.proofs.Measuring.{box-of, size-most, few-legs}
 use Rattle.slip_laws.specs.Page.{NoneTooWide}
 
 -- an entry that is no patch has a net of tracks, and goes one way only
@@ -69,16 +69,12 @@ module _ (W H : ℕ) (wide : W ≤ 4096) (high : H ≤ 4096) where
       let q = eqb-true (e .net) net s in leg-steps e (and-l (entryOk W H e) _ ok) (omega arith))
       (few-steps net n es (and-r (entryOk W H e) _ ok))
 
-below : (n : ℕ) → sizeOk n ≡ true → n ≤ 4096
-unfolding sizeOk
-below n h = leb-true n 4096 (and-r (leb 1 n) (leb n 4096) h)
-
 pub none-too-wide : NoneTooWide
 unfolding legsOf netLength
 none-too-wide l net ok low high =
     let g = of-ok l ok in
-    let w = below (l .width) (g .width) in
-    let h = below (l .height) (g .height) in
+    let w = size-most (l .width) (g .width) in
+    let h = size-most (l .height) (g .height) in
     let legs : List Entry = legsOf net (l .entries) in
     let point = first-low (l .width) (l .height) w h legs (all-keep _ (ofNet net) (l .entries) (g .entries)) in
     let few = few-legs net (l .entries) in

@@ -1,5 +1,6 @@
 -- `ohms::ohms` refuses by 12 and 13, and else answers for the net.
-use Rattle.ohms.proofs.Answering.{boxes, lent-refused, answered-by}
+use Rattle.nets.proofs.Measuring.{sound-boxes}
+use Rattle.ohms.proofs.Answering.{lent-refused, answered-by}
 use borrow.Author.Needs.{needs}
 use Rattle.ohms.proofs.ohms.Statement.{statement}
 use Rattle.ohms.proofs.ohms.Tie as tie
@@ -18,7 +19,8 @@ enum-told : tie.Need-enum-told
 enum-told c = search needs
 
 net-ohms-requires : tie.Need-net-ohms-requires
-net-ohms-requires c κs = boxes _ _ _ (rw (c .enum-told .given .1) at (c .before .before .lent-refusal .ensures))
+net-ohms-requires c κs =
+    sound-boxes _ _ _ (rw (c .enum-told .given .1) at (c .before .before .lent-refusal .ensures))
 
 returns-2 : tie.Need-returns-2
 returns-2 c =

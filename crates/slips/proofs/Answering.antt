@@ -1,0 +1,105 @@
+-- The call, return by return.
+use Prim.Native.Nat.{ℕ, _+_, _*_, _≤_, _<_}
+use native.Mathlib.Omega.{arith}
+use native.Mathlib.Nat.{zero-add}
+use mathlib.Core.Path.{_≡_, refl, sym, ap, _∙_, subst}
+use mathlib.Core.Bool.{true}
+use mathlib.Core.List.{List, _++_}
+use mathlib.Core.Option.{none, some}
+use lib.ListN.{length, take, drop}
+use lib.Seq.{take-at, length-take-le}
+use borrow.Author.Tests.{eq-eqb, lt-ltb, le-ltb}
+use Rattle.foil_spec.specs.Foil.{entryOk}
+use Rattle.foil_spec.specs.Nets.{ofNet, netLength}
+use Rattle.foil_spec.specs.Slip.{slipOf}
+use Rattle.foil_spec.specs.Ledger.{slip, next, says, first, reads, refusals}
+use Rattle.foil_spec.specs.Lent.{Lent, lent, entryAt, layoutOf, held, sound, roomIn, overFront}
+use Rattle.foil_spec.specs.declared.Board.{Board}
+use Rattle.list_laws.proofs.Members.{at-place}
+use Rattle.ledger_laws.proofs.Rules.{of-ok}
+use Rattle.ledger_laws.proofs.Sound.{Sound, of-sound}
+use Rattle.nets.specs.Measured.{Boxes, legsTo}
+use Rattle.nets.proofs.Measuring.{sound-boxes}
+use Rattle.slip_laws.proofs.Wide.{net-most, none-too-wide}
+use Rattle.slip_laws.proofs.Pages.{slip-small}
+use Rattle.foil.specs.Contract.{WriteDone, LentChecked}
+use Rattle.foil.specs.declared.Answer.the-variants.{Refused, Wrote}
+use Rattle.foil.specs.declared.lent.Checked.the-variants as checked
+use Rattle.foil.proofs.Writing.{lent-unwritten, own-unwritten, written}
+use Rattle.putting.specs.Put.{Put}
+use Rattle.putting.proofs.Putting.{put-length}
+use Rattle.slips.specs.Writing.{linesTo, Tracks}
+use Rattle.slips.proofs.Rising.{slip-lines}
+
+-- the bytes that were put at the front of a list
+pub front-long : {f f₁ bytes : List ℕ} {size : ℕ} → Put f 0 bytes f₁ size → length (take size f₁) ≡ size
+front-long {f} {f₁} {bytes} {size} p =
+    length-take-le size f₁ (omega (arith, put-length p, p .fits, p .next))
+
+module _ (b : Board) (t s : List ℕ) where
+  abbrev m : Lent
+  m = lent b t s
+
+  pub lent-refused : (o : List ℕ) (n : ℕ) → LentChecked m (checked.Refused n) → WriteDone slip m o (Refused n) o
+  unfolding reads
+  lent-refused o n = lent-unwritten slip m o refl n
+
+  module _ (g : sound m ≡ true) where
+    facts : Sound m
+    facts = of-sound m g
+
+    -- the lines of the table
+    abbrev lines : List ℕ
+    lines = linesTo t (b .entries) 999
+
+    slip-is : slipOf (held m) ≡ lines
+    unfolding held
+    slip-is = slip-lines t (b .entries) (b .width) (b .height) (b .clearance)
+
+    -- the tracks of a foil that keeps the rules
+    pub tracks : Tracks t (b .entries)
+    unfolding held layoutOf ofNet netLength legsTo
+    tracks =
+        let boxes : Boxes t (b .entries) = sound-boxes b t s g in
+        record {
+          nets =
+              record {
+                len = boxes .len;
+                few = boxes .few;
+                most = λ k l.
+                    net-most (b .width) (b .height) (entryAt t k .net) (entryAt t k)
+                    (at-place (entryOk (b .width) (b .height)) (entryAt t) (b .entries)
+                    (of-ok (held m) (facts .kept) .entries) k l)
+                    (eq-eqb (entryAt t k .net) (entryAt t k .net) refl);
+              };
+          boxes = boxes;
+          narrow = λ net low high. none-too-wide (held m) net (facts .kept) low high;
+          small = omega (arith, ap (λ (bs : List ℕ). length bs) slip-is, slip-small (held m) (facts .kept));
+        }
+
+    -- the page is made apart
+    module _ (o : List ℕ) {f f₁ : List ℕ} {size : ℕ} (page : Put f 0 lines f₁ size) where
+      long : length (slipOf (held m)) ≡ size
+      long = ap (λ (bs : List ℕ). length bs) slip-is ∙ omega (arith, page .next)
+
+      pub no-room : length o < size → WriteDone slip m o (Refused 12) o
+      unfolding refusals first roomIn
+      no-room l =
+          own-unwritten slip m o g 12
+          (rw (lt-ltb (length o) (length (slipOf (held m))) (omega (arith, long))) refl)
+
+      pub slipped : size ≤ length o → {o₁ : List ℕ} {p : ℕ} → Put o 0 (take size f₁) o₁ p
+          → WriteDone slip m o (Wrote size) o₁
+      unfolding refusals first roomIn says next overFront
+      slipped l {o₁} {p} out =
+          let front : take size f₁ ≡ lines =
+          ap (λ (bs : List ℕ). take size bs) (page .is)
+          ∙ take-at lines (drop (0 + length lines) f) size (omega (arith, page .next)) in
+          let put = subst (λ (bs : List ℕ). Put o 0 bs o₁ p) (front ∙ sym slip-is) out in
+          subst (λ (k : ℕ). WriteDone slip m o (Wrote k) o₁) long
+          (written slip m o g (slipOf (held m)) o₁
+          (rw (le-ltb (length o) (length (slipOf (held m))) (omega (arith, long))) refl)
+          refl
+          refl
+          (put .is
+          ∙ ap (λ (k : ℕ). slipOf (held m) ++ drop k o) (zero-add (length (slipOf (held m))))))

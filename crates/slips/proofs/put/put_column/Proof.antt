@@ -1,0 +1,34 @@
+-- `slips::put::put_column` meets its contract: two blanks, then the number.
+use native.Mathlib.Omega.{arith}
+use Rattle.foil_spec.specs.Slip.{column}
+use Rattle.putting.proofs.Putting.{put-then}
+use borrow.Author.Needs.{needs}
+use Rattle.slips.proofs.put.put_column.Statement.{statement}
+use Rattle.slips.proofs.put.put_column.Tie as tie
+
+-- back to the blanks
+abbrev atBlanks : tie.After-put-right → tie.After-put-bytes
+atBlanks c = c .before .before .before .before
+
+slice-aggregate-put-bytes : tie.Need-slice-aggregate-put-bytes
+slice-aggregate-put-bytes c = search needs
+
+put-bytes-requires : tie.Need-put-bytes-requires
+put-bytes-requires c κs = search needs
+
+put-right-requires : tie.Need-put-right-requires
+put-right-requires c κs = search needs
+
+same-length : tie.Need-same-length
+same-length c = search needs
+
+returns : tie.Need-returns
+unfolding column
+returns c =
+    let right = c .before .before in
+    (put-then (atBlanks right .put-bytes .ensures) (right .put-right .ensures .0), omega arith)
+
+pub put-column-spec : {M : Type 1} → statement M
+put-column-spec =
+    tie.close
+    (tie.spec slice-aggregate-put-bytes put-bytes-requires put-right-requires same-length returns)

@@ -1,0 +1,2 @@
+-- What the contracts of the slip cite.
+pub mod Writing
