@@ -39,7 +39,7 @@ pub fn run_job(
         let done = run_one(table, strips, &mut corners, board, bytes, at);
         let next = next_of(done);
         let Next::At(place) = next else {
-            return ended(done);
+            return how_ended(done);
         };
         board = done.board;
         at = place;
@@ -57,7 +57,7 @@ fn next_of(done: Replied) -> Next {
 }
 
 // How a job ended with its last record.
-fn ended(done: Replied) -> Ended {
+fn how_ended(done: Replied) -> Ended {
     let reply = done.reply;
     let board = done.board;
     match reply {

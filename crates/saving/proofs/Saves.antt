@@ -1,10 +1,10 @@
 -- The writer, return by return.
-use Prim.Native.Nat.{ℕ, _+_, _*_, _≤_, _<_}
+use Prim.Native.Nat.{ℕ, _+_, _≤_, _<_}
 use native.Mathlib.Omega.{arith}
 use native.Mathlib.Nat.{zero-add}
 use mathlib.Core.Path.{_≡_, refl, sym, ap, _∙_, subst}
 use mathlib.Core.Bool.{Bool, true, false, not, and-true}
-use mathlib.Core.List.{List, [], _∷_, _++_}
+use mathlib.Core.List.{List, _++_}
 use mathlib.Core.Option.{Option, none, some}
 use lib.ListN.{length, take, drop}
 use lib.Seq.{take-at, length-take-le}
@@ -17,7 +17,7 @@ use Rattle.foil_spec.specs.Lent.{Lent, lent, layoutOf, held, sound, roomIn, roo
 use Rattle.foil_spec.specs.declared.Board.{Board}
 use Rattle.ledger_laws.proofs.Refusals.{own-refused}
 use Rattle.ledger_laws.proofs.Rules.{of-ok}
-use Rattle.ledger_laws.proofs.Sound.{Sound, of-sound, sound-long, sound-store-is}
+use Rattle.ledger_laws.proofs.Sound.{of-sound, sound-long, sound-store-is}
 use Rattle.zones.specs.Table.{Table}
 use Rattle.zones.proofs.Tables.{table-of}
 use Rattle.foil.specs.Contract.{answerOf, WriteDone, LentChecked}
