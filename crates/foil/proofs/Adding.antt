@@ -1,4 +1,4 @@
--- An entry more, and a patch that is drawn, return by return.
+-- An entry more, and with it a patch that is drawn and a leg as booked, return by return.
 use Prim.Native.Nat.{ℕ, _+_, min, _≤_, _<_}
 use native.Mathlib.Omega.{arith}
 use mathlib.Core.Path.{_≡_, refl, sym, _∙_, subst}
@@ -9,8 +9,8 @@ use lib.Seq.{paste}
 use borrow.Author.Tests.{lt-ltb, le-ltb, not-true, not-false}
 use Rattle.foil_spec.specs.Lists.{range, all}
 use Rattle.foil_spec.specs.Limits.{maxEntries, tableSize}
-use Rattle.foil_spec.specs.Foil.{Entry, entry, Layout, boxOk, entryOk}
-use Rattle.foil_spec.specs.Ledger.{Room, tooLong, draw, next, says, first, refusals, After, settle}
+use Rattle.foil_spec.specs.Foil.{Entry, entry, Layout, netOk, boxOk, entryOk}
+use Rattle.foil_spec.specs.Ledger.{Room, tooLong, Step, draw, putLeg, next, says, first, refusals, After, settle}
 use Rattle.foil_spec.specs.Ledger.{Answer as Outcome}
 use Rattle.foil_spec.specs.Lent.{Lent, lent, store, entryAt, layoutOf, held, sound}
 use Rattle.foil_spec.specs.declared.Board.{Board}
@@ -48,7 +48,9 @@ module _ (b : Board) (t s : List ℕ) (g : sound (lent b t s) ≡ true) (limit :
     unfolding first tooLong
     table-full l r q room is =
         gave-refused _ _ m 10 r
-        (rw (lt-ltb (min maxEntries (room .limit)) (length (held m .entries ++ e ∷ [])) (omega (arith, one-longer))) refl) q
+        (rw (lt-ltb (min maxEntries (room .limit)) (length (held m .entries ++ e ∷ [])) (omega (arith, one-longer)))
+        refl)
+        q
 
     module _ (few : b .entries < limit) (ok : entryOk (b .width) (b .height) e ≡ true) (rows : List ℕ) (old : List ℕ)
         (copied : old ≡ paste (replicate tableSize 0) 0 t tableSize) (added : Appended old rows (b .entries) e) where
@@ -86,6 +88,21 @@ module _ (b : Board) (t s : List ℕ) (g : sound (lent b t s) ≡ true) (limit :
           rw (le-ltb (min maxEntries (room .limit)) (length (held m .entries ++ e ∷ [])) (omega (arith, one-longer)))
           (subst (λ (l : Layout). Gave (takenOver l m) r t′ s′) layout-is k)
 
+  -- ---- a step that adds an entry
+
+  module _ (c : Step) (e : Entry) where
+    -- past the refusals of its own, only 10 and 11 can still refuse the step
+    abbrev PastOwn : Type 0
+    PastOwn =
+        (room : Room)
+        → settle (first (refusals c room (held m)))
+        (record { answer = says c (held m); state = store (next c (held m)) m }) m
+        ≡ entryAdded room e m
+
+    step-added : PastOwn → (r : Done) (t′ s′ : List ℕ) → Added e r t′ s′ → StepIn c limit m r t′ s′
+    step-added past r t′ s′ k room long is =
+        subst (λ (a : After Outcome Lent). Gave a r t′ s′) (sym (own-step room c m g long ∙ past room)) (k room is)
+
   -- ---- a patch
 
   module _ (x0 y0 x1 y1 : ℕ) (o : Bool) (o-is : o ≡ boxOk (b .width) (b .height) (entry 0 x0 y0 x1 y1)) where
@@ -98,15 +115,31 @@ module _ (b : Board) (t s : List ℕ) (g : sound (lent b t s) ≡ true) (limit :
       pub is-entry : entryOk (b .width) (b .height) (entry 0 x0 y0 x1 y1) ≡ true
       is-entry = patch-ok (b .width) (b .height) x0 y0 x1 y1 (sym o-is ∙ not-false o box)
 
-      past-3 : (room : Room)
-          → settle (first (refusals (draw x0 y0 x1 y1) room (held m)))
-          (record { answer = says (draw x0 y0 x1 y1) (held m); state = store (next (draw x0 y0 x1 y1) (held m)) m }) m
-          ≡ entryAdded room (entry 0 x0 y0 x1 y1) m
+      past-3 : PastOwn (draw x0 y0 x1 y1) (entry 0 x0 y0 x1 y1)
       unfolding refusals first says next held layoutOf
       past-3 room = rw (sym o-is ∙ not-false o box) refl
 
       pub drawn : (r : Done) (t′ s′ : List ℕ) → Added (entry 0 x0 y0 x1 y1) r t′ s′
           → StepIn (draw x0 y0 x1 y1) limit m r t′ s′
-      drawn r t′ s′ k room long is =
-          subst (λ (a : After Outcome Lent). Gave a r t′ s′)
-          (sym (own-step room (draw x0 y0 x1 y1) m g long ∙ past-3 room)) (k room is)
+      drawn = step-added (draw x0 y0 x1 y1) (entry 0 x0 y0 x1 y1) past-3
+
+  -- ---- a leg
+
+  module _ (e : Entry) (n : Bool) (n-is : n ≡ netOk (e .net)) where
+    pub no-net : not n ≡ true → (r : Done) → r ≡ refusedBy 4 b → StepIn (putLeg e) limit m r t s
+    unfolding first refusals
+    no-net f r q room long is = own-done (putLeg e) m 4 r q g room long (rw (sym n-is ∙ not-true n f) refl)
+
+    module _ (named : not n ≡ false) (o : Bool) (o-is : o ≡ entryOk (b .width) (b .height) e) where
+      pub no-leg : not o ≡ true → (r : Done) → r ≡ refusedBy 3 b → StepIn (putLeg e) limit m r t s
+      unfolding first refusals held layoutOf
+      no-leg f r q room long is =
+          own-done (putLeg e) m 3 r q g room long (rw (sym n-is ∙ not-false n named, sym o-is ∙ not-true o f) refl)
+
+      module _ (ok : not o ≡ false) where
+        past-4-and-3 : PastOwn (putLeg e) e
+        unfolding refusals first says next held layoutOf
+        past-4-and-3 room = rw (sym n-is ∙ not-false n named, sym o-is ∙ not-false o ok) refl
+
+        pub leg-put : (r : Done) (t′ s′ : List ℕ) → Added e r t′ s′ → StepIn (putLeg e) limit m r t′ s′
+        leg-put = step-added (putLeg e) e past-4-and-3

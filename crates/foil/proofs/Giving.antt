@@ -24,6 +24,7 @@ use Rattle.ledger_laws.proofs.Lending.{long-lists}
 use Rattle.booking.specs.Booked.{Stored, Unchanged}
 use Rattle.foil.specs.declared.Answer.the-variants.{Accepted}
 use Rattle.foil.specs.declared.Done.{Done}
+use Rattle.foil.specs.declared.lent.Checked.{Checked}
 use Rattle.foil.specs.declared.lent.Checked.the-variants as checked
 use Rattle.foil.specs.Contract.{answerOf, Gave, Wrote, refusedBy, TooShort, LentChecked, takenOver}
 
@@ -59,6 +60,15 @@ long-room m n limit output =
 -- lists that keep the rules are long enough
 pub sound-room : (m : Lent) → sound m ≡ true → (limit output : ℕ) → short (roomIn limit m output) ≡ false
 sound-room m g = long-room m (sound-long m g)
+
+-- what has passed the checks for what is lent keeps the rules
+pub passed-sound : (m : Lent) (k : Checked) → LentChecked m k → k ≡ checked.Passed → sound m ≡ true
+passed-sound m k f e = subst (LentChecked m) e f
+
+-- what has not is refused by the number that they gave
+pub checked-by : (m : Lent) (k : Checked) → LentChecked m k → (n : ℕ) → k ≡ checked.Refused n
+    → LentChecked m (checked.Refused n)
+checked-by m k f n e = subst (LentChecked m) e f
 
 -- the room of a call has the limit and the output that it was given
 module _ (limit : ℕ) (m : Lent) (output : ℕ) where
@@ -111,7 +121,8 @@ module _ (c : Step) (m : Lent) (n : ℕ) (d : Done) (q : d ≡ refusedBy n (m .b
   pub own-done : sound m ≡ true → (r : Room) → short r ≡ false → first (refusals c r (held m)) ≡ some n
       → Gave (stepOn r c m) d (m .table) (m .strips)
   own-done g r long e =
-      step-refused r (ap (λ (b : Bool). refusalOf r (not b) c (held m)) g ∙ own-refused r c (held m) false long refl ∙ e)
+      step-refused r
+      (ap (λ (b : Bool). refusalOf r (not b) c (held m)) g ∙ own-refused r c (held m) false long refl ∙ e)
 
   pub own-wrote : sound m ≡ true → (r : Room) (out : List ℕ) → short r ≡ false → first (refusals c r (held m)) ≡ some n
       → Wrote c r m out d (m .table) (m .strips) out

@@ -6,8 +6,8 @@ use mathlib.Core.List.{List, [], _∷_, _++_}
 use mathlib.Core.Option.{some}
 use lib.ListN.{length}
 use Rattle.foil_spec.specs.Foil.{Point, Entry, Layout}
-use Rattle.foil_spec.specs.Ledger.{withEntries, Room, short, tooLong, tooFine, Step, lookUp, Refusal, _⇒_, first, afterLent}
-use Rattle.foil_spec.specs.Ledger.{After, settle}
+use Rattle.foil_spec.specs.Ledger.{withEntries, Room, short, tooLong, tooFine, Step, lookUp, Refusal, _⇒_, first}
+use Rattle.foil_spec.specs.Ledger.{afterLent, After, settle}
 use Rattle.foil_spec.specs.Ledger.{Answer as Outcome, refused, accepted, laid, found, wrote, booked}
 use Rattle.foil_spec.specs.Lent.{Lent, lent, held, store, sound, roomIn, roomOf, stepOn, outputAfter}
 use Rattle.foil_spec.specs.declared.Board.{Board}

@@ -20,6 +20,7 @@ pub use lent::lent_refusal;
 pub use lent::lists_short;
 use state::box_ok;
 use state::clearance_ok;
+use state::entry_ok;
 use state::net_ok;
 use state::size_ok;
 use strips::Place;
@@ -32,7 +33,7 @@ ghost use lib.ListN.{length};
 ghost use Rattle.foil_spec.specs.Lists.{range};
 ghost use Rattle.foil_spec.specs.Limits.{maxEntries, tableSize, stripsSize};
 ghost use Rattle.foil_spec.specs.Foil.{point, entryOk};
-ghost use Rattle.foil_spec.specs.Ledger.{newFoil, draw as draws, lift as lifts, lookUp, Room, short};
+ghost use Rattle.foil_spec.specs.Ledger.{newFoil, draw as draws, lift as lifts, lookUp, putLeg, Room, short};
 ghost use Rattle.foil_spec.specs.Lent.{lent, entryAt, layoutOf, sound, stepOn};
 ghost use Rattle.zones.specs.Table.{Table};
 ghost use Rattle.booking.specs.Rows.{rowsOf};
@@ -147,6 +148,40 @@ pub fn draw_in(
         y1,
     };
     add_entry(table, strips, board, limit, patch)
+}
+
+// Puts a leg as booked: appends an entry of its net, without a search.
+pub fn put_leg(table: &mut [u16], strips: &mut [u16], board: Board, leg: Entry) -> Done
+    ensures { λ r. ⌜ StepDone (putLeg leg) (lent board (now (table .entry)) (now (strips .entry)))
+        r (now (table .exit)) (now (strips .exit)) ⌝ }
+{
+    let checked = lent_refusal(table, strips, board);
+    if let Checked::Refused(number) = checked {
+        return refuse(number, board);
+    }
+    put_leg_in(table, strips, board, MAX_ENTRIES, leg)
+}
+
+// Puts a leg on a foil that keeps the rules and may have so many entries.
+pub fn put_leg_in(
+    table: &mut [u16],
+    strips: &mut [u16],
+    board: Board,
+    limit: usize,
+    leg: Entry,
+) -> Done
+    requires { ⌜ sound (lent board (now table) (now strips)) ≡ true ⌝ }
+    requires { ⌜ limit ≤ maxEntries ⌝ }
+    ensures { λ r. ⌜ StepIn (putLeg leg) limit (lent board (now (table .entry)) (now (strips .entry)))
+        r (now (table .exit)) (now (strips .exit)) ⌝ }
+{
+    if !net_ok(leg.net) {
+        return refuse(4, board);
+    }
+    if !entry_ok(leg, board.width, board.height) {
+        return refuse(3, board);
+    }
+    add_entry(table, strips, board, limit, leg)
 }
 
 // Appends an entry that a table may hold, to a foil that keeps the rules and may have so many entries;

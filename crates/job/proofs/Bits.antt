@@ -4,8 +4,9 @@ use mathlib.Core.Path.{_≡_, refl}
 use mathlib.Core.Bool.{true, false}
 use mathlib.Core.List.{List}
 use mathlib.Core.Option.{Option, none, some}
-use Rattle.foil_spec.specs.Foil.{Layout, point}
-use Rattle.foil_spec.specs.Ledger.{Step, newFoil, draw, lay, lift, accepted, reads, says, settle, Room, short, After}
+use Rattle.foil_spec.specs.Foil.{point, Entry, Layout}
+use Rattle.foil_spec.specs.Ledger.{Step, newFoil, draw, lay, lift, putLeg, accepted, reads, says, settle}
+use Rattle.foil_spec.specs.Ledger.{Room, short, After}
 use Rattle.foil_spec.specs.Ledger.{Answer as Outcome}
 use Rattle.foil_spec.specs.Lent.{Lent, sound, stepOn, outputAfter}
 use Rattle.foil_spec.specs.Job.{field, stepAt}
@@ -20,7 +21,8 @@ unfolding stepAt reads
 reads-later bs at zero h = absurd (h refl)
 reads-later bs at (suc zero) h = refl
 reads-later bs at (suc (suc zero)) h = refl
-reads-later bs at (suc (suc (suc k))) h = refl
+reads-later bs at (suc (suc (suc zero))) h = refl
+reads-later bs at (suc (suc (suc (suc k)))) h = refl
 
 -- it keeps the rules before every step but the board's
 pub ready-sound : {bs : List ℕ} {at k : ℕ} {m : Lent} → BitReady bs at k m → (k ≡ 0 → ⊥) → sound m ≡ true
@@ -74,3 +76,9 @@ module _ (bs : List ℕ) (at k limit : ℕ) (m : Lent) (out : List ℕ) (d : Don
   unfolding stepAt says
   does-lift z net e done =
       rw (z, ← e) (still-done (lift net) (λ l. refl) limit m out d t s (λ r long few. done r long))
+
+  pub does-leg : k ≡ 4 → (e : Entry) → putLeg e ≡ stepAt bs at 4
+      → ((r : Room) → short r ≡ false → r .limit ≡ limit → Gave (stepOn r (putLeg e) m) d t s)
+      → Does (stepAt bs at k) out
+  unfolding says
+  does-leg z e f done = rw (z, ← f) (still-done (putLeg e) (λ l. refl) limit m out d t s done)

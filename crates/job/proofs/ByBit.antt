@@ -27,7 +27,7 @@ unfolding toldAt saidAt
 told-none on k = both (on k) (λ e. rw e refl) (λ e. rw e refl)
 
 pub none-told : (on : ℕ → Bool)
-    → record { board = Nothing; patch = Nothing; track = Nothing; lift = Nothing } ≡ answersOf on []
+    → record { board = Nothing; patch = Nothing; track = Nothing; lift = Nothing; leg = Nothing } ≡ answersOf on []
 unfolding answersOf byBit
 none-told on =
     λ i. record {
@@ -35,6 +35,7 @@ none-told on =
       patch = told-none on 1 i;
       track = told-none on 2 i;
       lift = told-none on 3 i;
+      leg = told-none on 4 i;
     }
 
 -- ---- the answer of one step more
@@ -88,11 +89,11 @@ module _ (on : ℕ → Bool) (given : List Answer) (k : ℕ) (a : Answer) (set :
 
 -- ---- the fields, each told anew or not
 
-pub tell-all : (a : Answers) (k : ℕ) (t b p c l : Told) → b ≡ cond (eqb 0 k) t (a .board)
+pub tell-all : (a : Answers) (k : ℕ) (t b p c l n : Told) → b ≡ cond (eqb 0 k) t (a .board)
     → p ≡ cond (eqb 1 k) t (a .patch) → c ≡ cond (eqb 2 k) t (a .track) → l ≡ cond (eqb 3 k) t (a .lift)
-    → ToldMore a k t (record { board = b; patch = p; track = c; lift = l })
+    → n ≡ cond (eqb 4 k) t (a .leg) → ToldMore a k t (record { board = b; patch = p; track = c; lift = l; leg = n })
 unfolding byBit toldMore
-tell-all a k t b p c l e f g h = record { is = λ d q. rw (e, f, g, h, q) refl }
+tell-all a k t b p c l n e f g h i = record { is = λ d q. rw (e, f, g, h, i, q) refl }
 
 -- ---- the answer that a bit told
 
@@ -144,7 +145,8 @@ told-in on given zero h = refl
 told-in on given (suc zero) h = refl
 told-in on given (suc (suc zero)) h = refl
 told-in on given (suc (suc (suc zero))) h = refl
-told-in on given (suc (suc (suc (suc k)))) h = absurd (omega arith)
+told-in on given (suc (suc (suc (suc zero)))) h = refl
+told-in on given (suc (suc (suc (suc (suc k))))) h = absurd (omega arith)
 
 pub in-board : (a : Answers) (k : ℕ) → k ≡ 0 → a .board ≡ toldIn a k
 unfolding toldIn
@@ -161,3 +163,7 @@ in-track a k e = rw e refl
 pub in-lift : (a : Answers) (k : ℕ) → k ≡ 3 → a .lift ≡ toldIn a k
 unfolding toldIn
 in-lift a k e = rw e refl
+
+pub in-leg : (a : Answers) (k : ℕ) → k ≡ 4 → a .leg ≡ toldIn a k
+unfolding toldIn
+in-leg a k e = rw e refl

@@ -8,18 +8,19 @@ use mathlib.Core.List.{[], _∷_}
 use lib.Dec.{eqb}
 use borrow.Author.Tests.{eq-eqb, ne-eqb}
 use types.Run.{OneOf}
-use Rattle.foil_spec.specs.Ledger.{Answer, refused, accepted, laid, found}
+use Rattle.foil_spec.specs.Ledger.{Answer, refused, accepted, laid, found, wrote}
 use Rattle.foil_spec.specs.Calls.{endsJob}
 use Rattle.foil.specs.Contract.{answerOf}
 use Rattle.foil.specs.declared.Answer.{Answer as Answered}
 use Rattle.foil.specs.declared.Answer.the-variants.{Refused}
 use Rattle.job.specs.Parts.{Ends}
 
--- 0 is the key of a refusal, 1 to 3 those of the other answers
-pub no-refusal : OneOf (1 ∷ 2 ∷ 3 ∷ []) 0 → ⊥
+-- 0 is the key of a refusal, 1 to 4 those of the other answers
+pub no-refusal : OneOf (1 ∷ 2 ∷ 3 ∷ 4 ∷ []) 0 → ⊥
 no-refusal (inl e) = omega arith
 no-refusal (inr (inl e)) = omega arith
-no-refusal (inr (inr e)) = omega arith
+no-refusal (inr (inr (inl e))) = omega arith
+no-refusal (inr (inr (inr e))) = omega arith
 
 pub ends-other : (a : Answered) → ((n : ℕ) → a ≡ Refused n → ⊥) → Ends a false
 ends-other a none = record { is = λ o e. other o (λ n f. none n (e ∙ f)) }
@@ -29,6 +30,7 @@ ends-other a none = record { is = λ o e. other o (λ n f. none n (e ∙ f)) }
     other accepted h = unfold endsJob in refl
     other (laid cs n) h = unfold endsJob in refl
     other (found n) h = unfold endsJob in refl
+    other (wrote bs) h = unfold endsJob in refl
 
 ends-number : (a : Answered) (n : ℕ) → a ≡ Refused n → (o : Answer) → a ≡ answerOf o
     → (eqb n 1 || eqb n 2) ≡ endsJob o
@@ -37,6 +39,7 @@ ends-number a n q (refused k) e = let h : n ≡ k = cc in rw h refl
 ends-number a n q accepted e = absurd (let z : _≡_ {A = ℕ} 0 1 = cc in omega arith)
 ends-number a n q (laid cs k) e = absurd (let z : _≡_ {A = ℕ} 0 1 = cc in omega arith)
 ends-number a n q (found k) e = absurd (let z : _≡_ {A = ℕ} 0 1 = cc in omega arith)
+ends-number a n q (wrote bs) e = absurd (let z : _≡_ {A = ℕ} 0 1 = cc in omega arith)
 
 pub ends-1 : (a : Answered) (n : ℕ) → a ≡ Refused n → n ≡ 1 → Ends a true
 ends-1 a n q z = record { is = λ o e. sym (rw (eq-eqb n 1 z) refl) ∙ ends-number a n q o e }

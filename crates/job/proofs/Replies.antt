@@ -221,9 +221,10 @@ quiet-first r c ss m out same later = go (endsJob (stepOn r c m .answer))
     go false = ap (outputAll (rest .answer)) same ∙ later
 
 module _ (r : Room) (bs : List ℕ) (at : ℕ) where
-  lifts : (i : ℕ) (l : Layout) → says (stepAt bs at (suc (suc (suc i)))) l ≡ accepted
+  stills : (i : ℕ) (l : Layout) → says (stepAt bs at (suc (suc (suc i)))) l ≡ accepted
   unfolding stepAt says
-  lifts i l = refl
+  stills zero l = refl
+  stills (suc i) l = refl
 
   -- the bits after the track's write no corners
   quiet : (i j : ℕ) (m : Lent) (out : List ℕ)
@@ -235,7 +236,7 @@ module _ (r : Room) (bs : List ℕ) (at : ℕ) where
       both (has bs at (suc (suc (suc i))))
       (λ set.
       rw set
-      (quiet-first r c (stepsAt bs at (range (suc (suc (suc (suc i)))) j)) m out (still-same r c m out (lifts i))
+      (quiet-first r c (stepsAt bs at (range (suc (suc (suc (suc i)))) j)) m out (still-same r c m out (stills i))
       (quiet (suc i) j (stepOn r c m .state) out)))
       (λ unset. rw unset (quiet (suc i) j m out))
 
@@ -308,7 +309,7 @@ module _ (r : Room) (bs : List ℕ) (at : ℕ) where
           fits = laid-bit (stepAt bs at 2) (ap (stepAt bs at) e) _ _ _ refl;
           front = lay-front 0 e;
         }
-    by-bit (suc (suc (suc i))) e = still (λ l. rw e (unfold says in refl))
+    by-bit (suc (suc (suc i))) e = still (λ l. rw e (stills i l))
 
     -- the corners of the answer of a bit that is set, of the bits up to k + j
     pub bit-tracked : Done

@@ -34,7 +34,7 @@ use Rattle.job.proofs.ByBit.{none-told, answers-more}
 abbrev begun : Board → Stepped
 begun b =
     record {
-      answers = record { board = Nothing; patch = Nothing; track = Nothing; lift = Nothing };
+      answers = record { board = Nothing; patch = Nothing; track = Nothing; lift = Nothing; leg = Nothing };
       ended = false;
       board = b;
     }

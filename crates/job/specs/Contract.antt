@@ -38,14 +38,15 @@ toldAt on given k = cond (on k) (saidAt given (setBelow on k)) Nothing
 
 -- what each bit told, in the field of the bit
 unfoldable pub byBit : (ℕ → Told) → Answers
-byBit f = record { board = f 0; patch = f 1; track = f 2; lift = f 3 }
+byBit f = record { board = f 0; patch = f 1; track = f 2; lift = f 3; leg = f 4 }
 
 -- what bit k told, by its field
 unfoldable pub toldIn : Answers → ℕ → Told
 toldIn a zero = a .board
 toldIn a (suc zero) = a .patch
 toldIn a (suc (suc zero)) = a .track
-toldIn a (suc (suc (suc k))) = a .lift
+toldIn a (suc (suc (suc zero))) = a .lift
+toldIn a (suc (suc (suc (suc k)))) = a .leg
 
 -- the answers of the steps that were run, in the fields of their bits
 unfoldable pub answersOf : (ℕ → Bool) → List Answer → Answers

@@ -1,14 +1,16 @@
 // The fields of a record: which it has, where they begin, and their numbers. The caller names a record
 // whose map byte is among the bytes.
+use foil_spec::Entry;
 ghost use mathlib.Core.Path.{_≡_};
 ghost use mathlib.Core.Bool.{cond};
 ghost use Prim.Native.Nat.{_*_, _≤_, _<_};
 ghost use lib.ListN.{length};
-ghost use Rattle.foil_spec.specs.Job.{mapBits, fieldCount, has as hasBit, fieldsAt, field as fieldOf};
+ghost use Rattle.foil_spec.specs.Ledger.{putLeg};
+ghost use Rattle.foil_spec.specs.Job.{mapBits, fieldCount, has as hasBit, fieldsAt, field as fieldOf, stepAt};
 ghost use Rattle.job.specs.Parts.{Begun, Given};
 
 // How many bits a map byte may use.
-pub const MAP_BITS: usize = 4;
+pub const MAP_BITS: usize = 5;
 
 // Whether bit k of the map byte is set.
 pub(crate) fn has(bytes: &[u8], at: usize, k: usize) -> bool
@@ -26,7 +28,7 @@ fn field_bytes(bytes: &[u8], at: usize, k: usize) -> usize
     if !has(bytes, at, k) {
         return 0;
     }
-    let counts = [3usize, 4, 5, 1];
+    let counts = [3usize, 4, 5, 1, 5];
     2 * counts[k]
 }
 
@@ -50,4 +52,18 @@ pub(crate) fn field(bytes: &[u8], at: usize, k: usize, i: usize) -> u16
 {
     let place = fields_at(bytes, at, k) + 2 * i;
     bytes[place] as u16 + 256 * (bytes[place + 1] as u16)
+}
+
+// The leg that the step of bit 4 puts, by its fields.
+pub(crate) fn leg_of(bytes: &[u8], at: usize) -> Entry
+    requires { ⌜ Given (now bytes) at 4 4 ⌝ }
+    ensures { λ r. ⌜ putLeg r ≡ stepAt (now (bytes .entry)) at 4 ⌝ }
+{
+    Entry {
+        net: field(bytes, at, 4, 0),
+        x0: field(bytes, at, 4, 1),
+        y0: field(bytes, at, 4, 2),
+        x1: field(bytes, at, 4, 3),
+        y1: field(bytes, at, 4, 4),
+    }
 }

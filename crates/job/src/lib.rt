@@ -32,6 +32,7 @@ pub struct Answers {
     pub patch: Told,
     pub track: Told,
     pub lift: Told,
+    pub leg: Told,
 }
 
 // What the step of bit k told.
@@ -43,6 +44,7 @@ pub fn told_by(answers: Answers, k: usize) -> Told
     let patch = answers.patch;
     let track = answers.track;
     let lift = answers.lift;
+    let leg = answers.leg;
     if k == 0 {
         return board;
     }
@@ -52,7 +54,10 @@ pub fn told_by(answers: Answers, k: usize) -> Told
     if k == 2 {
         return track;
     }
-    lift
+    if k == 3 {
+        return lift;
+    }
+    leg
 }
 
 // The place of the next record; none where the job has ended.
@@ -135,7 +140,7 @@ fn refuse(number: u8, board: Board) -> Replied
 }
 
 // The net that the step of bit k of a record names, as its line repeats it: 2 lays a track of the net, 3
-// lifts it.
+// lifts it, 4 puts a leg of it.
 pub fn net_of(bytes: &[u8], at: usize, k: usize) -> u16
     requires { ⌜ Given (now bytes) at k 0 ⌝ }
     ensures { λ r. ⌜ r ≡ fieldOf (now (bytes .entry)) at k 0 ⌝ }

@@ -10,11 +10,13 @@ use crate::fields::MAP_BITS;
 use crate::fields::field;
 use crate::fields::fields_at;
 use crate::fields::has;
+use crate::fields::leg_of;
 use foil::Answer;
 use foil::Done;
 use foil::draw_in;
 use foil::lift_in;
 use foil::new_foil_in;
+use foil::put_leg_in;
 use foil_spec::Board;
 use laying::lay_in;
 ghost use mathlib.Core.Path.{_≡_};
@@ -59,6 +61,7 @@ pub(crate) fn run_steps(
             patch: Told::Nothing,
             track: Told::Nothing,
             lift: Told::Nothing,
+            leg: Told::Nothing,
         },
         ended: false,
         board,
@@ -146,7 +149,10 @@ fn step_of(
         let ty = field(bytes, at, 2, 4);
         return lay_in(table, strips, corners, board, limit, net, sx, sy, tx, ty);
     }
-    lift_in(table, strips, board, field(bytes, at, 3, 0))
+    if k == 3 {
+        return lift_in(table, strips, board, field(bytes, at, 3, 0));
+    }
+    put_leg_in(table, strips, board, limit, leg_of(bytes, at))
 }
 
 // The answers, where bit k told this: one line a bit.
@@ -157,11 +163,13 @@ fn tell(answers: Answers, k: usize, told: Told) -> Answers
     let patch = answers.patch;
     let track = answers.track;
     let lift = answers.lift;
+    let leg = answers.leg;
     Answers {
         board: newer(0, board, k, told),
         patch: newer(1, patch, k, told),
         track: newer(2, track, k, told),
         lift: newer(3, lift, k, told),
+        leg: newer(4, leg, k, told),
     }
 }
 

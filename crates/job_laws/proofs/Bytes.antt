@@ -16,10 +16,11 @@ use Rattle.foil_spec.specs.Strips.{Strip}
 use Rattle.list_laws.proofs.Tests.{clash, or-l, or-r, any-append}
 use Rattle.list_laws.proofs.Members.{In, in-right, in-any, of-all, not-any}
 use Rattle.ledger_laws.specs.Numbers.{among}
-use Rattle.lines.specs.Lines.{ascii, decimal, item, cornerItem}
-use Rattle.lines.specs.Lines.{boardLine, patchLine, trackRefused, trackLaid, liftLine, stripLine, fileLine}
+use Rattle.putting.specs.Text.{ascii, decimal}
+use Rattle.lines.specs.Lines.{item, cornerItem, boardLine, patchLine, trackRefused, trackLaid, liftLine, legLine}
+use Rattle.lines.specs.Lines.{stripLine, fileLine}
 use Rattle.lines.specs.Output.{output}
-use Rattle.job_laws.specs.JobLines.{Line, board, patch, refusedTrack, laidTrack, lifted, strip, file}
+use Rattle.job_laws.specs.JobLines.{Line, board, patch, refusedTrack, laidTrack, lifted, leg, strip, file}
 use Rattle.job_laws.specs.JobLines.{bytesOf, possible, Nowhere, NeverWrites}
 use Rattle.job_laws.proofs.Lines.{writes-lines}
 use Rattle.job_laws.proofs.Digits.{without, decimal-same}
@@ -76,16 +77,18 @@ textOf (patch n) = ascii "patch" ++ item n
 textOf (refusedTrack net n) = ascii "track" ++ item net ++ item n
 textOf (laidTrack net n cs) = ascii "track" ++ item net ++ item 0 ++ item n ++ each cornerItem cs
 textOf (lifted net n) = ascii "lift" ++ item net ++ item n
+textOf (leg net n) = ascii "leg" ++ item net ++ item n
 textOf (strip s) = ascii "strip" ++ item (s .x0) ++ item (s .y0) ++ item (s .x1) ++ item (s .y1)
 textOf (file n) = ascii "file" ++ item n
 
 text-is : (l : Line) → bytesOf l ≡ textOf l ++ (10 ∷ [])
-unfolding bytesOf textOf boardLine patchLine trackRefused trackLaid liftLine stripLine fileLine
+unfolding bytesOf textOf boardLine patchLine trackRefused trackLaid liftLine legLine stripLine fileLine
 text-is (board n) = refl
 text-is (patch n) = refl
 text-is (refusedTrack net n) = refl
 text-is (laidTrack net n cs) = refl
 text-is (lifted net n) = refl
+text-is (leg net n) = refl
 text-is (strip s) = refl
 text-is (file n) = refl
 
@@ -101,6 +104,7 @@ text-whole (patch n) = simp no-feed
 text-whole (refusedTrack net n) = simp (any-append, no-feed)
 text-whole (laidTrack net n cs) = simp (any-append, no-feed, corners-whole)
 text-whole (lifted net n) = simp (any-append, no-feed)
+text-whole (leg net n) = simp (any-append, no-feed)
 text-whole (strip s) = simp (any-append, no-feed)
 text-whole (file n) = simp no-feed
 
@@ -176,7 +180,7 @@ corner-end (q ∷ cs) u v p n e =
 
 -- the lines of a refusal by n
 withNumber : ℕ → ℕ → List Line
-withNumber net n = board n ∷ patch n ∷ refusedTrack net n ∷ lifted net n ∷ file n ∷ []
+withNumber net n = board n ∷ patch n ∷ refusedTrack net n ∷ lifted net n ∷ leg net n ∷ file n ∷ []
 
 module _ (n : ℕ) (none-has : (net : ℕ) → any possible (withNumber net n) ≡ false) where
   other-number : (net : ℕ) (f : ℕ → Line) → In (f n) (withNumber net n) → (u v : List ℕ) (k : ℕ)
@@ -197,9 +201,11 @@ module _ (n : ℕ) (none-has : (net : ℕ) → any possible (withNumber net n) �
       absurd (corner-end cs (ascii "track" ++ item net ++ item 0 ++ item k) v p n e)
   only-strip (lifted net k) h v e =
       absurd (other-number net (lifted net) (inr (inr (inr (inl refl)))) (ascii "lift" ++ item net) v k h e)
+  only-strip (leg net k) h v e =
+      absurd (other-number net (leg net) (inr (inr (inr (inr (inl refl))))) (ascii "leg" ++ item net) v k h e)
   only-strip (strip s) h v e = (s, refl)
   only-strip (file k) h v e =
-      absurd (other-number 0 file (inr (inr (inr (inr (inl refl))))) (ascii "file") v k h e)
+      absurd (other-number 0 file (inr (inr (inr (inr (inr (inl refl)))))) (ascii "file") v k h e)
 
   -- a line that ends in n, after a word whose last letter is c
   module _ (word : List ℕ) (c : ℕ) (net : List ℕ) (is-letter : letter c ≡ true) (other : eqb 112 c ≡ false)
@@ -240,12 +246,13 @@ module _ (n : ℕ) (none-has : (net : ℕ) → any possible (withNumber net n) �
         not-end (f .0) (of-all possible (f .0) (o .lines) (o .fine) (f .1)) (f .2) (f .3)
 
   never : NeverWrites n
-  unfolding boardLine patchLine trackRefused liftLine fileLine item feed letter
+  unfolding boardLine patchLine trackRefused liftLine legLine fileLine item feed letter
   never bs net = (
     nowhere (ascii "boar") 100 [] refl refl refl refl bs,
     nowhere (ascii "patc") 104 [] refl refl refl refl bs,
     nowhere (ascii "trac") 107 (item net) refl refl (no-letter net) (no-feed net) bs,
     nowhere (ascii "lif") 116 (item net) refl refl (no-letter net) (no-feed net) bs,
+    nowhere (ascii "le") 103 (item net) refl refl (no-letter net) (no-feed net) bs,
     nowhere (ascii "fil") 101 [] refl refl refl refl bs,
   )
 

@@ -9,7 +9,7 @@ use borrow.Author.Tests.{le-leb, leb-true, lt-ltb, ltb-true, ltb-false}
 use Rattle.foil_spec.specs.Lists.{all, any}
 use Rattle.list_laws.proofs.Tests.{parts, all-append}
 use Rattle.list_laws.proofs.Members.{of-all, none-of}
-use Rattle.lines.specs.Lines.{digitsIn, decimal}
+use Rattle.putting.specs.Text.{digitsIn, decimal}
 
 digit : ℕ → Bool
 digit b = leb 48 b && ltb b 58

@@ -12,9 +12,9 @@ use Rattle.foil_spec.specs.Limits.{cornerPlaces}
 use Rattle.foil_spec.specs.Foil.{Point, Layout, noFoil, free}
 use Rattle.foil_spec.specs.Strips.{Strip}
 use Rattle.foil_spec.specs.Paths.{at, bends}
-use Rattle.foil_spec.specs.Ledger.{stripsOf, cornersOf, short, cornerRoom, tooFine, next, says, first}
-use Rattle.foil_spec.specs.Ledger.{Step, newFoil, draw, lay, lift, lookUp, Answer, numberOf, refusals, afterLent}
-use Rattle.foil_spec.specs.Ledger.{After, settle, refusalOf, ledgerStep}
+use Rattle.foil_spec.specs.Ledger.{stripsOf, cornersOf, short, cornerRoom, next, says, first}
+use Rattle.foil_spec.specs.Ledger.{Step, newFoil, draw, lay, lift, lookUp, putLeg, save, Answer, numberOf}
+use Rattle.foil_spec.specs.Ledger.{refusals, afterLent, After, settle, refusalOf, ledgerStep}
 use Rattle.foil_spec.specs.Job.{jobRoom, steps, isEnd, recordEnd, recordChecks}
 use Rattle.foil_spec.specs.Calls.{runRecord, ran, endsJob, andThen, actAll, actRecord, wholeRefusals, reply, ledgerCall}
 use Rattle.list_laws.proofs.Tests.{and-i, all-append}
@@ -29,7 +29,7 @@ use Rattle.ledger_laws.proofs.Numbers.{answer-passes}
 use Rattle.bend_bound.proofs.Room.{corners-few, step-passes, Fine, fine-kept, no-foil-fine}
 use Rattle.lines.specs.Lines.{stripLine}
 use Rattle.lines.specs.Output.{trackLine, stepLine, stepLines, replyLines, outputFrom, output}
-use Rattle.job_laws.specs.JobLines.{Line, board, patch, refusedTrack, laidTrack, lifted, strip, file}
+use Rattle.job_laws.specs.JobLines.{Line, board, patch, refusedTrack, laidTrack, lifted, leg, strip, file}
 use Rattle.job_laws.specs.JobLines.{bytesOf, possible, InLines, WritesLines}
 
 -- ---- lines one after the other
@@ -60,12 +60,12 @@ unfolding cornerRoom jobRoom
 job-room = omega arith
 
 -- what a step answers passes a test that 0 and its own numbers pass
-number-passes : (p : ℕ → Bool) (s : Step) (l : Layout) → tooFine l ≡ false → p 0 ≡ true → all p (ownNumbers s) ≡ true
+number-passes : (p : ℕ → Bool) (s : Step) (l : Layout) → Fine l → p 0 ≡ true → all p (ownNumbers s) ≡ true
     → p (numberOf (ledgerStep jobRoom s l .answer)) ≡ true
 number-passes p s l fine z h = answer-passes p z jobRoom s l (step-passes jobRoom job-room job-long p s h l fine)
 
 -- a track that is laid is a path, which has a corner, and has room for its corners
-laid-possible : (l : Layout) (net : ℕ) (S T : Point) → tooFine l ≡ false
+laid-possible : (l : Layout) (net : ℕ) (S T : Point) → Fine l
     → refusalOf jobRoom false (lay net S T) l ≡ none
     → possible (laidTrack net (bends (cornersOf l S T)) (cornersOf l S T)) ≡ true
 unfolding possible
@@ -75,11 +75,11 @@ laid-possible l net S T fine e =
     let first-is = first-laid jobRoom false l net S T cs (bends cs) laid .0 in
     simp (
       le-leb 1 (length cs) (omega (arith, ap length (of-path (free l) S (at T) cs (first-is .path) .is))),
-      le-leb (length cs) cornerPlaces (corners-few l S T fine),
+      le-leb (length cs) cornerPlaces (corners-few l S T (fine .strips)),
       eq-eqb (bends cs) (bends cs) refl,
     )
 
-module _ (l : Layout) (fine : tooFine l ≡ false) where
+module _ (l : Layout) (fine : Fine l) where
   -- the line of a lay that is refused by one of its own numbers, or accepted
   lay-line : (net : ℕ) (S T : Point) (o : Option ℕ) → refusalOf jobRoom false (lay net S T) l ≡ o
       → InLines (trackLine net
@@ -100,6 +100,9 @@ module _ (l : Layout) (fine : tooFine l ≡ false) where
   step-line (lift net) =
       one-line (lifted net _) (number-passes (λ n. possible (lifted net n)) (lift net) l fine refl refl)
   step-line (lookUp p) = no-line
+  step-line (putLeg e) =
+      one-line (leg (e .net) _) (number-passes (λ n. possible (leg (e .net) n)) (putLeg e) l fine refl refl)
+  step-line save = no-line
 
 -- ---- a record's lines
 
@@ -117,7 +120,7 @@ then-lines s ss a b h k = go (endsJob (a .answer))
     go true = more-lines h no-line
     go false = more-lines h k
 
-step-lines : (ss : List Step) (l : Layout) → tooFine l ≡ false
+step-lines : (ss : List Step) (l : Layout) → Fine l
     → InLines (stepLines ss (actAll (ledgerStep jobRoom) ss l .answer))
 unfolding actAll stepLines
 step-lines [] l fine = no-line
@@ -132,7 +135,7 @@ strip-lines (s ∷ ss) = more-lines (one-line (strip s) refl) (strip-lines ss)
 
 -- a record's reply, where what follows it is lines
 reply-lines : (o : Option ℕ) (e : Bool) (ss : List Step) (place : ℕ) (l : Layout) (rest : ℕ → List ℕ)
-    → tooFine l ≡ false → ((n : ℕ) → o ≡ some n → possible (file n) ≡ true) → ((n : ℕ) → InLines (rest n))
+    → Fine l → ((n : ℕ) → o ≡ some n → possible (file n) ≡ true) → ((n : ℕ) → InLines (rest n))
     → InLines (replyLines ss (actRecord (ledgerStep jobRoom) o e ss place l .answer)
     (actRecord (ledgerStep jobRoom) o e ss place l .state) rest)
 unfolding actRecord replyLines numberOf bytesOf
@@ -156,7 +159,7 @@ file-possible bs at = first-passes (λ k. possible (file k)) _ (simp (job-long, 
 
 -- ---- the whole output
 
-output-lines : (most : ℕ) (bs : List ℕ) (at : ℕ) (l : Layout) → tooFine l ≡ false → InLines (outputFrom most bs at l)
+output-lines : (most : ℕ) (bs : List ℕ) (at : ℕ) (l : Layout) → Fine l → InLines (outputFrom most bs at l)
 unfolding outputFrom ledgerCall reply
 output-lines zero bs at l fine = no-line
 output-lines (suc most) bs at l fine =

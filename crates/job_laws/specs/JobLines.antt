@@ -1,4 +1,4 @@
--- What the job program can write, as it is stated: lines of seven kinds, each with numbers of its own; 12 and 13 are
+-- What the job program can write, as it is stated: lines of eight kinds, each with numbers of its own; 12 and 13 are
 -- none of these.
 use Prim.Native.Nat.{ℕ}
 use mathlib.Core.Path.{_≡_}
@@ -12,16 +12,17 @@ use Rattle.foil_spec.specs.Foil.{Point}
 use Rattle.foil_spec.specs.Strips.{Strip}
 use Rattle.foil_spec.specs.Paths.{bends}
 use Rattle.ledger_laws.specs.Numbers.{among}
-use Rattle.lines.specs.Lines.{boardLine, patchLine, trackRefused, trackLaid, liftLine, stripLine, fileLine}
+use Rattle.lines.specs.Lines.{boardLine, patchLine, trackRefused, trackLaid, liftLine, legLine, stripLine, fileLine}
 use Rattle.lines.specs.Output.{output}
 
--- a line: of a board, of a patch, of a track that was refused or laid, of a lift, of a strip, of the file
+-- a line: of a board, of a patch, of a track that was refused or laid, of a lift, of a leg, of a strip, of the file
 pub data Line : Type 0 where
   board : ℕ → Line
   patch : ℕ → Line
   refusedTrack : ℕ → ℕ → Line
   laidTrack : ℕ → ℕ → List Point → Line
   lifted : ℕ → ℕ → Line
+  leg : ℕ → ℕ → Line
   strip : Strip → Line
   file : ℕ → Line
 
@@ -32,6 +33,7 @@ bytesOf (patch n) = patchLine n
 bytesOf (refusedTrack net n) = trackRefused net n
 bytesOf (laidTrack net n cs) = trackLaid net n cs
 bytesOf (lifted net n) = liftLine net n
+bytesOf (leg net n) = legLine net n
 bytesOf (strip s) = stripLine s
 bytesOf (file n) = fileLine n
 
@@ -42,6 +44,7 @@ possible (patch n) = among n (0 ∷ 3 ∷ 10 ∷ 11 ∷ [])
 possible (refusedTrack net n) = among n (4 ∷ 5 ∷ 7 ∷ 8 ∷ 9 ∷ 10 ∷ 11 ∷ [])
 possible (laidTrack net n cs) = leb 1 (length cs) && leb (length cs) cornerPlaces && eqb n (bends cs)
 possible (lifted net n) = among n (0 ∷ 4 ∷ 6 ∷ 11 ∷ [])
+possible (leg net n) = among n (0 ∷ 3 ∷ 4 ∷ 10 ∷ 11 ∷ [])
 possible (strip s) = true
 possible (file n) = among n (14 ∷ 15 ∷ 16 ∷ 17 ∷ 18 ∷ [])
 
@@ -59,8 +62,9 @@ WritesLines = (bs : List ℕ) → InLines (output bs)
 abbrev pub Nowhere : List ℕ → List ℕ → Type 0
 Nowhere line bytes = (before after : List ℕ) → bytes ≡ before ++ line ++ after → ⊥
 
--- the job program never writes `board N`, `patch N`, `track NET N`, `lift NET N` or `file N`
+-- the job program never writes `board N`, `patch N`, `track NET N`, `lift NET N`, `leg NET N` or `file N`
 abbrev pub NeverWrites : ℕ → Type 0
 NeverWrites n =
     (bs : List ℕ) (net : ℕ) → Nowhere (boardLine n) (output bs) × Nowhere (patchLine n) (output bs)
-    × Nowhere (trackRefused net n) (output bs) × Nowhere (liftLine net n) (output bs) × Nowhere (fileLine n) (output bs)
+    × Nowhere (trackRefused net n) (output bs) × Nowhere (liftLine net n) (output bs)
+    × Nowhere (legLine net n) (output bs) × Nowhere (fileLine n) (output bs)

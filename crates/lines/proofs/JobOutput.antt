@@ -13,7 +13,8 @@ use Rattle.foil_spec.specs.Job.{stepsAt, steps, isEnd, recordChecks}
 use Rattle.foil_spec.specs.Calls.{endsJob, andThen, actAll, actRecord, tooLarge, wholeRefusals, reply}
 use Rattle.foil_spec.specs.Calls.{ledgerCall}
 use Rattle.foil_spec.proofs.Starred.{jobBytes}
-use Rattle.lines.specs.Lines.{ascii, digitsIn, decimal, item, cornerItem}
+use Rattle.putting.specs.Text.{ascii, digitsIn, decimal}
+use Rattle.lines.specs.Lines.{item, cornerItem}
 use Rattle.lines.specs.Lines.{boardLine, patchLine, trackLaid, stripLine}
 use Rattle.lines.specs.Output.{trackLine, stepLine, stepLines, replyLines, outputFrom, output}
 

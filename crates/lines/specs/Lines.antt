@@ -1,28 +1,10 @@
 -- The lines that the job program writes, as bytes: a word, then numbers in decimal, parted by blanks.
-use Prim.Native.Nat.{ℕ, zero, suc, _+_, _/_, _%_}
-use Prim.Native.String.{String, [], _∷_}
-use Prim.Native.Char.{code}
-use mathlib.Core.Bool.{true, false}
-use mathlib.Core.List.{List, [], _∷_, _++_}
-use lib.Dec.{ltb}
+use Prim.Native.Nat.{ℕ}
+use mathlib.Core.List.{List, _++_}
 use Rattle.foil_spec.specs.Lists.{each}
 use Rattle.foil_spec.specs.Foil.{Point}
 use Rattle.foil_spec.specs.Strips.{Strip}
-
--- the codes of the characters
-abbrev pub ascii : String → List ℕ
-ascii [] = []
-ascii (c ∷ s) = code c ∷ ascii s
-
--- the decimal digits of a number below 10 to the power of `most`
-unfoldable pub digitsIn : ℕ → ℕ → List ℕ
-digitsIn zero n = []
-digitsIn (suc most) n =
-    elim (ltb n 10) [ true ↦ (48 + n) ∷ [] | false ↦ digitsIn most (n / 10) ++ ((48 + n % 10) ∷ []) ]
-
--- the number in decimal
-unfoldable pub decimal : ℕ → List ℕ
-decimal n = digitsIn (suc n) n
+use Rattle.putting.specs.Text.{ascii, decimal}
 
 -- a blank and the number
 unfoldable pub item : ℕ → List ℕ
@@ -51,6 +33,10 @@ trackLaid net n cs = ascii "track" ++ item net ++ item 0 ++ item n ++ each corne
 -- the line of a lift: the net and the refusal number, 0 if accepted
 unfoldable pub liftLine : ℕ → ℕ → List ℕ
 liftLine net n = ascii "lift" ++ item net ++ item n ++ ascii "\n"
+
+-- the line of a leg: the net and the refusal number, 0 if accepted
+unfoldable pub legLine : ℕ → ℕ → List ℕ
+legLine net n = ascii "leg" ++ item net ++ item n ++ ascii "\n"
 
 -- the line of a strip
 unfoldable pub stripLine : Strip → List ℕ

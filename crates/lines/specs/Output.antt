@@ -5,11 +5,12 @@ use mathlib.Core.Option.{none, some}
 use lib.ListN.{length}
 use Rattle.foil_spec.specs.Lists.{each}
 use Rattle.foil_spec.specs.Foil.{Layout, noFoil}
-use Rattle.foil_spec.specs.Ledger.{Step, newFoil, draw, lay, lift, lookUp, stripsOf}
-use Rattle.foil_spec.specs.Ledger.{Answer, numberOf, refused, accepted, laid, found}
+use Rattle.foil_spec.specs.Ledger.{Step, newFoil, draw, lay, lift, lookUp, putLeg, save, stripsOf}
+use Rattle.foil_spec.specs.Ledger.{Answer, numberOf, refused, accepted, laid, found, wrote}
 use Rattle.foil_spec.specs.Job.{jobRoom, steps}
 use Rattle.foil_spec.specs.Calls.{runRecord, Reply, answered, ran, atEnd, measured, ledgerCall}
-use Rattle.lines.specs.Lines.{boardLine, patchLine, trackRefused, trackLaid, liftLine, stripLine, fileLine}
+use Rattle.lines.specs.Lines.{boardLine, patchLine, trackRefused, trackLaid, liftLine, legLine}
+use Rattle.lines.specs.Lines.{stripLine, fileLine}
 
 -- the line of a lay, which is refused or lays a track
 unfoldable pub trackLine : ℕ → Answer → List ℕ
@@ -17,14 +18,17 @@ trackLine net (refused n) = trackRefused net n
 trackLine net accepted = []
 trackLine net (laid cs n) = trackLaid net n cs
 trackLine net (found n) = []
+trackLine net (wrote bs) = []
 
--- the line of a step; no record holds a look up
+-- the line of a step; no record holds a look up or a save
 unfoldable pub stepLine : Step → Answer → List ℕ
 stepLine (newFoil W H d) a = boardLine (numberOf a)
 stepLine (draw x0 y0 x1 y1) a = patchLine (numberOf a)
 stepLine (lay net S T) a = trackLine net a
 stepLine (lift net) a = liftLine net (numberOf a)
 stepLine (lookUp p) a = []
+stepLine (putLeg e) a = legLine (e .net) (numberOf a)
+stepLine save a = []
 
 -- the lines of the steps that were answered
 unfoldable pub stepLines : List Step → List Answer → List ℕ

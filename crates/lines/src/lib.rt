@@ -4,17 +4,18 @@
 mod put;
 
 use foil_spec::Strip;
-use put::put_bytes;
 use put::put_corners;
 use put::put_item;
-use put::put_number;
+use putting::put_bytes;
+use putting::put_number;
 ghost use Prim.Native.Nat.{_+_, _*_, _≤_};
 ghost use mathlib.Core.List.{_++_};
 ghost use lib.ListN.{length};
 ghost use Rattle.foil_spec.specs.Lent.{cornersIn};
-ghost use Rattle.lines.specs.Lines.{ascii, item, boardLine, patchLine, trackRefused};
-ghost use Rattle.lines.specs.Lines.{trackLaid, liftLine, stripLine, fileLine};
-ghost use Rattle.lines.specs.Put.{Put};
+ghost use Rattle.putting.specs.Put.{Put};
+ghost use Rattle.putting.specs.Text.{ascii};
+ghost use Rattle.lines.specs.Lines.{item, boardLine, patchLine, trackRefused, trackLaid};
+ghost use Rattle.lines.specs.Lines.{liftLine, legLine, stripLine, fileLine};
 
 // The line of a new foil: the refusal number, 0 if accepted.
 pub fn board_line(out: &mut [u8], at: usize, number: u8) -> usize
@@ -74,6 +75,15 @@ pub fn lift_line(out: &mut [u8], at: usize, net: u16, number: u8) -> usize
     ensures { λ r. ⌜ r ≤ at + 64 ⌝ }
 {
     net_line(out, at, b"lift", net, number)
+}
+
+// The line of a leg: the net and the refusal number, 0 if accepted.
+pub fn leg_line(out: &mut [u8], at: usize, net: u16, number: u8) -> usize
+    requires { ⌜ at + 64 ≤ length (now out) ⌝ }
+    ensures { λ r. ⌜ Put (now (out .entry)) at (legLine net number) (now (out .exit)) r ⌝ }
+    ensures { λ r. ⌜ r ≤ at + 64 ⌝ }
+{
+    net_line(out, at, b"leg", net, number)
 }
 
 // The line of a strip: its ends.

@@ -1,36 +1,14 @@
-// Bytes, numbers and corners written at a place of a lent list. Each function answers the place after them.
+// Numbers and corners written at a place of a lent list. Each function answers the place after them.
 use foil_spec::Point;
 use foil_spec::corner_at;
+use putting::put_bytes;
+use putting::put_number;
 ghost use Prim.Native.Nat.{_+_, _*_, _≤_};
 ghost use lib.ListN.{length};
 ghost use Rattle.foil_spec.specs.Lists.{each};
 ghost use Rattle.foil_spec.specs.Lent.{cornersIn};
-ghost use Rattle.lines.specs.Lines.{decimal, item, cornerItem};
-ghost use Rattle.lines.specs.Put.{Put};
-
-// Puts the bytes there.
-pub fn put_bytes(out: &mut [u8], at: usize, bytes: &[u8]) -> usize
-    requires { ⌜ at + length (now bytes) ≤ length (now out) ⌝ }
-    ensures { λ r. ⌜ Put (now (out .entry)) at (now (bytes .entry)) (now (out .exit)) r ⌝ }
-{
-    let mut i = 0;
-    while i < bytes.len() {
-        out[at + i] = bytes[i];
-        i += 1;
-    }
-    at + i
-}
-
-// Puts a number in decimal, which has 20 digits at most.
-pub fn put_number(out: &mut [u8], at: usize, n: u64) -> usize
-    requires { ⌜ at + 20 ≤ length (now out) ⌝ }
-    ensures { λ r. ⌜ Put (now (out .entry)) at (decimal n) (now (out .exit)) r ⌝ }
-    ensures { λ r. ⌜ r ≤ at + 20 ⌝ }
-{
-    let mut text = [0u8; 20];
-    let k = io::decimal(n, &mut text);
-    put_bytes(out, at, &text[..k])
-}
+ghost use Rattle.putting.specs.Put.{Put};
+ghost use Rattle.lines.specs.Lines.{item, cornerItem};
 
 // Puts a blank and a number of 16 bits, which are 6 bytes at most.
 pub fn put_item(out: &mut [u8], at: usize, n: u16) -> usize

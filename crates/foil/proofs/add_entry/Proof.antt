@@ -6,7 +6,7 @@ use borrow.Author.Needs.{needs}
 use Rattle.foil.proofs.add_entry.Statement.{statement}
 use Rattle.foil.proofs.add_entry.Tie as tie
 
--- back to the start, where the test fails, rows, copy_front, append and settle
+-- back to the start, where the test fails, copy_front, append and settle
 abbrev atStart : tie.After-slice-known2 → tie.Start
 atStart c = c .before .before
 
@@ -21,9 +21,6 @@ afterAppend c = c .before .before .before .before
 
 abbrev afterSettle : tie.After-slice-known4 → tie.After-settle
 afterSettle c = c .before .before .before .before
-
-abbrev afterRows : tie.After-slice-known4 → tie.After-rows
-afterRows c = afterCopyFront (afterSettle c .before) .before .before
 
 refuse-requires : tie.Need-refuse-requires
 refuse-requires c κs = search needs
@@ -51,26 +48,18 @@ add-settle : tie.Need-add-settle
 add-settle c = search needs
 
 settle-requires : tie.Need-settle-requires
-settle-requires c κs = (
-  added-table _ _ _ (atStart (inElse (afterCopyFront c .before) .before) .pre .0) _ (atStart (inElse (afterCopyFront c .before) .before) .pre .1 .0) _ (inElse (afterCopyFront c .before)
-      .if1 .left) (atStart (inElse (afterCopyFront c .before) .before) .pre .1 .1) _ _
-      (afterCopyFront c .copy-front .ensures)
-      (afterAppend c .append .ensures),
-  (
-    added-again _ _ _ (atStart (inElse (afterCopyFront c .before) .before) .pre .0) _ (atStart (inElse (afterCopyFront c .before) .before) .pre .1 .0) _
-        (inElse (afterCopyFront c .before) .if1 .left)
-        (atStart (inElse (afterCopyFront c .before) .before) .pre .1
-        .1) _ _
-        (afterCopyFront c .copy-front .ensures)
-        (afterAppend c .append .ensures),
-    (
-      sound-long _ (atStart (inElse (afterCopyFront c .before) .before) .pre .0) .table,
-      sound-long _
-          (atStart (inElse (afterCopyFront c .before) .before) .pre
-          .0) .strips,
-    ),
-  ),
-)
+settle-requires c κs =
+    let copied = afterCopyFront c in
+    let few = inElse (copied .before) in
+    let start = atStart (few .before) in (
+      added-table _ _ _ (start .pre .0) _ (start .pre .1 .0) _ (few .if1 .left) (start .pre .1 .1) _ _
+          (copied .copy-front .ensures) (afterAppend c .append .ensures),
+      (
+        added-again _ _ _ (start .pre .0) _ (start .pre .1 .0) _ (few .if1 .left) (start .pre .1 .1) _ _
+            (copied .copy-front .ensures) (afterAppend c .append .ensures),
+        (sound-long _ (start .pre .0) .table, sound-long _ (start .pre .0) .strips),
+      ),
+    )
 
 same-length : tie.Need-same-length
 same-length c = search needs
@@ -79,13 +68,13 @@ same-length-2 : tie.Need-same-length-2
 same-length-2 c = search needs
 
 returns-2 : tie.Need-returns-2
-returns-2 c = entry-added _ _ _
-    (atStart (afterRows c .before .before) .pre .0) _
-    (atStart (afterRows c .before .before) .pre .1 .0) _
-    (afterRows c .before .if1 .left) (atStart (afterRows c .before .before) .pre .1 .1) _ _
-    (afterCopyFront (afterSettle c .before) .copy-front
-    .ensures) (afterAppend (afterSettle c .before) .append .ensures) _ _ _
-    (afterSettle c .settle .ensures)
+returns-2 c =
+    let rows = afterSettle c .before in
+    let copied = afterCopyFront rows in
+    let few = inElse (copied .before) in
+    let start = atStart (few .before) in
+    entry-added _ _ _ (start .pre .0) _ (start .pre .1 .0) _ (few .if1 .left) (start .pre .1 .1) _ _
+    (copied .copy-front .ensures) (afterAppend rows .append .ensures) _ _ _ (afterSettle c .settle .ensures)
 
 pub add-entry-spec : {M : Type 1} → statement M
 add-entry-spec =

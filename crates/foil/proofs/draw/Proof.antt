@@ -3,17 +3,17 @@ use mathlib.Core.Path.{refl}
 use native.Mathlib.Omega.{arith}
 use Rattle.foil_spec.specs.Limits.{maxEntries}
 use Rattle.foil_spec.specs.Ledger.{reads}
-use Rattle.foil.proofs.Giving.{sound-room, limit-is, lent-refused}
+use Rattle.foil.proofs.Giving.{sound-room, passed-sound, checked-by, limit-is, lent-refused}
 use borrow.Author.Needs.{needs}
 use Rattle.foil.proofs.draw.Statement.{statement}
 use Rattle.foil.proofs.draw.Tie as tie
 
--- back to enum_told and draw_in
-abbrev afterEnumTold : tie.After-slice-known4 → tie.After-enum-told
-afterEnumTold c = c .before .before .before .before .before .before .before
-
+-- back to draw_in, and from there to enum_told
 abbrev afterDrawIn : tie.After-slice-known4 → tie.After-draw-in
 afterDrawIn c = c .before .before .before .before
+
+abbrev afterEnumTold : tie.After-draw-in → tie.After-enum-told
+afterEnumTold c = c .before .before .before
 
 lent-refusal-requires : tie.Need-lent-refusal-requires
 lent-refusal-requires c κs = search needs
@@ -32,18 +32,18 @@ same-length-2 c = search needs
 
 returns : tie.Need-returns
 unfolding reads
-returns c = lent-refused _ _ _ _ (c .refuse .ensures) refl _ _
-    (rw (c .before .before .checked .given .1) at (c .before .before .before .before .lent-refusal .ensures))
+returns c =
+    let told = c .before .before in
+    lent-refused _ _ _ _ (c .refuse .ensures) refl _ _
+    (checked-by _ _ (told .before .before .lent-refusal .ensures) _ (told .checked .given .1))
 
 enum-told : tie.Need-enum-told
 enum-told c = search needs
 
 draw-in-requires : tie.Need-draw-in-requires
-draw-in-requires c κs = (
-  (rw (c .before .before .enum-told .given .1) at
-      (c .before .before .before .before .lent-refusal .ensures)),
-  omega arith,
-)
+draw-in-requires c κs =
+    let told = c .before .before in
+    (passed-sound _ _ (told .before .before .lent-refusal .ensures) (told .enum-told .given .1), omega arith)
 
 same-length-3 : tie.Need-same-length-3
 same-length-3 c = search needs
@@ -52,10 +52,10 @@ same-length-4 : tie.Need-same-length-4
 same-length-4 c = search needs
 
 returns-2 : tie.Need-returns-2
-returns-2 c = afterDrawIn c .draw-in .ensures _
-    (sound-room _ (rw (afterEnumTold c .enum-told .given .1) at
-    (c .before .before .before .before .before .before .before .before .before .lent-refusal .ensures)) maxEntries 0)
-    (limit-is _ _ _)
+returns-2 c =
+    let told = afterEnumTold (afterDrawIn c) in
+    let g = passed-sound _ _ (told .before .before .lent-refusal .ensures) (told .enum-told .given .1) in
+    afterDrawIn c .draw-in .ensures _ (sound-room _ g maxEntries 0) (limit-is _ _ _)
 
 pub draw-spec : {M : Type 1} → statement M
 draw-spec =

@@ -1,17 +1,17 @@
 -- `foil::lift` refuses by 12 and 13, and else is `lift_in`.
 use mathlib.Core.Path.{refl}
 use Rattle.foil_spec.specs.Ledger.{reads}
-use Rattle.foil.proofs.Giving.{sound-room, lent-refused}
+use Rattle.foil.proofs.Giving.{sound-room, passed-sound, checked-by, lent-refused}
 use borrow.Author.Needs.{needs}
 use Rattle.foil.proofs.lift.Statement.{statement}
 use Rattle.foil.proofs.lift.Tie as tie
 
--- back to enum_told and lift_in
-abbrev afterEnumTold : tie.After-slice-known4 → tie.After-enum-told
-afterEnumTold c = c .before .before .before .before .before .before .before
-
+-- back to lift_in, and from there to enum_told
 abbrev afterLiftIn : tie.After-slice-known4 → tie.After-lift-in
 afterLiftIn c = c .before .before .before .before
+
+abbrev afterEnumTold : tie.After-lift-in → tie.After-enum-told
+afterEnumTold c = c .before .before .before
 
 lent-refusal-requires : tie.Need-lent-refusal-requires
 lent-refusal-requires c κs = search needs
@@ -30,15 +30,18 @@ same-length-2 c = search needs
 
 returns : tie.Need-returns
 unfolding reads
-returns c = lent-refused _ _ _ _ (c .refuse .ensures) refl _ _
-    (rw (c .before .before .checked .given .1) at (c .before .before .before .before .lent-refusal .ensures))
+returns c =
+    let told = c .before .before in
+    lent-refused _ _ _ _ (c .refuse .ensures) refl _ _
+    (checked-by _ _ (told .before .before .lent-refusal .ensures) _ (told .checked .given .1))
 
 enum-told : tie.Need-enum-told
 enum-told c = search needs
 
 lift-in-requires : tie.Need-lift-in-requires
-lift-in-requires c κs = (rw (c .before .before .enum-told .given .1) at
-    (c .before .before .before .before .lent-refusal .ensures))
+lift-in-requires c κs =
+    let told = c .before .before in
+    passed-sound _ _ (told .before .before .lent-refusal .ensures) (told .enum-told .given .1)
 
 same-length-3 : tie.Need-same-length-3
 same-length-3 c = search needs
@@ -47,9 +50,10 @@ same-length-4 : tie.Need-same-length-4
 same-length-4 c = search needs
 
 returns-2 : tie.Need-returns-2
-returns-2 c = afterLiftIn c .lift-in .ensures _
-    (sound-room _ (rw (afterEnumTold c .enum-told .given .1) at
-    (c .before .before .before .before .before .before .before .before .before .lent-refusal .ensures)) _ _)
+returns-2 c =
+    let told = afterEnumTold (afterLiftIn c) in
+    let g = passed-sound _ _ (told .before .before .lent-refusal .ensures) (told .enum-told .given .1) in
+    afterLiftIn c .lift-in .ensures _ (sound-room _ g _ _)
 
 pub lift-spec : {M : Type 1} → statement M
 lift-spec =

@@ -1,7 +1,7 @@
 -- `lines::net_line` meets its contract: the word, the net, the number and the line feed, one after the other.
 use native.Mathlib.Omega.{arith}
 use borrow.Author.Needs.{needs}
-use Rattle.lines.proofs.Putting.{put-then}
+use Rattle.putting.proofs.Putting.{put-then}
 use Rattle.lines.proofs.net_line.Statement.{statement}
 use Rattle.lines.proofs.net_line.Tie as tie
 

@@ -2,7 +2,7 @@
 use native.Mathlib.Omega.{arith}
 use borrow.Author.Needs.{needs}
 use Rattle.lines.specs.Lines.{stripLine}
-use Rattle.lines.proofs.Putting.{put-then}
+use Rattle.putting.proofs.Putting.{put-then}
 use Rattle.lines.proofs.strip_line.Statement.{statement}
 use Rattle.lines.proofs.strip_line.Tie as tie
 

@@ -2,7 +2,7 @@
 use native.Mathlib.Omega.{arith}
 use borrow.Author.Needs.{needs}
 use Rattle.lines.specs.Lines.{trackLaid, item}
-use Rattle.lines.proofs.Putting.{put-then}
+use Rattle.putting.proofs.Putting.{put-then}
 use Rattle.lines.proofs.track_laid.Statement.{statement}
 use Rattle.lines.proofs.track_laid.Tie as tie
 

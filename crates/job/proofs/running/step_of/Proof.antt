@@ -3,13 +3,13 @@ use native.Mathlib.Omega.{arith}
 use mathlib.Core.Path.{_≡_}
 use Rattle.foil_spec.specs.Job.{fieldCount}
 use Rattle.job.proofs.Places.{field-ready}
-use Rattle.job.proofs.Bits.{ready-sound, does-board, does-patch, does-track, does-lift}
+use Rattle.job.proofs.Bits.{ready-sound, does-board, does-patch, does-track, does-lift, does-leg}
 use borrow.Author.Needs.{needs}
 use Rattle.job.proofs.running.step_of.Statement.{statement}
 use Rattle.job.proofs.running.step_of.Tie as tie
 
 -- back to the start, field, field3, new_foil_in, where test 2 holds, field4, field7, draw_in, where test 2 fails,
--- where test 3 holds, field9, field12, lay_in, where test 3 fails and lift_in
+-- where test 3 holds, field9, field12, lay_in, where test 4 holds, lift_in, where test 4 fails and put_leg_in
 abbrev atStartFromThen1 : tie.Then1 → tie.Start
 atStartFromThen1 c = c .before .before .before .before .before
 
@@ -46,11 +46,17 @@ inThen3 c = c .before .before
 abbrev afterLayIn : tie.After-slice-known10 → tie.After-lay-in
 afterLayIn c = c .before .before .before .before .before .before
 
-abbrev inElse3 : tie.After-lift-in-arg2 → tie.Else3
-inElse3 c = c .before .before
+abbrev inThen4 : tie.After-lift-in-arg2 → tie.Then4
+inThen4 c = c .before .before
 
 abbrev afterLiftIn : tie.After-slice-known12 → tie.After-lift-in
 afterLiftIn c = c .before .before .before .before
+
+abbrev inElse4 : tie.After-put-leg-in-arg2 → tie.Else4
+inElse4 c = c .before .before
+
+abbrev afterPutLegIn : tie.After-slice-known14 → tie.After-put-leg-in
+afterPutLegIn c = c .before .before .before .before
 
 abbrev afterField : tie.After-slice-known5 → tie.After-field
 afterField c = afterField3 c .before .before
@@ -60,6 +66,19 @@ afterField12 c = afterLayIn c .before .before .before .before
 
 abbrev afterField9 : tie.After-slice-known10 → tie.After-field9
 afterField9 c = afterField12 c .before .before .before
+
+-- past all tests only the last bit is left
+last-bit : (c : tie.Else4) → atStart (c .before .before) .args .k ≡ 4
+last-bit c =
+    let neither = c .before .before in
+    omega (
+      arith,
+      atStart neither .pre .0 .bit,
+      neither .before .if1 .left,
+      neither .if2 .left,
+      c .before .if3 .left,
+      c .if4 .left,
+    )
 
 field-requires : tie.Need-field-requires
 unfolding fieldCount
@@ -171,19 +190,13 @@ returns-3 c = does-track _ _ _ _ _ _ _ _ _ _ (inThen3 (afterField9 c) .if3 .take
 
 field-requires-13 : tie.Need-field-requires-13
 unfolding fieldCount
-field-requires-13 c κs = let e : atStart (inElse3 c .before) .args .k
-    ≡ 3 = omega (
-      arith,
-      atStart (inElse3 c .before) .pre .0 .bit,
-      inElse3 c .before .before .if1 .left,
-      inElse3 c .before .if2 .left,
-      inElse3 c .if3 .left,
-    ) in
-    field-ready _ _ (atStart (inElse3 c .before) .pre .0) 3 0 e (omega arith)
+field-requires-13 c κs = field-ready _ _ (atStart (inThen4 c .before .before) .pre .0) 3 0 (inThen4 c .if4 .taken)
+    (omega arith)
 
 lift-in-requires : tie.Need-lift-in-requires
-lift-in-requires c κs = ready-sound (atStart (inElse3 (c .before) .before) .pre .0)
-    (inElse3 (c .before) .before .before .if1 .left)
+lift-in-requires c κs =
+    let neither = inThen4 (c .before) .before .before in
+    ready-sound (atStart neither .pre .0) (neither .before .if1 .left)
 
 same-length-8 : tie.Need-same-length-8
 same-length-8 c = search needs
@@ -192,15 +205,32 @@ same-length-9 : tie.Need-same-length-9
 same-length-9 c = search needs
 
 returns-4 : tie.Need-returns-4
-returns-4 c = let e : atStart (inElse3 (afterLiftIn c .before .before) .before) .args .k
-    ≡ 3 = omega (
-      arith,
-      atStart (inElse3 (afterLiftIn c .before .before) .before) .pre .0 .bit,
-      inElse3 (afterLiftIn c .before .before) .before .before .if1 .left,
-      inElse3 (afterLiftIn c .before .before) .before .if2 .left,
-      inElse3 (afterLiftIn c .before .before) .if3 .left,
-    ) in
-    does-lift _ _ _ _ _ _ _ _ _ e _ (afterLiftIn c .before .field13 .ensures) (afterLiftIn c .lift-in .ensures)
+returns-4 c =
+    let done = afterLiftIn c in
+    does-lift _ _ _ _ _ _ _ _ _ (inThen4 (done .before .before) .if4 .taken) _ (done .before .field13 .ensures)
+    (done .lift-in .ensures)
+
+leg-of-requires : tie.Need-leg-of-requires
+unfolding fieldCount
+leg-of-requires c κs =
+    field-ready _ _ (atStart (inElse4 c .before .before) .pre .0) 4 4 (last-bit (inElse4 c)) (omega arith)
+
+put-leg-in-requires : tie.Need-put-leg-in-requires
+put-leg-in-requires c κs =
+    let neither = inElse4 (c .before) .before .before in
+    (ready-sound (atStart neither .pre .0) (neither .before .if1 .left), atStart neither .pre .1)
+
+same-length-10 : tie.Need-same-length-10
+same-length-10 c = search needs
+
+same-length-11 : tie.Need-same-length-11
+same-length-11 c = search needs
+
+returns-5 : tie.Need-returns-5
+returns-5 c =
+    let done = afterPutLegIn c in
+    does-leg _ _ _ _ _ _ _ _ _ (last-bit (inElse4 (done .before .before))) _ (done .before .leg-of .ensures)
+    (done .put-leg-in .ensures)
 
 pub step-of-spec : {M : Type 1} → statement M
 step-of-spec =
@@ -208,4 +238,5 @@ step-of-spec =
     same-length-2 returns field-requires-4 field-requires-5 field-requires-6 field-requires-7 draw-in-requires
     same-length-3 same-length-4 returns-2 field-requires-8 field-requires-9 field-requires-10 field-requires-11
     field-requires-12 lay-in-requires same-length-5 same-length-6 same-length-7 returns-3 field-requires-13
-    lift-in-requires same-length-8 same-length-9 returns-4)
+    lift-in-requires same-length-8 same-length-9 returns-4 leg-of-requires put-leg-in-requires same-length-10
+    same-length-11 returns-5)

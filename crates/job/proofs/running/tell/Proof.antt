@@ -4,9 +4,9 @@ use borrow.Author.Needs.{needs}
 use Rattle.job.proofs.running.tell.Statement.{statement}
 use Rattle.job.proofs.running.tell.Tie as tie
 
--- back to newer
-abbrev afterNewer : tie.After-newer4 → tie.After-newer
-afterNewer c = c .before .before .before
+-- back to newer2
+abbrev afterNewer2 : tie.After-newer5 → tie.After-newer2
+afterNewer2 c = c .before .before .before
 
 newer-requires : tie.Need-newer-requires
 newer-requires c κs = search needs
@@ -20,9 +20,15 @@ newer-requires-3 c κs = search needs
 newer-requires-4 : tie.Need-newer-requires-4
 newer-requires-4 c κs = search needs
 
+newer-requires-5 : tie.Need-newer-requires-5
+newer-requires-5 c κs = search needs
+
 returns : tie.Need-returns
-returns c = tell-all _ _ _ _ _ _ _ (afterNewer c .newer .ensures) (c .before .before .newer2 .ensures)
-    (c .before .newer3 .ensures) (c .newer4 .ensures)
+returns c =
+    let second = afterNewer2 c in
+    tell-all _ _ _ _ _ _ _ _ (second .before .newer .ensures) (second .newer2 .ensures)
+    (c .before .before .newer3 .ensures) (c .before .newer4 .ensures) (c .newer5 .ensures)
 
 pub tell-spec : {M : Type 1} → statement M
-tell-spec = tie.close (tie.spec newer-requires newer-requires-2 newer-requires-3 newer-requires-4 returns)
+tell-spec =
+    tie.close (tie.spec newer-requires newer-requires-2 newer-requires-3 newer-requires-4 newer-requires-5 returns)

@@ -2,8 +2,8 @@
 use native.Mathlib.Omega.{arith}
 use borrow.Author.Needs.{needs}
 use Rattle.lines.specs.Lines.{cornerItem}
-use Rattle.lines.proofs.Decimals.{decimal-short}
-use Rattle.lines.proofs.Putting.{put-then}
+use Rattle.putting.proofs.Decimals.{decimal-short}
+use Rattle.putting.proofs.Putting.{put-then}
 use Rattle.lines.proofs.put.put_corner.Statement.{statement}
 use Rattle.lines.proofs.put.put_corner.Tie as tie
 

@@ -1,12 +1,12 @@
 -- `lines::put::put_corners` meets its contract: the loop has put the first k corners.
 use Prim.Native.Nat.{_+_, _-_, _*_, _≤_}
 use native.Mathlib.Omega.{arith}
+use mathlib.Core.Path.{_≡_}
 use Rattle.foil_spec.specs.Lists.{each}
-use Rattle.foil_spec.specs.Lent.{cornersIn}
+use Rattle.foil_spec.specs.Lent.{cornerAt, cornersIn}
 use Rattle.lines.specs.Lines.{cornerItem}
-use Rattle.lines.specs.Put.{Put}
-use Rattle.lines.proofs.Putting.{put-length}
-use Rattle.lines.proofs.Corners.{corners-none, corners-more, corners-all}
+use Rattle.putting.specs.Put.{Put}
+use Rattle.putting.proofs.Putting.{put-length, put-none, row-more}
 use Rattle.lines.proofs.put.put_corners.Statement.{statement}
 use Rattle.lines.proofs.put.put_corners.Tie as tie
 
@@ -17,7 +17,10 @@ Inv-loop out₀ at corners count a₀ k₀ out a k =
 abbrev μ-loop : tie.MeasureT-loop
 μ-loop out₀ at corners count a₀ k₀ out a k = count - k
 
--- back to the loop's head and the loop's turn
+-- back to the start, the loop's head and the loop's turn
+abbrev atStart : tie.After-loop Inv-loop μ-loop → tie.Start Inv-loop μ-loop
+atStart c = c .before .before .before .before
+
 abbrev atLoop : tie.After-corner-at Inv-loop μ-loop → tie.At-loop Inv-loop μ-loop
 atLoop c = c .before .before .before
 
@@ -25,7 +28,8 @@ abbrev inLoop : tie.After-slice-known2 Inv-loop μ-loop → tie.In-loop Inv-loop
 inLoop c = c .before .before .before .before .before
 
 loop-holds : tie.Need-loop-holds Inv-loop μ-loop
-loop-holds c = (omega arith, corners-none _ _ _ (omega arith), omega arith)
+unfolding cornersIn
+loop-holds c = (omega arith, put-none _ _ (omega arith), omega arith)
 
 corner-at-requires : tie.Need-corner-at-requires Inv-loop μ-loop
 corner-at-requires c κs = omega arith
@@ -40,18 +44,22 @@ loop-less : tie.Need-loop-less Inv-loop μ-loop
 loop-less c = omega arith
 
 loop-again : tie.Need-loop-again Inv-loop μ-loop
-loop-again c = (
-  omega arith,
-  corners-more _ _ (inLoop c .before .loop .inv .1)
-      (rw (c .before .before .before .corner-at .ensures) at (c .before .before .put-corner .ensures .0)),
-  omega arith,
-)
+unfolding cornersIn
+loop-again c =
+    let put = c .before .before in (
+      omega arith,
+      row-more cornerItem (cornerAt _) _ (inLoop c .before .loop .inv .1)
+          (rw (put .before .corner-at .ensures) at (put .put-corner .ensures .0)),
+      omega arith,
+    )
 
 same-length : tie.Need-same-length Inv-loop μ-loop
 same-length c = put-length (c .before .loop .inv .1)
 
 returns : tie.Need-returns Inv-loop μ-loop
-returns c = (corners-all _ _ _ (omega arith) (omega arith) (c .before .loop .inv .1), omega arith)
+returns c =
+    let all : c .before .loop .k ≡ atStart c .args .count = omega arith in
+    (rw (← all) (c .before .loop .inv .1), omega arith)
 
 pub put-corners-spec : {M : Type 1} → statement M
 put-corners-spec =

@@ -1,0 +1,37 @@
+-- The five numbers, one after the other.
+use Rattle.foil_spec.specs.Foil.{entry}
+use Rattle.foil_spec.specs.Ledger.{putLeg}
+use Rattle.foil_spec.specs.Job.{stepAt}
+use borrow.Author.Needs.{needs}
+use Rattle.job.proofs.fields.leg_of.Statement.{statement}
+use Rattle.job.proofs.fields.leg_of.Tie as tie
+
+-- back to field3
+abbrev afterField3 : tie.After-field5 → tie.After-field3
+afterField3 c = c .before .before
+
+field-requires : tie.Need-field-requires
+field-requires c κs = search needs
+
+field-requires-2 : tie.Need-field-requires-2
+field-requires-2 c κs = search needs
+
+field-requires-3 : tie.Need-field-requires-3
+field-requires-3 c κs = search needs
+
+field-requires-4 : tie.Need-field-requires-4
+field-requires-4 c κs = search needs
+
+field-requires-5 : tie.Need-field-requires-5
+field-requires-5 c κs = search needs
+
+returns : tie.Need-returns
+unfolding stepAt
+returns c =
+    let third = afterField3 c in
+    λ i. putLeg (entry (third .before .before .field .ensures i) (third .before .field2 .ensures i)
+    (third .field3 .ensures i) (c .before .field4 .ensures i) (c .field5 .ensures i))
+
+pub leg-of-spec : {M : Type 1} → statement M
+leg-of-spec =
+    tie.close (tie.spec field-requires field-requires-2 field-requires-3 field-requires-4 field-requires-5 returns)
