@@ -3,7 +3,7 @@ use native.Mathlib.Omega.{arith}
 use mathlib.Core.Path.{refl}
 use Rattle.foil_spec.specs.Limits.{maxEntries}
 use Rattle.foil_spec.specs.Ledger.{reads}
-use Rattle.foil.proofs.Giving.{sound-room, limit-is, lent-refused}
+use Rattle.foil.proofs.Giving.{sound-room, passed-sound, checked-by, limit-is, lent-refused}
 use borrow.Author.Needs.{needs}
 use Rattle.drawn.proofs.book.Statement.{statement}
 use Rattle.drawn.proofs.book.Tie as tie
@@ -38,7 +38,7 @@ unfolding reads
 returns c =
     let told = c .before .before in
     lent-refused _ _ _ _ (c .refuse .ensures) refl _ _
-    (rw (told .checked .given .1) at (told .before .before .lent-refusal .ensures))
+    (checked-by _ _ (told .before .before .lent-refusal .ensures) _ (told .checked .given .1))
 
 enum-told : tie.Need-enum-told
 enum-told c = search needs
@@ -46,7 +46,7 @@ enum-told c = search needs
 book-in-requires : tie.Need-book-in-requires
 book-in-requires c κs =
     let ok = passed c in
-    (rw (ok .enum-told .given .1) at (tested ok .lent-refusal .ensures), omega arith)
+    (passed-sound _ _ (tested ok .lent-refusal .ensures) (ok .enum-told .given .1), omega arith)
 
 same-length-3 : tie.Need-same-length-3
 same-length-3 c = search needs
@@ -58,8 +58,8 @@ returns-2 : tie.Need-returns-2
 returns-2 c =
     let end = body c in
     let ok = passed (end .before) in
-    end .book-in .ensures _
-    (sound-room _ (rw (ok .enum-told .given .1) at (tested ok .lent-refusal .ensures)) maxEntries 0) (limit-is _ _ _)
+    let g = passed-sound _ _ (tested ok .lent-refusal .ensures) (ok .enum-told .given .1) in
+    end .book-in .ensures _ (sound-room _ g maxEntries 0) (limit-is _ _ _)
 
 pub book-spec : {M : Type 1} → statement M
 book-spec =

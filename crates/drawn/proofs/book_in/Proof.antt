@@ -2,6 +2,7 @@
 use native.Mathlib.Omega.{arith}
 use Rattle.ledger_laws.proofs.Sound.{of-sound}
 use Rattle.foil.proofs.Limits.{held-limits, held-table}
+use Rattle.drawn.proofs.Booking.{taken-by, not-taken}
 use Rattle.drawn.proofs.Checking.{no-net, used, no-way, table-full, may-book, too-fine, booked-done}
 use borrow.Author.Needs.{needs}
 use Rattle.drawn.proofs.book_in.Statement.{statement}
@@ -141,7 +142,7 @@ returns-5 c =
     too-fine _ _ _ _ _ _ (pre .1) (pre .0) _ (net .before .net-ok .ensures) (net .if1 .left) _
     (nets .before .in-use .ensures) (nets .if2 .left) _ (list .before .draws-way .ensures) (list .if3 .left) _
     (room .before .before .leg-count .ensures) (room .if4 .left) _ _ _
-    (rw (c .before .enum-told .given .1) at (end .book-path .ensures)) (c .refuse5 .ensures)
+    (not-taken _ (end .book-path .ensures) (c .before .enum-told .given .1)) (c .refuse5 .ensures)
 
 bend-count-requires : tie.Need-bend-count-requires
 bend-count-requires c κs = search needs
@@ -164,7 +165,7 @@ returns-6 c =
     booked-done _ _ _ _ _ _ (pre .1) (pre .0) _ (net .before .net-ok .ensures) (net .if1 .left) _
     (nets .before .in-use .ensures) (nets .if2 .left) _ (list .before .draws-way .ensures) (list .if3 .left) _
     (room .before .before .leg-count .ensures) (room .if4 .left) _ _ _ _ (c .bend-count .ensures)
-    (rw (told .booked .given .1) at (end .book-path .ensures))
+    (taken-by _ (end .book-path .ensures) _ (told .booked .given .1))
 
 pub book-in-spec : {M : Type 1} → statement M
 book-in-spec =
