@@ -16,16 +16,14 @@ use Rattle.foil_spec.specs.Ledger.{reads, refusals, settle, refusalOf}
 use Rattle.foil_spec.specs.Lent.{Lent, lent, layoutOf, held, sound, roomIn, roomOf, stepOn, overFront, outputAfter}
 use Rattle.foil_spec.specs.declared.Board.{Board}
 use Rattle.ledger_laws.proofs.Refusals.{own-refused}
-use Rattle.ledger_laws.proofs.Rules.{of-ok}
-use Rattle.ledger_laws.proofs.Sound.{of-sound, sound-long, sound-store-is}
+use Rattle.ledger_laws.proofs.Sound.{of-sound, sound-store-is}
 use Rattle.ledger_laws.proofs.Drawn.{find-from-9}
-use Rattle.zones.proofs.Tables.{table-of}
 use Rattle.search.specs.Search.{Written}
 use Rattle.foil.specs.Contract.{answerOf, WriteDone, LentChecked}
 use Rattle.foil.specs.declared.Answer.the-variants.{Refused, Laid}
 use Rattle.foil.specs.declared.lent.Checked.the-variants as checked
 use Rattle.foil.proofs.Giving.{sound-room}
-use Rattle.foil.proofs.Limits.{held-limits}
+use Rattle.foil.proofs.Limits.{held-table}
 use Rattle.finding.specs.Points.{PointsChecked}
 use Rattle.finding.specs.Found.{Posed, Found}
 
@@ -34,18 +32,7 @@ pub posed : (b : Board) (t s : List ℕ) (S T : Point) → sound (lent b t s) �
     → PointsChecked (held (lent b t s)) S T checked.Passed
     → Posed t (b .entries) (b .clearance) (b .width) (b .height) S T
 unfolding held layoutOf
-posed b t s S T g y =
-    let m : Lent = lent b t s in
-    let facts = of-sound m g in
-    let limits = held-limits b t s facts in
-    record {
-      table =
-          table-of t (b .entries) (b .clearance) (b .width) (b .height) (limits .few)
-          (omega (arith, sound-long m g .table, limits .few)) (limits .small) (limits .wide) (limits .high)
-          (of-ok (held m) (facts .kept) .entries);
-      s-free = y .0;
-      t-free = y .1;
-    }
+posed b t s S T g y = record { table = held-table b t s g; s-free = y .0; t-free = y .1 }
 
 -- no corners leave a list as it was
 unwritten : (cs : List Point) → 0 ≡ length cs → (out out′ : List ℕ) → Written cs out out′ → out′ ≡ out

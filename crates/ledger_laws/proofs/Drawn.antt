@@ -13,7 +13,8 @@ use Rattle.foil_spec.specs.Lists.{each}
 use Rattle.foil_spec.specs.Foil.{Point, Layout, netOk, free}
 use Rattle.foil_spec.specs.Paths.{at, isPath, isWay, bends}
 use Rattle.foil_spec.specs.Corners.{pointNumbers, drawn}
-use Rattle.foil_spec.specs.Ledger.{pathOf, noPath, cornersOf, inUse, blocked, Room, short, cornerRoom, tooLong, tooFine}
+use Rattle.foil_spec.specs.Nets.{inUse}
+use Rattle.foil_spec.specs.Ledger.{pathOf, noPath, cornersOf, blocked, Room, short, cornerRoom, tooLong, tooFine}
 use Rattle.foil_spec.specs.Ledger.{Step, lay, find, book, Answer, refused, laid, booked, next, says, _⇒_, first}
 use Rattle.foil_spec.specs.Ledger.{reads, refusals, After, settle, refusalOf, ledgerStep}
 use Rattle.foil_spec.specs.Lent.{Lent, store, held, sound, stepOn, overFront, outputAfter}

@@ -9,7 +9,8 @@ use Rattle.foil_spec.specs.Lists.{each}
 use Rattle.foil_spec.specs.Foil.{Point, netOk, free}
 use Rattle.foil_spec.specs.Paths.{at, isPath, bends}
 use Rattle.foil_spec.specs.Corners.{pointNumbers, cornersIn}
-use Rattle.foil_spec.specs.Ledger.{inUse, Room, short, lay, find, book, refused, laid, booked}
+use Rattle.foil_spec.specs.Nets.{inUse}
+use Rattle.foil_spec.specs.Ledger.{Room, short, lay, find, book, refused, laid, booked}
 use Rattle.foil_spec.specs.Lent.{Lent, stepOn, outputAfter}
 use Rattle.path_laws.specs.First.{IsFirst}
 use Rattle.ledger_laws.specs.Moments.{AtEvery}

@@ -1,4 +1,5 @@
 -- `finding::find` refuses by 12 and 13, and else is `find_in`.
+use Rattle.foil.proofs.Giving.{passed-sound, checked-by}
 use Rattle.finding.proofs.Finding.{lent-refused}
 use borrow.Author.Needs.{needs}
 use Rattle.finding.proofs.find.Statement.{statement}
@@ -12,14 +13,17 @@ enum-known-checked c = search needs
 
 returns : tie.Need-returns
 returns c =
-    lent-refused _ _ _ _ _ _ _ (rw (c .before .checked .given .1) at (c .before .before .before .lent-refusal .ensures))
+    let told = c .before in
+    lent-refused _ _ _ _ _ _ _
+    (checked-by _ _ (told .before .before .lent-refusal .ensures) _ (told .checked .given .1))
 
 enum-told : tie.Need-enum-told
 enum-told c = search needs
 
 find-in-requires : tie.Need-find-in-requires
 find-in-requires c κs =
-    rw (c .before .enum-told .given .1) at (c .before .before .before .lent-refusal .ensures)
+    let told = c .before in
+    passed-sound _ _ (told .before .before .lent-refusal .ensures) (told .enum-told .given .1)
 
 same-length : tie.Need-same-length
 same-length c = search needs
