@@ -108,6 +108,20 @@ impl Foil {
         self.book(row)
     }
 
+    // Appends a leg as booked.
+    fn put_leg(&mut self, net: usize, x0: usize, y0: usize, x1: usize, y1: usize) -> usize {
+        if !(1..=999).contains(&net) {
+            return 4;
+        }
+        let on = x0 < x1 && x1 <= self.w && y0 < y1 && y1 <= self.h;
+        if !on || (x1 - x0 > 1 && y1 - y0 > 1) {
+            return 3;
+        }
+        let mut row = self.row.clone();
+        row.push(Entry { net, x0, y0, x1, y1 });
+        self.book(row)
+    }
+
     // The corners of the track, or the number of the refusal.
     fn lay(&mut self, net: usize, s: Point, t: Point) -> Result<Vec<Point>, usize> {
         if !(1..=999).contains(&net) {
@@ -256,7 +270,7 @@ fn run_job(bytes: &[u8], text: &mut String) {
             return line("file 14".into());
         };
         let has = |bit: usize| map >> bit & 1 == 1;
-        if map > 15 {
+        if map > 31 {
             return line("file 15".into());
         }
         if has(0) != (at == 0) {
@@ -271,8 +285,8 @@ fn run_job(bytes: &[u8], text: &mut String) {
             }
             return;
         }
-        let sizes = [3, 4, 5, 1];
-        let size: usize = (0..4).filter(|&bit| has(bit)).map(|bit| 2 * sizes[bit]).sum();
+        let sizes = [3, 4, 5, 1, 5];
+        let size: usize = (0..5).filter(|&bit| has(bit)).map(|bit| 2 * sizes[bit]).sum();
         if bytes.len() < at + 1 + size {
             return line("file 14".into());
         }
@@ -306,6 +320,10 @@ fn run_job(bytes: &[u8], text: &mut String) {
         if has(3) {
             let net = number();
             line(format!("lift {net} {}", foil.lift(net)));
+        }
+        if has(4) {
+            let net = number();
+            line(format!("leg {net} {}", foil.put_leg(net, number(), number(), number(), number())));
         }
     }
 }

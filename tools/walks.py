@@ -514,6 +514,7 @@ def reading(name, core, answer, rest, law):
 STEP = (TABLES % 'whole-done', 'whole-done' + ' _' * 8)
 WRITE = (TABLES % 'whole-wrote', 'whole-wrote' + ' _' * 10)
 RECORD = (RUNNING % 'whole-ran', 'whole-ran' + ' _' * 11)
+READ = (TABLES % 'whole-read', 'whole-read' + ' _' * 8)
 LOOK = (TABLES % 'whole-looked', 'whole-looked' + ' _' * 6)
 OHMS = (TABLES % 'whole-ohms', 'whole-ohms' + ' _' * 7)
 STRIPS, CORNERS = '&mut [u16]', '&mut [u16]'
@@ -521,9 +522,11 @@ changing('new_foil', 'table.clear', 'flat.new_foil', 'Left', 'Answer', [STRIPS] 
 changing('draw', 'table.append', 'flat.draw', 'Left', 'Answer', [STRIPS] + ['u16'] * 4, STEP)
 changing('lay', 'table.append_track', 'flat.lay', 'Left', 'Answer', [STRIPS, CORNERS] + ['u16'] * 5, WRITE)
 changing('lift', 'table.lift', 'flat.lift', 'Left', 'Answer', [STRIPS, 'u16'], STEP)
+changing('put_leg', 'table.append_leg', 'flat.put_leg', 'Left', 'Answer', [STRIPS, 'Entry'], STEP)
 changing('run_record', 'table.run_record', 'records.run_record', 'Ran', 'Reply',
          [STRIPS, CORNERS, '&[u8]', 'usize'], RECORD)
 reading('look_up', 'flat.look_up', 'Answer', ['&[u16]', 'u16', 'u16'], LOOK)
+reading('save', 'flat.save', 'Answer', ['&[u16]', '&mut [u8]'], READ)
 reading('ohms', 'flat.ohms', 'Resistance', ['&[u16]', 'u16', 'Ink'], OHMS)
 
 

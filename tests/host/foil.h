@@ -11,8 +11,9 @@
 #include <stddef.h>
 #include <stdint.h>
 
-/* what a foil's lists must have room for */
-enum { FOIL_ENTRIES = 128, FOIL_STRIPS = 4096 };
+/* what a foil's lists must have room for; and the bytes that are enough to save any foil: 8, 9 for each patch and 11
+   for each leg */
+enum { FOIL_ENTRIES = 128, FOIL_STRIPS = 4096, FOIL_BYTES = 8 + 11 * FOIL_ENTRIES };
 
 /* the board's record */
 struct foil_board {
@@ -26,10 +27,10 @@ struct foil_entry {
 };
 
 /* an answer: the number of a refusal, 0 for none; the numbers of corners and bends after a lay; the strip's place
-   after a look up */
+   after a look up; the number of bytes after a save */
 struct foil_said {
     uint8_t number;
-    size_t corners, bends, place;
+    size_t corners, bends, place, bytes;
 };
 
 /* a step of a record: whether it was run, and its answer */
@@ -43,7 +44,7 @@ struct foil_step {
 struct foil_record {
     uint8_t number;
     bool end;
-    struct foil_step board, patch, track, lift;
+    struct foil_step board, patch, track, lift, leg;
     bool more;
     size_t next;
 };
@@ -76,9 +77,17 @@ struct foil_said foil_lay(struct foil_board *board, struct foil_entry *table, si
 struct foil_said foil_lift(struct foil_board *board, struct foil_entry *table, size_t entries, uint16_t *strips,
                            size_t strip_numbers, uint16_t net);
 
+/* puts a leg as booked: appends its entry, without any search */
+struct foil_said foil_put_leg(struct foil_board *board, struct foil_entry *table, size_t entries, uint16_t *strips,
+                              size_t strip_numbers, struct foil_entry leg);
+
 /* looks a point up */
 struct foil_said foil_look_up(const struct foil_board *board, const struct foil_entry *table, size_t entries,
                               const uint16_t *strips, size_t strip_numbers, uint16_t x, uint16_t y);
+
+/* saves the foil: writes it as a job file to the front of `bytes`; what is lent past its end is not touched */
+struct foil_said foil_save(const struct foil_board *board, const struct foil_entry *table, size_t entries,
+                           const uint16_t *strips, size_t strip_numbers, uint8_t *bytes, size_t byte_count);
 
 /* the ohms of a net */
 struct foil_resistance foil_ohms(const struct foil_board *board, const struct foil_entry *table, size_t entries,

@@ -1,5 +1,6 @@
 /* A host program: the foil of document 01's job, by calls and then as the job's bytes, as a customer's program would
-   make it; and lists in protected pages, which show what a call does not touch: if it did, the program would die. */
+   make it; the foil saved, and read on other lists; and lists in protected pages, which show what a call does not
+   touch: if it did, the program would die. */
 #define _DEFAULT_SOURCE
 #include <stdio.h>
 #include <stdlib.h>
@@ -45,6 +46,18 @@ static void show_lay(unsigned net, struct foil_said said)
     printf("\n");
 }
 
+static void show_leg(uint16_t net, uint16_t x0, uint16_t y0, uint16_t x1, uint16_t y1)
+{
+    struct foil_entry leg = {net, x0, y0, x1, y1};
+    printf("leg %u %u\n", net, foil_put_leg(LENT, leg).number);
+}
+
+static void show_save(uint8_t *bytes, size_t byte_count)
+{
+    struct foil_said said = foil_save(LENT, bytes, byte_count);
+    printf("save %u %zu\n", said.number, said.bytes);
+}
+
 static void show_ohms(unsigned net, double sheet, double width, double bend)
 {
     struct foil_ink ink = {sheet, width, bend};
@@ -53,11 +66,11 @@ static void show_ohms(unsigned net, double sheet, double width, double bend)
 }
 
 /* runs a job file of `count` bytes, record by record */
-static void run_job(size_t count)
+static void run_job(const uint8_t *bytes, size_t count)
 {
     size_t at = 0;
     for (;;) {
-        struct foil_record r = foil_run_record(LENT, CORNERS, job, count, at);
+        struct foil_record r = foil_run_record(LENT, CORNERS, bytes, count, at);
         if (r.number != 0) {
             printf("file %u\n", r.number);
             return;
@@ -71,9 +84,11 @@ static void run_job(size_t count)
         if (r.patch.ran)
             printf("patch %u\n", r.patch.said.number);
         if (r.track.ran)
-            show_lay(job[at + 1] + 256u * job[at + 2], r.track.said);
+            show_lay(bytes[at + 1] + 256u * bytes[at + 2], r.track.said);
         if (r.lift.ran)
             printf("lift %u\n", r.lift.said.number);
+        if (r.leg.ran)
+            printf("leg %u\n", r.leg.said.number);
         if (!r.more)
             return;
         at = r.next;
@@ -120,8 +135,41 @@ static void document_01(void)
     strips[0] = 1;
     printf("lift 5 %u\n", foil_lift(LENT, 5).number);
     /* a job's first record begins the foil anew */
-    run_job(sizeof job);
-    run_job(sizeof job - 1);
+    run_job(job, sizeof job);
+    run_job(job, sizeof job - 1);
+}
+
+/* the same foil with two legs as booked, saved, and its file read on other lists */
+static void saved(void)
+{
+    static struct foil_entry read_table[FOIL_ENTRIES];
+    static uint16_t read_strips[4 * FOIL_STRIPS];
+    static uint8_t bytes[FOIL_BYTES];
+    struct foil_entry *was_table = table;
+    uint16_t *was_strips = strips;
+    size_t k, count;
+    show_leg(5, 0, 0, 1, 2);
+    /* 0 and 1,000 are no track's net; then a leg that goes off the foil, and a shape that is no leg */
+    show_leg(0, 0, 0, 1, 1);
+    show_leg(1000, 9, 9, 9, 9);
+    show_leg(7, 3, 0, 7, 1);
+    show_leg(7, 0, 0, 2, 2);
+    show_leg(7, 5, 0, 6, 4);
+    count = foil_save(LENT, bytes, sizeof bytes).bytes;
+    printf("saved %zu:", count);
+    for (k = 0; k < count; k++)
+        printf(" %02x", bytes[k]);
+    printf("\n");
+    show_save(bytes, count - 1);
+    table = read_table;
+    strips = read_strips;
+    memset(&board, 0, sizeof board);
+    /* nothing is begun on these yet */
+    show_save(bytes, count);
+    run_job(bytes, count);
+    printf("read back: %s table, %s strips\n",
+           memcmp(table, was_table, sizeof read_table) == 0 ? "the same" : "another",
+           memcmp(strips, was_strips, sizeof read_strips) == 0 ? "the same" : "other");
 }
 
 /* pages with a border among them: the first part of a list ends there, and its other places lie behind it */
@@ -174,8 +222,9 @@ static const char *kept(struct pages p)
     return "kept";
 }
 
-/* a table of 200 places and a strip list of 5,000: those past 128 and 4,096 may neither be read nor written */
-static void longer_lists(struct pages t, struct pages s)
+/* a table of 200 places and a strip list of 5,000: those past 128 and 4,096 may neither be read nor written, nor may
+   those of a byte list past the end of the file */
+static void longer_lists(struct pages t, struct pages s, struct pages b)
 {
     struct foil_said said;
     table = (struct foil_entry *)(void *)t.border - FOIL_ENTRIES;
@@ -184,6 +233,7 @@ static void longer_lists(struct pages t, struct pages s)
     strip_numbers = 4 * 5000;
     protect(t.border, t.behind, PROT_NONE);
     protect(s.border, s.behind, PROT_NONE);
+    protect(b.border, b.behind, PROT_NONE);
     printf("board %u\n", foil_new_foil(LENT, 6, 4, 0).number);
     printf("patch %u\n", foil_draw(LENT, 2, 0, 3, 3).number);
     printf("patch %u\n", foil_draw(LENT, 3, 0, 2, 3).number);
@@ -191,15 +241,19 @@ static void longer_lists(struct pages t, struct pages s)
     said = foil_look_up(LENT, 5, 3);
     printf("place %u %zu\n", said.number, said.place);
     printf("lift 5 %u\n", foil_lift(LENT, 5).number);
-    run_job(sizeof job);
+    show_leg(5, 0, 0, 1, 4);
+    show_save(b.border - 28, 28 + b.behind);
+    run_job(job, sizeof job);
     writable(t);
     writable(s);
+    writable(b);
     printf("past 128: %s\n", kept(t));
     printf("past 4096: %s\n", kept(s));
+    printf("past the file: %s\n", kept(b));
 }
 
 /* the lists of a foil, which may only be read while calls are refused: these write to none of them */
-static void refused_calls(struct pages t, struct pages s, struct pages c)
+static void refused_calls(struct pages t, struct pages s, struct pages c, struct pages b)
 {
     /* the record at place 1 lifts net 6, which is not there */
     static const uint8_t lift_6[] = {0x00, 0x08, 0x06, 0x00};
@@ -208,12 +262,16 @@ static void refused_calls(struct pages t, struct pages s, struct pages c)
     read_only(t);
     read_only(s);
     read_only(c);
+    read_only(b);
     printf("board %u\n", foil_new_foil(LENT, 6, 4, 16).number);
     printf("patch %u\n", foil_draw(LENT, 3, 0, 2, 3).number);
     show_lay(5, foil_lay(LENT, CORNERS, 5, 0, 0, 4, 0));
     show_lay(6, foil_lay(LENT, CORNERS, 6, 1, 0, 5, 0));
     show_lay(7, foil_lay(LENT, corners, 1, 7, 1, 0, 1, 2));
     printf("lift 6 %u\n", foil_lift(LENT, 6).number);
+    show_leg(0, 0, 0, 1, 4);
+    show_leg(7, 0, 0, 2, 2);
+    show_save(b.border - 49, 49);
     printf("lift 5 %u\n", foil_lift(&board, table, 127, strips, strip_numbers, 5).number);
     printf("lift 6 %u\n", foil_run_record(LENT, CORNERS, lift_6, sizeof lift_6, 1).lift.said.number);
     printf("file %u\n", foil_run_record(LENT, CORNERS, lift_6, sizeof lift_6, 4).number);
@@ -233,6 +291,7 @@ static void refused_calls(struct pages t, struct pages s, struct pages c)
     read_only(c);
     printf("patch %u\n", foil_draw(LENT, 0, 125, 129, 126).number);
     show_lay(6, foil_lay(LENT, CORNERS, 6, 2, 125, 2, 125));
+    show_leg(6, 2, 125, 3, 126);
     /* a line drawn once more fills the table */
     writable(t);
     writable(s);
@@ -241,6 +300,11 @@ static void refused_calls(struct pages t, struct pages s, struct pages c)
     read_only(s);
     printf("patch %u\n", foil_draw(LENT, 0, 1, 129, 2).number);
     show_lay(6, foil_lay(LENT, CORNERS, 6, 2, 125, 2, 125));
+    show_leg(6, 2, 125, 3, 126);
+    /* the file of a full table, with a byte too few and with as many as it has; the foil's lists are only read */
+    show_save(b.border - 1161, 1161);
+    writable(b);
+    show_save(b.border - 1162, 1162);
 }
 
 int main(void)
@@ -248,8 +312,10 @@ int main(void)
     struct pages t = parted(FOIL_ENTRIES * sizeof(struct foil_entry), 72 * sizeof(struct foil_entry));
     struct pages s = parted(4 * FOIL_STRIPS * sizeof(uint16_t), 4 * 904 * sizeof(uint16_t));
     struct pages c = parted(2 * 8192 * sizeof(uint16_t), 0);
+    struct pages b = parted(FOIL_BYTES, 64);
     document_01();
-    longer_lists(t, s);
-    refused_calls(t, s, c);
+    saved();
+    longer_lists(t, s, b);
+    refused_calls(t, s, c, b);
     return 0;
 }

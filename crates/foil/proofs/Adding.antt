@@ -48,7 +48,8 @@ module _ (b : Board) (t s : List ℕ) (g : sound (lent b t s) ≡ true) (limit :
     unfolding first tooLong
     table-full l r q room is =
         gave-refused _ _ m 10 r
-        (rw (lt-ltb (min maxEntries (room .limit)) (length (held m .entries ++ e ∷ [])) (omega (arith, one-longer))) refl)
+        (rw (lt-ltb (min maxEntries (room .limit)) (length (held m .entries ++ e ∷ [])) (omega (arith, one-longer)))
+        refl)
         q
 
     module _ (few : b .entries < limit) (ok : entryOk (b .width) (b .height) e ≡ true) (rows : List ℕ) (old : List ℕ)

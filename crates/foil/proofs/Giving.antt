@@ -65,6 +65,11 @@ sound-room m g = long-room m (sound-long m g)
 pub passed-sound : (m : Lent) (k : Checked) → LentChecked m k → k ≡ checked.Passed → sound m ≡ true
 passed-sound m k f e = subst (LentChecked m) e f
 
+-- what has not is refused by the number that they gave
+pub checked-by : (m : Lent) (k : Checked) → LentChecked m k → (n : ℕ) → k ≡ checked.Refused n
+    → LentChecked m (checked.Refused n)
+checked-by m k f n e = subst (LentChecked m) e f
+
 -- the room of a call has the limit and the output that it was given
 module _ (limit : ℕ) (m : Lent) (output : ℕ) where
   pub limit-is : roomIn limit m output .limit ≡ limit

@@ -7,22 +7,17 @@ mod show;
 use booking::in_use;
 use figures::ink_of;
 use foil_spec::Board;
-use foil_spec::CORNERS_SIZE;
 use foil_spec::Ink;
 use foil_spec::MAX_ENTRIES;
 use foil_spec::STRIPS_SIZE;
 use foil_spec::TABLE_SIZE;
-use job::Next;
-use job::Reply;
-use job_report::no_board;
-use job_report::run_one;
+use job_foil::Ended;
+use job_foil::run_job;
+use job_foil::tell;
 use ohms::ohms;
 
 // One byte more than a job file may have, so that a longer one is known.
 const BYTES: usize = 60001;
-
-// More records than any file has that is not too long, and one call more for its end.
-const RECORDS: usize = 60001;
 
 fn main() {
     let mut given = [0u8; 24];
@@ -32,49 +27,17 @@ fn main() {
     write_job(&bytes[..n], ink_of(&given));
 }
 
-// Runs the records of a job file in turn, on a foil of its own, and writes what is asked at its end.
+// Runs a job file, and writes the ohms of each net on the foil that it leaves; or the number of what
+// ended the job before its end mark.
 fn write_job(bytes: &[u8], ink: Ink) {
     let mut table = [0u16; TABLE_SIZE];
     let mut strips = [0u16; STRIPS_SIZE];
-    let mut corners = [0u16; CORNERS_SIZE];
-    let mut board = no_board();
-    let mut at: usize = 0;
-    for _ in 0..RECORDS {
-        let done = run_one(&mut table, &mut strips, &mut corners, board, bytes, at);
-        board = done.board;
-        let reply = done.reply;
-        let next = after(reply, &table, &strips, board, ink);
-        let Next::At(place) = next else {
-            return;
-        };
-        at = place;
-    }
-}
-
-// Where the job goes on after a record. At its end the ohms are written; a file that is at fault or a
-// board that is refused ends it too, and its number is written.
-fn after(
-    reply: Reply,
-    table: &[u16; TABLE_SIZE],
-    strips: &[u16; STRIPS_SIZE],
-    board: Board,
-    ink: Ink,
-) -> Next {
-    match reply {
-        Reply::Refused(number) => {
-            show::file(number);
-            Next::Nowhere
-        }
-        Reply::Ran(answers, next) => {
-            let told = answers.board;
-            show::board(told);
-            next
-        }
-        Reply::AtEnd => {
-            write_nets(table, strips, board, ink);
-            Next::Nowhere
-        }
-    }
+    let ended = run_job(&mut table, &mut strips, bytes);
+    let Ended::AtMark(board) = ended else {
+        tell(1, ended);
+        return;
+    };
+    write_nets(&table, &strips, board, ink);
 }
 
 // Writes the ohms of each net on the foil.

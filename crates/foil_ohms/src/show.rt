@@ -1,10 +1,7 @@
-// The lines: `ohms NET 0 BITS`, the f64's bits as 16 hexadecimal digits, or `ohms NET N`; `file N` and
-// `board N` for what ends the job before its end mark.
-use foil::Answer;
+// The lines: `ohms NET 0 BITS`, the f64's bits as 16 hexadecimal digits, or `ohms NET N`.
 use io::print_decimal;
 use io::print_hex;
 use io::write_all;
-use job::Told;
 use ohms::Resistance;
 
 // The answer for a net.
@@ -31,22 +28,4 @@ fn pattern(x: f64) {
         print_hex(1, f64::to_bits(x), 16);
         write_all(1, b"\n");
     }
-}
-
-// The number of a file that is at fault.
-pub(crate) fn file(number: u8) {
-    write_all(1, b"file ");
-    numbered(number);
-}
-
-// The number of a board that is refused.
-pub(crate) fn board(told: Told) {
-    let Told::Said(answer) = told else {
-        return;
-    };
-    let Answer::Refused(number) = answer else {
-        return;
-    };
-    write_all(1, b"board ");
-    numbered(number);
 }

@@ -56,10 +56,12 @@ fn count_steps(counts: &mut [u64; 32], answers: Answers) {
     let patch = answers.patch;
     let track = answers.track;
     let lift = answers.lift;
+    let leg = answers.leg;
     count(counts, board);
     count(counts, patch);
     count(counts, track);
     count(counts, lift);
+    count(counts, leg);
 }
 
 // Counts the steps of a record by its reply, and answers the place of the next one, if there is one.

@@ -1,5 +1,5 @@
 -- From the numbers of a table's first 128 places to the table of entries: said once for whatever a call promises of
--- the table's numbers before and after, then for a step, for a look up and for the ohms.
+-- the table's numbers before and after, then for a step, for a look up, for a step that only reads, and for the ohms.
 use Prim.Native.Nat.{ℕ, _<_, _≤_}
 use native.Mathlib.Omega.{arith}
 use mathlib.Core.Path.{_≡_, refl, sym, ap, ap₂, _∙_, subst, subst₂}
@@ -17,7 +17,7 @@ use Rattle.foil_spec.specs.declared.Ink.{Ink}
 use Rattle.list_laws.proofs.Tests.{lt-or-le}
 use Rattle.list_laws.proofs.Members.{each-append}
 use Rattle.ledger_laws.proofs.Stored.{length-entries, read-back}
-use Rattle.foil.specs.Contract.{Gave, StepDone, OutputDone, Looked, answerOf}
+use Rattle.foil.specs.Contract.{Gave, StepDone, OutputDone, Looked, WriteDone, answerOf}
 use Rattle.foil.specs.declared.Answer.{Answer}
 use Rattle.foil.specs.declared.Done.{Done}
 use Rattle.ohms.specs.Contract.{OhmsAnswered, resistanceOf}
@@ -25,7 +25,7 @@ use Rattle.ohms.specs.declared.Resistance.{Resistance}
 use Rattle.host.specs.declared.flat.Flat.{Flat}
 use Rattle.host.specs.declared.flat.Left.{Left}
 use Rattle.host.specs.Flats.{numbersLent, entriesOf, frontOf, overFront}
-use Rattle.host.specs.Calls.{HostDone, HostWrote, HostLooked, HostOhms, FlatDone, FlatWrote}
+use Rattle.host.specs.Calls.{HostDone, HostWrote, HostLooked, HostRead, HostOhms, FlatDone, FlatWrote}
 use Rattle.host.proofs.Flats.{front-places, loaded, stored, lent-on}
 use Rattle.host.proofs.Fronts.{longer, Alike, alike, step-longer, ohms-longer}
 
@@ -45,7 +45,9 @@ numbers-same es es′ e =
 
 -- a table's numbers are those of its first 128 places, then the others
 fronts : (es : List Entry) → numbers (take maxEntries es) ++ numbers (drop maxEntries es) ≡ numbers es
-fronts es = sym (each-append entryNumbers (take maxEntries es) (drop maxEntries es)) ∙ ap numbers (take-append-drop maxEntries es)
+fronts es =
+    sym (each-append entryNumbers (take maxEntries es) (drop maxEntries es))
+    ∙ ap numbers (take-append-drop maxEntries es)
 
 -- the numbers of a call, written to the front of those that it was lent
 abbrev pub written-over : Flat → List ℕ → ℕ → Flat
@@ -79,7 +81,8 @@ module _ (P : List ℕ → List ℕ → Type 0) where
         subst₂ P (sym (ap (λ (x : List ℕ). front ++ x) none ∙ append-nil front))
         (sym (ap (λ (x : List ℕ). numbers es′ ++ x) none ∙ append-nil (numbers es′))) d)
         (λ (l : maxEntries ≤ length es).
-        more front (numbers es′) rest (omega (arith, l, length-entries (take maxEntries es), length-take maxEntries es)) d)
+        more front (numbers es′) rest
+        (omega (arith, l, length-entries (take maxEntries es), length-take maxEntries es)) d)
         (lt-or-le (length es) maxEntries)
 
     -- the table is loaded, something is done to the numbers, and these are stored
@@ -182,6 +185,31 @@ whole-looked p b es t s a front d = on-table (LooksUp p b s a) (looked-more p b 
 pub flat-looked : (p : Point) (b : Board) (t : Flat) (s : List ℕ) (a : Answer) (n : ℕ) → length (t .at) ≡ tableSize
     → n ≡ numbersLent (t .len) → Looked p (lent b (take n (t .at)) s) a → HostLooked p b (entriesOf t) s a
 flat-looked p b t s a n full e d = on-entries (LooksUp p b s a) t (take n (t .at)) n full e refl d
+
+-- ---- a step that only reads the foil, and writes to an output list
+
+module _ (c : Step) (b : Board) (s out : List ℕ) (a : Answer) (out′ : List ℕ) where
+  abbrev Reads : List ℕ → List ℕ → Type 0
+  Reads t t′ = WriteDone c (lent b t s) out a out′
+
+  reads-more : (t t′ rest : List ℕ) → length t ≡ tableSize → Reads t t′ → Reads (t ++ rest) (t′ ++ rest)
+  reads-more t t′ rest full d =
+      let e = step-longer rest _ _ (alike rest (lent b t s) maxEntries (length out) full) (lent b t s) full c in
+      record {
+        answer = d .answer ∙ sym (ap (λ x. answerOf (x .answer)) e);
+        state = ap (longer rest) (d .state) ∙ sym (ap (λ x. x .state) e);
+        output = d .output ∙ sym (ap (λ x. outputAfter (x .answer) out) e);
+      }
+
+pub whole-read : (c : Step) (b : Board) (es : List Entry) (t : Flat) (s out : List ℕ) (a : Answer) (out′ : List ℕ)
+    → t ≡ frontOf es → HostRead c b (entriesOf t) s out a out′ → HostRead c b es s out a out′
+whole-read c b es t s out a out′ front d =
+    on-table (Reads c b s out a out′) (reads-more c b s out a out′) es _ t t front refl refl d
+
+pub flat-read : (c : Step) (b : Board) (t : Flat) (s out : List ℕ) (a : Answer) (out′ : List ℕ) (n : ℕ)
+    → length (t .at) ≡ tableSize → n ≡ numbersLent (t .len) → WriteDone c (lent b (take n (t .at)) s) out a out′
+    → HostRead c b (entriesOf t) s out a out′
+flat-read c b t s out a out′ n full e d = on-entries (Reads c b s out a out′) t (take n (t .at)) n full e refl d
 
 -- ---- the ohms, which leave the table as it is
 

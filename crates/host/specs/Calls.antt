@@ -10,8 +10,8 @@ use Rattle.foil_spec.specs.Ohms.{whole}
 use Rattle.foil_spec.specs.declared.Board.{Board}
 use Rattle.foil_spec.specs.declared.Ink.{Ink}
 use Rattle.foil.specs.declared.Answer.{Answer}
-use Rattle.foil.specs.declared.Answer.the-variants.{Refused, Accepted, Laid, Found}
-use Rattle.foil.specs.Contract.{StepDone, OutputDone, Looked}
+use Rattle.foil.specs.declared.Answer.the-variants.{Refused, Accepted, Laid, Found, Wrote}
+use Rattle.foil.specs.Contract.{StepDone, OutputDone, Looked, WriteDone}
 use Rattle.ohms.specs.Contract.{OhmsAnswered}
 use Rattle.ohms.specs.declared.Resistance.{Resistance}
 use Rattle.ohms.specs.declared.Resistance.the-variants.{Refused as RefusedOhms, Ohms}
@@ -37,18 +37,27 @@ HostWrote c b es s out a b′ es′ s′ out′ =
 abbrev pub HostLooked : Point → Board → List Entry → List ℕ → Answer → Type 0
 HostLooked p b es s a = Looked p (lent b (each entryNumbers es) s) a
 
+-- a step on the table es, which it only reads, answered a and left its output list out as out′
+abbrev pub HostRead : Step → Board → List Entry → List ℕ → List ℕ → Answer → List ℕ → Type 0
+HostRead c b es s out a out′ = WriteDone c (lent b (each entryNumbers es) s) out a out′
+
 -- the ohms of a net were asked of the table es, which is only read, and r was answered
 abbrev pub HostOhms : ℕ → Ink → Board → List Entry → List ℕ → Resistance → Type 0
 HostOhms net i b es s r = OhmsAnswered net i (lent b (each entryNumbers es) s) r
 
 -- ---- answers as numbers
 
+-- no numbers
+abbrev pub nothingSaid : Said
+nothingSaid = record { number = 0; corners = 0; bends = 0; place = 0; bytes = 0 }
+
 -- an answer's numbers: 0 is no refusal
 unfoldable pub saidOf : Answer → Said
-saidOf (Refused n) = record { number = n; corners = 0; bends = 0; place = 0 }
-saidOf Accepted = record { number = 0; corners = 0; bends = 0; place = 0 }
-saidOf (Laid k n) = record { number = 0; corners = k; bends = n; place = 0 }
-saidOf (Found k) = record { number = 0; corners = 0; bends = 0; place = k }
+saidOf (Refused n) = record { number = n; corners = 0; bends = 0; place = 0; bytes = 0 }
+saidOf Accepted = nothingSaid
+saidOf (Laid k n) = record { number = 0; corners = k; bends = n; place = 0; bytes = 0 }
+saidOf (Found k) = record { number = 0; corners = 0; bends = 0; place = k; bytes = 0 }
+saidOf (Wrote n) = record { number = 0; corners = 0; bends = 0; place = 0; bytes = n }
 
 -- the number of a refusal, 0 for none, and the ohms, 0 where they are refused
 unfoldable pub ohmsSaid : Resistance → OhmsSaid

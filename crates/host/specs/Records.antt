@@ -20,7 +20,7 @@ use Rattle.host.specs.declared.records.StepSaid.{StepSaid}
 use Rattle.host.specs.declared.records.RecordSaid.{RecordSaid}
 use Rattle.host.specs.declared.records.Ran.{Ran}
 use Rattle.host.specs.Flats.{entriesOf}
-use Rattle.host.specs.Calls.{saidOf}
+use Rattle.host.specs.Calls.{nothingSaid, saidOf}
 
 -- the record at a place of the bytes bs, on the table es: board, strips and corner list were b, s and ks; it replied r
 -- and left b′, es′, s′ and ks′
@@ -34,7 +34,7 @@ HostRan bs at b es s ks r b′ es′ s′ ks′ =
 
 -- a step's numbers, zeros if it was not run
 unfoldable pub stepSaidOf : Told → StepSaid
-stepSaidOf Nothing = record { ran = false; said = record { number = 0; corners = 0; bends = 0; place = 0 } }
+stepSaidOf Nothing = record { ran = false; said = nothingSaid }
 stepSaidOf (Said a) = record { ran = true; said = saidOf a }
 
 -- whether there is a next place
@@ -57,13 +57,14 @@ ranSaid n end given next =
       patch = stepSaidOf (given .patch);
       track = stepSaidOf (given .track);
       lift = stepSaidOf (given .lift);
+      leg = stepSaidOf (given .leg);
       more = goesOn next;
       next = placeNext next;
     }
 
 -- no step was run
 abbrev pub noAnswers : Answers
-noAnswers = record { board = Nothing; patch = Nothing; track = Nothing; lift = Nothing }
+noAnswers = record { board = Nothing; patch = Nothing; track = Nothing; lift = Nothing; leg = Nothing }
 
 -- a reply's numbers
 unfoldable pub recordSaidOf : Reply → RecordSaid

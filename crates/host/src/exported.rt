@@ -10,15 +10,17 @@ use crate::lift;
 use crate::look_up;
 use crate::new_foil;
 use crate::ohms;
+use crate::put_leg;
 use crate::records::RecordSaid;
 use crate::records::record_said_of;
 use crate::run_record;
+use crate::save;
 use foil_spec::Board;
 use foil_spec::Entry;
 use foil_spec::Ink;
 ghost use Rattle.foil_spec.specs.Foil.{point};
-ghost use Rattle.foil_spec.specs.Ledger.{newFoil, draw as draws, lay as lays, lift as lifts};
-ghost use Rattle.host.specs.Calls.{ToldBy, saidOf, ohmsSaid, HostDone, HostWrote, HostLooked, HostOhms};
+ghost use Rattle.foil_spec.specs.Ledger.{newFoil, draw as draws, lay as lays, lift as lifts, putLeg, save as saves};
+ghost use Rattle.host.specs.Calls.{ToldBy, saidOf, ohmsSaid, HostDone, HostWrote, HostLooked, HostRead, HostOhms};
 ghost use Rattle.host.specs.Records.{recordSaidOf, HostRan};
 
 // Begins a foil of w by h with clearance d: an empty table, and one strip, the whole foil.
@@ -96,6 +98,22 @@ pub extern "C" fn foil_lift(
     said_of(answer)
 }
 
+// Puts a leg as booked: appends its entry, without any search.
+#[no_mangle]
+pub extern "C" fn foil_put_leg(
+    board: &mut Board,
+    table: &mut [Entry],
+    strips: &mut [u16],
+    leg: Entry,
+) -> Said
+    ensures { λ r. ⌜ ToldBy saidOf (λ a. HostDone (putLeg leg)
+        (now (board .entry)) (now (table .entry)) (now (strips .entry))
+        a (now (board .exit)) (now (table .exit)) (now (strips .exit))) r ⌝ }
+{
+    let answer = put_leg(board, table, strips, leg);
+    said_of(answer)
+}
+
 // Looks a point up: the place of the one strip that holds it. Nothing is changed.
 #[no_mangle]
 pub extern "C" fn foil_look_up(
@@ -109,6 +127,17 @@ pub extern "C" fn foil_look_up(
         (now (board .entry)) (now (table .entry)) (now (strips .entry)) a) r ⌝ }
 {
     let answer = look_up(board, table, strips, x, y);
+    said_of(answer)
+}
+
+// Saves the foil: writes it as a job file to the front of `out`. The foil is not changed.
+#[no_mangle]
+pub extern "C" fn foil_save(board: &Board, table: &[Entry], strips: &[u16], out: &mut [u8]) -> Said
+    ensures { λ r. ⌜ ToldBy saidOf (λ a. HostRead saves
+        (now (board .entry)) (now (table .entry)) (now (strips .entry)) (now (out .entry))
+        a (now (out .exit))) r ⌝ }
+{
+    let answer = save(board, table, strips, out);
     said_of(answer)
 }
 

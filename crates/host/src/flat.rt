@@ -9,11 +9,11 @@ use foil_spec::TABLE_SIZE;
 use ohms::Resistance;
 ghost use mathlib.Core.Path.{_≡_};
 ghost use Rattle.foil_spec.specs.Foil.{point};
-ghost use Rattle.foil_spec.specs.Ledger.{newFoil, draw as draws, lay as lays, lift as lifts};
+ghost use Rattle.foil_spec.specs.Ledger.{newFoil, draw as draws, lay as lays, lift as lifts, putLeg, save as saves};
 ghost use Rattle.foil_spec.specs.Lent.{entryAt};
 ghost use Rattle.strips.specs.Told.{Told};
 ghost use Rattle.host.specs.Flats.{zeros, withEntry, placesLent, numbersLent, entriesOf};
-ghost use Rattle.host.specs.Calls.{saidOf, ohmsSaid, FlatDone, FlatWrote, HostLooked, HostOhms};
+ghost use Rattle.host.specs.Calls.{saidOf, ohmsSaid, FlatDone, FlatWrote, HostLooked, HostRead, HostOhms};
 
 // The first 128 places of a lent table as numbers, five a place, and how many places are lent.
 pub struct Flat {
@@ -22,13 +22,14 @@ pub struct Flat {
 }
 
 // An answer as numbers: the number of a refusal, 0 for none; the numbers of corners and bends after a
-// lay; the strip's place after a look up.
+// lay; the strip's place after a look up; the number of bytes after a save.
 #[repr(C)]
 pub struct Said {
     pub number: u8,
     pub corners: usize,
     pub bends: usize,
     pub place: usize,
+    pub bytes: usize,
 }
 
 // Ohms as numbers: the number of a refusal, 0 for none, and the ohms, 0 where they are refused.
@@ -137,6 +138,7 @@ pub fn said_of(answer: Answer) -> Said
     let mut corners = 0;
     let mut bends = 0;
     let mut place = 0;
+    let mut bytes = 0;
     match answer {
         Answer::Refused(n) => number = n,
         Answer::Accepted => {}
@@ -145,12 +147,14 @@ pub fn said_of(answer: Answer) -> Said
             bends = n;
         }
         Answer::Found(k) => place = k,
+        Answer::Wrote(n) => bytes = n,
     }
     Said {
         number,
         corners,
         bends,
         place,
+        bytes,
     }
 }
 
@@ -222,6 +226,16 @@ pub fn lift(b: Board, t: Flat, strips: &mut [u16], net: u16) -> Left
     leave(done, a, t.len)
 }
 
+// Appends a leg as booked.
+pub fn put_leg(b: Board, t: Flat, strips: &mut [u16], leg: Entry) -> Left
+    ensures { λ r. ⌜ FlatDone (putLeg leg) b t (now (strips .entry)) r (now (strips .exit)) ⌝ }
+{
+    let mut a = t.at;
+    let n = numbers_lent(t.len);
+    let done = foil::put_leg(&mut a[..n], strips, b, leg);
+    leave(done, a, t.len)
+}
+
 // Looks a point up.
 pub fn look_up(b: Board, t: Flat, strips: &[u16], x: u16, y: u16) -> Answer
     ensures { λ r. ⌜ HostLooked (point x y) b (entriesOf t) (now (strips .entry)) r ⌝ }
@@ -229,6 +243,15 @@ pub fn look_up(b: Board, t: Flat, strips: &[u16], x: u16, y: u16) -> Answer
     let a = t.at;
     let n = numbers_lent(t.len);
     foil::look_up(&a[..n], strips, b, x, y)
+}
+
+// Saves the foil as a job file.
+pub fn save(b: Board, t: Flat, strips: &[u16], out: &mut [u8]) -> Answer
+    ensures { λ r. ⌜ HostRead saves b (entriesOf t) (now (strips .entry)) (now (out .entry)) r (now (out .exit)) ⌝ }
+{
+    let a = t.at;
+    let n = numbers_lent(t.len);
+    saving::save(out, &a[..n], strips, b)
 }
 
 // The ohms of a net.

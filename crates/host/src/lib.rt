@@ -14,8 +14,8 @@ use job::Reply;
 use ohms::Resistance;
 use table::load;
 ghost use Rattle.foil_spec.specs.Foil.{point};
-ghost use Rattle.foil_spec.specs.Ledger.{newFoil, draw as draws, lay as lays, lift as lifts};
-ghost use Rattle.host.specs.Calls.{HostDone, HostWrote, HostLooked, HostOhms};
+ghost use Rattle.foil_spec.specs.Ledger.{newFoil, draw as draws, lay as lays, lift as lifts, putLeg, save as saves};
+ghost use Rattle.host.specs.Calls.{HostDone, HostWrote, HostLooked, HostRead, HostOhms};
 ghost use Rattle.host.specs.Records.{HostRan};
 
 // Begins a foil of w by h with clearance d: an empty table, and one strip, the whole foil.
@@ -92,6 +92,18 @@ pub fn lift(board: &mut Board, table: &mut [Entry], strips: &mut [u16], net: u16
     out.answer
 }
 
+// Puts a leg as booked: appends its entry, without any search.
+pub fn put_leg(board: &mut Board, table: &mut [Entry], strips: &mut [u16], leg: Entry) -> Answer
+    ensures { λ r. ⌜ HostDone (putLeg leg)
+        (now (board .entry)) (now (table .entry)) (now (strips .entry))
+        r (now (board .exit)) (now (table .exit)) (now (strips .exit)) ⌝ }
+{
+    let b = *board;
+    let out = table::append_leg(b, table, strips, leg);
+    *board = out.board;
+    out.answer
+}
+
 // Looks a point up: the place of the one strip that holds it. Nothing is changed.
 pub fn look_up(board: &Board, table: &[Entry], strips: &[u16], x: u16, y: u16) -> Answer
     ensures { λ r. ⌜ HostLooked (point x y) (now (board .entry)) (now (table .entry)) (now (strips .entry)) r ⌝ }
@@ -99,6 +111,16 @@ pub fn look_up(board: &Board, table: &[Entry], strips: &[u16], x: u16, y: u16) -
     let b = *board;
     let t = load(table);
     flat::look_up(b, t, strips, x, y)
+}
+
+// Saves the foil: writes it as a job file to the front of `out`. The foil is not changed.
+pub fn save(board: &Board, table: &[Entry], strips: &[u16], out: &mut [u8]) -> Answer
+    ensures { λ r. ⌜ HostRead saves (now (board .entry)) (now (table .entry)) (now (strips .entry)) (now (out .entry))
+        r (now (out .exit)) ⌝ }
+{
+    let b = *board;
+    let t = load(table);
+    flat::save(b, t, strips, out)
 }
 
 // The ohms of a net. Nothing is changed.

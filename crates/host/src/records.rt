@@ -12,6 +12,7 @@ use job::Reply;
 use job::Told;
 ghost use mathlib.Core.Path.{_≡_};
 ghost use mathlib.Core.Bool.{true, false};
+ghost use Rattle.host.specs.Calls.{nothingSaid};
 ghost use Rattle.host.specs.Records.{stepSaidOf, noAnswers, ranSaid, recordSaidOf, FlatRan};
 
 // A step of a record: whether it was run, and its answer as numbers, zeros if it was not.
@@ -31,6 +32,7 @@ pub struct RecordSaid {
     pub patch: StepSaid,
     pub track: StepSaid,
     pub lift: StepSaid,
+    pub leg: StepSaid,
     pub more: bool,
     pub next: usize,
 }
@@ -44,13 +46,14 @@ pub struct Ran {
 
 // No numbers.
 fn nothing_said() -> Said
-    ensures { λ r. ⌜ r ≡ record { number = 0; corners = 0; bends = 0; place = 0 } ⌝ }
+    ensures { λ r. ⌜ r ≡ nothingSaid ⌝ }
 {
     Said {
         number: 0,
         corners: 0,
         bends: 0,
         place: 0,
+        bytes: 0,
     }
 }
 
@@ -85,6 +88,7 @@ fn not_run(number: u8, end: bool) -> RecordSaid
         patch: none,
         track: none,
         lift: none,
+        leg: none,
         more: false,
         next: 0,
     }
@@ -102,6 +106,8 @@ fn run(answers: Answers, next: Next) -> RecordSaid
     let track = step_said_of(told);
     let told = answers.lift;
     let lift = step_said_of(told);
+    let told = answers.leg;
+    let leg = step_said_of(told);
     let Next::At(place) = next else {
         return RecordSaid {
             number: 0,
@@ -110,6 +116,7 @@ fn run(answers: Answers, next: Next) -> RecordSaid
             patch,
             track,
             lift,
+            leg,
             more: false,
             next: 0,
         };
@@ -121,6 +128,7 @@ fn run(answers: Answers, next: Next) -> RecordSaid
         patch,
         track,
         lift,
+        leg,
         more: true,
         next: place,
     }

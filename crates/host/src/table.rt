@@ -14,7 +14,7 @@ use foil_spec::Board;
 use foil_spec::Entry;
 ghost use mathlib.Core.Path.{_≡_};
 ghost use Rattle.foil_spec.specs.Foil.{point};
-ghost use Rattle.foil_spec.specs.Ledger.{newFoil, draw as draws, lay as lays, lift as lifts};
+ghost use Rattle.foil_spec.specs.Ledger.{newFoil, draw as draws, lay as lays, lift as lifts, putLeg};
 ghost use Rattle.host.specs.Flats.{frontOf, overFront};
 ghost use Rattle.host.specs.Calls.{HostDone, HostWrote};
 ghost use Rattle.host.specs.Records.{HostRan};
@@ -115,6 +115,18 @@ pub fn lift(b: Board, table: &mut [Entry], strips: &mut [u16], net: u16) -> Left
 {
     let t = load(table);
     let out = flat::lift(b, t, strips, net);
+    let u = out.table;
+    store(table, u);
+    out
+}
+
+// Appends a leg as booked, at the first unused place.
+pub fn append_leg(b: Board, table: &mut [Entry], strips: &mut [u16], leg: Entry) -> Left
+    ensures { λ r. ⌜ HostDone (putLeg leg) b (now (table .entry)) (now (strips .entry))
+        (r .answer) (r .board) (now (table .exit)) (now (strips .exit)) ⌝ }
+{
+    let t = load(table);
+    let out = flat::put_leg(b, t, strips, leg);
     let u = out.table;
     store(table, u);
     out

@@ -8,8 +8,8 @@ use lib.ListN.{length, drop}
 use lib.Seq.{drop-drop}
 use Rattle.foil_spec.specs.Lists.{range, each}
 use Rattle.foil_spec.specs.Limits.{maxStrips, cornerPlaces}
-use Rattle.foil_spec.specs.Ledger.{Step, newFoil, draw, lay, lift, lookUp, stripsOf}
-use Rattle.foil_spec.specs.Ledger.{Answer, refused, accepted, laid, found, numberOf}
+use Rattle.foil_spec.specs.Ledger.{Step, newFoil, draw, lay, lift, lookUp, putLeg, save, stripsOf}
+use Rattle.foil_spec.specs.Ledger.{Answer, refused, accepted, laid, found, wrote, numberOf}
 use Rattle.foil_spec.specs.Lent.{Lent, held}
 use Rattle.foil_spec.specs.Job.{mapBits, has, stepAt, stepsAt, steps}
 use Rattle.list_laws.proofs.Tests.{both}
@@ -23,7 +23,7 @@ use Rattle.job.specs.Parts.{Whole}
 use Rattle.job.specs.declared.Told.the-variants.{Said}
 use Rattle.job.proofs.ByBit.{said-none, said-here, SaidBy, told-by, told-in}
 use Rattle.job.proofs.Replies.{Tracked}
-use Rattle.lines.specs.Lines.{boardLine, patchLine, trackLaid, liftLine}
+use Rattle.lines.specs.Lines.{boardLine, patchLine, trackLaid, liftLine, legLine}
 use Rattle.lines.specs.Output.{trackLine, stepLine, stepLines}
 use Rattle.job_report.specs.Told.{numberIn, layLine, lineOf, toldLine, linesOf, answerLines, FromBits}
 
@@ -35,6 +35,7 @@ number-in (refused n) = refl
 number-in accepted = refl
 number-in (laid cs n) = refl
 number-in (found n) = refl
+number-in (wrote bs) = refl
 
 track-read : (net room : ℕ) (ks : List ℕ) (a : Answer) → Tracked a room ks
     → layLine net ks (answerOf a) ≡ trackLine net a
@@ -43,6 +44,7 @@ track-read net room ks (refused n) t = refl
 track-read net room ks accepted t = refl
 track-read net room ks (laid cs n) t = ap (trackLaid net n) (t .front cs n refl)
 track-read net room ks (found n) t = refl
+track-read net room ks (wrote bs) t = refl
 
 step-read : (s : Step) (room : ℕ) (ks : List ℕ) (a : Answer) → Tracked a room ks
     → lineOf s ks (answerOf a) ≡ stepLine s a
@@ -52,6 +54,8 @@ step-read (draw x0 y0 x1 y1) room ks a t = ap patchLine (number-in a)
 step-read (lay net S T) room ks a t = track-read net room ks a t
 step-read (lift net) room ks a t = ap (liftLine net) (number-in a)
 step-read (lookUp p) room ks a t = refl
+step-read (putLeg e) room ks a t = ap (legLine (e .net)) (number-in a)
+step-read save room ks a t = refl
 
 laid-few : (room : ℕ) (ks : List ℕ) (a : Answer) (k n : ℕ) → Tracked a room ks → answerOf a ≡ Laid k n → k ≤ room / 2
 unfolding answerOf
@@ -59,6 +63,7 @@ laid-few room ks (refused n) k i t e = absurd (let z : _≡_ {A = ℕ} 0 1 = cc 
 laid-few room ks accepted k i t e = absurd (let z : _≡_ {A = ℕ} 0 1 = cc in omega arith)
 laid-few room ks (laid cs n) k i t e = let q : length cs ≡ k = cc in omega (arith, t .fits cs n refl)
 laid-few room ks (found n) k i t e = absurd (let z : _≡_ {A = ℕ} 0 1 = cc in omega arith)
+laid-few room ks (wrote bs) k i t e = absurd (let z : _≡_ {A = ℕ} 0 1 = cc in omega arith)
 
 -- ---- the lines of the steps, bit by bit
 

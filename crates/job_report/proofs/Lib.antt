@@ -2,5 +2,4 @@
 pub mod Output
 pub mod Answering
 pub mod Telling
-pub mod Listing
 pub mod Reporting

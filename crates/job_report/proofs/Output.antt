@@ -16,7 +16,7 @@ use Rattle.foil_spec.specs.Ledger.{Step, first, Room, short, After, afterLent, 
 use Rattle.foil_spec.specs.Lent.{Lent, store, held, layoutOk}
 use Rattle.foil_spec.specs.Job.{jobRoom, mapBits, fieldsAt, recordEnd, steps, isEnd, recordChecks}
 use Rattle.foil_spec.specs.Calls.{runRecord, Reply, answered, ran, atEnd, measured, endsJob, actAll, actRecord}
-use Rattle.foil_spec.specs.Calls.{tooLarge, wholeRefusals, reply, ledgerCall}
+use Rattle.foil_spec.specs.Calls.{tooLarge, wholeRefusals, reply, ledgerCall, placeAfter}
 use Rattle.ledger_laws.proofs.Refusals.{none-applies}
 use Rattle.ledger_laws.proofs.Stored.{held-store}
 use Rattle.ledger_laws.proofs.Kept.{call-kept}

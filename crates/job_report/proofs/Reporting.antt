@@ -12,7 +12,7 @@ use Rattle.foil_spec.specs.Ledger.{Answer, Room, stripsOf}
 use Rattle.foil_spec.specs.Lent.{Lent, held, listedStrips, roomIn, roomOf}
 use Rattle.foil_spec.specs.Job.{jobRoom, mapBits, has, steps}
 use Rattle.foil_spec.specs.Calls.{runRecord, Reply as Outcome, answered, ran, atEnd, callOn, answersIn, outputAll}
-use Rattle.foil_spec.specs.Calls.{outputBy}
+use Rattle.foil_spec.specs.Calls.{outputBy, placeAfter}
 use Rattle.ledger_laws.proofs.Sound.{Sound, of-sound, strips-listed}
 use Rattle.job.specs.Contract.{setBelow, nextOf, Replies, RecordDone}
 use Rattle.job.specs.Parts.{ranTo}
@@ -24,7 +24,7 @@ use Rattle.job.specs.declared.Replied.{Replied}
 use Rattle.job.proofs.Replies.{was-refused, HasRun, has-run, Stepped, stepped, Ended, ended, Tracked, bit-tracked}
 use Rattle.lines.specs.Lines.{fileLine, stripLine}
 use Rattle.lines.specs.Output.{stepLines, replyLines}
-use Rattle.lines.specs.Put.{Put}
+use Rattle.putting.specs.Put.{Put}
 use Rattle.job_report.specs.Report.{ranRecord, recordLines, RecordReported}
 use Rattle.job_report.specs.Told.{answerLines, FromBits}
 use Rattle.job_report.specs.declared.Reported.{Reported}

@@ -10,7 +10,7 @@ use Rattle.foil_spec.specs.Lists.{range, each}
 use Rattle.foil_spec.specs.Lent.{cornersIn}
 use Rattle.foil_spec.specs.Job.{mapBits, fieldCount, field, stepAt}
 use Rattle.foil.specs.declared.Answer.{Answer}
-use Rattle.foil.specs.declared.Answer.the-variants.{Refused, Accepted, Laid, Found}
+use Rattle.foil.specs.declared.Answer.the-variants.{Refused, Accepted, Laid, Found, Wrote}
 use Rattle.list_laws.proofs.Members.{each-append}
 use Rattle.job.specs.Contract.{toldIn}
 use Rattle.job.specs.Parts.{Given}
@@ -19,9 +19,9 @@ use Rattle.job.specs.declared.Told.the-variants.{Nothing, Said}
 use Rattle.job.specs.declared.Answers.{Answers}
 use Rattle.job.proofs.Places.{field-given}
 use Rattle.job.proofs.Acting.{range-split}
-use Rattle.lines.specs.Lines.{boardLine, patchLine, trackRefused, trackLaid, liftLine}
-use Rattle.lines.specs.Put.{Put}
-use Rattle.lines.proofs.Putting.{put-none, put-then}
+use Rattle.lines.specs.Lines.{boardLine, patchLine, trackRefused, trackLaid, liftLine, legLine}
+use Rattle.putting.specs.Put.{Put}
+use Rattle.putting.proofs.Putting.{put-none, put-then}
 use Rattle.job_report.specs.Told.{numberIn, layLine, lineOf, toldLine, linesOf, bytesBelow, FromBit}
 
 -- ---- the number
@@ -36,12 +36,14 @@ number-other (Refused n) h = absurd (h n refl)
 number-other Accepted h = refl
 number-other (Laid k n) h = refl
 number-other (Found k) h = refl
+number-other (Wrote k) h = refl
 
 -- 2 is the key of a lay that was accepted
-pub no-laid : OneOf (0 ∷ 1 ∷ 3 ∷ []) 2 → ⊥
+pub no-laid : OneOf (0 ∷ 1 ∷ 3 ∷ 4 ∷ []) 2 → ⊥
 no-laid (inl e) = omega arith
 no-laid (inr (inl e)) = omega arith
-no-laid (inr (inr e)) = omega arith
+no-laid (inr (inr (inl e))) = omega arith
+no-laid (inr (inr (inr e))) = omega arith
 
 -- ---- the line of a track
 
@@ -63,6 +65,7 @@ other-line net ks (Refused n) f g l = absurd (g n refl)
 other-line net ks Accepted {o} {at} f g l = put-none o at l
 other-line net ks (Laid k n) f g l = absurd (f k n refl)
 other-line net ks (Found k) {o} {at} f g l = put-none o at l
+other-line net ks (Wrote k) {o} {at} f g l = put-none o at l
 
 -- ---- the net of a step that was run
 
@@ -100,31 +103,33 @@ module _ (bs : List ℕ) (place : ℕ) (ks : List ℕ) (k : ℕ) {t : Told} {o :
     unfolding toldLine lineOf stepAt
     line-lift z net f n g p = rw (e, z, ← f, ← g) p
 
+    pub line-leg : k ≡ 4 → (net : ℕ) → net ≡ field bs place 4 0 → (n : ℕ) → n ≡ numberIn a
+        → Put o at (legLine net n) o′ r → Put o at (toldLine (stepAt bs place k) ks t) o′ r
+    unfolding toldLine lineOf stepAt
+    line-leg z net f n g p = rw (e, z, ← f, ← g) p
+
 -- ---- how many bytes they take
 
-pub bytes-rise : (k : ℕ) → k < mapBits → (bytesBelow k ≤ bytesBelow (k + 1)) × (bytesBelow (k + 1) ≤ 98560)
+pub bytes-rise : (k : ℕ) → k < mapBits → (bytesBelow k ≤ bytesBelow (k + 1)) × (bytesBelow (k + 1) ≤ 98624)
 unfolding bytesBelow
 bytes-rise zero h = (omega arith, omega arith)
 bytes-rise (suc zero) h = (omega arith, omega arith)
 bytes-rise (suc (suc zero)) h = (omega arith, omega arith)
 bytes-rise (suc (suc (suc zero))) h = (omega arith, omega arith)
-bytes-rise (suc (suc (suc (suc k)))) h = absurd (omega arith)
+bytes-rise (suc (suc (suc (suc zero)))) h = (omega arith, omega arith)
+bytes-rise (suc (suc (suc (suc (suc k))))) h = absurd (omega arith)
 
-pub bytes-board : (k : ℕ) → k ≡ 0 → (bytesBelow k ≡ 0) × (bytesBelow (k + 1) ≡ 64)
-unfolding bytesBelow
-bytes-board k e = (rw e refl, rw e refl)
+-- the line of bit j, of at most n bytes, has room, and ends where that of the next bit may begin
+module _ {at k long : ℕ} (pre : (k < mapBits) × (at ≤ bytesBelow k) × (98624 ≤ long)) (j n : ℕ) (e : k ≡ j)
+    (longest : bytesBelow (j + 1) ≡ bytesBelow j + n) where
+  grows : bytesBelow (k + 1) ≡ bytesBelow k + n
+  grows = rw e longest
 
-pub bytes-patch : (k : ℕ) → k ≡ 1 → (bytesBelow k ≡ 64) × (bytesBelow (k + 1) ≡ 128)
-unfolding bytesBelow
-bytes-patch k e = (rw e refl, rw e refl)
+  pub line-room : at + n ≤ long
+  line-room = omega (arith, grows, bytes-rise k (pre .0) .1, pre .1, pre .2)
 
-pub bytes-track : (k : ℕ) → k ≡ 2 → (bytesBelow k ≡ 128) × (bytesBelow (k + 1) ≡ 98496)
-unfolding bytesBelow
-bytes-track k e = (rw e refl, rw e refl)
-
-pub bytes-lift : (k : ℕ) → k ≡ 3 → (bytesBelow k ≡ 98496) × (bytesBelow (k + 1) ≡ 98560)
-unfolding bytesBelow
-bytes-lift k e = (rw e refl, rw e refl)
+  pub line-end : {r : ℕ} → r ≤ at + n → r ≤ bytesBelow (k + 1)
+  line-end h = omega (arith, grows, pre .1, h)
 
 -- ---- the lines of the bits below one
 

@@ -10,7 +10,7 @@ use Rattle.foil_spec.specs.Job.{jobRoom, steps}
 use Rattle.foil_spec.specs.Calls.{runRecord, Reply, callOn, outputBy, placeAfter}
 use Rattle.job.specs.Contract.{nextOf}
 use Rattle.lines.specs.Output.{replyLines, output}
-use Rattle.lines.specs.Put.{Put}
+use Rattle.putting.specs.Put.{Put}
 use Rattle.job_report.specs.declared.Reported.{Reported}
 
 -- the record at a place, run on lists that have the room of a job

@@ -6,17 +6,17 @@ use mathlib.Core.List.{List, [], _∷_}
 use lib.ListN.{length, getD}
 use Rattle.foil_spec.specs.Lists.{range, each}
 use Rattle.foil_spec.specs.Limits.{cornerPlaces}
-use Rattle.foil_spec.specs.Ledger.{Step, newFoil, draw, lay, lift, lookUp}
+use Rattle.foil_spec.specs.Ledger.{Step, newFoil, draw, lay, lift, lookUp, putLeg, save}
 use Rattle.foil_spec.specs.Lent.{cornersIn}
 use Rattle.foil_spec.specs.Job.{mapBits, has, stepAt}
 use Rattle.foil.specs.declared.Answer.{Answer}
-use Rattle.foil.specs.declared.Answer.the-variants.{Refused, Accepted, Laid, Found}
+use Rattle.foil.specs.declared.Answer.the-variants.{Refused, Accepted, Laid, Found, Wrote}
 use Rattle.job.specs.Contract.{toldIn}
 use Rattle.job.specs.Parts.{Whole}
 use Rattle.job.specs.declared.Told.{Told}
 use Rattle.job.specs.declared.Told.the-variants.{Nothing, Said}
 use Rattle.job.specs.declared.Answers.{Answers}
-use Rattle.lines.specs.Lines.{boardLine, patchLine, trackRefused, trackLaid, liftLine}
+use Rattle.lines.specs.Lines.{boardLine, patchLine, trackRefused, trackLaid, liftLine, legLine}
 
 -- the refusal number, 0 if accepted
 unfoldable pub numberIn : Answer → ℕ
@@ -24,6 +24,7 @@ numberIn (Refused n) = n
 numberIn Accepted = 0
 numberIn (Laid k n) = 0
 numberIn (Found k) = 0
+numberIn (Wrote k) = 0
 
 -- the line of a lay that was answered, whose corners are the first of the list ks
 unfoldable pub layLine : ℕ → List ℕ → Answer → List ℕ
@@ -31,14 +32,17 @@ layLine net ks (Refused n) = trackRefused net n
 layLine net ks Accepted = []
 layLine net ks (Laid k n) = trackLaid net n (cornersIn ks k)
 layLine net ks (Found k) = []
+layLine net ks (Wrote k) = []
 
--- the line of a step that was answered; no record holds a look up
+-- the line of a step that was answered; no record holds a look up or a save
 unfoldable pub lineOf : Step → List ℕ → Answer → List ℕ
 lineOf (newFoil W H d) ks a = boardLine (numberIn a)
 lineOf (draw x0 y0 x1 y1) ks a = patchLine (numberIn a)
 lineOf (lay net S T) ks a = layLine net ks a
 lineOf (lift net) ks a = liftLine net (numberIn a)
 lineOf (lookUp p) ks a = []
+lineOf (putLeg e) ks a = legLine (e .net) (numberIn a)
+lineOf save ks a = []
 
 -- the line of a step, if it was run
 unfoldable pub toldLine : Step → List ℕ → Told → List ℕ
@@ -55,7 +59,7 @@ answerLines bs at ks a = linesOf bs at ks a (range 0 mapBits)
 
 -- how many bytes the lines of the bits below k take at most: 64 a line, and 12 for each of 8,192 corners
 unfoldable pub bytesBelow : ℕ → ℕ
-bytesBelow k = getD (0 ∷ 64 ∷ 128 ∷ 98496 ∷ 98560 ∷ []) k 0
+bytesBelow k = getD (0 ∷ 64 ∷ 128 ∷ 98496 ∷ 98560 ∷ 98624 ∷ []) k 0
 
 -- the corners of an answer stand in the list, 8,192 at most
 pub record InList (ks : List ℕ) (a : Answer) : Type 0 where

@@ -6,6 +6,7 @@ use job::Told;
 use job::net_of;
 use job::told_by;
 use lines::board_line;
+use lines::leg_line;
 use lines::lift_line;
 use lines::patch_line;
 use lines::track_laid;
@@ -14,7 +15,7 @@ ghost use mathlib.Core.Path.{_≡_};
 ghost use Prim.Native.Nat.{_+_, _≤_, _<_};
 ghost use lib.ListN.{length};
 ghost use Rattle.foil_spec.specs.Job.{mapBits, stepAt};
-ghost use Rattle.lines.specs.Put.{Put};
+ghost use Rattle.putting.specs.Put.{Put};
 ghost use Rattle.job_report.specs.Told.{numberIn, layLine, toldLine, answerLines, bytesBelow};
 ghost use Rattle.job_report.specs.Told.{InList, FromBit, FromBits};
 
@@ -36,7 +37,7 @@ pub(crate) fn put_answers(
     bytes: &[u8],
     place: usize,
 ) -> usize
-    requires { ⌜ 98560 ≤ length (now out) ⌝ }
+    requires { ⌜ 98624 ≤ length (now out) ⌝ }
     requires { ⌜ FromBits (now bytes) place (now corners) answers ⌝ }
     ensures { λ r. ⌜ Put (now (out .entry)) 0
         (answerLines (now (bytes .entry)) place (now (corners .entry)) answers) (now (out .exit)) r ⌝ }
@@ -61,7 +62,7 @@ fn put_bit(
     place: usize,
     k: usize,
 ) -> usize
-    requires { ⌜ (k < mapBits) × (at ≤ bytesBelow k) × (98560 ≤ length (now out)) ⌝ }
+    requires { ⌜ (k < mapBits) × (at ≤ bytesBelow k) × (98624 ≤ length (now out)) ⌝ }
     requires { ⌜ FromBit (now bytes) place (now corners) k told ⌝ }
     ensures { λ r. ⌜ Put (now (out .entry)) at
         (toldLine (stepAt (now (bytes .entry)) place k) (now (corners .entry)) told) (now (out .exit)) r ⌝ }
@@ -80,8 +81,12 @@ fn put_bit(
         let net = net_of(bytes, place, 2);
         return put_track(out, at, answer, net, corners);
     }
-    let net = net_of(bytes, place, 3);
-    lift_line(out, at, net, number_of(answer))
+    if k == 3 {
+        let net = net_of(bytes, place, 3);
+        return lift_line(out, at, net, number_of(answer));
+    }
+    let net = net_of(bytes, place, 4);
+    leg_line(out, at, net, number_of(answer))
 }
 
 // The line of a track, laid or refused.

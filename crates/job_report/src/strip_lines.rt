@@ -7,7 +7,7 @@ ghost use Rattle.foil_spec.specs.Lists.{each};
 ghost use Rattle.foil_spec.specs.Limits.{maxStrips};
 ghost use Rattle.foil_spec.specs.Lent.{listedStrips};
 ghost use Rattle.lines.specs.Lines.{stripLine};
-ghost use Rattle.lines.specs.Put.{Put};
+ghost use Rattle.putting.specs.Put.{Put};
 
 // The lines of the first `count` strips of the list, from the front of `out` on.
 pub(crate) fn put_strips(out: &mut [u8], list: &[u16], count: usize) -> usize

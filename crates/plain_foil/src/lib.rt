@@ -84,6 +84,41 @@ pub fn draw(row: &mut [u16; 640], foil: Foil, x0: u16, y0: u16, x1: u16, y1: u16
     accept(0, foil, n + 1)
 }
 
+// Whether an entry's points make a leg: one point wide in one direction.
+fn thin(x0: u16, y0: u16, x1: u16, y1: u16) -> bool {
+    (x0 < x1 && x1 - x0 == 1) || (y0 < y1 && y1 - y0 == 1)
+}
+
+// Appends a leg as booked.
+pub fn put_leg(
+    row: &mut [u16; 640],
+    foil: Foil,
+    net: u16,
+    x0: u16,
+    y0: u16,
+    x1: u16,
+    y1: u16,
+) -> Done
+    requires { ⌜ foil .entries ≤ 128 ⌝ }
+    ensures { λ r. ⌜ r .foil .entries ≤ 128 ⌝ }
+{
+    let n = foil.entries;
+    if net < 1 || 999 < net {
+        return refuse(4, foil);
+    }
+    if x1 <= x0 || foil.width < x1 || y1 <= y0 || foil.height < y1 {
+        return refuse(3, foil);
+    }
+    if !thin(x0, y0, x1, y1) {
+        return refuse(3, foil);
+    }
+    if 128 <= n {
+        return refuse(10, foil);
+    }
+    put(row, n, net, x0, y0, x1, y1);
+    accept(0, foil, n + 1)
+}
+
 // Whether one of the first n entries is of the net.
 fn in_use(row: &[u16; 640], n: usize, net: u16) -> bool
     requires { ⌜ n ≤ 128 ⌝ }

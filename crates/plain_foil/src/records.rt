@@ -4,6 +4,7 @@ use crate::Foil;
 use crate::draw;
 use crate::laying::lay;
 use crate::lift;
+use crate::put_leg;
 ghost use Prim.Native.Nat.{_+_, _≤_};
 
 // The number of a step that the record does not have.
@@ -19,6 +20,7 @@ pub struct Ran {
     pub patch: u8,
     pub track: u8,
     pub lift: u8,
+    pub leg: u8,
     pub corners: usize,
     pub next: usize,
     pub foil: Foil,
@@ -71,7 +73,7 @@ fn refusal(bytes: &[u8], at: usize) -> u8
     if bytes.len() <= at {
         return 14;
     }
-    if 16 <= map {
+    if 32 <= map {
         return 15;
     }
     if at == 0 && map % 2 == 0 {
@@ -113,12 +115,20 @@ fn lift_at(bytes: &[u8], at: usize) -> usize
     track_at(bytes, at) + size(bytes, at, 4, 10)
 }
 
-// The place after the record.
-fn after(bytes: &[u8], at: usize) -> usize
+// Where the fields of the leg begin, or would begin.
+fn leg_at(bytes: &[u8], at: usize) -> usize
     requires { ⌜ at ≤ 60000 ⌝ }
     ensures { λ r. ⌜ r ≤ at + 27 ⌝ }
 {
     lift_at(bytes, at) + size(bytes, at, 8, 2)
+}
+
+// The place after the record.
+fn after(bytes: &[u8], at: usize) -> usize
+    requires { ⌜ at ≤ 60000 ⌝ }
+    ensures { λ r. ⌜ r ≤ at + 37 ⌝ }
+{
+    leg_at(bytes, at) + size(bytes, at, 16, 10)
 }
 
 // A record without steps.
@@ -134,6 +144,7 @@ fn bare(number: u8, end: bool, foil: Foil) -> Ran
         patch: NONE,
         track: NONE,
         lift: NONE,
+        leg: NONE,
         corners: 0,
         next: 0,
         foil,
@@ -154,6 +165,7 @@ fn over(begun: Done) -> Ran
         patch: NONE,
         track: NONE,
         lift: NONE,
+        leg: NONE,
         corners: 0,
         next: 0,
         foil,
@@ -217,7 +229,8 @@ fn later_steps(
     let drawn = patch_step(row, begun.foil, bytes, at);
     let laid = track_step(row, corners, drawn.foil, room, bytes, at);
     let lifted = lift_step(row, laid.foil, bytes, at);
-    let foil = lifted.foil;
+    let booked = leg_step(row, lifted.foil, bytes, at);
+    let foil = booked.foil;
     Ran {
         number: 0,
         end: false,
@@ -226,6 +239,7 @@ fn later_steps(
         patch: drawn.number,
         track: laid.number,
         lift: lifted.number,
+        leg: booked.number,
         corners: laid.corners,
         next,
         foil,
@@ -331,4 +345,24 @@ fn lift_step(row: &mut [u16; 640], foil: Foil, bytes: &[u8], at: usize) -> Done
         return skip(foil);
     }
     lift(row, foil, number(bytes, lift_at(bytes, at)))
+}
+
+// Appends the leg, if the record has one.
+fn leg_step(row: &mut [u16; 640], foil: Foil, bytes: &[u8], at: usize) -> Done
+    requires { ⌜ (foil .entries ≤ 128) × (at ≤ 60000) ⌝ }
+    ensures { λ r. ⌜ r .foil .entries ≤ 128 ⌝ }
+{
+    if !has(bytes, at, 16) {
+        return skip(foil);
+    }
+    let f = leg_at(bytes, at);
+    put_leg(
+        row,
+        foil,
+        number(bytes, f),
+        number(bytes, f + 2),
+        number(bytes, f + 4),
+        number(bytes, f + 6),
+        number(bytes, f + 8),
+    )
 }

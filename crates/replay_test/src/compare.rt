@@ -7,7 +7,7 @@ use job::Told;
 use plain_foil::NONE;
 use plain_foil::Ran;
 
-// No number that is answered: a look up's answer to another step.
+// No number that is answered: the answer of a look up or a save to another step.
 const WRONG: u8 = 254;
 
 // A place past the end of every file.
@@ -23,6 +23,7 @@ fn number_of(told: Told) -> u8 {
         Answer::Accepted => 0,
         Answer::Laid(_, _) => 0,
         Answer::Found(_) => WRONG,
+        Answer::Wrote(_) => WRONG,
     }
 }
 
@@ -51,10 +52,11 @@ fn same_steps(answers: Answers, want: Ran) -> bool {
     let patch = answers.patch;
     let track = answers.track;
     let lift = answers.lift;
+    let leg = answers.leg;
     if number_of(board) != want.board || number_of(patch) != want.patch {
         return false;
     }
-    same_track(track, want) && number_of(lift) == want.lift
+    same_track(track, want) && number_of(lift) == want.lift && number_of(leg) == want.leg
 }
 
 // Whether the next place is the right one, and there is none where the board has ended the job.

@@ -138,14 +138,57 @@ fn lift(bytes: &mut [u8; 12000], map: u16, pen: Pen) -> Pen
     }
 }
 
+// Puts the fields of a leg, if the map byte asks for it: a level one or an upright one, now and then of another shape.
+fn leg(bytes: &mut [u8; 12000], map: u16, pen: Pen, w: u16, h: u16) -> Pen
+    requires { ⌜ (pen .at < 11900) × (0 < w) × (w ≤ 64) × (0 < h) × (h ≤ 64) ⌝ }
+    ensures { λ r. ⌜ r .at ≤ pen .at + 10 ⌝ }
+{
+    if map / 16 % 2 == 0 {
+        return pen;
+    }
+    let at = pen.at;
+    let a = next(pen.seed);
+    let b = next(a);
+    let c = next(b);
+    let x0 = below(a, w);
+    let y0 = below(b, h);
+    let kind = c / 64 % 8;
+    put(bytes, at, net(c / 8));
+    put(bytes, at + 2, x0);
+    put(bytes, at + 4, y0);
+    put(
+        bytes,
+        at + 6,
+        if kind < 4 {
+            x0 + 1
+        } else {
+            end_of(x0, w, a / 8)
+        },
+    );
+    put(
+        bytes,
+        at + 8,
+        if 4 <= kind && kind < 7 {
+            y0 + 1
+        } else {
+            end_of(y0, h, b / 8)
+        },
+    );
+    Pen {
+        at: at + 10,
+        seed: c,
+    }
+}
+
 // Puts the fields of a record but for a board's. In a crowded file the patches keep to the left half.
 fn fields(bytes: &mut [u8; 12000], map: u16, pen: Pen, w: u16, h: u16, crowded: bool) -> Pen
     requires { ⌜ (pen .at < 11700) × (0 < w) × (w ≤ 64) × (0 < h) × (h ≤ 64) ⌝ }
-    ensures { λ r. ⌜ r .at ≤ pen .at + 20 ⌝ }
+    ensures { λ r. ⌜ r .at ≤ pen .at + 30 ⌝ }
 {
     let a = patch(bytes, map, pen, part(w, crowded), h);
     let b = track(bytes, map, a, w, h);
-    lift(bytes, map, b)
+    let c = lift(bytes, map, b);
+    leg(bytes, map, c, w, h)
 }
 
 // The width that patches keep to.
@@ -158,18 +201,18 @@ fn part(w: u16, crowded: bool) -> u16
 
 // The map byte of a record without a board; in a crowded file it mostly draws.
 fn map_of(seed: u32, crowded: bool) -> u16
-    ensures { λ r. ⌜ r ≤ 14 ⌝ }
+    ensures { λ r. ⌜ r ≤ 30 ⌝ }
 {
     if crowded && seed / 64 % 8 != 0 {
         return 2;
     }
-    2 + 2 * below(seed, 7)
+    2 + 2 * below(seed, 15)
 }
 
 // Puts a record without a board.
 fn record(bytes: &mut [u8; 12000], pen: Pen, w: u16, h: u16, crowded: bool) -> Pen
     requires { ⌜ (pen .at < 11600) × (0 < w) × (w ≤ 64) × (0 < h) × (h ≤ 64) ⌝ }
-    ensures { λ r. ⌜ r .at ≤ pen .at + 21 ⌝ }
+    ensures { λ r. ⌜ r .at ≤ pen .at + 31 ⌝ }
 {
     let at = pen.at;
     let a = next(pen.seed);
@@ -185,7 +228,7 @@ fn record(bytes: &mut [u8; 12000], pen: Pen, w: u16, h: u16, crowded: bool) -> P
 // Puts the first record of a file.
 fn first_record(bytes: &mut [u8; 12000], w: u16, h: u16, seed: u32) -> Pen
     requires { ⌜ (0 < w) × (w ≤ 64) × (0 < h) × (h ≤ 64) ⌝ }
-    ensures { λ r. ⌜ r .at ≤ 27 ⌝ }
+    ensures { λ r. ⌜ r .at ≤ 37 ⌝ }
 {
     let map = map_of(seed, seed / 4 % 2 == 0);
     bytes[0] = (map + 1) as u8;
@@ -195,7 +238,7 @@ fn first_record(bytes: &mut [u8; 12000], w: u16, h: u16, seed: u32) -> Pen
 
 // Puts n records, and the end mark.
 fn records(bytes: &mut [u8; 12000], first: Pen, n: usize, w: u16, h: u16, crowded: bool) -> Pen
-    requires { ⌜ (first .at ≤ 27) × (n ≤ 500) × (0 < w) × (w ≤ 64) × (0 < h) × (h ≤ 64) ⌝ }
+    requires { ⌜ (first .at ≤ 37) × (n ≤ 300) × (0 < w) × (w ≤ 64) × (0 < h) × (h ≤ 64) ⌝ }
     ensures { λ r. ⌜ (0 < r .at) × (r .at ≤ 11000) ⌝ }
 {
     let mut pen = first;
@@ -221,7 +264,7 @@ fn damage(bytes: &mut [u8; 12000], length: usize, seed: u32) -> usize
         0 | 1 | 2 => place,
         3 | 4 | 5 => change(bytes, place, length, seed),
         6 => last(bytes, length, 1),
-        7 => last(bytes, length, 16),
+        7 => last(bytes, length, 32),
         8 => last(bytes, length, 128),
         9 => length + 1,
         10 => {
@@ -265,7 +308,7 @@ fn room(seed: u32) -> usize
 
 // How many records a file has after its first.
 fn record_count(seed: u32, crowded: bool) -> usize
-    ensures { λ r. ⌜ r ≤ 500 ⌝ }
+    ensures { λ r. ⌜ r ≤ 300 ⌝ }
 {
     if crowded {
         return 300;

@@ -93,6 +93,7 @@ fn count_record(counts: &mut [u64; 24], want: Ran) {
     count_number(counts, want.patch);
     count_number(counts, want.track);
     count_number(counts, want.lift);
+    count_number(counts, want.leg);
 }
 
 // Runs a record by the call, with so many corner places lent.

@@ -24,6 +24,7 @@ fn main() {
     sample(b"full-table", b"full-table.job");
     sample(b"less-ink", b"less-ink.job");
     sample(b"reader-keys", b"reader-keys.job");
+    sample(b"reader-more", b"reader-more.job");
     sample(b"reader-relaid", b"reader-relaid.job");
     sample(b"refusals", b"refusals.job");
     sample(b"second-board", b"second-board.job");

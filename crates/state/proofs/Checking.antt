@@ -10,7 +10,6 @@ use borrow.Author.Tests.{le-leb, leb-true, ltb-false, le-ltb, not-true, not-fals
 use Rattle.foil_spec.specs.Lists.{range, all, each}
 use Rattle.foil_spec.specs.Limits.{maxEntries, tableSize, maxStrips, stripsSize}
 use Rattle.foil_spec.specs.Foil.{entryNumbers, Layout, sizeOk, clearanceOk, entryOk}
-use Rattle.foil_spec.specs.Strips.{Strip}
 use Rattle.foil_spec.specs.Ledger.{stripsOf, tooFine}
 use Rattle.foil_spec.specs.Lent.{Lent, lent, stripNumbers, written, store, entryAt, layoutOf, held}
 use Rattle.foil_spec.specs.Lent.{layoutOk, sound}
@@ -30,37 +29,36 @@ fine-few : (l : Layout) → tooFine l ≡ false → length (stripsOf l) ≤ maxS
 unfolding tooFine
 fine-few l e = ltb-false maxStrips (length (stripsOf l)) e
 
--- ss are the layout's strips, built anew
-module _ (l : Layout) (count : ℕ) (s : List ℕ) (ss : List Strip) (are : ss ≡ stripsOf l) where
-  pub too-many : maxStrips < length ss → StripsRight l count s → ⊥
-  too-many h r = omega (arith, r .few, ap length are)
+-- c counts the strips that were built anew
+module _ (l : Layout) (count : ℕ) (s : List ℕ) where
+  pub too-many : maxStrips < length (stripsOf l) → StripsRight l count s → ⊥
+  too-many h r = omega (arith, r .few)
 
-  pub miscounted : (c : ℕ) → c ≡ length ss → (c ≡ count → ⊥) → StripsRight l count s → ⊥
-  miscounted c e d r = d (e ∙ ap length are ∙ sym (r .counted))
+  pub miscounted : (c : ℕ) → c ≡ length (stripsOf l) → (c ≡ count → ⊥) → StripsRight l count s → ⊥
+  miscounted c e d r = d (e ∙ sym (r .counted))
 
   ns : List ℕ
   ns = each stripNumbers (stripsOf l)
 
   -- the list has the same front, or not
-  pub compared : (out o : List ℕ) (c : ℕ) (r : Bool) → c ≡ length ss → c ≤ maxStrips
-      → out ≡ written stripsSize (each stripNumbers ss) o → c ≡ count
+  pub compared : (out o : List ℕ) (c : ℕ) (r : Bool) → c ≡ length (stripsOf l) → c ≤ maxStrips
+      → out ≡ written stripsSize (each stripNumbers (stripsOf l)) o → c ≡ count
       → Told (take stripsSize out ≡ take stripsSize s) r → Told (StripsRight l count s) r
   unfolding ns
   compared out o c r n few e k h = go r h
     where
       fits : length ns ≤ stripsSize
-      fits = omega (arith, length-strips (stripsOf l), ap length are)
+      fits = omega (arith, length-strips (stripsOf l))
 
       front : take stripsSize out ≡ take stripsSize (written stripsSize ns s)
       front =
-          ap (take stripsSize) (e ∙ ap (λ (ts : List Strip). written stripsSize (each stripNumbers ts) o) are)
-          ∙ front-written stripsSize ns o fits ∙ sym (front-written stripsSize ns s fits)
+          ap (take stripsSize) e ∙ front-written stripsSize ns o fits ∙ sym (front-written stripsSize ns s fits)
 
       go : (r : Bool) → Told (take stripsSize out ≡ take stripsSize s) r → Told (StripsRight l count s) r
       go true h =
           record {
-            few = omega (arith, ap length are);
-            counted = sym k ∙ n ∙ ap length are;
+            few = omega arith;
+            counted = sym k ∙ n;
             listed = is-written stripsSize ns s fits (sym h ∙ front ∙ front-written stripsSize ns s fits);
           }
       go false h = λ q. h (front ∙ ap (take stripsSize) (sym (q .listed)))

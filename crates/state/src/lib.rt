@@ -22,8 +22,10 @@ ghost use lib.ListN.{length, take};
 ghost use Rattle.foil_spec.specs.Lists.{range, all};
 ghost use Rattle.foil_spec.specs.Limits.{stripsSize};
 ghost use Rattle.foil_spec.specs.Foil.{entryOk};
+ghost use Rattle.foil_spec.specs.Ledger.{stripsOf};
 ghost use Rattle.foil_spec.specs.Lent.{lent, entryAt, layoutOf, sound};
 ghost use Rattle.zones.specs.Table.{Table};
+ghost use Rattle.strips.specs.Built.{Rebuilt};
 ghost use Rattle.strips.specs.Told.{Told};
 ghost use Rattle.state.specs.Tests.{Zeros, boardOk, StripsRight};
 
@@ -73,17 +75,8 @@ fn strips_ok(table: &[u16], strips: &[u16], board: Board) -> bool
     ensures { λ r. ⌜ Told (StripsRight (layoutOf (board .width) (board .height) (board .clearance)
         (board .entries) (now (table .entry))) (board .strips) (now (strips .entry))) r ⌝ }
 {
-    let mut boxes = [0u16; BOXES_SIZE];
     let mut out = [0u16; STRIPS_SIZE];
-    let n = zones(
-        &mut boxes,
-        table,
-        board.entries,
-        board.clearance,
-        board.width,
-        board.height,
-    );
-    let built = rebuild(&mut out, &boxes, n, board.width, board.height);
+    let built = strips_of(&mut out, table, board.entries, board);
     let Built::Strips(count) = built else {
         return false;
     };
@@ -91,6 +84,26 @@ fn strips_ok(table: &[u16], strips: &[u16], board: Board) -> bool
         return false;
     }
     same_front(&out, strips, STRIPS_SIZE)
+}
+
+// Writes the strips of the table's first n entries, on a board of the record's size and clearance, to
+// out, and zeros after them up to 4,096 places. Where there are too many, what out holds is undecided.
+pub fn strips_of(out: &mut [u16], table: &[u16], n: usize, board: Board) -> Built
+    requires { ⌜ Table (now table) n (board .clearance) (board .width) (board .height) ⌝ }
+    requires { ⌜ stripsSize ≤ length (now out) ⌝ }
+    ensures { λ r. ⌜ Rebuilt (now (out .entry)) (now (out .exit))
+        (stripsOf (layoutOf (board .width) (board .height) (board .clearance) n (now (table .entry)))) r ⌝ }
+{
+    let mut boxes = [0u16; BOXES_SIZE];
+    let count = zones(
+        &mut boxes,
+        table,
+        n,
+        board.clearance,
+        board.width,
+        board.height,
+    );
+    rebuild(out, &boxes, count, board.width, board.height)
 }
 
 // Whether the entry is one that a table of a foil of w by h may hold.

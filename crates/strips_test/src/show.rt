@@ -23,7 +23,7 @@ fn answer(words: &[u8], answer: Answer) {
     io::write_all(1, words);
     match answer {
         Answer::Refused(number) => count(b"", number as u64),
-        Answer::Accepted | Answer::Laid(_, _) => count(b"", 0),
+        Answer::Accepted | Answer::Laid(_, _) | Answer::Wrote(_) => count(b"", 0),
         Answer::Found(place) => count(b"strip ", place as u64),
     }
 }

@@ -3,7 +3,7 @@ use mathlib.Core.Path.{refl}
 use native.Mathlib.Omega.{arith}
 use Rattle.foil_spec.specs.Limits.{maxEntries}
 use Rattle.foil_spec.specs.Ledger.{reads}
-use Rattle.foil.proofs.Giving.{sound-room, passed-sound, limit-is, lent-refused}
+use Rattle.foil.proofs.Giving.{sound-room, passed-sound, checked-by, limit-is, lent-refused}
 use borrow.Author.Needs.{needs}
 use Rattle.foil.proofs.draw.Statement.{statement}
 use Rattle.foil.proofs.draw.Tie as tie
@@ -32,8 +32,10 @@ same-length-2 c = search needs
 
 returns : tie.Need-returns
 unfolding reads
-returns c = lent-refused _ _ _ _ (c .refuse .ensures) refl _ _
-    (rw (c .before .before .checked .given .1) at (c .before .before .before .before .lent-refusal .ensures))
+returns c =
+    let told = c .before .before in
+    lent-refused _ _ _ _ (c .refuse .ensures) refl _ _
+    (checked-by _ _ (told .before .before .lent-refusal .ensures) _ (told .checked .given .1))
 
 enum-told : tie.Need-enum-told
 enum-told c = search needs

@@ -17,6 +17,9 @@ enum-known-answer-2 c = search needs
 enum-known-answer-3 : tie.Need-enum-known-answer-3
 enum-known-answer-3 c = search needs
 
+enum-known-answer-4 : tie.Need-enum-known-answer-4
+enum-known-answer-4 c = search needs
+
 returns : tie.Need-returns
 unfolding saidOf
 returns c = sym (ap saidOf (c .before .answer .given .1))
@@ -33,6 +36,10 @@ returns-4 : tie.Need-returns-4
 unfolding saidOf
 returns-4 c = sym (ap saidOf (c .before .answer3 .given .1))
 
+returns-5 : tie.Need-returns-5
+unfolding saidOf
+returns-5 c = sym (ap saidOf (c .before .answer4 .given .1))
+
 pub said-of-spec : {M : Type 1} → statement M
 said-of-spec =
     tie.close
@@ -41,7 +48,9 @@ said-of-spec =
     enum-told
     enum-known-answer-2
     enum-known-answer-3
+    enum-known-answer-4
     returns
     returns-2
     returns-3
-    returns-4)
+    returns-4
+    returns-5)

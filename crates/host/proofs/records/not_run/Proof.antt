@@ -18,6 +18,7 @@ returns c =
       patch = record { ran = false; said = c .nothing-said .ensures i };
       track = record { ran = false; said = c .nothing-said .ensures i };
       lift = record { ran = false; said = c .nothing-said .ensures i };
+      leg = record { ran = false; said = c .nothing-said .ensures i };
       more = false;
       next = 0;
     }

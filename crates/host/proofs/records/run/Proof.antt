@@ -18,18 +18,21 @@ step-said-of-requires-3 c κs = search needs
 step-said-of-requires-4 : tie.Need-step-said-of-requires-4
 step-said-of-requires-4 c κs = search needs
 
+step-said-of-requires-5 : tie.Need-step-said-of-requires-5
+step-said-of-requires-5 c κs = search needs
+
 enum-known-next : tie.Need-enum-known-next
 enum-known-next c = search needs
 
 enum-told : tie.Need-enum-told
 enum-told c = search needs
 
--- back to the numbers of the lift, the last of the four, and from there to those of the patch
-abbrev lifted : tie.After-next → tie.After-step-said-of4
-lifted c = c .before .before
+-- back to the numbers of the leg, the last of the five, and from there to those of the track
+abbrev put : tie.After-next → tie.After-step-said-of5
+put c = c .before .before
 
-abbrev patched : tie.After-step-said-of4 → tie.After-step-said-of2
-patched c = c .before .before
+abbrev laid : tie.After-step-said-of5 → tie.After-step-said-of3
+laid c = c .before .before
 
 returns : tie.Need-returns
 unfolding ranSaid goesOn placeNext
@@ -38,10 +41,11 @@ returns c =
     λ i. record {
       number = 0;
       end = false;
-      board = patched d .before .step-said-of .ensures i;
-      patch = patched d .step-said-of2 .ensures i;
-      track = d .before .step-said-of3 .ensures i;
-      lift = d .step-said-of4 .ensures i;
+      board = laid d .before .before .step-said-of .ensures i;
+      patch = laid d .before .step-said-of2 .ensures i;
+      track = laid d .step-said-of3 .ensures i;
+      lift = d .before .step-said-of4 .ensures i;
+      leg = d .step-said-of5 .ensures i;
       more = sym (ap goesOn (c .enum-told .given .1)) i;
       next = sym (ap placeNext (c .enum-told .given .1)) i;
     }
@@ -49,14 +53,15 @@ returns c =
 returns-2 : tie.Need-returns-2
 unfolding ranSaid goesOn placeNext
 returns-2 c =
-    let d = lifted (c .before) in
+    let d = put (c .before) in
     λ i. record {
       number = 0;
       end = false;
-      board = patched d .before .step-said-of .ensures i;
-      patch = patched d .step-said-of2 .ensures i;
-      track = d .before .step-said-of3 .ensures i;
-      lift = d .step-said-of4 .ensures i;
+      board = laid d .before .before .step-said-of .ensures i;
+      patch = laid d .before .step-said-of2 .ensures i;
+      track = laid d .step-said-of3 .ensures i;
+      lift = d .before .step-said-of4 .ensures i;
+      leg = d .step-said-of5 .ensures i;
       more = sym (ap goesOn (c .before .next .given .1)) i;
       next = sym (ap placeNext (c .before .next .given .1)) i;
     }
@@ -69,6 +74,7 @@ run-spec =
     step-said-of-requires-2
     step-said-of-requires-3
     step-said-of-requires-4
+    step-said-of-requires-5
     enum-known-next
     enum-told
     returns

@@ -4,8 +4,8 @@ use native.Mathlib.Omega.{arith}
 use mathlib.Core.Path.{_≡_}
 use Rattle.foil_spec.specs.Lists.{range}
 use Rattle.foil_spec.specs.Job.{mapBits}
-use Rattle.lines.specs.Put.{Put}
-use Rattle.lines.proofs.Putting.{put-length}
+use Rattle.putting.specs.Put.{Put}
+use Rattle.putting.proofs.Putting.{put-length}
 use Rattle.job_report.specs.Told.{linesOf, bytesBelow}
 use Rattle.job_report.proofs.Telling.{lines-none, lines-more, lines-all}
 use Rattle.job_report.proofs.answers.put_answers.Statement.{statement}

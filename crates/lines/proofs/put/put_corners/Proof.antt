@@ -45,12 +45,13 @@ loop-less c = omega arith
 
 loop-again : tie.Need-loop-again Inv-loop μ-loop
 unfolding cornersIn
-loop-again c = (
-  omega arith,
-  row-more cornerItem (cornerAt _) _ (inLoop c .before .loop .inv .1)
-      (rw (c .before .before .before .corner-at .ensures) at (c .before .before .put-corner .ensures .0)),
-  omega arith,
-)
+loop-again c =
+    let put = c .before .before in (
+      omega arith,
+      row-more cornerItem (cornerAt _) _ (inLoop c .before .loop .inv .1)
+          (rw (put .before .corner-at .ensures) at (put .put-corner .ensures .0)),
+      omega arith,
+    )
 
 same-length : tie.Need-same-length Inv-loop μ-loop
 same-length c = put-length (c .before .loop .inv .1)

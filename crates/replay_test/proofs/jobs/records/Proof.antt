@@ -1,11 +1,11 @@
--- `replay_test::jobs::records` meets its contract: each record takes 21 bytes at most.
+-- `replay_test::jobs::records` meets its contract: each record takes 31 bytes at most.
 use Prim.Native.Nat.{_+_, _*_, _≤_, _-_}
 use borrow.Author.Needs.{needs}
 use Rattle.replay_test.proofs.jobs.records.Statement.{statement}
 use Rattle.replay_test.proofs.jobs.records.Tie as tie
 
 abbrev Inv-loop : tie.InvT-loop
-Inv-loop bytes₀ n w h crowded pen₀ counter₀ bytes pen counter = (counter ≤ n) × (pen .at ≤ 27 + 21 * counter)
+Inv-loop bytes₀ n w h crowded pen₀ counter₀ bytes pen counter = (counter ≤ n) × (pen .at ≤ 37 + 31 * counter)
 
 abbrev μ-loop : tie.MeasureT-loop
 μ-loop bytes₀ n w h crowded pen₀ counter₀ bytes pen counter = n - counter

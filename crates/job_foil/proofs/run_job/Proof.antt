@@ -1,14 +1,14 @@
--- `foil_ohms::write_job` is safe and ends: the loop counts the records.
+-- `job_foil::run_job` is safe and ends: the loop counts the records.
 use Prim.Native.Nat.{_≤_, _-_}
 use borrow.Author.Needs.{needs}
-use Rattle.foil_ohms.proofs.write_job.Statement.{statement}
-use Rattle.foil_ohms.proofs.write_job.Tie as tie
+use Rattle.job_foil.proofs.run_job.Statement.{statement}
+use Rattle.job_foil.proofs.run_job.Tie as tie
 
 abbrev Inv-loop : tie.InvT-loop
-Inv-loop _ _ _ _ _ _ _ _ _ _ _ _ _ counter = counter ≤ 60001
+Inv-loop _ _ _ _ _ _ _ _ _ _ _ _ counter = counter ≤ 60001
 
 abbrev μ-loop : tie.MeasureT-loop
-μ-loop _ _ _ _ _ _ _ _ _ _ _ _ _ counter = 60001 - counter
+μ-loop _ _ _ _ _ _ _ _ _ _ _ _ counter = 60001 - counter
 
 no-board-requires : tie.Need-no-board-requires Inv-loop μ-loop
 no-board-requires c κs = search needs
@@ -19,14 +19,17 @@ loop-holds c = search needs
 run-one-requires : tie.Need-run-one-requires Inv-loop μ-loop
 run-one-requires c κs = search needs
 
-after-requires : tie.Need-after-requires Inv-loop μ-loop
-after-requires c κs = search needs
+next-of-requires : tie.Need-next-of-requires Inv-loop μ-loop
+next-of-requires c κs = search needs
 
 enum-known-next : tie.Need-enum-known-next Inv-loop μ-loop
 enum-known-next c = search needs
 
 enum-told : tie.Need-enum-told Inv-loop μ-loop
 enum-told c = search needs
+
+how-ended-requires : tie.Need-how-ended-requires Inv-loop μ-loop
+how-ended-requires c κs = search needs
 
 returns : tie.Need-returns Inv-loop μ-loop
 returns c = search needs
@@ -43,7 +46,21 @@ loop-again c = search needs
 returns-2 : tie.Need-returns-2 Inv-loop μ-loop
 returns-2 c = search needs
 
-pub write-job-spec : {M : Type 1} → statement M
-write-job-spec =
-    tie.close (tie.spec Inv-loop μ-loop no-board-requires loop-holds run-one-requires after-requires enum-known-next
-    enum-told returns add-counter loop-less loop-again returns-2)
+pub run-job-spec : {M : Type 1} → statement M
+run-job-spec =
+    tie.close
+    (tie.spec
+    Inv-loop
+    μ-loop
+    no-board-requires
+    loop-holds
+    run-one-requires
+    next-of-requires
+    enum-known-next
+    enum-told
+    how-ended-requires
+    returns
+    add-counter
+    loop-less
+    loop-again
+    returns-2)

@@ -1,0 +1,96 @@
+// The foil that a job leaves: the records of a job file are run in turn, without their lines, for
+// programs that ask something of the foil at its end.
+use foil::Answer;
+use foil_spec::Board;
+use foil_spec::CORNERS_SIZE;
+use foil_spec::STRIPS_SIZE;
+use foil_spec::TABLE_SIZE;
+use io::print_decimal;
+use io::write_all;
+use job::Answers;
+use job::Next;
+use job::Replied;
+use job::Reply;
+use job::Told;
+use job_report::no_board;
+use job_report::run_one;
+
+// More records than any file has that is not too long, and one call more for its end.
+const RECORDS: usize = 60001;
+
+// How a job ended: at its end mark, with the board's record; or by the number of its board, or of the
+// file as a whole.
+pub enum Ended {
+    AtMark(Board),
+    ByBoard(u8),
+    ByFile(u8),
+}
+
+// Runs a job file on a foil of its own, and leaves the foil's table and strips in the lists.
+pub fn run_job(
+    table: &mut [u16; TABLE_SIZE],
+    strips: &mut [u16; STRIPS_SIZE],
+    bytes: &[u8],
+) -> Ended {
+    let mut corners = [0u16; CORNERS_SIZE];
+    let mut board = no_board();
+    let mut at: usize = 0;
+    for _ in 0..RECORDS {
+        let done = run_one(table, strips, &mut corners, board, bytes, at);
+        let next = next_of(done);
+        let Next::At(place) = next else {
+            return how_ended(done);
+        };
+        board = done.board;
+        at = place;
+    }
+    Ended::ByFile(18)
+}
+
+// Where a job goes on after a record.
+fn next_of(done: Replied) -> Next {
+    let reply = done.reply;
+    let Reply::Ran(_, next) = reply else {
+        return Next::Nowhere;
+    };
+    next
+}
+
+// How a job ended with its last record.
+fn how_ended(done: Replied) -> Ended {
+    let reply = done.reply;
+    let board = done.board;
+    match reply {
+        Reply::Refused(number) => Ended::ByFile(number),
+        Reply::Ran(answers, _) => Ended::ByBoard(board_number(answers)),
+        Reply::AtEnd => Ended::AtMark(board),
+    }
+}
+
+// The number of a record's board, 0 if it is accepted.
+fn board_number(answers: Answers) -> u8 {
+    let told = answers.board;
+    let Told::Said(answer) = told else {
+        return 0;
+    };
+    let Answer::Refused(number) = answer else {
+        return 0;
+    };
+    number
+}
+
+// Writes the line of a job that ended before its end mark, `file N` or `board N`.
+pub fn tell(fd: i32, ended: Ended) {
+    match ended {
+        Ended::AtMark(_) => {}
+        Ended::ByBoard(number) => tell_number(fd, b"board ", number),
+        Ended::ByFile(number) => tell_number(fd, b"file ", number),
+    }
+}
+
+// Writes a line of a word, a blank after it, and a number.
+pub fn tell_number(fd: i32, word: &[u8], number: u8) {
+    write_all(fd, word);
+    print_decimal(fd, number as u64);
+    write_all(fd, b"\n");
+}

@@ -1,0 +1,4 @@
+-- Laws of saving.
+pub mod Records
+pub mod Beginnings
+pub mod Saves

@@ -1,0 +1,2 @@
+-- What the contracts of saving cite.
+pub mod File
