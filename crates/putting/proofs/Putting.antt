@@ -3,12 +3,13 @@ use Prim.Native.Nat.{ℕ, suc, _+_, _≤_, _<_}
 use native.Mathlib.Omega.{arith}
 use native.Mathlib.Nat.{add-zero, zero-add}
 use native.Mathlib.Numerals.{add-one}
-use mathlib.Core.Path.{_≡_, refl, sym, ap, _∙_}
+use mathlib.Core.Path.{_≡_, refl, sym, ap, _∙_, subst}
 use mathlib.Core.List.{List, [], _∷_, _++_, map, append-assoc, append-nil}
 use lib.ListN.{length, getD, take, drop, set, length-append, length-take, length-drop}
 use lib.Seq.{paste-zero, set-split, append-snoc, take-suc, take-all, length-take-le, take-at}
 use lib.Seq.{drop-append-add, drop-drop}
 use Rattle.foil_spec.specs.Lists.{range, each}
+use Rattle.foil_spec.specs.Lent.{overFront}
 use Rattle.list_laws.proofs.Members.{map-last}
 use Rattle.putting.specs.Put.{Put}
 
@@ -110,3 +111,19 @@ pub row-more : {A : Type 0} (g : A → List ℕ) (f : ℕ → A) {o o₁ o₂ : 
     → Put o at (each g (map f (range 0 k))) o₁ a → Put o₁ a (g (f k)) o₂ r
     → Put o at (each g (map f (range 0 (k + 1)))) o₂ r
 row-more g f k p q = rw (each-more g f 0 k, zero-add k) (put-then p q)
+
+-- bytes put at the front of one list, and over the front of another
+module _ {f f₁ bytes : List ℕ} {size : ℕ} (p : Put f 0 bytes f₁ size) where
+  pub front-long : length (take size f₁) ≡ size
+  front-long = length-take-le size f₁ (omega (arith, put-length p, p .fits, p .next))
+
+  front-is : take size f₁ ≡ bytes
+  front-is =
+      ap (λ (l : List ℕ). take size l) (p .is)
+      ∙ take-at bytes (drop (0 + length bytes) f) size (omega (arith, p .next))
+
+  pub front-over : {o o₁ : List ℕ} {r : ℕ} → Put o 0 (take size f₁) o₁ r → o₁ ≡ overFront bytes o
+  unfolding overFront
+  front-over {o} {o₁} {r} q =
+      subst (λ (bs : List ℕ). Put o 0 bs o₁ r) front-is q .is
+      ∙ ap (λ (k : ℕ). bytes ++ drop k o) (zero-add (length bytes))

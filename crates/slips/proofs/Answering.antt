@@ -1,19 +1,16 @@
 -- The call, return by return.
-use Prim.Native.Nat.{ℕ, _+_, _*_, _≤_, _<_}
+use Prim.Native.Nat.{ℕ, _≤_, _<_}
 use native.Mathlib.Omega.{arith}
-use native.Mathlib.Nat.{zero-add}
 use mathlib.Core.Path.{_≡_, refl, sym, ap, _∙_, subst}
 use mathlib.Core.Bool.{true}
-use mathlib.Core.List.{List, _++_}
-use mathlib.Core.Option.{none, some}
-use lib.ListN.{length, take, drop}
-use lib.Seq.{take-at, length-take-le}
+use mathlib.Core.List.{List}
+use lib.ListN.{length, take}
 use borrow.Author.Tests.{eq-eqb, lt-ltb, le-ltb}
 use Rattle.foil_spec.specs.Foil.{entryOk}
 use Rattle.foil_spec.specs.Nets.{ofNet, netLength}
 use Rattle.foil_spec.specs.Slip.{slipOf}
 use Rattle.foil_spec.specs.Ledger.{slip, next, says, first, reads, refusals}
-use Rattle.foil_spec.specs.Lent.{Lent, lent, entryAt, layoutOf, held, sound, roomIn, overFront}
+use Rattle.foil_spec.specs.Lent.{Lent, lent, entryAt, layoutOf, held, sound, roomIn}
 use Rattle.foil_spec.specs.declared.Board.{Board}
 use Rattle.list_laws.proofs.Members.{at-place}
 use Rattle.ledger_laws.proofs.Rules.{of-ok}
@@ -27,14 +24,9 @@ use Rattle.foil.specs.declared.Answer.the-variants.{Refused, Wrote}
 use Rattle.foil.specs.declared.lent.Checked.the-variants as checked
 use Rattle.foil.proofs.Writing.{lent-unwritten, own-unwritten, written}
 use Rattle.putting.specs.Put.{Put}
-use Rattle.putting.proofs.Putting.{put-length}
+use Rattle.putting.proofs.Putting.{front-over}
 use Rattle.slips.specs.Writing.{linesTo, Tracks}
 use Rattle.slips.proofs.Rising.{slip-lines}
-
--- the bytes that were put at the front of a list
-pub front-long : {f f₁ bytes : List ℕ} {size : ℕ} → Put f 0 bytes f₁ size → length (take size f₁) ≡ size
-front-long {f} {f₁} {bytes} {size} p =
-    length-take-le size f₁ (omega (arith, put-length p, p .fits, p .next))
 
 module _ (b : Board) (t s : List ℕ) where
   abbrev m : Lent
@@ -85,21 +77,14 @@ module _ (b : Board) (t s : List ℕ) where
       pub no-room : length o < size → WriteDone slip m o (Refused 12) o
       unfolding refusals first roomIn
       no-room l =
-          own-unwritten slip m o g 12
-          (rw (lt-ltb (length o) (length (slipOf (held m))) (omega (arith, long))) refl)
+          let small = lt-ltb (length o) (length (slipOf (held m))) (omega (arith, long)) in
+          own-unwritten slip m o g 12 (rw small refl)
 
       pub slipped : size ≤ length o → {o₁ : List ℕ} {p : ℕ} → Put o 0 (take size f₁) o₁ p
           → WriteDone slip m o (Wrote size) o₁
-      unfolding refusals first roomIn says next overFront
+      unfolding refusals first roomIn says next
       slipped l {o₁} {p} out =
-          let front : take size f₁ ≡ lines =
-          ap (λ (bs : List ℕ). take size bs) (page .is)
-          ∙ take-at lines (drop (0 + length lines) f) size (omega (arith, page .next)) in
-          let put = subst (λ (bs : List ℕ). Put o 0 bs o₁ p) (front ∙ sym slip-is) out in
+          let large = le-ltb (length o) (length (slipOf (held m))) (omega (arith, long)) in
           subst (λ (k : ℕ). WriteDone slip m o (Wrote k) o₁) long
-          (written slip m o g (slipOf (held m)) o₁
-          (rw (le-ltb (length o) (length (slipOf (held m))) (omega (arith, long))) refl)
-          refl
-          refl
-          (put .is
-          ∙ ap (λ (k : ℕ). slipOf (held m) ++ drop k o) (zero-add (length (slipOf (held m))))))
+          (written slip m o g (slipOf (held m)) o₁ (rw large refl) refl refl
+          (front-over (subst (λ (bs : List ℕ). Put f 0 bs f₁ size) (sym slip-is) page) out))

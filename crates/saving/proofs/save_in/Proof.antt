@@ -1,7 +1,8 @@
 -- `saving::save_in` meets its contract: 11 by the beginnings, 12 by the size of the file, and else the file in front.
 use native.Mathlib.Omega.{arith}
 use mathlib.Core.Path.{sym}
-use Rattle.saving.proofs.Saves.{table-read, front-long, begins-too-fine, no-room, saved}
+use Rattle.putting.proofs.Putting.{front-long}
+use Rattle.saving.proofs.Saves.{table-read, begins-too-fine, no-room, saved}
 use borrow.Author.Needs.{needs}
 use Rattle.saving.proofs.save_in.Statement.{statement}
 use Rattle.saving.proofs.save_in.Tie as tie

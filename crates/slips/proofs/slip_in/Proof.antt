@@ -1,7 +1,8 @@
 -- `slips::slip_in` meets its contract: 12 by the size of the page, and else the page in front.
 use native.Mathlib.Omega.{arith}
 use mathlib.Core.Path.{sym}
-use Rattle.slips.proofs.Answering.{front-long, tracks, no-room, slipped}
+use Rattle.putting.proofs.Putting.{front-long}
+use Rattle.slips.proofs.Answering.{tracks, no-room, slipped}
 use borrow.Author.Needs.{needs}
 use Rattle.slips.proofs.slip_in.Statement.{statement}
 use Rattle.slips.proofs.slip_in.Tie as tie
