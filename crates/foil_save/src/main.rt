@@ -1,14 +1,13 @@
 // The foil that a job leaves, saved: reads a job file from standard input, runs it, and writes the foil's
 // own job file to standard output. Where the file is at fault, its board is refused or the save is, a
 // line on standard error has the number, and nothing else is written.
-use foil::Answer;
 use foil_spec::Board;
 use foil_spec::STRIPS_SIZE;
 use foil_spec::TABLE_SIZE;
 use job_foil::Ended;
 use job_foil::run_job;
 use job_foil::tell;
-use job_foil::tell_number;
+use job_foil::write_answer;
 use saving::save;
 
 // One byte more than a job file may have, so that a longer one is known.
@@ -39,18 +38,5 @@ fn save_job(bytes: &[u8]) {
 fn write_saved(table: &[u16; TABLE_SIZE], strips: &[u16; STRIPS_SIZE], board: Board) {
     let mut out = [0u8; SAVED_BYTES];
     let answer = save(&mut out, table, strips, board);
-    match answer {
-        Answer::Refused(number) => tell_number(2, b"save ", number),
-        Answer::Accepted => {}
-        Answer::Laid(_, _) => {}
-        Answer::Found(_) => {}
-        Answer::Wrote(n) => write_front(&out, n),
-    }
-}
-
-// Writes the first n bytes of a list.
-fn write_front(out: &[u8], n: usize) {
-    if n <= out.len() {
-        io::write_all(1, &out[..n]);
-    }
+    write_answer(&out, answer, b"save ");
 }

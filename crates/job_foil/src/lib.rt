@@ -94,3 +94,22 @@ pub fn tell_number(fd: i32, word: &[u8], number: u8) {
     print_decimal(fd, number as u64);
     write_all(fd, b"\n");
 }
+
+// Writes what a call left at the front of `out`; or, where it was refused, a line on standard error of a
+// word, a blank after it, and the number.
+pub fn write_answer(out: &[u8], answer: Answer, word: &[u8]) {
+    match answer {
+        Answer::Refused(number) => tell_number(2, word, number),
+        Answer::Accepted => {}
+        Answer::Laid(_, _) => {}
+        Answer::Found(_) => {}
+        Answer::Wrote(n) => write_front(out, n),
+    }
+}
+
+// Writes the first n bytes of a list.
+fn write_front(out: &[u8], n: usize) {
+    if n <= out.len() {
+        write_all(1, &out[..n]);
+    }
+}

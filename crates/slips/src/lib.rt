@@ -8,7 +8,7 @@ use foil::Answer;
 use foil::Checked;
 use foil::lent_refusal;
 use foil_spec::Board;
-use page::PAGE_SIZE;
+pub use page::PAGE_SIZE;
 use page::put_page;
 use putting::put_bytes;
 ghost use mathlib.Core.Path.{_≡_};

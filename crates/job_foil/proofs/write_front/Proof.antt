@@ -1,9 +1,9 @@
--- `foil_save::write_front` is safe: the part that is written lies in the list.
+-- `job_foil::write_front` is safe: the part that is written lies in the list.
 use borrow.Author.Needs.{needs}
 use native.Mathlib.Omega.{arith}
 use lib.ListN.{length-take}
-use Rattle.foil_save.proofs.write_front.Statement.{statement}
-use Rattle.foil_save.proofs.write_front.Tie as tie
+use Rattle.job_foil.proofs.write_front.Statement.{statement}
+use Rattle.job_foil.proofs.write_front.Tie as tie
 
 slice-aggregate-write-all : tie.Need-slice-aggregate-write-all
 slice-aggregate-write-all c = simp length-take (omega arith)
