@@ -1,0 +1,103 @@
+/* One call by its name, `times` times, on a foil that is made first: calls NAME TIMES. The difference of the instructions
+   of two runs, with one call and with two, is the cost of a call: what is made first, and the first touch of the stack,
+   is in both. */
+#include <stdio.h>
+#include <stdlib.h>
+#include <string.h>
+
+#include "foil.h"
+
+static struct foil_board board;
+static struct foil_entry table[FOIL_ENTRIES];
+static uint16_t strips[4 * FOIL_STRIPS], corners[2 * 8192];
+static uint8_t bytes[FOIL_SLIP_LINE * FOIL_ENTRIES];
+
+#define LENT &board, table, FOIL_ENTRIES, strips, 4 * FOIL_STRIPS
+#define CORNERS corners, 2 * 8192
+
+/* document 01's foil of 4,096 strips */
+static void finest(void)
+{
+    unsigned k;
+    foil_new_foil(LENT, 127, 127, 0);
+    for (k = 1; k < 126; k += 2)
+        foil_draw(LENT, k, 0, k + 1, 127);
+    for (k = 1; k < 126; k += 2)
+        foil_draw(LENT, 0, k, 127, k + 1);
+}
+
+/* so many nets of one point each, on a foil of 4,096 by 4,096 */
+static void points(unsigned n)
+{
+    unsigned k;
+    foil_new_foil(LENT, 4096, 4096, 0);
+    for (k = 0; k < n; k++) {
+        struct foil_entry leg = {1 + 7 * k, 31 * k, 29 * k, 31 * k + 1, 29 * k + 1};
+        foil_put_leg(LENT, leg);
+    }
+}
+
+/* so many staggered bars */
+static void bars(unsigned n)
+{
+    unsigned k;
+    foil_new_foil(LENT, 4096, 4096, 0);
+    for (k = 0; k < n; k++)
+        foil_draw(LENT, 30 * k % 2600, 32 * k, 30 * k % 2600 + 1400, 32 * k + 9);
+}
+
+/* stairs of n corners from (0, 0) */
+static size_t stairs(unsigned n)
+{
+    unsigned k;
+    for (k = 0; k < n; k++) {
+        corners[2 * k] = (k + 1) / 2 * 3;
+        corners[2 * k + 1] = k / 2 * 3;
+    }
+    return 2 * n;
+}
+
+int main(int argc, char **argv)
+{
+    const char *name = argc > 1 ? argv[1] : "";
+    int times = argc > 2 ? atoi(argv[2]) : 0;
+    struct foil_said said = {0, 0, 0, 0, 0};
+    unsigned x = argc > 3 ? atoi(argv[3]) : 0, y = argc > 4 ? atoi(argv[4]) : 0;
+    size_t n;
+    if (strcmp(name, "look") == 0) {
+        for (finest(); times > 0; times--)
+            said = foil_look_up(LENT, x, y);
+    } else if (strcmp(name, "save") == 0) {
+        for (bars(128); times > 0; times--)
+            said = foil_save(LENT, bytes, sizeof bytes);
+    } else if (strcmp(name, "savefine") == 0) {
+        for (finest(); times > 0; times--)
+            said = foil_save(LENT, bytes, sizeof bytes);
+    } else if (strcmp(name, "slip") == 0) {
+        for (points(128); times > 0; times--)
+            said = foil_slip(LENT, bytes, sizeof bytes);
+    } else if (strcmp(name, "lay") == 0) {
+        for (bars(120); times > 0; times--) {
+            said = foil_lay(LENT, CORNERS, 7, 0, 20, 4000, 4090);
+            foil_lift(LENT, 7);
+        }
+    } else if (strcmp(name, "find") == 0) {
+        for (bars(120); times > 0; times--)
+            said = foil_find(LENT, CORNERS, 0, 20, 4000, 4090);
+    } else if (strcmp(name, "book") == 0) {
+        n = stairs(129);
+        /* 128 entries far from the stairs: the whole list is tried, and then there is no place for its legs (10) */
+        unsigned k;
+        foil_new_foil(LENT, 4096, 4096, 0);
+        for (k = 0; k < 128; k++)
+            foil_draw(LENT, 1000 + 20 * k, 500 + 25 * k, 1011 + 20 * k, 507 + 25 * k);
+        for (; times > 0; times--)
+            said = foil_book(LENT, corners, n, 7);
+    } else if (strcmp(name, "leg") == 0 || strcmp(name, "draw") == 0) {
+        struct foil_entry leg = {7, 126, 126, 127, 127};
+        for (finest(); times > 0; times--)
+            said = *name == 'l' ? foil_put_leg(LENT, leg) : foil_draw(LENT, 126, 126, 127, 127);
+    }
+    printf("%u %zu %zu %zu %zu\n", said.number, said.corners, said.bends, said.place, said.bytes);
+    return 0;
+}
