@@ -5,10 +5,13 @@ use borrow.Author.Needs.{needs}
 use Rattle.drawn.proofs.book_path.Statement.{statement}
 use Rattle.drawn.proofs.book_path.Tie as tie
 
--- from the copy back to the start, from the legs to the copy, from the rows that are taken over to the legs, and from
--- the end to where they are
+-- from the copy back to what is lent and to the start, from the legs to the copy, from the rows that are taken over to
+-- the legs, and from the end to where they are
+abbrev lent : tie.After-copy-front-arg → tie.After-shared-slice-known
+lent c = c .before .before
+
 abbrev atStart : tie.After-copy-front-arg → tie.Start
-atStart c = c .before .before .before .before .before
+atStart c = lent c .before .before .before
 
 abbrev atCopy : tie.After-rows3 → tie.After-copy-front
 atCopy c = c .before .before

@@ -8,15 +8,19 @@ use borrow.Author.Needs.{needs}
 use Rattle.laying.proofs.lay.Statement.{statement}
 use Rattle.laying.proofs.lay.Tie as tie
 
--- from the body back to the test that is passed, and from there to where it is made; from the end to the body
+-- from the body back to the test that is passed, and from there to where it is made; from the end to what is left of
+-- the table, and to the body
 abbrev passed : tie.After-lay-in-arg3 → tie.After-enum-told
 passed c = c .before .before .before
 
 abbrev tested : tie.After-enum-told → tie.After-lent-refusal
 tested c = c .before .before
 
+abbrev left : tie.After-slice-known6 → tie.After-slice-known4
+left c = c .before .before .before .before
+
 abbrev body : tie.After-slice-known6 → tie.After-lay-in
-body c = c .before .before .before .before .before .before
+body c = left c .before .before
 
 lent-refusal-requires : tie.Need-lent-refusal-requires
 lent-refusal-requires c κs = search needs

@@ -9,10 +9,13 @@ use borrow.Author.Needs.{needs}
 use Rattle.laying.proofs.lay_between.Statement.{statement}
 use Rattle.laying.proofs.lay_between.Tie as tie
 
--- from the search back to the start, from each test to the search or to the test before it, from the booking to where
--- the legs have room, and from what follows to the booking and to the copy of the corners
+-- from the search back to what is lent and to the start, from each test to the search or to the test before it, from
+-- the booking to where the legs have room, and from what follows to the booking and to the copy of the corners
+abbrev lent : tie.After-path-between-arg → tie.After-slice-known3
+lent c = c .before .before
+
 abbrev atStart : tie.After-path-between → tie.Start
-atStart c = c .before .before .before .before .before .before
+atStart c = lent (c .before) .before .before .before
 
 abbrev searched : tie.Else1 → tie.After-path-between
 searched c = c .before .before
@@ -37,7 +40,7 @@ slice-aggregate-path-between c = search needs
 
 path-between-requires : tie.Need-path-between-requires
 path-between-requires c κs =
-    let pre = c .before .before .before .before .before .pre in
+    let pre = lent c .before .before .before .pre in
     posed _ _ _ _ _ (pre .0 .fine) (pre .0 .may .start-free, pre .0 .may .end-free)
 
 refuse-requires : tie.Need-refuse-requires
@@ -150,9 +153,12 @@ copy-front-requires c κs =
     let some = places .before in
     let start = atStart (searched some) in (
       omega (arith, places .if2 .left),
-      path-long _ _ _ (start .args .corners .now) _ _ _ _ (start .pre .1) (start .pre .0) _ _ _ (omega arith)
-          (searched some .path-between .ensures) (some .if1 .left) (places .if2 .left) _
-          (room .before .leg-count .ensures) (room .if3 .left),
+      omega (
+        arith,
+        path-long _ _ _ (start .args .corners .now) _ _ _ _ (start .pre .1) (start .pre .0) _ _ _ (omega arith)
+            (searched some .path-between .ensures) (some .if1 .left) (places .if2 .left) _
+            (room .before .leg-count .ensures) (room .if3 .left),
+      ),
     )
 
 bend-count-requires : tie.Need-bend-count-requires

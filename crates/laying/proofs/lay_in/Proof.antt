@@ -7,7 +7,7 @@ use Rattle.laying.proofs.lay_in.Statement.{statement}
 use Rattle.laying.proofs.lay_in.Tie as tie
 
 -- from each test back to where the one before it is passed, and from the first to the start; from the laying to where
--- the ends are passed, and from the end to the laying
+-- the ends are passed, and from the end to what is left of the table, and to the laying
 abbrev atStart : tie.After-net-ok → tie.Start
 atStart c = c .before .before .before .before
 
@@ -20,8 +20,11 @@ unused c = c .before .before .before
 abbrev endsFree : tie.After-lay-between-arg3 → tie.After-enum-told
 endsFree c = c .before .before .before
 
+abbrev left : tie.After-slice-known6 → tie.After-slice-known4
+left c = c .before .before .before .before
+
 abbrev laid : tie.After-slice-known6 → tie.After-lay-between
-laid c = c .before .before .before .before .before .before
+laid c = left c .before .before
 
 net-ok-requires : tie.Need-net-ok-requires
 net-ok-requires c κs = search needs

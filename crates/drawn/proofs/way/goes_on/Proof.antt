@@ -41,8 +41,8 @@ returns : tie.Need-returns Inv-loop μ-loop
 returns c =
     let ends = c .before .before in
     let turn = inLoop ends in
-    going-not _ _ _ _ _ _ (turn .before .loop .inv) (turn .loop-test .taken) _ _ (ends .before .corner-at .ensures)
-    (ends .corner-at2 .ensures) _ (c .before .segment .ensures) (c .if1 .taken)
+    going-not _ _ _ _ _ _ (turn .before .loop .inv) (omega (arith, turn .loop-test .taken)) _ _
+    (ends .before .corner-at .ensures) (ends .corner-at2 .ensures) _ (c .before .segment .ensures) (c .if1 .taken)
 
 add-j : tie.Need-add-j Inv-loop μ-loop
 add-j c = omega (arith, inLoop (c .before .before) .loop-test .taken)
@@ -54,8 +54,8 @@ loop-again : tie.Need-loop-again Inv-loop μ-loop
 loop-again c =
     let ends = c .before .before in
     let turn = inLoop ends in
-    going-more _ _ _ _ _ _ (turn .before .loop .inv) (turn .loop-test .taken) _ _ (ends .before .corner-at .ensures)
-    (ends .corner-at2 .ensures) _ (c .before .segment .ensures) (c .if1 .left)
+    going-more _ _ _ _ _ _ (turn .before .loop .inv) (omega (arith, turn .loop-test .taken)) _ _
+    (ends .before .corner-at .ensures) (ends .corner-at2 .ensures) _ (c .before .segment .ensures) (c .if1 .left)
 
 returns-2 : tie.Need-returns-2 Inv-loop μ-loop
 returns-2 c = going-done _ _ _ _ _ _ (c .before .loop .inv) (omega (arith, c .loop-test .left))
