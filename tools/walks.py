@@ -523,10 +523,13 @@ changing('draw', 'table.append', 'flat.draw', 'Left', 'Answer', [STRIPS] + ['u16
 changing('lay', 'table.append_track', 'flat.lay', 'Left', 'Answer', [STRIPS, CORNERS] + ['u16'] * 5, WRITE)
 changing('lift', 'table.lift', 'flat.lift', 'Left', 'Answer', [STRIPS, 'u16'], STEP)
 changing('put_leg', 'table.append_leg', 'flat.put_leg', 'Left', 'Answer', [STRIPS, 'Entry'], STEP)
+changing('book', 'table.append_way', 'flat.book', 'Left', 'Answer', [STRIPS, '&[u16]', 'u16'], STEP)
 changing('run_record', 'table.run_record', 'records.run_record', 'Ran', 'Reply',
          [STRIPS, CORNERS, '&[u8]', 'usize'], RECORD)
 reading('look_up', 'flat.look_up', 'Answer', ['&[u16]', 'u16', 'u16'], LOOK)
+reading('find', 'flat.find', 'Answer', ['&[u16]', CORNERS] + ['u16'] * 4, READ)
 reading('save', 'flat.save', 'Answer', ['&[u16]', '&mut [u8]'], READ)
+reading('slip', 'flat.slip', 'Answer', ['&[u16]', '&mut [u8]'], READ)
 reading('ohms', 'flat.ohms', 'Resistance', ['&[u16]', 'u16', 'Ink'], OHMS)
 
 

@@ -2,8 +2,8 @@
    A list is lent by its address and its length. The table has 5 numbers an entry; a strip is 4 numbers (x0, y0, x1,
    y1), a corner 2 (x, y). A call may be lent any lists: one that is too short is refused by 12, and of a longer one the
    places past the first FOIL_ENTRIES or FOIL_STRIPS are neither read nor written. Lists must not overlap each other nor
-   the record. A refused call writes to no list, and to the record what it held. A lay, or a record with one, needs up
-   to 1.9 MB of stack. */
+   the record. A refused call writes to no list, and to the record what it held. A lay, a find, or a record with
+   a lay, needs up to 1.9 MB of stack. */
 #ifndef FOIL_H
 #define FOIL_H
 
@@ -14,6 +14,9 @@
 /* what a foil's lists must have room for; and the bytes that are enough to save any foil: 8, 9 for each patch and 11
    for each leg */
 enum { FOIL_ENTRIES = 128, FOIL_STRIPS = 4096, FOIL_BYTES = 8 + 11 * FOIL_ENTRIES };
+
+/* a line of a slip, its line feed included; a foil has no more nets than entries */
+enum { FOIL_SLIP_LINE = 33 };
 
 /* the board's record */
 struct foil_board {
@@ -26,8 +29,8 @@ struct foil_entry {
     uint16_t net, x0, y0, x1, y1;
 };
 
-/* an answer: the number of a refusal, 0 for none; the numbers of corners and bends after a lay; the strip's place
-   after a look up; the number of bytes after a save */
+/* an answer: the number of a refusal, 0 for none; the numbers of corners and bends after a lay, a find or a
+   booking; the strip's place after a look up; the number of bytes after a save or a slip */
 struct foil_said {
     uint8_t number;
     size_t corners, bends, place, bytes;
@@ -73,6 +76,15 @@ struct foil_said foil_lay(struct foil_board *board, struct foil_entry *table, si
                           size_t strip_numbers, uint16_t *corners, size_t corner_numbers, uint16_t net, uint16_t sx,
                           uint16_t sy, uint16_t tx, uint16_t ty);
 
+/* finds the track from (sx, sy) to (tx, ty), and writes its corners; the foil is not changed */
+struct foil_said foil_find(const struct foil_board *board, const struct foil_entry *table, size_t entries,
+                           const uint16_t *strips, size_t strip_numbers, uint16_t *corners, size_t corner_numbers,
+                           uint16_t sx, uint16_t sy, uint16_t tx, uint16_t ty);
+
+/* books the way that the whole corner list draws as a track of the net; the list is only read */
+struct foil_said foil_book(struct foil_board *board, struct foil_entry *table, size_t entries, uint16_t *strips,
+                           size_t strip_numbers, const uint16_t *corners, size_t corner_numbers, uint16_t net);
+
 /* lifts a net */
 struct foil_said foil_lift(struct foil_board *board, struct foil_entry *table, size_t entries, uint16_t *strips,
                            size_t strip_numbers, uint16_t net);
@@ -87,6 +99,10 @@ struct foil_said foil_look_up(const struct foil_board *board, const struct foil_
 
 /* saves the foil: writes it as a job file to the front of `bytes`; what is lent past its end is not touched */
 struct foil_said foil_save(const struct foil_board *board, const struct foil_entry *table, size_t entries,
+                           const uint16_t *strips, size_t strip_numbers, uint8_t *bytes, size_t byte_count);
+
+/* writes the slip of the foil's tracks to the front of `bytes`, a line a net; what is lent past it is not touched */
+struct foil_said foil_slip(const struct foil_board *board, const struct foil_entry *table, size_t entries,
                            const uint16_t *strips, size_t strip_numbers, uint8_t *bytes, size_t byte_count);
 
 /* the ohms of a net */

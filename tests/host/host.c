@@ -1,6 +1,6 @@
 /* A host program: the foil of document 01's job, by calls and then as the job's bytes, as a customer's program would
-   make it; the foil saved, and read on other lists; and lists in protected pages, which show what a call does not
-   touch: if it did, the program would die. */
+   make it; a track found and a drawing booked, with the slip of both; the foil saved, and read on other lists; and
+   lists in protected pages, which show what a call does not touch: if it did, the program would die. */
 #define _DEFAULT_SOURCE
 #include <stdio.h>
 #include <stdlib.h>
@@ -56,6 +56,32 @@ static void show_save(uint8_t *bytes, size_t byte_count)
 {
     struct foil_said said = foil_save(LENT, bytes, byte_count);
     printf("save %u %zu\n", said.number, said.bytes);
+}
+
+static void show_find(uint16_t sx, uint16_t sy, uint16_t tx, uint16_t ty, size_t places)
+{
+    struct foil_said said = foil_find(LENT, corners, places, sx, sy, tx, ty);
+    size_t k;
+    printf("find %u", said.number);
+    if (said.number == 0) {
+        printf(" %zu", said.bends);
+        for (k = 0; k < said.corners; k++)
+            printf(" %u,%u", corners[2 * k], corners[2 * k + 1]);
+    }
+    printf("\n");
+}
+
+static void show_book(uint16_t net, const uint16_t *drawn, size_t numbers)
+{
+    struct foil_said said = foil_book(LENT, drawn, numbers, net);
+    printf("book %u %u %zu %zu\n", net, said.number, said.corners, said.bends);
+}
+
+static void show_slip(uint8_t *bytes, size_t byte_count)
+{
+    struct foil_said said = foil_slip(LENT, bytes, byte_count);
+    printf("slip %u %zu\n", said.number, said.bytes);
+    fwrite(bytes, 1, said.bytes, stdout);
 }
 
 static void show_ohms(unsigned net, double sheet, double width, double bend)
@@ -137,6 +163,33 @@ static void document_01(void)
     /* a job's first record begins the foil anew */
     run_job(job, sizeof job);
     run_job(job, sizeof job - 1);
+}
+
+/* a track looked at before it is booked, a drawing of the customer's own, and the slip for both */
+static void drawn(void)
+{
+    /* the last segment leaves the foil */
+    static const uint16_t job_corners[] = {0, 0, 0, 3, 6, 3, 6, 0};
+    static const uint16_t round_the_patch[] = {1, 0, 1, 2, 0, 2, 0, 3, 5, 3, 5, 0};
+    static uint8_t slip[2 * FOIL_SLIP_LINE];
+    printf("board %u\n", foil_new_foil(LENT, 6, 4, 0).number);
+    printf("patch %u\n", foil_draw(LENT, 2, 0, 3, 3).number);
+    show_slip(slip, 0);
+    /* 8 and 9 numbers are places for four corners, 7 for three */
+    show_find(0, 0, 4, 0, 7);
+    show_find(0, 0, 4, 0, 9);
+    show_find(0, 0, 2, 0, 8);
+    /* no corner, half a place, off the foil: no way; then the whole drawing, and its net once more */
+    show_book(9, round_the_patch, 0);
+    show_book(9, round_the_patch, 11);
+    show_book(9, job_corners, 8);
+    show_book(9, round_the_patch, 12);
+    show_book(9, round_the_patch, 12);
+    show_lay(3, foil_lay(LENT, CORNERS, 3, 3, 0, 3, 2));
+    show_slip(slip, sizeof slip - 1);
+    show_slip(slip, sizeof slip);
+    show_foil();
+    run_job(job, sizeof job);
 }
 
 /* the same foil with two legs as booked, saved, and its file read on other lists */
@@ -268,10 +321,15 @@ static void refused_calls(struct pages t, struct pages s, struct pages c, struct
     show_lay(5, foil_lay(LENT, CORNERS, 5, 0, 0, 4, 0));
     show_lay(6, foil_lay(LENT, CORNERS, 6, 1, 0, 5, 0));
     show_lay(7, foil_lay(LENT, corners, 1, 7, 1, 0, 1, 2));
+    show_find(1, 0, 1, 2, 3);
+    show_find(1, 0, 5, 0, corner_numbers);
+    show_book(5, corners, 4);
+    show_book(7, corners, 5);
     printf("lift 6 %u\n", foil_lift(LENT, 6).number);
     show_leg(0, 0, 0, 1, 4);
     show_leg(7, 0, 0, 2, 2);
     show_save(b.border - 49, 49);
+    show_slip(b.border - 32, 32);
     printf("lift 5 %u\n", foil_lift(&board, table, 127, strips, strip_numbers, 5).number);
     printf("lift 6 %u\n", foil_run_record(LENT, CORNERS, lift_6, sizeof lift_6, 1).lift.said.number);
     printf("file %u\n", foil_run_record(LENT, CORNERS, lift_6, sizeof lift_6, 4).number);
@@ -314,6 +372,7 @@ int main(void)
     struct pages c = parted(2 * 8192 * sizeof(uint16_t), 0);
     struct pages b = parted(FOIL_BYTES, 64);
     document_01();
+    drawn();
     saved();
     longer_lists(t, s, b);
     refused_calls(t, s, c, b);

@@ -1,4 +1,4 @@
--- The bound on bends: for any path of fewest bends, for the track found on a foil, and for what a lay answers.
+-- The bound on bends: for any path of fewest bends, for the track found on a foil, for what a lay or a find answers.
 use Prim.Native.Nat.{ℕ, zero, suc, _-_, _*_, _+_, _≤_}
 use native.Mathlib.Omega.{arith}
 use native.Mathlib.Decide.{ℕ-discrete}
@@ -12,8 +12,8 @@ use borrow.Author.Tests.{eq-eqb, ne-eqb}
 use Rattle.foil_spec.specs.Foil.{Point, point, Layout, free}
 use Rattle.foil_spec.specs.Strips.{strips}
 use Rattle.foil_spec.specs.Paths.{at, bends}
-use Rattle.foil_spec.specs.Ledger.{stripsOf, pathOf}
-use Rattle.foil_spec.specs.Lent.{held, sound}
+use Rattle.foil_spec.specs.Ledger.{stripsOf, pathOf, Room, Step, laid}
+use Rattle.foil_spec.specs.Lent.{Lent, held, sound, stepOn}
 use Rattle.list_laws.proofs.Tests.{not-ff}
 use Rattle.path_laws.proofs.FirstPath.{of-path}
 use Rattle.path_laws.proofs.Laws.{gives-first, gives-none}
@@ -21,8 +21,8 @@ use Rattle.courses.proofs.Corners.{either-path}
 use Rattle.courses.proofs.Bends.{bends-most}
 use Rattle.zones.proofs.Free.{free-inside}
 use Rattle.ledger_laws.proofs.Sound.{of-sound}
-use Rattle.ledger_laws.proofs.Lay.{laid-on, first-laid, laid-unbroken}
-use Rattle.bend_bound.specs.Bound.{bendBound, FewestBends, TrackBends, JoinedBends, LaidBends}
+use Rattle.ledger_laws.proofs.Lay.{Seeks, lay-seeks, find-seeks, laid-on, first-laid, laid-unbroken}
+use Rattle.bend_bound.specs.Bound.{bendBound, FewestBends, TrackBends, JoinedBends, LaidBends, FoundBends}
 use Rattle.bend_bound.proofs.Trails.{segmentsFor, strips-met, target-free, trail-course, path-trail}
 
 -- ---- the numbers
@@ -73,12 +73,20 @@ joined-bends l S T ds h = go (pathOf l S T) refl
     go none e = absurd (gives-none (free l) (l .width) (l .height) (free-inside l) S (at T) e ds h)
     go (some cs) e = (cs, refl, track-bends l S T cs e)
 
-pub laid-bends : LaidBends
+-- what a step that seeks a path answers
+sought-bends : {s : Step} {S T : Point} → Seeks s S T → (r : Room) (m : Lent) (cs : List Point) (n : ℕ)
+    → stepOn r s m .answer ≡ laid cs n → n ≤ bendBound (m .board .strips)
 unfolding stripsOf
-laid-bends r m net S T cs n h =
+sought-bends {s} {S} {T} k r m cs n h =
     let l : Layout = held m in
-    let o = laid-on r m net S T cs n h in
-    let fine : sound m ≡ true = not-ff (sound m) (laid-unbroken r (not (sound m)) l net S T cs n o) in
-    let a = first-laid r (not (sound m)) l net S T cs n o in
+    let o = laid-on k r m cs n h in
+    let fine : sound m ≡ true = not-ff (sound m) (laid-unbroken k r (not (sound m)) l cs n o) in
+    let a = first-laid k r (not (sound m)) l cs n o in
     let b = fewest-bends (free l) (l .width) (l .height) (free-inside l) S T cs (a .0 .path) (a .0 .fewest) in
     omega (arith, a .1, b, ap bendBound (of-sound m fine .counted))
+
+pub laid-bends : LaidBends
+laid-bends r m net S T cs n h = sought-bends (lay-seeks net S T) r m cs n h
+
+pub found-bends : FoundBends
+found-bends r m S T cs n h = sought-bends (find-seeks S T) r m cs n h

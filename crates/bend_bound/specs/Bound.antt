@@ -9,7 +9,7 @@ use lib.ListN.{length}
 use Rattle.foil_spec.specs.Foil.{Point, Layout, free}
 use Rattle.foil_spec.specs.Strips.{strips}
 use Rattle.foil_spec.specs.Paths.{isPath, bends}
-use Rattle.foil_spec.specs.Ledger.{stripsOf, pathOf, Room, lay, laid}
+use Rattle.foil_spec.specs.Ledger.{stripsOf, pathOf, Room, lay, find, laid}
 use Rattle.foil_spec.specs.Lent.{Lent, stepOn}
 
 -- on a foil with K strips: one bend at most if K is 1, else 2K − 2
@@ -44,3 +44,9 @@ abbrev pub LaidBends : Type 0
 LaidBends =
     (r : Room) (m : Lent) (net : ℕ) (S T : Point) (cs : List Point) (n : ℕ)
     → stepOn r (lay net S T) m .answer ≡ laid cs n → n ≤ bendBound (m .board .strips)
+
+-- and so does a find
+abbrev pub FoundBends : Type 0
+FoundBends =
+    (r : Room) (m : Lent) (S T : Point) (cs : List Point) (n : ℕ) → stepOn r (find S T) m .answer ≡ laid cs n
+    → n ≤ bendBound (m .board .strips)

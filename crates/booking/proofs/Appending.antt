@@ -10,7 +10,7 @@ use Rattle.foil_spec.specs.Lists.{range}
 use Rattle.foil_spec.specs.Limits.{maxEntries, tableSize}
 use Rattle.foil_spec.specs.Foil.{Point, Entry, entry}
 use Rattle.foil_spec.specs.Ledger.{leg, legsFrom, legs}
-use Rattle.foil_spec.specs.Lent.{cornerAt, cornersIn}
+use Rattle.foil_spec.specs.Corners.{cornerAt, cornersIn}
 use Rattle.list_laws.proofs.Members.{map-last, length-range}
 use Rattle.booking.specs.Rows.{rowsOf, Appended}
 use Rattle.booking.specs.Legs.{Legs}

@@ -6,7 +6,7 @@ use lib.ListN.{length}
 use Rattle.foil_spec.specs.Limits.{maxEntries}
 use Rattle.foil_spec.specs.Foil.{Entry}
 use Rattle.foil_spec.specs.Ledger.{legs}
-use Rattle.foil_spec.specs.Lent.{cornerAt, cornersIn}
+use Rattle.foil_spec.specs.Corners.{cornerAt, cornersIn}
 use Rattle.booking.specs.Rows.{rowsOf}
 
 -- k corners stand in the list, each small enough for the sums

@@ -4,13 +4,33 @@ use foil_spec::corner_at;
 use zones::larger;
 use zones::smaller;
 ghost use mathlib.Core.Path.{_≡_};
-ghost use Prim.Native.Nat.{suc, _+_, _*_, _≤_, _<_};
+ghost use Prim.Native.Nat.{suc, _+_, _-_, _*_, _≤_, _<_, max};
 ghost use lib.ListN.{length};
 ghost use Rattle.foil_spec.specs.Limits.{maxEntries, tableSize};
 ghost use Rattle.foil_spec.specs.Ledger.{leg};
-ghost use Rattle.foil_spec.specs.Lent.{cornerAt};
+ghost use Rattle.foil_spec.specs.Corners.{cornerAt};
 ghost use Rattle.booking.specs.Rows.{Appended};
 ghost use Rattle.booking.specs.Legs.{Corners, Legs};
+
+// How many entries a path of k corners makes: one for each leg, and one for a single corner.
+pub fn leg_count(k: usize) -> usize
+    ensures { λ r. ⌜ r ≡ max 1 (k - 1) ⌝ }
+{
+    if k < 2 {
+        return 1;
+    }
+    k - 1
+}
+
+// How many bends a path of k corners has.
+pub fn bend_count(k: usize) -> usize
+    ensures { λ r. ⌜ r ≡ k - 2 ⌝ }
+{
+    if k < 2 {
+        return 0;
+    }
+    k - 2
+}
 
 // Puts the leg between corners i and j of the path at place n, the first unused one of the rows.
 fn append_leg(rows: &mut [u16], n: usize, net: u16, path: &[u16], i: usize, j: usize)

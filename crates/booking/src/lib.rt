@@ -6,6 +6,8 @@ use foil_spec::Board;
 use foil_spec::STRIPS_SIZE;
 use foil_spec::TABLE_SIZE;
 pub use legs::append_legs;
+pub use legs::bend_count;
+pub use legs::leg_count;
 pub use rows::append;
 pub use rows::copy_front;
 pub use rows::in_use;

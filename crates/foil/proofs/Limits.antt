@@ -1,5 +1,6 @@
--- The limits that a sound record keeps.
+-- The limits that a sound record keeps, and so its table.
 use Prim.Native.Nat.{ℕ, _≤_}
+use native.Mathlib.Omega.{arith}
 use mathlib.Core.Path.{_≡_}
 use mathlib.Core.Bool.{true}
 use mathlib.Core.List.{List}
@@ -7,11 +8,13 @@ use lib.Dec.{leb}
 use borrow.Author.Tests.{leb-true}
 use Rattle.foil_spec.specs.Limits.{maxEntries}
 use Rattle.foil_spec.specs.Foil.{sizeOk, clearanceOk}
-use Rattle.foil_spec.specs.Lent.{lent, layoutOf, held}
+use Rattle.foil_spec.specs.Lent.{lent, layoutOf, held, sound}
 use Rattle.foil_spec.specs.declared.Board.{Board}
 use Rattle.list_laws.proofs.Tests.{parts}
 use Rattle.ledger_laws.proofs.Rules.{of-ok}
-use Rattle.ledger_laws.proofs.Sound.{Sound}
+use Rattle.ledger_laws.proofs.Sound.{Sound, of-sound, sound-long}
+use Rattle.zones.specs.Table.{Table}
+use Rattle.zones.proofs.Tables.{table-of}
 
 pub record Held (b : Board) : Type 0 where
   pub few : b .entries ≤ maxEntries
@@ -35,3 +38,13 @@ held-limits b t s k =
       wide = leb-true (b .width) 4096 u;
       high = leb-true (b .height) 4096 v;
     }
+
+pub held-table : (b : Board) (t s : List ℕ) → sound (lent b t s) ≡ true
+    → Table t (b .entries) (b .clearance) (b .width) (b .height)
+unfolding held layoutOf
+held-table b t s g =
+    let k = of-sound (lent b t s) g in
+    let limits = held-limits b t s k in
+    table-of t (b .entries) (b .clearance) (b .width) (b .height) (limits .few)
+    (omega (arith, sound-long (lent b t s) g .table, limits .few)) (limits .small) (limits .wide) (limits .high)
+    (of-ok (held (lent b t s)) (k .kept) .entries)

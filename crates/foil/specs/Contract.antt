@@ -8,7 +8,7 @@ use lib.ListN.{length}
 use Rattle.foil_spec.specs.Foil.{Point, Entry, Layout}
 use Rattle.foil_spec.specs.Ledger.{withEntries, Room, short, tooLong, tooFine, Step, lookUp, Refusal, _⇒_, first}
 use Rattle.foil_spec.specs.Ledger.{afterLent, After, settle}
-use Rattle.foil_spec.specs.Ledger.{Answer as Outcome, refused, accepted, laid, found, wrote}
+use Rattle.foil_spec.specs.Ledger.{Answer as Outcome, refused, accepted, laid, found, wrote, booked}
 use Rattle.foil_spec.specs.Lent.{Lent, lent, held, store, sound, roomIn, roomOf, stepOn, outputAfter}
 use Rattle.foil_spec.specs.declared.Board.{Board}
 use Rattle.foil.specs.declared.Answer.{Answer}
@@ -24,6 +24,7 @@ answerOf accepted = Accepted
 answerOf (laid cs n) = Laid (length cs) n
 answerOf (found k) = Found k
 answerOf (wrote bs) = WroteBytes (length bs)
+answerOf (booked k n) = Laid k n
 
 -- the answer, the record, the table t and the strips s are those of a
 pub record Gave (a : After Outcome Lent) (d : Done) (t s : List ℕ) : Type 0 where

@@ -1,5 +1,5 @@
--- The starred test foils of document 01, the ohms of its track, legs as booked with the file of their foil, and the
--- slip of two tracks: one list of cases, and one fact over it.
+-- The starred test foils of document 01, the ohms of its track, legs as booked with the file of their foil, drawn ways,
+-- and the slip of two tracks: one list of cases, and one fact over it.
 use Prim.Native.Nat.{ℕ}
 use mathlib.Core.Path.{_≡_, refl}
 use mathlib.Core.Bool.{true, false, xor}
@@ -13,7 +13,8 @@ use Rattle.foil_spec.specs.Foil.{within, blocks, free}
 use Rattle.foil_spec.specs.Strips.{Strip, stopIn, stop, scan, scanAt, starts, isRun, isTop, begun}
 use Rattle.foil_spec.specs.Strips.{stripsFrom, holds, placeOf}
 use Rattle.foil_spec.specs.Paths.{after, between, levelFree, uprightFree, segment, bends, points, goings}
-use Rattle.foil_spec.specs.Paths.{stepsFrom, shortest, firstFrom, firstPathTo}
+use Rattle.foil_spec.specs.Paths.{leads, isPathTo, isWay, stepsFrom, shortest, firstFrom, firstPathTo}
+use Rattle.foil_spec.specs.Corners.{cornerAt, cornersIn, drawn}
 use Rattle.foil_spec.specs.Nets.{ofNet, inUse, netsOf, legsOf, legSteps, stepsOf, netLength, netBends, firstPoint}
 use Rattle.foil_spec.specs.Text.{ascii, digitsIn, decimal}
 use Rattle.foil_spec.specs.Saving.{twoBytes, boardBytes, patchBytes, legBytes, entryBytes, jobOf}
@@ -21,8 +22,8 @@ use Rattle.foil_spec.specs.Slip.{setRight, column, slipLine, netLine, sl
 use Rattle.foil_spec.specs.Ledger.{stripsOf, pathOf, noPath, cornersOf, leg, legsFrom, legs}
 use Rattle.foil_spec.specs.Ledger.{offFoil, blocked, short, cornerRoom, tooLong, tooFine, beginningTooFine}
 use Rattle.foil_spec.specs.Ledger.{next, says, first, reads, refusals, afterLent, settle, refusalOf, ledgerStep}
-use Rattle.foil_spec.specs.Ledger.{newFoil, draw, lay, lift, lookUp, putLeg, save, slip}
-use Rattle.foil_spec.specs.Ledger.{refused, accepted, laid, found, wrote}
+use Rattle.foil_spec.specs.Ledger.{newFoil, draw, lay, lift, lookUp, putLeg, save, find, book, slip}
+use Rattle.foil_spec.specs.Ledger.{refused, accepted, laid, found, wrote, booked}
 use Rattle.foil_spec.specs.Job.{number, fieldCount, mapByte, has, fieldsAt, recordEnd, field, stepAt}
 use Rattle.foil_spec.specs.Job.{jobRoom, stepsAt, steps, isEnd, recordChecks}
 use Rattle.foil_spec.specs.Ohms.{whole, sheetOk, widthOk, bendOk, inkOk, formula, ohmsRefusals, ohmsOf}
@@ -91,6 +92,10 @@ savedBytes =
     ∷ 0x10 ∷ 0x05 ∷ 0x00 ∷ 0x00 ∷ 0x00 ∷ 0x00 ∷ 0x00 ∷ 0x01 ∷ 0x00 ∷ 0x02 ∷ 0x00
     ∷ 0x10 ∷ 0x07 ∷ 0x00 ∷ 0x05 ∷ 0x00 ∷ 0x00 ∷ 0x00 ∷ 0x06 ∷ 0x00 ∷ 0x04 ∷ 0x00
     ∷ 0x00 ∷ []
+
+-- a booking of the net by the numbers of a corner list
+abbrev drew : ℕ → List ℕ → Call
+drew net ks = step (book net ks)
 
 -- the slip of the job's track and of net 3 from (1, 2) to (1, 0)
 jobSlip : List ℕ
@@ -285,6 +290,61 @@ cases =
             strips = strip 1 0 2 3 ∷ strip 3 0 6 3 ∷ strip 1 3 6 4 ∷ [];
           };
     }
+    -- the job's track found and then booked
+    ∷ record {
+      calls =
+          step (newFoil 6 4 0) ∷ step (draw 2 0 3 3)
+          ∷ step (find (point 0 0) (point 4 0)) ∷ step (find (point 0 0) (point 6 0))
+          ∷ step (find (point 0 0) (point 2 0)) ∷ drew 5 (0 ∷ 0 ∷ 0 ∷ 3 ∷ 4 ∷ 3 ∷ 4 ∷ 0 ∷ []) ∷ [];
+      outcome =
+          record {
+            replies =
+                answered accepted ∷ answered accepted ∷ answered (laid jobCorners 2) ∷ answered (refused 7)
+                ∷ answered (refused 8) ∷ answered (booked 4 2) ∷ [];
+            entries = jobEntries;
+            strips = jobStrips;
+          };
+    }
+    -- lists that are no way: no corner; a corner in a straight; a segment of no length, a slanting one, one off the
+    -- foil, one over the patch; a corner on the patch; half a place at the end. A way may close. 5 and 4 come before
+    -- 19, which the points of the net that is booked then have
+    ∷ record {
+      calls =
+          step (newFoil 6 4 0) ∷ step (draw 2 0 3 3)
+          ∷ drew 5 [] ∷ drew 5 (0 ∷ 0 ∷ 0 ∷ 2 ∷ 0 ∷ 3 ∷ []) ∷ drew 5 (0 ∷ 0 ∷ 0 ∷ 0 ∷ [])
+          ∷ drew 5 (0 ∷ 0 ∷ 1 ∷ 1 ∷ []) ∷ drew 5 (0 ∷ 0 ∷ 0 ∷ 3 ∷ 6 ∷ 3 ∷ []) ∷ drew 5 (0 ∷ 0 ∷ 4 ∷ 0 ∷ [])
+          ∷ drew 5 (2 ∷ 0 ∷ []) ∷ drew 5 (0 ∷ 0 ∷ 0 ∷ [])
+          ∷ drew 5 (0 ∷ 0 ∷ 1 ∷ 0 ∷ 1 ∷ 1 ∷ 0 ∷ 1 ∷ 0 ∷ 0 ∷ [])
+          ∷ drew 5 (0 ∷ 0 ∷ []) ∷ drew 0 (0 ∷ 0 ∷ []) ∷ drew 6 (0 ∷ 0 ∷ []) ∷ drew 7 (2 ∷ 3 ∷ 4 ∷ 3 ∷ 3 ∷ 3 ∷ [])
+          ∷ drew 7 (2 ∷ 3 ∷ 4 ∷ 3 ∷ []) ∷ [];
+      outcome =
+          record {
+            replies =
+                answered accepted ∷ answered accepted
+                ∷ answered (refused 19) ∷ answered (refused 19) ∷ answered (refused 19) ∷ answered (refused 19)
+                ∷ answered (refused 19) ∷ answered (refused 19) ∷ answered (refused 19) ∷ answered (refused 19)
+                ∷ answered (booked 5 3)
+                ∷ answered (refused 5) ∷ answered (refused 4) ∷ answered (refused 19) ∷ answered (refused 19)
+                ∷ answered (booked 2 0) ∷ [];
+            entries =
+                entry 0 2 0 3 3 ∷ entry 5 0 0 2 1 ∷ entry 5 1 0 2 2 ∷ entry 5 0 1 2 2 ∷ entry 5 0 0 1 2
+                ∷ entry 7 2 3 5 4 ∷ [];
+            strips = strip 3 0 6 3 ∷ strip 0 2 2 4 ∷ strip 5 3 6 4 ∷ [];
+          };
+    }
+    -- ways that cross themselves and that go back over their own points
+    ∷ record {
+      calls =
+          step (newFoil 3 3 0) ∷ drew 1 (0 ∷ 1 ∷ 2 ∷ 1 ∷ 2 ∷ 0 ∷ 1 ∷ 0 ∷ 1 ∷ 2 ∷ []) ∷ step (newFoil 4 2 0)
+          ∷ drew 2 (0 ∷ 0 ∷ 3 ∷ 0 ∷ 3 ∷ 1 ∷ 1 ∷ 1 ∷ 1 ∷ 0 ∷ 2 ∷ 0 ∷ []) ∷ [];
+      outcome =
+          record {
+            replies = answered accepted ∷ answered (booked 5 3) ∷ answered accepted ∷ answered (booked 6 4) ∷ [];
+            entries =
+                entry 2 0 0 4 1 ∷ entry 2 3 0 4 2 ∷ entry 2 1 1 4 2 ∷ entry 2 1 0 2 2 ∷ entry 2 1 0 3 1 ∷ [];
+            strips = strip 0 1 1 2 ∷ [];
+          };
+    }
     -- the slip of a foil without tracks, and of one with two, the lower net laid last
     ∷ record {
       calls =
@@ -306,7 +366,8 @@ starred : map (λ (c : Case). outcomeFrom noFoil [] (c .calls)) cases ≡ map (�
 unfolding outcomeFrom cases jobBytes legJob savedBytes jobSlip
     entryNumbers sizeOk clearanceOk netOk boxOk shapeOk entryOk within blocks free
     stopIn stop scan scanAt starts isRun isTop begun stripsFrom holds placeOf
-    after between levelFree uprightFree segment bends points goings stepsFrom shortest firstFrom firstPathTo
+    after between levelFree uprightFree segment leads isPathTo isWay bends points goings stepsFrom shortest firstFrom
+    firstPathTo cornerAt cornersIn drawn
     stripsOf pathOf noPath cornersOf leg legsFrom legs ofNet inUse offFoil blocked
     twoBytes boardBytes patchBytes legBytes entryBytes jobOf
     netsOf firstPoint digitsIn decimal setRight column slipLine netLine slipOf

@@ -9,8 +9,8 @@ use lib.Ieee.{Float}
 use Rattle.foil_spec.specs.Lists.{any}
 use Rattle.foil_spec.specs.Limits.{maxBytes}
 use Rattle.foil_spec.specs.Foil.{Layout}
-use Rattle.foil_spec.specs.Ledger.{Step, Answer, refused, accepted, laid, found, wrote, Refusal, _⇒_, first}
-use Rattle.foil_spec.specs.Ledger.{Room, afterLent, After, ledgerStep}
+use Rattle.foil_spec.specs.Ledger.{Step, Answer, refused, accepted, laid, found, wrote, booked}
+use Rattle.foil_spec.specs.Ledger.{Refusal, _⇒_, first, Room, afterLent, After, ledgerStep}
 use Rattle.foil_spec.specs.Lent.{Lent, held, sound, stepOn, outputAfter}
 use Rattle.foil_spec.specs.Ohms.{ohmsRefusals, ohmsOf}
 use Rattle.foil_spec.specs.declared.Ink.{Ink}
@@ -37,6 +37,7 @@ endsJob accepted = false
 endsJob (laid cs n) = false
 endsJob (found n) = false
 endsJob (wrote bs) = false
+endsJob (booked k n) = false
 
 -- a step's answer in front of those of the steps after it, which are not done where it ends the job
 unfoldable pub andThen : {S : Type 0} → After Answer S → After (List Answer) S → After (List Answer) S

@@ -9,7 +9,8 @@ use Rattle.foil_spec.specs.Lists.{range, keep, any}
 use Rattle.foil_spec.specs.Limits.{maxEntries, maxStrips}
 use Rattle.foil_spec.specs.Foil.{Point, Entry, entry, Layout, sizeOk, clearanceOk, netOk, boxOk, entryOk, free}
 use Rattle.foil_spec.specs.Strips.{Strip, strips, placeOf}
-use Rattle.foil_spec.specs.Paths.{firstPath, bends}
+use Rattle.foil_spec.specs.Paths.{firstPath, isWay, bends}
+use Rattle.foil_spec.specs.Corners.{drawn}
 use Rattle.foil_spec.specs.Nets.{ofNet, inUse}
 use Rattle.foil_spec.specs.Saving.{jobOf}
 use Rattle.foil_spec.specs.Slip.{slipOf}
@@ -97,16 +98,19 @@ pub data Step : Type 0 where
   lookUp : Point → Step
   putLeg : Entry → Step
   save : Step
+  find : Point → Point → Step
+  book : ℕ → List ℕ → Step
   slip : Step
 
--- a refusal number; or accepted, with corners and bends after a lay, with a strip's place after a look up, with the
--- bytes that were written after a save or a slip
+-- a refusal number; or accepted, with corners and bends after a lay or a find, with a strip's place after a look up, with
+-- the bytes that were written after a save or a slip, with the numbers of corners and bends after a booking
 pub data Answer : Type 0 where
   refused : ℕ → Answer
   accepted : Answer
   laid : List Point → ℕ → Answer
   found : ℕ → Answer
   wrote : List ℕ → Answer
+  booked : ℕ → ℕ → Answer
 
 -- the refusal number, 0 if accepted
 unfoldable pub numberOf : Answer → ℕ
@@ -115,6 +119,7 @@ numberOf accepted = 0
 numberOf (laid cs n) = 0
 numberOf (found n) = 0
 numberOf (wrote bs) = 0
+numberOf (booked k n) = 0
 
 -- what an accepted step leaves
 unfoldable pub next : Step → Layout → Layout
@@ -125,6 +130,8 @@ next (lift net) l = withEntries l (keep (λ (e : Entry). not (ofNet net e)) (l .
 next (lookUp p) l = l
 next (putLeg e) l = withEntries l (l .entries ++ e ∷ [])
 next save l = l
+next (find S T) l = l
+next (book net ks) l = withEntries l (l .entries ++ legs net (drawn ks))
 next slip l = l
 
 -- what an accepted step answers
@@ -136,6 +143,8 @@ says (lift net) l = accepted
 says (lookUp p) l = found (placeOf p (stripsOf l))
 says (putLeg e) l = accepted
 says save l = wrote (jobOf l)
+says (find S T) l = laid (cornersOf l S T) (bends (cornersOf l S T))
+says (book net ks) l = booked (length (drawn ks)) (bends (drawn ks))
 says slip l = wrote (slipOf l)
 
 -- a refusal: when it applies, and its number
@@ -162,6 +171,8 @@ reads (lift net) = true
 reads (lookUp p) = true
 reads (putLeg e) = true
 reads save = true
+reads (find S T) = true
+reads (book net ks) = true
 reads slip = true
 
 -- a step's own refusals in their order
@@ -195,6 +206,19 @@ refusals (putLeg e) r l =
     ∷ (tooFine (next (putLeg e) l) ⇒ 11)
     ∷ []
 refusals save r l = (beginningTooFine l ⇒ 11) ∷ (ltb (r .output) (length (jobOf l)) ⇒ 12) ∷ []
+refusals (find S T) r l =
+    (offFoil l S || offFoil l T ⇒ 7)
+    ∷ (blocked l S || blocked l T ⇒ 8)
+    ∷ (noPath (pathOf l S T) ⇒ 9)
+    ∷ (ltb (cornerRoom r) (length (cornersOf l S T)) ⇒ 12)
+    ∷ []
+refusals (book net ks) r l =
+    (not (netOk net) ⇒ 4)
+    ∷ (inUse net (l .entries) ⇒ 5)
+    ∷ (not (isWay (free l) (drawn ks)) ⇒ 19)
+    ∷ (tooLong r (next (book net ks) l) ⇒ 10)
+    ∷ (tooFine (next (book net ks) l) ⇒ 11)
+    ∷ []
 refusals slip r l = (ltb (r .output) (length (slipOf l)) ⇒ 12) ∷ []
 
 -- a call's own refusals after those for what is lent, which every call begins with; `broken` says that the call reads a

@@ -6,10 +6,11 @@ use lib.Dec.{leb, eqb}
 use lib.ListN.{length, getD, drop, replicate}
 use Rattle.foil_spec.specs.Lists.{range, all, each}
 use Rattle.foil_spec.specs.Limits.{maxEntries, tableSize, stripsSize}
-use Rattle.foil_spec.specs.Foil.{Point, point, Entry, entry, entryNumbers, Layout, sizeOk, clearanceOk, entryOk}
+use Rattle.foil_spec.specs.Foil.{Entry, entry, entryNumbers, Layout, sizeOk, clearanceOk, entryOk}
 use Rattle.foil_spec.specs.Strips.{Strip}
-use Rattle.foil_spec.specs.Ledger.{stripsOf, tooFine, Room, Step, Answer, refused, accepted, laid, found, wrote}
-use Rattle.foil_spec.specs.Ledger.{says, next, After, settle, refusalOf}
+use Rattle.foil_spec.specs.Corners.{pointNumbers}
+use Rattle.foil_spec.specs.Ledger.{stripsOf, tooFine, Room, Step, says, next, After, settle, refusalOf}
+use Rattle.foil_spec.specs.Ledger.{Answer, refused, accepted, laid, found, wrote, booked}
 use Rattle.foil_spec.specs.declared.Board.{Board}
 
 -- what is lent of a foil: the board's record, the patch table and the strip list
@@ -25,10 +26,6 @@ lent b t s = record { board = b; table = t; strips = s }
 -- a place of the strip list is four numbers
 unfoldable pub stripNumbers : Strip → List ℕ
 stripNumbers s = s .x0 ∷ s .y0 ∷ s .x1 ∷ s .y1 ∷ []
-
--- a place of a corner list is two numbers
-unfoldable pub pointNumbers : Point → List ℕ
-pointNumbers p = p .x ∷ p .y ∷ []
 
 -- the numbers in front, zeros up to n numbers in all, and after them what stood there
 unfoldable pub written : ℕ → List ℕ → List ℕ → List ℕ
@@ -77,14 +74,6 @@ listedStrip l k =
 unfoldable pub listedStrips : List ℕ → ℕ → List Strip
 listedStrips l n = map (listedStrip l) (range 0 n)
 
--- the corner at place k of a corner list
-unfoldable pub cornerAt : List ℕ → ℕ → Point
-cornerAt ks k = point (getD ks (k * 2) 0) (getD ks (k * 2 + 1) 0)
-
--- the first n corners of a corner list
-unfoldable pub cornersIn : List ℕ → ℕ → List Point
-cornersIn ks n = map (cornerAt ks) (range 0 n)
-
 -- the layout of width W, height H and clearance d whose entries are the first n of a table
 unfoldable pub layoutOf : ℕ → ℕ → ℕ → ℕ → List ℕ → Layout
 layoutOf W H d n t = record { width = W; height = H; clearance = d; entries = map (entryAt t) (range 0 n) }
@@ -127,10 +116,12 @@ stepOn r s m =
     settle (refusalOf r (not (sound m)) s (held m))
     (record { answer = says s (held m); state = store (next s (held m)) m }) m
 
--- an output list after an answer: the corners of a track that was laid, or the bytes that were written, at its front
+-- an output list after an answer: the corners of a track that was laid or found, or the bytes that were written, at its
+-- front
 unfoldable pub outputAfter : Answer → List ℕ → List ℕ
 outputAfter (refused n) out = out
 outputAfter accepted out = out
 outputAfter (laid cs n) out = overFront (each pointNumbers cs) out
 outputAfter (found n) out = out
 outputAfter (wrote bs) out = overFront bs out
+outputAfter (booked k n) out = out

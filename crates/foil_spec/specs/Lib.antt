@@ -4,6 +4,7 @@ pub mod Limits
 pub mod Foil
 pub mod Strips
 pub mod Paths
+pub mod Corners
 pub mod Nets
 pub mod Text
 pub mod Saving

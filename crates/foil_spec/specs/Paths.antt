@@ -1,6 +1,6 @@
 -- Paths (document 01: ways), over any test f of free points (x first, then y), a width W and a height H.
 use Prim.Native.Nat.{ℕ, zero, suc, _+_, _-_, _*_, min, max}
-use mathlib.Core.Bool.{Bool, cond, false, not, _&&_, _||_}
+use mathlib.Core.Bool.{Bool, cond, true, false, not, _&&_, _||_}
 use mathlib.Core.List.{List, [], _∷_, map}
 use mathlib.Core.Option.{Option, none, some}
 use lib.Dec.{ltb, eqb}
@@ -11,6 +11,10 @@ use Rattle.foil_spec.specs.Foil.{Point, point, same}
 -- a target is a test on points; this one is passed by the point T alone
 abbrev pub at : Point → Point → Bool
 at T = λ p. same p T
+
+-- and this one by every point
+abbrev pub anywhere : Point → Bool
+anywhere p = true
 
 -- which way the next segment (document 01: leg) may go
 pub data Heading : Type 0 where
@@ -58,6 +62,11 @@ module _ (f : ℕ → ℕ → Bool) where
   -- the corners are a path from S to the point T
   abbrev pub isPath : Point → Point → List Point → Bool
   isPath S T cs = isPathTo S (at T) cs
+
+  -- the corners are a way, whoever drew it: a path from the first of them to wherever they lead
+  unfoldable pub isWay : List Point → Bool
+  isWay [] = false
+  isWay (p ∷ cs) = isPathTo p anywhere (p ∷ cs)
 
 -- the corners less two, and 0 for one or two corners
 unfoldable pub bends : List Point → ℕ

@@ -4,7 +4,8 @@
 ghost use mathlib.Core.Path.{_≡_};
 ghost use Prim.Native.Nat.{_+_, _*_, _≤_};
 ghost use lib.ListN.{length};
-ghost use Rattle.foil_spec.specs.Lent.{entryAt, listedStrip, cornerAt};
+ghost use Rattle.foil_spec.specs.Corners.{cornerAt};
+ghost use Rattle.foil_spec.specs.Lent.{entryAt, listedStrip};
 
 // How many entries a table holds, and how many numbers they are in a flat list.
 pub const MAX_ENTRIES: usize = 128;

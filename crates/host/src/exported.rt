@@ -1,6 +1,8 @@
 // The calls for programs in C, under plain names: each is the call in Rattle, its answer told by its
 // numbers.
+use crate::book;
 use crate::draw;
+use crate::find;
 use crate::flat::OhmsSaid;
 use crate::flat::Said;
 use crate::flat::ohms_said;
@@ -15,11 +17,13 @@ use crate::records::RecordSaid;
 use crate::records::record_said_of;
 use crate::run_record;
 use crate::save;
+use crate::slip;
 use foil_spec::Board;
 use foil_spec::Entry;
 use foil_spec::Ink;
 ghost use Rattle.foil_spec.specs.Foil.{point};
 ghost use Rattle.foil_spec.specs.Ledger.{newFoil, draw as draws, lay as lays, lift as lifts, putLeg, save as saves};
+ghost use Rattle.foil_spec.specs.Ledger.{find as finds, book as books, slip as slips};
 ghost use Rattle.host.specs.Calls.{ToldBy, saidOf, ohmsSaid, HostDone, HostWrote, HostLooked, HostRead, HostOhms};
 ghost use Rattle.host.specs.Records.{recordSaidOf, HostRan};
 
@@ -82,6 +86,45 @@ pub extern "C" fn foil_lay(
     said_of(answer)
 }
 
+// Finds the track from (sx, sy) to (tx, ty): writes its corners to the front of the corner list. The
+// foil is not changed.
+#[no_mangle]
+pub extern "C" fn foil_find(
+    board: &Board,
+    table: &[Entry],
+    strips: &[u16],
+    corners: &mut [u16],
+    sx: u16,
+    sy: u16,
+    tx: u16,
+    ty: u16,
+) -> Said
+    ensures { λ r. ⌜ ToldBy saidOf (λ a. HostRead (finds (point sx sy) (point tx ty))
+        (now (board .entry)) (now (table .entry)) (now (strips .entry)) (now (corners .entry))
+        a (now (corners .exit))) r ⌝ }
+{
+    let answer = find(board, table, strips, corners, sx, sy, tx, ty);
+    said_of(answer)
+}
+
+// Books the way that the corner list draws, all of it, as a track of the net: appends an entry for each
+// leg. The list is only read.
+#[no_mangle]
+pub extern "C" fn foil_book(
+    board: &mut Board,
+    table: &mut [Entry],
+    strips: &mut [u16],
+    corners: &[u16],
+    net: u16,
+) -> Said
+    ensures { λ r. ⌜ ToldBy saidOf (λ a. HostDone (books net (now (corners .entry)))
+        (now (board .entry)) (now (table .entry)) (now (strips .entry))
+        a (now (board .exit)) (now (table .exit)) (now (strips .exit))) r ⌝ }
+{
+    let answer = book(board, table, strips, corners, net);
+    said_of(answer)
+}
+
 // Lifts a net: takes out all its entries, the rest keeping their order.
 #[no_mangle]
 pub extern "C" fn foil_lift(
@@ -138,6 +181,17 @@ pub extern "C" fn foil_save(board: &Board, table: &[Entry], strips: &[u16], out:
         a (now (out .exit))) r ⌝ }
 {
     let answer = save(board, table, strips, out);
+    said_of(answer)
+}
+
+// Writes the slip of the foil's tracks to the front of `out`. The foil is not changed.
+#[no_mangle]
+pub extern "C" fn foil_slip(board: &Board, table: &[Entry], strips: &[u16], out: &mut [u8]) -> Said
+    ensures { λ r. ⌜ ToldBy saidOf (λ a. HostRead slips
+        (now (board .entry)) (now (table .entry)) (now (strips .entry)) (now (out .entry))
+        a (now (out .exit))) r ⌝ }
+{
+    let answer = slip(board, table, strips, out);
     said_of(answer)
 }
 

@@ -10,6 +10,7 @@ use ohms::Resistance;
 ghost use mathlib.Core.Path.{_≡_};
 ghost use Rattle.foil_spec.specs.Foil.{point};
 ghost use Rattle.foil_spec.specs.Ledger.{newFoil, draw as draws, lay as lays, lift as lifts, putLeg, save as saves};
+ghost use Rattle.foil_spec.specs.Ledger.{find as finds, book as books, slip as slips};
 ghost use Rattle.foil_spec.specs.Lent.{entryAt};
 ghost use Rattle.strips.specs.Told.{Told};
 ghost use Rattle.host.specs.Flats.{zeros, withEntry, placesLent, numbersLent, entriesOf};
@@ -22,7 +23,7 @@ pub struct Flat {
 }
 
 // An answer as numbers: the number of a refusal, 0 for none; the numbers of corners and bends after a
-// lay; the strip's place after a look up; the number of bytes after a save.
+// lay; the strip's place after a look up; the number of bytes after a save or a slip.
 #[repr(C)]
 pub struct Said {
     pub number: u8,
@@ -216,6 +217,35 @@ pub fn lay(
     leave(done, a, t.len)
 }
 
+// Finds a track.
+pub fn find(
+    b: Board,
+    t: Flat,
+    strips: &[u16],
+    corners: &mut [u16],
+    sx: u16,
+    sy: u16,
+    tx: u16,
+    ty: u16,
+) -> Answer
+    ensures { λ r. ⌜ HostRead (finds (point sx sy) (point tx ty)) b (entriesOf t)
+        (now (strips .entry)) (now (corners .entry)) r (now (corners .exit)) ⌝ }
+{
+    let a = t.at;
+    let n = numbers_lent(t.len);
+    finding::find(corners, &a[..n], strips, b, sx, sy, tx, ty)
+}
+
+// Books a drawn track.
+pub fn book(b: Board, t: Flat, strips: &mut [u16], corners: &[u16], net: u16) -> Left
+    ensures { λ r. ⌜ FlatDone (books net (now (corners .entry))) b t (now (strips .entry)) r (now (strips .exit)) ⌝ }
+{
+    let mut a = t.at;
+    let n = numbers_lent(t.len);
+    let done = drawn::book(&mut a[..n], strips, b, net, corners);
+    leave(done, a, t.len)
+}
+
 // Lifts a net.
 pub fn lift(b: Board, t: Flat, strips: &mut [u16], net: u16) -> Left
     ensures { λ r. ⌜ FlatDone (lifts net) b t (now (strips .entry)) r (now (strips .exit)) ⌝ }
@@ -252,6 +282,15 @@ pub fn save(b: Board, t: Flat, strips: &[u16], out: &mut [u8]) -> Answer
     let a = t.at;
     let n = numbers_lent(t.len);
     saving::save(out, &a[..n], strips, b)
+}
+
+// Writes the slip.
+pub fn slip(b: Board, t: Flat, strips: &[u16], out: &mut [u8]) -> Answer
+    ensures { λ r. ⌜ HostRead slips b (entriesOf t) (now (strips .entry)) (now (out .entry)) r (now (out .exit)) ⌝ }
+{
+    let a = t.at;
+    let n = numbers_lent(t.len);
+    slips::slip(out, &a[..n], strips, b)
 }
 
 // The ohms of a net.

@@ -15,6 +15,7 @@ use ohms::Resistance;
 use table::load;
 ghost use Rattle.foil_spec.specs.Foil.{point};
 ghost use Rattle.foil_spec.specs.Ledger.{newFoil, draw as draws, lay as lays, lift as lifts, putLeg, save as saves};
+ghost use Rattle.foil_spec.specs.Ledger.{find as finds, book as books, slip as slips};
 ghost use Rattle.host.specs.Calls.{HostDone, HostWrote, HostLooked, HostRead, HostOhms};
 ghost use Rattle.host.specs.Records.{HostRan};
 
@@ -80,6 +81,46 @@ pub fn lay(
     out.answer
 }
 
+// Finds the track from (sx, sy) to (tx, ty): writes its corners to the front of the corner list. The
+// foil is not changed.
+pub fn find(
+    board: &Board,
+    table: &[Entry],
+    strips: &[u16],
+    corners: &mut [u16],
+    sx: u16,
+    sy: u16,
+    tx: u16,
+    ty: u16,
+) -> Answer
+    ensures { λ r. ⌜ HostRead (finds (point sx sy) (point tx ty))
+        (now (board .entry)) (now (table .entry)) (now (strips .entry)) (now (corners .entry))
+        r (now (corners .exit)) ⌝ }
+{
+    let b = *board;
+    let t = load(table);
+    flat::find(b, t, strips, corners, sx, sy, tx, ty)
+}
+
+// Books the way that the corner list draws, all of it, as a track of the net: appends an entry for each
+// leg. The list is only read.
+pub fn book(
+    board: &mut Board,
+    table: &mut [Entry],
+    strips: &mut [u16],
+    corners: &[u16],
+    net: u16,
+) -> Answer
+    ensures { λ r. ⌜ HostDone (books net (now (corners .entry)))
+        (now (board .entry)) (now (table .entry)) (now (strips .entry))
+        r (now (board .exit)) (now (table .exit)) (now (strips .exit)) ⌝ }
+{
+    let b = *board;
+    let out = table::append_way(b, table, strips, corners, net);
+    *board = out.board;
+    out.answer
+}
+
 // Lifts a net: takes out all its entries, the rest keeping their order.
 pub fn lift(board: &mut Board, table: &mut [Entry], strips: &mut [u16], net: u16) -> Answer
     ensures { λ r. ⌜ HostDone (lifts net)
@@ -121,6 +162,16 @@ pub fn save(board: &Board, table: &[Entry], strips: &[u16], out: &mut [u8]) -> A
     let b = *board;
     let t = load(table);
     flat::save(b, t, strips, out)
+}
+
+// Writes the slip of the foil's tracks to the front of `out`. The foil is not changed.
+pub fn slip(board: &Board, table: &[Entry], strips: &[u16], out: &mut [u8]) -> Answer
+    ensures { λ r. ⌜ HostRead slips (now (board .entry)) (now (table .entry)) (now (strips .entry)) (now (out .entry))
+        r (now (out .exit)) ⌝ }
+{
+    let b = *board;
+    let t = load(table);
+    flat::slip(b, t, strips, out)
 }
 
 // The ohms of a net. Nothing is changed.

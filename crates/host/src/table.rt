@@ -14,7 +14,7 @@ use foil_spec::Board;
 use foil_spec::Entry;
 ghost use mathlib.Core.Path.{_≡_};
 ghost use Rattle.foil_spec.specs.Foil.{point};
-ghost use Rattle.foil_spec.specs.Ledger.{newFoil, draw as draws, lay as lays, lift as lifts, putLeg};
+ghost use Rattle.foil_spec.specs.Ledger.{newFoil, draw as draws, lay as lays, lift as lifts, putLeg, book as books};
 ghost use Rattle.host.specs.Flats.{frontOf, overFront};
 ghost use Rattle.host.specs.Calls.{HostDone, HostWrote};
 ghost use Rattle.host.specs.Records.{HostRan};
@@ -103,6 +103,24 @@ pub fn append_track(
 {
     let t = load(table);
     let out = flat::lay(b, t, strips, corners, net, sx, sy, tx, ty);
+    let u = out.table;
+    store(table, u);
+    out
+}
+
+// Appends a drawn track: an entry for each leg.
+pub fn append_way(
+    b: Board,
+    table: &mut [Entry],
+    strips: &mut [u16],
+    corners: &[u16],
+    net: u16,
+) -> Left
+    ensures { λ r. ⌜ HostDone (books net (now (corners .entry))) b (now (table .entry)) (now (strips .entry))
+        (r .answer) (r .board) (now (table .exit)) (now (strips .exit)) ⌝ }
+{
+    let t = load(table);
+    let out = flat::book(b, t, strips, corners, net);
     let u = out.table;
     store(table, u);
     out

@@ -8,7 +8,7 @@ use mathlib.Core.List.{[], _∷_}
 use lib.Dec.{eqb}
 use borrow.Author.Tests.{eq-eqb, ne-eqb}
 use types.Run.{OneOf}
-use Rattle.foil_spec.specs.Ledger.{Answer, refused, accepted, laid, found, wrote}
+use Rattle.foil_spec.specs.Ledger.{Answer, refused, accepted, laid, found, wrote, booked}
 use Rattle.foil_spec.specs.Calls.{endsJob}
 use Rattle.foil.specs.Contract.{answerOf}
 use Rattle.foil.specs.declared.Answer.{Answer as Answered}
@@ -31,6 +31,7 @@ ends-other a none = record { is = λ o e. other o (λ n f. none n (e ∙ f)) }
     other (laid cs n) h = unfold endsJob in refl
     other (found n) h = unfold endsJob in refl
     other (wrote bs) h = unfold endsJob in refl
+    other (booked k n) h = unfold endsJob in refl
 
 ends-number : (a : Answered) (n : ℕ) → a ≡ Refused n → (o : Answer) → a ≡ answerOf o
     → (eqb n 1 || eqb n 2) ≡ endsJob o
@@ -40,6 +41,7 @@ ends-number a n q accepted e = absurd (let z : _≡_ {A = ℕ} 0 1 = cc in omega
 ends-number a n q (laid cs k) e = absurd (let z : _≡_ {A = ℕ} 0 1 = cc in omega arith)
 ends-number a n q (found k) e = absurd (let z : _≡_ {A = ℕ} 0 1 = cc in omega arith)
 ends-number a n q (wrote bs) e = absurd (let z : _≡_ {A = ℕ} 0 1 = cc in omega arith)
+ends-number a n q (booked k j) e = absurd (let z : _≡_ {A = ℕ} 0 1 = cc in omega arith)
 
 pub ends-1 : (a : Answered) (n : ℕ) → a ≡ Refused n → n ≡ 1 → Ends a true
 ends-1 a n q z = record { is = λ o e. sym (rw (eq-eqb n 1 z) refl) ∙ ends-number a n q o e }

@@ -13,16 +13,17 @@ use borrow.Author.Tests.{ltb-false, leb-false}
 use Rattle.foil_spec.specs.Lists.{range}
 use Rattle.foil_spec.specs.Limits.{maxBytes}
 use Rattle.foil_spec.specs.Foil.{Point, Layout}
-use Rattle.foil_spec.specs.Ledger.{Step, lay, Answer, accepted, laid, numberOf, says, first, After, settle}
+use Rattle.foil_spec.specs.Ledger.{Step, lay, Answer, accepted, laid, booked, numberOf, says, first, After, settle}
 use Rattle.foil_spec.specs.Ledger.{Refusal, Room, cornerRoom, cornersOf, afterLent, refusals}
-use Rattle.foil_spec.specs.Lent.{Lent, held, sound, stepOn, overFront, outputAfter, cornersIn}
+use Rattle.foil_spec.specs.Corners.{cornersIn}
+use Rattle.foil_spec.specs.Lent.{Lent, held, sound, stepOn, overFront, outputAfter}
 use Rattle.foil_spec.specs.Job.{has, isEnd, recordEnd, stepAt, stepsAt, steps, recordChecks}
 use Rattle.foil_spec.specs.Calls.{Reply as Outcome, answered, ran, atEnd, measured, runRecord, endsJob, andThen, actAll}
 use Rattle.foil_spec.specs.Calls.{actRecord, tooLarge, wholeRefusals, reply, callOn, outputAll}
 use Rattle.list_laws.proofs.Tests.{both, not-ff}
 use Rattle.ledger_laws.proofs.Refusals.{none-applies, unrefused-own}
 use Rattle.ledger_laws.proofs.CornerLists.{corners-read}
-use Rattle.ledger_laws.proofs.Lay.{laid-on}
+use Rattle.ledger_laws.proofs.Lay.{lay-seeks, laid-on}
 use Rattle.ledger_laws.proofs.Opening.{end-no-board}
 use Rattle.job.specs.Contract.{setBelow, answersOf, nextOf, replyOf}
 use Rattle.job.specs.Parts.{Whole, ranTo}
@@ -146,10 +147,12 @@ module _ (r : Room) (bs : List ℕ) (at : ℕ) (m : Lent) where
 
 -- ---- the corner list
 
--- where a step was answered a, its corners fit an output list of so many numbers, and stand at the front of out
+-- where a step was answered a, its corners fit an output list of so many numbers, and stand at the front of out; it is
+-- no booking
 pub record Tracked (a : Answer) (room : ℕ) (out : List ℕ) : Type 0 where
   pub fits : (cs : List Point) (n : ℕ) → a ≡ laid cs n → length cs ≤ room / 2
   pub front : (cs : List Point) (n : ℕ) → a ≡ laid cs n → cornersIn out (length cs) ≡ cs
+  pub unbooked : (k n : ℕ) → a ≡ booked k n → ⊥
 
 settled-still : (o : Option ℕ) (a : After Answer Lent) (m : Lent) (cs : List Point) (n : ℕ) → a .answer ≡ accepted
     → settle o a m .answer ≡ laid cs n → ⊥
@@ -163,6 +166,12 @@ still-laid : (r : Room) (c : Step) (m : Lent) → ((l : Layout) → says c l ≡
 unfolding stepOn
 still-laid r c m still cs n h = settled-still _ _ m cs n (still (held m)) h
 
+settled-unbooked : (o : Option ℕ) (a : After Answer Lent) (m : Lent) → ((k n : ℕ) → a .answer ≡ booked k n → ⊥)
+    → (k n : ℕ) → settle o a m .answer ≡ booked k n → ⊥
+unfolding settle
+settled-unbooked none a m never k n h = never k n h
+settled-unbooked (some j) a m never k n h = let z : _≡_ {A = ℕ} 0 1 = cc in omega arith
+
 still-same : (r : Room) (c : Step) (m : Lent) (out : List ℕ) → ((l : Layout) → says c l ≡ accepted)
     → outputAfter (stepOn r c m .answer) out ≡ out
 unfolding stepOn
@@ -172,7 +181,7 @@ lay-fits : (r : Room) (m : Lent) (net : ℕ) (S T : Point) (cs : List Point) (n 
     → stepOn r (lay net S T) m .answer ≡ laid cs n → length cs ≤ r .output / 2
 unfolding refusals cornerRoom
 lay-fits r m net S T cs n h =
-    let a = laid-on r m net S T cs n h in
+    let a = laid-on (lay-seeks net S T) r m cs n h in
     let own = unrefused-own r (lay net S T) (held m) (not (sound m)) (a .unrefused) in
     let f : ltb (r .output / 2) (length (cornersOf (held m) S T)) ≡ false = search none-applies depth 12 in
     omega (arith, ltb-false (r .output / 2) (length (cornersOf (held m) S T)) f, ap length (a .corners))
@@ -226,6 +235,15 @@ module _ (r : Room) (bs : List ℕ) (at : ℕ) where
   stills zero l = refl
   stills (suc i) l = refl
 
+  -- no bit is a booking
+  says-unbooked : (i : ℕ) (l : Layout) (k n : ℕ) → says (stepAt bs at i) l ≡ booked k n → ⊥
+  unfolding stepAt says
+  says-unbooked zero l k n h = let z : _≡_ {A = ℕ} 0 1 = cc in omega arith
+  says-unbooked (suc zero) l k n h = let z : _≡_ {A = ℕ} 0 1 = cc in omega arith
+  says-unbooked (suc (suc zero)) l k n h = let z : _≡_ {A = ℕ} 0 1 = cc in omega arith
+  says-unbooked (suc (suc (suc zero))) l k n h = let z : _≡_ {A = ℕ} 0 1 = cc in omega arith
+  says-unbooked (suc (suc (suc (suc i)))) l k n h = let z : _≡_ {A = ℕ} 0 1 = cc in omega arith
+
   -- the bits after the track's write no corners
   quiet : (i j : ℕ) (m : Lent) (out : List ℕ)
       → outputAll (actAll (stepOn r) (stepsAt bs at (range (suc (suc (suc i))) j)) m .answer) out ≡ out
@@ -258,11 +276,16 @@ module _ (r : Room) (bs : List ℕ) (at : ℕ) where
     unfolding stepsAt
     met = heads r (stepAt bs at k) later-steps before x rest (rw set at (ran-from bs at r m k (suc j) x rest h .1))
 
+    unbooked : (i n : ℕ) → x ≡ booked i n → ⊥
+    unfolding stepOn
+    unbooked i n e = settled-unbooked _ _ before (says-unbooked k (held before)) i n (met .is ∙ e)
+
     still : ((l : Layout) → says (stepAt bs at k) l ≡ accepted) → Done
     still s =
         record {
           fits = λ cs n e. absurd (still-laid r (stepAt bs at k) before s cs n (met .is ∙ e));
           front = λ cs n e. absurd (still-laid r (stepAt bs at k) before s cs n (met .is ∙ e));
+          unbooked = unbooked;
         }
 
     -- what was written before does not matter, and nothing is written after
@@ -308,6 +331,7 @@ module _ (r : Room) (bs : List ℕ) (at : ℕ) where
         record {
           fits = laid-bit (stepAt bs at 2) (ap (stepAt bs at) e) _ _ _ refl;
           front = lay-front 0 e;
+          unbooked = unbooked;
         }
     by-bit (suc (suc (suc i))) e = still (λ l. rw e (stills i l))
 

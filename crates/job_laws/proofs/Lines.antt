@@ -13,7 +13,8 @@ use Rattle.foil_spec.specs.Foil.{Point, Layout, noFoil, free}
 use Rattle.foil_spec.specs.Strips.{Strip}
 use Rattle.foil_spec.specs.Paths.{at, bends}
 use Rattle.foil_spec.specs.Ledger.{stripsOf, cornersOf, short, cornerRoom, next, says, first}
-use Rattle.foil_spec.specs.Ledger.{Step, newFoil, draw, lay, lift, lookUp, putLeg, save, slip, Answer, numberOf}
+use Rattle.foil_spec.specs.Ledger.{Step, newFoil, draw, lay, lift, lookUp, putLeg, save, find, book, slip}
+use Rattle.foil_spec.specs.Ledger.{Answer, numberOf}
 use Rattle.foil_spec.specs.Ledger.{refusals, afterLent, After, settle, refusalOf, ledgerStep}
 use Rattle.foil_spec.specs.Job.{jobRoom, steps, isEnd, recordEnd, recordChecks}
 use Rattle.foil_spec.specs.Calls.{runRecord, ran, endsJob, andThen, actAll, actRecord, wholeRefusals, reply, ledgerCall}
@@ -24,7 +25,7 @@ use Rattle.ledger_laws.specs.Line.{but, numbersFrom, ownNumbers}
 use Rattle.ledger_laws.specs.Numbers.{among}
 use Rattle.ledger_laws.proofs.Refusals.{first-passes}
 use Rattle.ledger_laws.proofs.Kept.{step-keeps, call-keeps}
-use Rattle.ledger_laws.proofs.Lay.{Laid, first-laid}
+use Rattle.ledger_laws.proofs.Lay.{Laid, lay-seeks, first-laid}
 use Rattle.ledger_laws.proofs.Numbers.{answer-passes}
 use Rattle.bend_bound.proofs.Room.{corners-few, step-passes, Fine, small, fine-kept, no-foil-fine}
 use Rattle.lines.specs.Lines.{stripLine}
@@ -71,8 +72,9 @@ laid-possible : (l : Layout) (net : ℕ) (S T : Point) → Fine l
 unfolding possible
 laid-possible l net S T fine e =
     let cs : List Point = cornersOf l S T in
-    let laid : Laid jobRoom false l net S T cs (bends cs) = record { unrefused = e; corners = refl; bent = refl } in
-    let first-is = first-laid jobRoom false l net S T cs (bends cs) laid .0 in
+    let laid : Laid (lay net S T) S T jobRoom false l cs (bends cs) =
+    record { unrefused = e; corners = refl; bent = refl } in
+    let first-is = first-laid (lay-seeks net S T) jobRoom false l cs (bends cs) laid .0 in
     simp (
       le-leb 1 (length cs) (omega (arith, ap length (of-path (free l) S (at T) cs (first-is .path) .is))),
       le-leb (length cs) cornerPlaces (corners-few l S T (small l fine .strips)),
@@ -103,6 +105,8 @@ module _ (l : Layout) (fine : Fine l) where
   step-line (putLeg e) =
       one-line (leg (e .net) _) (number-passes (λ n. possible (leg (e .net) n)) (putLeg e) l fine refl refl)
   step-line save = no-line
+  step-line (find S T) = no-line
+  step-line (book net ks) = no-line
   step-line slip = no-line
 
 -- ---- a record's lines

@@ -8,8 +8,8 @@ use lib.ListN.{length, drop}
 use lib.Seq.{drop-drop}
 use Rattle.foil_spec.specs.Lists.{range, each}
 use Rattle.foil_spec.specs.Limits.{maxStrips, cornerPlaces}
-use Rattle.foil_spec.specs.Ledger.{Step, newFoil, draw, lay, lift, lookUp, putLeg, save, slip, stripsOf}
-use Rattle.foil_spec.specs.Ledger.{Answer, refused, accepted, laid, found, wrote, numberOf}
+use Rattle.foil_spec.specs.Ledger.{Step, newFoil, draw, lay, lift, lookUp, putLeg, save, find, book, slip, stripsOf}
+use Rattle.foil_spec.specs.Ledger.{Answer, refused, accepted, laid, found, wrote, booked, numberOf}
 use Rattle.foil_spec.specs.Lent.{Lent, held}
 use Rattle.foil_spec.specs.Job.{mapBits, has, stepAt, stepsAt, steps}
 use Rattle.list_laws.proofs.Tests.{both}
@@ -36,6 +36,7 @@ number-in accepted = refl
 number-in (laid cs n) = refl
 number-in (found n) = refl
 number-in (wrote bs) = refl
+number-in (booked k n) = refl
 
 track-read : (net room : ℕ) (ks : List ℕ) (a : Answer) → Tracked a room ks
     → layLine net ks (answerOf a) ≡ trackLine net a
@@ -45,6 +46,7 @@ track-read net room ks accepted t = refl
 track-read net room ks (laid cs n) t = ap (trackLaid net n) (t .front cs n refl)
 track-read net room ks (found n) t = refl
 track-read net room ks (wrote bs) t = refl
+track-read net room ks (booked k n) t = absurd (t .unbooked k n refl)
 
 step-read : (s : Step) (room : ℕ) (ks : List ℕ) (a : Answer) → Tracked a room ks
     → lineOf s ks (answerOf a) ≡ stepLine s a
@@ -56,6 +58,8 @@ step-read (lift net) room ks a t = ap (liftLine net) (number-in a)
 step-read (lookUp p) room ks a t = refl
 step-read (putLeg e) room ks a t = ap (legLine (e .net)) (number-in a)
 step-read save room ks a t = refl
+step-read (find S T) room ks a t = refl
+step-read (book net js) room ks a t = refl
 step-read slip room ks a t = refl
 
 laid-few : (room : ℕ) (ks : List ℕ) (a : Answer) (k n : ℕ) → Tracked a room ks → answerOf a ≡ Laid k n → k ≤ room / 2
@@ -65,6 +69,7 @@ laid-few room ks accepted k i t e = absurd (let z : _≡_ {A = ℕ} 0 1 = cc in 
 laid-few room ks (laid cs n) k i t e = let q : length cs ≡ k = cc in omega (arith, t .fits cs n refl)
 laid-few room ks (found n) k i t e = absurd (let z : _≡_ {A = ℕ} 0 1 = cc in omega arith)
 laid-few room ks (wrote bs) k i t e = absurd (let z : _≡_ {A = ℕ} 0 1 = cc in omega arith)
+laid-few room ks (booked j n) k i t e = absurd (t .unbooked j n refl)
 
 -- ---- the lines of the steps, bit by bit
 

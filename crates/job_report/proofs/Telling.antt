@@ -7,7 +7,7 @@ use mathlib.Core.List.{List, [], _∷_, _++_, append-nil}
 use lib.ListN.{length}
 use types.Run.{OneOf}
 use Rattle.foil_spec.specs.Lists.{range, each}
-use Rattle.foil_spec.specs.Lent.{cornersIn}
+use Rattle.foil_spec.specs.Corners.{cornersIn}
 use Rattle.foil_spec.specs.Job.{mapBits, fieldCount, field, stepAt}
 use Rattle.foil.specs.declared.Answer.{Answer}
 use Rattle.foil.specs.declared.Answer.the-variants.{Refused, Accepted, Laid, Found, Wrote}

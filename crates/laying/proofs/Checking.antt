@@ -1,62 +1,42 @@
 -- Lay before its search, return by return.
-use Prim.Native.Nat.{ℕ, _≤_, _<_}
+use Prim.Native.Nat.{ℕ}
 use mathlib.Core.Path.{_≡_, refl, sym, _∙_}
-use mathlib.Core.Bool.{Bool, true, false, not, _||_, or-true}
-use mathlib.Core.List.{List, [], map}
-use lib.Dec.{leb}
-use borrow.Author.Tests.{lt-leb, le-leb, leb-false, not-true, not-false}
+use mathlib.Core.Bool.{Bool, true, false, not, _||_}
+use mathlib.Core.List.{List, [], _∷_, map}
+use lib.Dec.{ltb}
+use lib.ListN.{length}
+use borrow.Author.Tests.{not-true, not-false}
 use Rattle.foil_spec.specs.Lists.{range}
 use Rattle.foil_spec.specs.Foil.{Point, netOk}
 use Rattle.foil_spec.specs.Nets.{inUse}
-use Rattle.foil_spec.specs.Ledger.{lay, offFoil, blocked, first, refusals}
+use Rattle.foil_spec.specs.Ledger.{lay, pathOf, noPath, cornersOf, offFoil, blocked, Room, cornerRoom, tooLong}
+use Rattle.foil_spec.specs.Ledger.{tooFine, next, Refusal, _⇒_, first, refusals}
 use Rattle.foil_spec.specs.Lent.{Lent, lent, entryAt, layoutOf, held, sound}
 use Rattle.foil_spec.specs.declared.Board.{Board}
-use Rattle.list_laws.proofs.Tests.{or-l, or-r, not-ff}
 use Rattle.foil.specs.Contract.{OutputIn, refusedBy}
 use Rattle.foil.specs.declared.Done.{Done}
+use Rattle.foil.specs.declared.lent.Checked.the-variants as checked
 use Rattle.foil.proofs.Giving.{own-wrote}
-use Rattle.laying.specs.Points.{OffFoil, ReadyToLay}
+use Rattle.finding.specs.Points.{PointsChecked}
+use Rattle.laying.specs.Ready.{ReadyToLay}
 
--- ---- whether a point is off the foil
-
-module _ (b : Board) (p : Point) where
-  pub off-right : b .width ≤ p .x → OffFoil b p true
-  unfolding offFoil held layoutOf
-  off-right l = record { is = λ t s. simp (le-leb (b .width) (p .x) l) }
-
-  pub off-below : p .x < b .width → OffFoil b p (leb (b .height) (p .y))
-  unfolding offFoil held layoutOf
-  off-below l = record { is = λ t s. simp (lt-leb (b .width) (p .x) l) }
-
-  -- a point that is not off the foil
-  pub on-foil : (r : Bool) → OffFoil b p r → r ≡ false → (p .x < b .width) × (p .y < b .height)
-  unfolding offFoil held layoutOf
-  on-foil r o e =
-      let h : (leb (b .width) (p .x) || leb (b .height) (p .y)) ≡ false = sym (o .is [] []) ∙ e in (
-        leb-false (b .width) (p .x) (or-l (leb (b .width) (p .x)) (leb (b .height) (p .y)) h),
-        leb-false (b .height) (p .y) (or-r (leb (b .width) (p .x)) (leb (b .height) (p .y)) h),
-      )
-
--- ---- the refusals, in their order
-
-module _ (b : Board) (t s ks : List ℕ) (net : ℕ) (S T : Point) (limit : ℕ) (y : sound (lent b t s) ≡ true) where
+module _ (b : Board) (t s : List ℕ) (net : ℕ) (S T : Point) (y : sound (lent b t s) ≡ true) where
   abbrev m : Lent
   m = lent b t s
 
-  -- what the call is to give where it is refused: all stays as it is
-  abbrev Refused : Done → Type 0
-  Refused r = OutputIn (lay net S T) limit m ks r t s ks
-
   module _ (o : Bool) (o-is : o ≡ netOk net) where
-    pub no-net : not o ≡ true → (r : Done) → r ≡ refusedBy 4 b → Refused r
+    pub no-net : (ks : List ℕ) (limit : ℕ) → not o ≡ true → (r : Done) → r ≡ refusedBy 4 b
+        → OutputIn (lay net S T) limit m ks r t s ks
     unfolding first refusals
-    no-net n r q room long _ _ = own-wrote (lay net S T) m 4 r q y room ks long (rw (sym o-is ∙ not-true o n) refl)
+    no-net ks limit n r q room long _ _ =
+        own-wrote (lay net S T) m 4 r q y room ks long (rw (sym o-is ∙ not-true o n) refl)
 
     module _ (ok : not o ≡ false) (u : Bool)
         (u-is : u ≡ inUse net (map (entryAt t) (range 0 (b .entries)))) where
-      pub used : u ≡ true → (r : Done) → r ≡ refusedBy 5 b → Refused r
+      pub used : (ks : List ℕ) (limit : ℕ) → u ≡ true → (r : Done) → r ≡ refusedBy 5 b
+          → OutputIn (lay net S T) limit m ks r t s ks
       unfolding first refusals held layoutOf
-      used e r q room long _ _ =
+      used ks limit e r q room long _ _ =
           own-wrote (lay net S T) m 5 r q y room ks long (rw (sym o-is ∙ not-false o ok, sym u-is ∙ e) refl)
 
       module _ (unused : u ≡ false) where
@@ -65,50 +45,37 @@ module _ (b : Board) (t s ks : List ℕ) (net : ℕ) (S T : Point) (limit : ℕ)
         unfolding held layoutOf
         in-order = (sym o-is ∙ not-false o ok, sym u-is ∙ unused)
 
-        pub s-off : (f : Bool) → OffFoil b S f → f ≡ true → (r : Done) → r ≡ refusedBy 7 b → Refused r
-        unfolding first refusals
-        s-off f f-is e r q room long _ _ =
-            own-wrote (lay net S T) m 7 r q y room ks long
-            (rw (in-order .0, in-order .1, sym (f-is .is t s) ∙ e) refl)
+        -- the refusals after those for the ends
+        abbrev later : Room → List Refusal
+        later room =
+            (noPath (pathOf (held m) S T) ⇒ 9)
+            ∷ (ltb (cornerRoom room) (length (cornersOf (held m) S T)) ⇒ 12)
+            ∷ (tooLong room (next (lay net S T) (held m)) ⇒ 10)
+            ∷ (tooFine (next (lay net S T) (held m)) ⇒ 11)
+            ∷ []
 
-        pub t-off : (f : Bool) → OffFoil b T f → f ≡ true → (r : Done) → r ≡ refusedBy 7 b → Refused r
+        from-7 : (room : Room) → first (refusals (lay net S T) room (held m))
+            ≡ first (
+            (offFoil (held m) S || offFoil (held m) T ⇒ 7)
+            ∷ (blocked (held m) S || blocked (held m) T ⇒ 8)
+            ∷ later room)
         unfolding first refusals
-        t-off f f-is e r q room long _ _ =
-            own-wrote (lay net S T) m 7 r q y room ks long
-            (simp (in-order .0, in-order .1, sym (f-is .is t s) ∙ e, or-true) refl)
+        from-7 room = rw (in-order .0, in-order .1) refl
 
-        pub ready-to-lay : (v : Bool) → v ≡ blocked (held m) S → v ≡ false → (w : Bool) → w ≡ blocked (held m) T
-            → w ≡ false → ReadyToLay m net S T
-        unfolding blocked
-        ready-to-lay v v-is ev w w-is ew =
+        pub ends-refused : (ks : List ℕ) (limit n : ℕ) → PointsChecked (held m) S T (checked.Refused n) → (r : Done)
+            → r ≡ refusedBy n b → OutputIn (lay net S T) limit m ks r t s ks
+        ends-refused ks limit n k r q room long _ _ =
+            own-wrote (lay net S T) m n r q y room ks long (from-7 room ∙ k (later room))
+
+        pub ready-to-lay : PointsChecked (held m) S T checked.Passed → ReadyToLay m net S T
+        ready-to-lay k =
             record {
               fine = y;
               may =
                   record {
                     allowed = in-order .0;
                     unused = in-order .1;
-                    start-free = not-ff _ (sym v-is ∙ ev);
-                    end-free = not-ff _ (sym w-is ∙ ew);
+                    start-free = k .0;
+                    end-free = k .1;
                   };
             }
-
-        module _ (f : Bool) (f-is : OffFoil b S f) (s-in : f ≡ false) (g : Bool) (g-is : OffFoil b T g)
-            (t-in : g ≡ false) where
-          pub s-blocked : (v : Bool) → v ≡ blocked (held m) S → v ≡ true → (r : Done) → r ≡ refusedBy 8 b → Refused r
-          unfolding first refusals
-          s-blocked v v-is e r q room long _ _ =
-              own-wrote (lay net S T) m 8 r q y room ks long
-              (rw (in-order .0, in-order .1, sym (f-is .is t s) ∙ s-in, sym (g-is .is t s) ∙ t-in, sym v-is ∙ e) refl)
-
-          pub t-blocked : (v : Bool) → v ≡ blocked (held m) T → v ≡ true → (r : Done) → r ≡ refusedBy 8 b → Refused r
-          unfolding first refusals
-          t-blocked v v-is e r q room long _ _ =
-              own-wrote (lay net S T) m 8 r q y room ks long
-              (simp (
-                in-order .0,
-                in-order .1,
-                sym (f-is .is t s) ∙ s-in,
-                sym (g-is .is t s) ∙ t-in,
-                sym v-is ∙ e,
-                or-true,
-              ) refl)

@@ -1,5 +1,3 @@
 -- Laws of lay.
-pub mod Finding
-pub mod Corners
 pub mod Checking
 pub mod Tracking

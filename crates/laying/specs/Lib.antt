@@ -1,3 +1,2 @@
 -- What the contracts of lay cite.
-pub mod Points
-pub mod Found
+pub mod Ready

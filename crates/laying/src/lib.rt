@@ -1,10 +1,13 @@
-// The call lay: finds the first path of fewest bends, and books its legs. Like the other calls it has no
-// `requires`: it is its refusals by 12 and 13, and then a body (`lay_in`).
+// The call lay: finds the first path of fewest bends as `finding` does, and books it as `drawn` does. Like the other
+// calls it has no `requires`: it is its refusals by 12 and 13, and then a body (`lay_in`).
 use booking::Booked;
-use booking::append_legs;
+use booking::bend_count;
 use booking::copy_front;
 use booking::in_use;
-use booking::take_over;
+use booking::leg_count;
+use drawn::book_path;
+use finding::path_between;
+use finding::points_refusal;
 use foil::Answer;
 use foil::Checked;
 use foil::Done;
@@ -12,24 +15,16 @@ use foil::lent_refusal;
 use foil::refuse;
 use foil_spec::Board;
 use foil_spec::MAX_ENTRIES;
-use foil_spec::TABLE_SIZE;
-use search::first_path;
 use state::net_ok;
-use strips::Place;
-use strips::locate;
-use zones::BOXES_SIZE;
-use zones::zones;
 ghost use mathlib.Core.Path.{_≡_};
-ghost use Prim.Native.Nat.{_<_, _≤_, _-_, max};
+ghost use Prim.Native.Nat.{_≤_};
 ghost use mathlib.Core.Bool.{true};
-ghost use lib.ListN.{length};
 ghost use Rattle.foil_spec.specs.Limits.{maxEntries};
 ghost use Rattle.foil_spec.specs.Foil.{point};
-ghost use Rattle.foil_spec.specs.Ledger.{lay as lays, blocked};
-ghost use Rattle.foil_spec.specs.Lent.{lent, layoutOf, held, sound};
+ghost use Rattle.foil_spec.specs.Ledger.{lay as lays};
+ghost use Rattle.foil_spec.specs.Lent.{lent, sound};
 ghost use Rattle.foil.specs.Contract.{OutputDone, OutputIn};
-ghost use Rattle.laying.specs.Points.{OffFoil, ReadyToLay};
-ghost use Rattle.laying.specs.Found.{Posed, Found};
+ghost use Rattle.laying.specs.Ready.{ReadyToLay};
 
 // The corners of a path whose legs fit an empty table, and their numbers.
 const PATH_SIZE: usize = 258;
@@ -94,93 +89,11 @@ pub fn lay_in(
     if in_use(table, board.entries, net) {
         return refuse(5, board);
     }
-    if off_foil(board, sx, sy) {
-        return refuse(7, board);
-    }
-    if off_foil(board, tx, ty) {
-        return refuse(7, board);
-    }
-    if is_blocked(table, strips, board, sx, sy) {
-        return refuse(8, board);
-    }
-    if is_blocked(table, strips, board, tx, ty) {
-        return refuse(8, board);
+    let checked = points_refusal(table, strips, board, sx, sy, tx, ty);
+    if let Checked::Refused(number) = checked {
+        return refuse(number, board);
     }
     lay_between(table, strips, corners, board, limit, net, sx, sy, tx, ty)
-}
-
-// Whether the point is off the foil (7).
-fn off_foil(board: Board, x: u16, y: u16) -> bool
-    ensures { λ r. ⌜ OffFoil board (point x y) r ⌝ }
-{
-    if board.width <= x {
-        return true;
-    }
-    board.height <= y
-}
-
-// Whether the point, which is on the foil, is not free (8): no strip holds it. The table is lent for
-// the contract only.
-fn is_blocked(table: &[u16], strips: &[u16], board: Board, x: u16, y: u16) -> bool
-    requires { ⌜ sound (lent board (now table) (now strips)) ≡ true ⌝ }
-    requires { ⌜ (x < board .width) × (y < board .height) ⌝ }
-    ensures { λ r. ⌜ r ≡ blocked (held (lent board (now (table .entry)) (now (strips .entry)))) (point x y) ⌝ }
-{
-    let place = locate(strips, board.strips, x, y);
-    let Place::At(_) = place else {
-        return true;
-    };
-    false
-}
-
-// How many entries a path of k corners makes: one for each leg, and one for a single corner.
-fn leg_count(k: usize) -> usize
-    ensures { λ r. ⌜ r ≡ max 1 (k - 1) ⌝ }
-{
-    if k < 2 {
-        return 1;
-    }
-    k - 1
-}
-
-// How many bends a path of k corners has.
-fn bend_count(k: usize) -> usize
-    ensures { λ r. ⌜ r ≡ k - 2 ⌝ }
-{
-    if k < 2 {
-        return 0;
-    }
-    k - 2
-}
-
-// Searches the first path of fewest bends and least length between two free points. Answers how many
-// corners it has, 0 where there is no path. Where they fit, they are written to the front of out; up to
-// 129, as many as a table can take, fit.
-fn path_between(
-    out: &mut [u16],
-    table: &[u16],
-    board: Board,
-    sx: u16,
-    sy: u16,
-    tx: u16,
-    ty: u16,
-) -> usize
-    requires { ⌜ Posed (now table) (board .entries) (board .clearance) (board .width) (board .height)
-        (point sx sy) (point tx ty) ⌝ }
-    requires { ⌜ 258 ≤ length (now out) ⌝ }
-    ensures { λ r. ⌜ Found (layoutOf (board .width) (board .height) (board .clearance) (board .entries)
-        (now (table .entry))) (point sx sy) (point tx ty) (now (out .entry)) (now (out .exit)) r ⌝ }
-{
-    let mut boxes = [0u16; BOXES_SIZE];
-    let n = zones(
-        &mut boxes,
-        table,
-        board.entries,
-        board.clearance,
-        board.width,
-        board.height,
-    );
-    first_path(out, &boxes, n, board.width, board.height, sx, sy, tx, ty)
 }
 
 // Lays the track between two free points, for a net that is allowed and not in use.
@@ -214,10 +127,7 @@ fn lay_between(
     if limit < n + leg_count(k) {
         return refuse(10, board);
     }
-    let mut rows = [0u16; TABLE_SIZE];
-    copy_front(&mut rows, table, TABLE_SIZE);
-    let all = append_legs(&mut rows, n, net, &path, k);
-    let booked = take_over(table, strips, &rows, all, board);
+    let booked = book_path(table, strips, board, net, &path, k);
     let Booked::Taken(after) = booked else {
         return refuse(11, board);
     };

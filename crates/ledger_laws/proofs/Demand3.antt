@@ -1,7 +1,6 @@
 -- Demand 3: from a call that begins a foil on, every list of calls behaves as the ledger, and each lay and the lift
 -- after it do what the ledger's lines promise.
 use Prim.Native.Nat.{ℕ}
-use native.Mathlib.Omega.{arith}
 use mathlib.Core.Path.{_≡_, refl, sym, ap, ap₂, _∙_, subst}
 use mathlib.Core.Bool.{true, false}
 use mathlib.Core.List.{List, [], _∷_}
@@ -10,9 +9,11 @@ use lib.ListN.{length, drop}
 use Rattle.foil_spec.specs.Lists.{each}
 use Rattle.foil_spec.specs.Foil.{Point, Layout, free}
 use Rattle.foil_spec.specs.Paths.{isPath}
-use Rattle.foil_spec.specs.Ledger.{Step, lay, lift, Answer, refused, accepted, laid, short, After, ledgerStep}
-use Rattle.foil_spec.specs.Lent.{Lent, store, layoutOk, pointNumbers, overFront, cornersIn, outputAfter}
+use Rattle.foil_spec.specs.Ledger.{Step, reads, lay, lift, Answer, refused, accepted, laid, short, After, ledgerStep}
+use Rattle.foil_spec.specs.Corners.{pointNumbers, cornersIn}
+use Rattle.foil_spec.specs.Lent.{Lent, store, layoutOk, overFront, outputAfter}
 use Rattle.foil_spec.specs.Sequence.{Lending, front, roomFor, lend, told, Left, leaves, runLent, runLedger}
+use Rattle.list_laws.proofs.Tests.{clash}
 use Rattle.ledger_laws.specs.Moments.{Moment}
 use Rattle.ledger_laws.specs.Demand3.{BehavesAsLedger, NoWay, LaysFirst, LiftsBack}
 use Rattle.ledger_laws.proofs.CornerLists.{corners-read}
@@ -20,7 +21,7 @@ use Rattle.ledger_laws.proofs.Stored.{Long}
 use Rattle.ledger_laws.proofs.Rules.{of-ok}
 use Rattle.ledger_laws.proofs.Kept.{call-kept}
 use Rattle.ledger_laws.proofs.Steps.{shown}
-use Rattle.ledger_laws.proofs.Lay.{ledger-9, ledger-first, ledger-lifts}
+use Rattle.ledger_laws.proofs.Lay.{ledger-9, lay-seeks, ledger-first, ledger-lifts}
 use Rattle.ledger_laws.proofs.Lending.{long-front, long-whole, lend-is, begun, lend-begun}
 use Rattle.ledger_laws.proofs.Moments.{Goes, Chain, Onward, Standing, opens, runs-on, at-every}
 
@@ -51,26 +52,31 @@ behaves-as-ledger m l c cs h =
 
 -- ---- each lay, and the lift after it
 
--- a lay is not the new foil that begins the list
-lay-goes : (m : Lent) (k : Moment) (later : List Moment) (net : ℕ) (S T : Point) → Standing m k later
-    → k .step ≡ lay net S T → Goes m k × Onward m (k .ledgerAfter) later
-lay-goes m k later net S T (opens W H d new after) e = absurd (let z : _≡_ {A = ℕ} 0 1 = cc in omega arith)
-lay-goes m k later net S T (runs-on g o) e = (g, o)
+-- a step that reads the foil is not the new foil that begins the list
+pub goes-on : (m : Lent) (k : Moment) (later : List Moment) (s : Step) → Standing m k later → k .step ≡ s
+    → reads s ≡ true → Goes m k × Onward m (k .ledgerAfter) later
+unfolding reads
+goes-on m k later s (opens W H d new after) e r = clash r (ap reads (sym e ∙ new))
+goes-on m k later s (runs-on g o) e r = (g, o)
 
 -- what it answers
-lay-answer : (m : Lent) (k : Moment) (net : ℕ) (S T : Point) → Goes m k → k .step ≡ lay net S T
-    → k .answer ≡ ledgerStep (k .room) (lay net S T) (k .ledgerBefore) .answer
-lay-answer m k net S T g e = g .answer ∙ ap (λ (s : Step). ledgerStep (k .room) s (k .ledgerBefore) .answer) e
+pub answer-is : (m : Lent) (k : Moment) (s : Step) → Goes m k → k .step ≡ s
+    → k .answer ≡ ledgerStep (k .room) s (k .ledgerBefore) .answer
+answer-is m k s g e = g .answer ∙ ap (λ (x : Step). ledgerStep (k .room) x (k .ledgerBefore) .answer) e
+
+lay-goes : (m : Lent) (k : Moment) (later : List Moment) (net : ℕ) (S T : Point) → Standing m k later
+    → k .step ≡ lay net S T → Goes m k × Onward m (k .ledgerAfter) later
+lay-goes m k later net S T w e = goes-on m k later (lay net S T) w e (lay-seeks net S T .seen)
 
 pub no-way : NoWay
 no-way m l c cs b earlier k later e net S T s long may =
     let g = lay-goes m k later net S T (at-every m l c cs b earlier k later e) s .0 in
     subst
     (λ (x : Answer). (x ≡ refused 9) ↔ ((ds : List Point) → isPath (free (k .ledgerBefore)) S T ds ≡ true → ⊥))
-    (sym (lay-answer m k net S T g s)) (ledger-9 (k .room) (k .ledgerBefore) net S T long may)
+    (sym (answer-is m k (lay net S T) g s)) (ledger-9 (k .room) (k .ledgerBefore) net S T long may)
 
--- the corners of an accepted lay are read from the front of the output list
-corners-front : (m : Lent) (k : Moment) (cs : List Point) (n : ℕ) → Goes m k → k .answer ≡ laid cs n
+-- the corners of a track are read from the front of the output list
+pub corners-front : (m : Lent) (k : Moment) (cs : List Point) (n : ℕ) → Goes m k → k .answer ≡ laid cs n
     → cornersIn (k .output) (length cs) ≡ cs
 unfolding outputAfter overFront
 corners-front m k cs n g h =
@@ -81,7 +87,8 @@ corners-front m k cs n g h =
 pub lays-first : LaysFirst
 lays-first m l c cs b earlier k later e net S T ds n s h =
     let g = lay-goes m k later net S T (at-every m l c cs b earlier k later e) s .0 in
-    let f = ledger-first (k .room) (k .ledgerBefore) net S T ds n (sym (lay-answer m k net S T g s) ∙ h) in
+    let a = answer-is m k (lay net S T) g s in
+    let f = ledger-first (lay-seeks net S T) (k .room) (k .ledgerBefore) ds n (sym a ∙ h) in
     (f .0, f .1, corners-front m k ds n g h)
 
 -- what the ledger makes of the lift after it
@@ -94,7 +101,7 @@ lift-line k next net S T cs n m g s h q u long =
     q ∙ g .left ∙ ap (λ (x : Step). ledgerStep (k .room) x (k .ledgerBefore) .state) s in
     ap₂ (λ (x : Step) (y : Layout). ledgerStep (next .room) x y) u laid-on
     ∙ ledger-lifts (k .room) (next .room) (k .ledgerBefore) net S T cs n
-    (of-ok (k .ledgerBefore) (g .before .kept) .fine) (sym (lay-answer m k net S T g s) ∙ h) long
+    (of-ok (k .ledgerBefore) (g .before .kept) .fine) (sym (answer-is m k (lay net S T) g s) ∙ h) long
 
 pub lifts-back : LiftsBack
 lifts-back m l c cs b earlier k later e net S T ds n s h next rest q u long =

@@ -2,7 +2,7 @@
 use Prim.Native.Nat.{ℕ}
 use native.Mathlib.Omega.{arith}
 use mathlib.Core.Path.{_≡_, refl, sym, ap, _∙_, subst}
-use mathlib.Core.Bool.{Bool, true, false, not}
+use mathlib.Core.Bool.{Bool, true, false, not, _||_}
 use mathlib.Core.List.{List, [], _∷_, _++_, append-nil}
 use mathlib.Core.Option.{Option, none, some, Option·getD}
 use mathlib.Core.Logic.{_↔_}
@@ -16,8 +16,8 @@ use Rattle.foil_spec.specs.Nets.{ofNet, inUse}
 use Rattle.foil_spec.specs.Ledger.{pathOf, noPath, cornersOf, leg, legsFrom, legs, withEntries}
 use Rattle.foil_spec.specs.Ledger.{offFoil, blocked, Room, short, cornerRoom, tooLong, tooFine, next, says, _⇒_, first}
 use Rattle.foil_spec.specs.Ledger.{reads, refusals, afterLent, settle, refusalOf, ledgerStep}
-use Rattle.foil_spec.specs.Ledger.{lay, lift, refused, accepted, laid}
-use Rattle.foil_spec.specs.Lent.{Lent, held, sound, stepOn}
+use Rattle.foil_spec.specs.Ledger.{Step, lay, lift, find, refused, accepted, laid}
+use Rattle.foil_spec.specs.Lent.{Lent, store, held, sound, stepOn}
 use Rattle.list_laws.proofs.Tests.{clash, or-l, or-r, or-ir, not-ff}
 use Rattle.path_laws.specs.First.{IsFirst}
 use Rattle.path_laws.proofs.Laws.{gives-first, gives-none, none-is}
@@ -28,7 +28,7 @@ use Rattle.ledger_laws.proofs.Line.{settled-refused}
 
 -- ---- 9
 
-free-on : (l : Layout) (p : Point) → free l (p .x) (p .y) ≡ true → offFoil l p ≡ false
+pub free-on : (l : Layout) (p : Point) → free l (p .x) (p .y) ≡ true → offFoil l p ≡ false
 unfolding offFoil
 free-on l p h =
     let i = free-inside l (p .x) (p .y) h in
@@ -65,7 +65,7 @@ after-9 false true c h = let e : _≡_ {A = ℕ} 10 9 = cc in omega arith
 after-9 false false true h = let e : _≡_ {A = ℕ} 11 9 = cc in omega arith
 after-9 false false false h = let z : _≡_ {A = ℕ} 0 1 = cc in omega arith
 
-only-9 : (o : Option (List Point)) (a b c : Bool)
+pub only-9 : (o : Option (List Point)) (a b c : Bool)
     → first ((noPath o ⇒ 9) ∷ (a ⇒ 12) ∷ (b ⇒ 10) ∷ (c ⇒ 11) ∷ []) ≡ some 9
     → o ≡ none
 unfolding noPath first
@@ -92,42 +92,33 @@ ledger-9 r l net S T long k = (
 
 -- ---- the track
 
--- a lay that is answered with corners was not refused, and they are those of the first path
-pub record Laid (r : Room) (broken : Bool) (l : Layout) (net : ℕ) (S T : Point) (cs : List Point) (n : ℕ)
+-- a step that seeks the first path from S to T: it says the corners, and is refused where there is no path
+pub record Seeks (s : Step) (S T : Point) : Type 0 where
+  pub tells : (l : Layout) → says s l ≡ laid (cornersOf l S T) (bends (cornersOf l S T))
+  pub looks : (r : Room) (l : Layout) → first (refusals s r l) ≡ none → noPath (pathOf l S T) ≡ false
+  pub seen : reads s ≡ true
+
+pub lay-seeks : (net : ℕ) (S T : Point) → Seeks (lay net S T) S T
+unfolding says refusals reads
+lay-seeks net S T = record { tells = λ l. refl; looks = λ r l h. search none-applies depth 12; seen = refl }
+
+pub find-seeks : (S T : Point) → Seeks (find S T) S T
+unfolding says refusals reads
+find-seeks S T = record { tells = λ l. refl; looks = λ r l h. search none-applies; seen = refl }
+
+-- answered with corners, it was not refused, and they are those of the first path
+pub record Laid (s : Step) (S T : Point) (r : Room) (broken : Bool) (l : Layout) (cs : List Point) (n : ℕ)
     : Type 0 where
-  pub unrefused : refusalOf r broken (lay net S T) l ≡ none
+  pub unrefused : refusalOf r broken s l ≡ none
   pub corners : cs ≡ cornersOf l S T
   pub bent : n ≡ bends (cornersOf l S T)
 
-settled-laid : {A : Type 0} (o : Option ℕ) (net : ℕ) (S T : Point) (l : Layout) (new old : A) (cs : List Point) (n : ℕ)
-    → settle o (record { answer = says (lay net S T) l; state = new }) old .answer ≡ laid cs n
-    → (o ≡ none) × (cs ≡ cornersOf l S T) × (n ≡ bends (cornersOf l S T))
-unfolding settle says
-settled-laid none net S T l new old cs n h = (refl, cc, cc)
-settled-laid (some k) net S T l new old cs n h = absurd (let z : _≡_ {A = ℕ} 0 1 = cc in omega arith)
-
-of-laid : (r : Room) (l : Layout) (net : ℕ) (S T : Point) (cs : List Point) (n : ℕ)
-    → ledgerStep r (lay net S T) l .answer ≡ laid cs n → Laid r false l net S T cs n
-unfolding ledgerStep
-of-laid r l net S T cs n h =
-    let a = settled-laid (refusalOf r false (lay net S T) l) net S T l _ l cs n h in
-    record { unrefused = a .0; corners = a .1; bent = a .2 }
-
--- the same of a lay on lists that hold anything
-pub laid-on : (r : Room) (m : Lent) (net : ℕ) (S T : Point) (cs : List Point) (n : ℕ)
-    → stepOn r (lay net S T) m .answer ≡ laid cs n → Laid r (not (sound m)) (held m) net S T cs n
-unfolding stepOn
-laid-on r m net S T cs n h =
-    let o : Option ℕ = refusalOf r (not (sound m)) (lay net S T) (held m) in
-    let a = settled-laid o net S T (held m) _ m cs n h in
-    record { unrefused = a .0; corners = a .1; bent = a .2 }
-
-has-path : (r : Room) (b : Bool) (l : Layout) (net : ℕ) (S T : Point)
-    → refusalOf r b (lay net S T) l ≡ none → noPath (pathOf l S T) ≡ false
-unfolding refusals
-has-path r b l net S T h =
-    let own = unrefused-own r (lay net S T) l b h in
-    search none-applies depth 12
+settled-laid : {A : Type 0} (o : Option ℕ) (ds cs : List Point) (k n : ℕ) (new old : A)
+    → settle o (record { answer = laid ds k; state = new }) old .answer ≡ laid cs n
+    → (o ≡ none) × (cs ≡ ds) × (n ≡ k)
+unfolding settle
+settled-laid none ds cs k n new old h = (refl, cc, cc)
+settled-laid (some j) ds cs k n new old h = absurd (let z : _≡_ {A = ℕ} 0 1 = cc in omega arith)
 
 path-is : (l : Layout) (S T : Point) (o : Option (List Point)) → pathOf l S T ≡ o → noPath o ≡ false
     → pathOf l S T ≡ some (Option·getD (pathOf l S T) [])
@@ -135,26 +126,43 @@ unfolding noPath
 path-is l S T none e h = clash refl h
 path-is l S T (some cs) e h = rw e refl
 
--- a track that was laid is the first path, with the bends that are answered
-pub first-laid : (r : Room) (b : Bool) (l : Layout) (net : ℕ) (S T : Point) (cs : List Point) (n : ℕ)
-    → Laid r b l net S T cs n → IsFirst (free l) S (at T) cs × (n ≡ bends cs)
-unfolding pathOf cornersOf
-first-laid r b l net S T cs n a =
-    let e = path-is l S T (pathOf l S T) refl (has-path r b l net S T (a .unrefused)) in (
-      subst (λ (ds : List Point). IsFirst (free l) S (at T) ds) (sym (a .corners))
-          (gives-first (free l) (l .width) (l .height) (free-inside l) S (at T) (cornersOf l S T) e),
-      a .bent ∙ ap bends (sym (a .corners)),
-    )
+module _ {s : Step} {S T : Point} (k : Seeks s S T) where
+  of-laid : (r : Room) (l : Layout) (cs : List Point) (n : ℕ) → ledgerStep r s l .answer ≡ laid cs n
+      → Laid s S T r false l cs n
+  unfolding ledgerStep
+  of-laid r l cs n h =
+      let a = settled-laid (refusalOf r false s l) _ cs _ n (next s l) l (rw (k .tells l) at h) in
+      record { unrefused = a .0; corners = a .1; bent = a .2 }
 
-pub ledger-first : (r : Room) (l : Layout) (net : ℕ) (S T : Point) (cs : List Point) (n : ℕ)
-    → ledgerStep r (lay net S T) l .answer ≡ laid cs n → IsFirst (free l) S (at T) cs × (n ≡ bends cs)
-ledger-first r l net S T cs n h = first-laid r false l net S T cs n (of-laid r l net S T cs n h)
+  -- the same on lists that hold anything
+  pub laid-on : (r : Room) (m : Lent) (cs : List Point) (n : ℕ) → stepOn r s m .answer ≡ laid cs n
+      → Laid s S T r (not (sound m)) (held m) cs n
+  unfolding stepOn
+  laid-on r m cs n h =
+      let o : Option ℕ = refusalOf r (not (sound m)) s (held m) in
+      let a = settled-laid o _ cs _ n (store (next s (held m)) m) m (rw (k .tells (held m)) at h) in
+      record { unrefused = a .0; corners = a .1; bent = a .2 }
 
--- and the state was not broken
-pub laid-unbroken : (r : Room) (b : Bool) (l : Layout) (net : ℕ) (S T : Point) (cs : List Point) (n : ℕ)
-    → Laid r b l net S T cs n → b ≡ false
-unfolding reads
-laid-unbroken r b l net S T cs n a = unrefused-sound r (lay net S T) l b (a .unrefused) refl
+  -- the track is the first path, with the bends that are answered
+  pub first-laid : (r : Room) (b : Bool) (l : Layout) (cs : List Point) (n : ℕ) → Laid s S T r b l cs n
+      → IsFirst (free l) S (at T) cs × (n ≡ bends cs)
+  unfolding pathOf cornersOf
+  first-laid r b l cs n a =
+      let has-path = k .looks r l (unrefused-own r s l b (a .unrefused)) in
+      let e = path-is l S T (pathOf l S T) refl has-path in (
+        subst (λ (ds : List Point). IsFirst (free l) S (at T) ds) (sym (a .corners))
+            (gives-first (free l) (l .width) (l .height) (free-inside l) S (at T) (cornersOf l S T) e),
+        a .bent ∙ ap bends (sym (a .corners)),
+      )
+
+  pub ledger-first : (r : Room) (l : Layout) (cs : List Point) (n : ℕ) → ledgerStep r s l .answer ≡ laid cs n
+      → IsFirst (free l) S (at T) cs × (n ≡ bends cs)
+  ledger-first r l cs n h = first-laid r false l cs n (of-laid r l cs n h)
+
+  -- and the state was not broken
+  pub laid-unbroken : (r : Room) (b : Bool) (l : Layout) (cs : List Point) (n : ℕ) → Laid s S T r b l cs n
+      → b ≡ false
+  laid-unbroken r b l cs n a = unrefused-sound r s l b (a .unrefused) (k .seen)
 
 -- ---- lifting it
 
@@ -209,15 +217,30 @@ lifted r l net cs ok unused used fine long =
     rw (e, long, ok, used-right net (l .entries) (legs net cs) used, fine) refl
 
 -- what a lay that is not refused has passed
-record Passed (l : Layout) (net : ℕ) : Type 0 where
-  allowed : netOk net ≡ true
-  unused : inUse net (l .entries) ≡ false
+pub record Passed (r : Room) (l : Layout) (net : ℕ) (S T : Point) : Type 0 where
+  pub allowed : netOk net ≡ true
+  pub unused : inUse net (l .entries) ≡ false
+  pub on-foil : (offFoil l S || offFoil l T) ≡ false
+  pub clear : (blocked l S || blocked l T) ≡ false
+  pub some-path : noPath (pathOf l S T) ≡ false
+  pub room : ltb (cornerRoom r) (length (cornersOf l S T)) ≡ false
+  pub short-enough : tooLong r (next (lay net S T) l) ≡ false
+  pub coarse-enough : tooFine (next (lay net S T) l) ≡ false
 
-passed : (r : Room) (l : Layout) (net : ℕ) (S T : Point) → refusalOf r false (lay net S T) l ≡ none → Passed l net
+pub passed : (r : Room) (l : Layout) (net : ℕ) (S T : Point) → first (refusals (lay net S T) r l) ≡ none
+    → Passed r l net S T
 unfolding refusals
 passed r l net S T h =
-    let own = unrefused-own r (lay net S T) l false h in
-    record { allowed = not-ff (netOk net) (search none-applies); unused = search none-applies }
+    record {
+      allowed = not-ff (netOk net) (search none-applies);
+      unused = search none-applies;
+      on-foil = search none-applies;
+      clear = search none-applies;
+      some-path = search none-applies depth 12;
+      room = search none-applies depth 12;
+      short-enough = search none-applies depth 12;
+      coarse-enough = search none-applies depth 12;
+    }
 
 laid-state : (r : Room) (l : Layout) (net : ℕ) (S T : Point) → refusalOf r false (lay net S T) l ≡ none
     → ledgerStep r (lay net S T) l .state ≡ withEntries l (l .entries ++ legs net (cornersOf l S T))
@@ -229,9 +252,9 @@ pub ledger-lifts : (r r′ : Room) (l : Layout) (net : ℕ) (S T : Point) (cs : 
     → ledgerStep r (lay net S T) l .answer ≡ laid cs n → short r′ ≡ false
     → ledgerStep r′ (lift net) (ledgerStep r (lay net S T) l .state) ≡ record { answer = accepted; state = l }
 ledger-lifts r r′ l net S T cs n fine h long =
-    let a = of-laid r l net S T cs n h in
-    let q = passed r l net S T (a .unrefused) in
-    let p = ledger-first r l net S T cs n h .0 .path in
+    let a = of-laid (lay-seeks net S T) r l cs n h in
+    let q = passed r l net S T (unrefused-own r (lay net S T) l false (a .unrefused)) in
+    let p = ledger-first (lay-seeks net S T) r l cs n h .0 .path in
     let used : inUse net (legs net (cornersOf l S T)) ≡ true =
     ap (λ (ds : List Point). inUse net (legs net ds)) (sym (a .corners)) ∙ path-used (free l) S T net cs p in
     ap (ledgerStep r′ (lift net)) (laid-state r l net S T (a .unrefused))

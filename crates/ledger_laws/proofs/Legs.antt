@@ -1,15 +1,16 @@
--- The legs of a path are entries that a table may hold.
-use Prim.Native.Nat.{ℕ, suc, _<_, min, max}
+-- The legs of a way are entries that a table may hold, and how many they are.
+use Prim.Native.Nat.{ℕ, suc, _-_, _≤_, _<_, min, max}
 use native.Mathlib.Omega.{arith}
 use mathlib.Core.Path.{_≡_, refl}
 use mathlib.Core.Bool.{Bool, true, _||_, or-true}
 use mathlib.Core.List.{List, [], _∷_}
 use mathlib.Core.Logic.{_⊎_, inl, inr, ⊎-elim}
 use lib.Dec.{eqb}
+use lib.ListN.{length}
 use borrow.Author.Tests.{lt-ltb, le-leb, eq-eqb}
 use Rattle.foil_spec.specs.Lists.{all}
 use Rattle.foil_spec.specs.Foil.{Point, netOk, boxOk, shapeOk, entryOk}
-use Rattle.foil_spec.specs.Paths.{at, Heading, either, segment, after, leads, isPath, isPathTo}
+use Rattle.foil_spec.specs.Paths.{Heading, either, segment, after, leads, isPathTo, anywhere, isWay}
 use Rattle.foil_spec.specs.Ledger.{leg, legsFrom, legs}
 use Rattle.list_laws.proofs.Tests.{and-l, and-r, and-i, parts}
 use Rattle.path_laws.proofs.Segments.{Level, Upright, of-segment, end-free}
@@ -34,30 +35,43 @@ module _ (W H net : ℕ) (ok : netOk net ≡ true) where
       thin (inl e) = simp (eq-eqb (suc (max (p .x) (q .x))) (suc (min (p .x) (q .x))) (omega arith), or-true)
       thin (inr e) = simp (eq-eqb (suc (max (p .y) (q .y))) (suc (min (p .y) (q .y))) (omega arith), or-true)
 
-  module _ (f : ℕ → ℕ → Bool) (inside : (x y : ℕ) → f x y ≡ true → (x < W) × (y < H)) (T : Point) where
+  module _ (f : ℕ → ℕ → Bool) (inside : (x y : ℕ) → f x y ≡ true → (x < W) × (y < H)) where
     in-line : (h : Heading) (p q : Point) → segment f h p q ≡ true → (p .x ≡ q .x) ⊎ (p .y ≡ q .y)
     in-line h p q s =
         ⊎-elim (λ (a : Level f p q). inr (a .row)) (λ (a : Upright f p q). inl (a .column)) (of-segment f h p q s)
 
-    from-ok : (h : Heading) (p : Point) (cs : List Point) → f (p .x) (p .y) ≡ true → leads f (at T) h p cs ≡ true
+    from-ok : (h : Heading) (p : Point) (cs : List Point) → f (p .x) (p .y) ≡ true → leads f anywhere h p cs ≡ true
         → all (entryOk W H) (legsFrom net p cs) ≡ true
     unfolding leads legsFrom
     from-ok h p [] e l = refl
     from-ok h p (q ∷ cs) e l =
-        let s : segment f h p q ≡ true = and-l (segment f h p q) (leads f (at T) (after p q) q cs) l in
+        let s : segment f h p q ≡ true = and-l (segment f h p q) (leads f anywhere (after p q) q cs) l in
         let e′ = end-free f h p q s in
         and-i {a = entryOk W H (leg net p q)}
         (leg-ok p q (inside (p .x) (p .y) e) (inside (q .x) (q .y) e′) (in-line h p q s))
-        (from-ok (after p q) q cs e′ (and-r (segment f h p q) (leads f (at T) (after p q) q cs) l))
+        (from-ok (after p q) q cs e′ (and-r (segment f h p q) (leads f anywhere (after p q) q cs) l))
 
-    pub legs-ok : (S : Point) (cs : List Point) → isPath f S T cs ≡ true → all (entryOk W H) (legs net cs) ≡ true
-    unfolding isPathTo legs
-    legs-ok S [] h = refl
-    legs-ok S (p ∷ []) h =
+    pub legs-ok : (cs : List Point) → isWay f cs ≡ true → all (entryOk W H) (legs net cs) ≡ true
+    unfolding isWay isPathTo legs
+    legs-ok [] h = refl
+    legs-ok (p ∷ []) h =
         let e : f (p .x) (p .y) ≡ true = search parts in
         let i = inside (p .x) (p .y) e in
         and-i {a = entryOk W H (leg net p p)} (leg-ok p p i i (inl refl)) refl
-    legs-ok S (p ∷ q ∷ cs) h =
+    legs-ok (p ∷ q ∷ cs) h =
         let e : f (p .x) (p .y) ≡ true = search parts in
-        let l : leads f (at T) either p (q ∷ cs) ≡ true = search parts in
+        let l : leads f anywhere either p (q ∷ cs) ≡ true = search parts in
         from-ok either p (q ∷ cs) e l
+
+-- ---- counted
+
+length-from : (net : ℕ) (p : Point) (cs : List Point) → length (legsFrom net p cs) ≡ length cs
+unfolding legsFrom
+length-from net p [] = refl
+length-from net p (q ∷ cs) = omega (arith, length-from net q cs)
+
+pub length-legs : (net : ℕ) (cs : List Point) → 1 ≤ length cs → length (legs net cs) ≡ max 1 (length cs - 1)
+unfolding legs
+length-legs net [] h = absurd (omega arith)
+length-legs net (p ∷ []) h = refl
+length-legs net (p ∷ q ∷ cs) h = omega (arith, length-from net p (q ∷ cs))

@@ -15,6 +15,7 @@ pub mod Moments
 pub mod Told
 pub mod Demand2
 pub mod Demand3
+pub mod Drawn
 pub mod Opening
 pub mod Numbers
 pub mod FileSize

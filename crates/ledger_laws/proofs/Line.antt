@@ -12,17 +12,19 @@ use Rattle.foil_spec.specs.Lists.{all, keep}
 use Rattle.foil_spec.specs.Limits.{maxEntries}
 use Rattle.foil_spec.specs.Foil.{Point, Entry, entry, Layout, noFoil, sizeOk, clearanceOk, netOk}
 use Rattle.foil_spec.specs.Foil.{boxOk, shapeOk, entryOk, free}
-use Rattle.foil_spec.specs.Paths.{at}
+use Rattle.foil_spec.specs.Paths.{at, anywhere, either, leads, isWay}
+use Rattle.foil_spec.specs.Corners.{drawn}
 use Rattle.foil_spec.specs.Saving.{jobOf}
 use Rattle.foil_spec.specs.Slip.{slipOf}
 use Rattle.foil_spec.specs.Nets.{ofNet}
 use Rattle.foil_spec.specs.Ledger.{stripsOf, pathOf, cornersOf, legs, withEntries, offFoil, Room, cornerRoom, tooLong}
-use Rattle.foil_spec.specs.Ledger.{tooFine, Step, newFoil, draw, lay, lift, lookUp, putLeg, save, slip}
+use Rattle.foil_spec.specs.Ledger.{tooFine, Step, newFoil, draw, lay, lift, lookUp, putLeg, save, find, book, slip}
 use Rattle.foil_spec.specs.Ledger.{numberOf, next, says, refused, Refusal, first, reads, refusals, settle}
 use Rattle.foil_spec.specs.Lent.{layoutOk}
 use Rattle.list_laws.proofs.Tests.{clash, and-l, and-r, and-i, or-l, not-ff, both, parts, all-append, all-keep}
 use Rattle.list_laws.proofs.Members.{length-keep}
 use Rattle.path_laws.proofs.Laws.{gives-first}
+use Rattle.path_laws.proofs.Ways.{path-way, way-is}
 use Rattle.strip_laws.proofs.Laws.{one-strip}
 use Rattle.ledger_laws.specs.Line.{Line, Lacks, corners, bytes, page, but, numbersFrom, ownNumbers}
 use Rattle.ledger_laws.proofs.Refusals.{none-applies, first-passes}
@@ -49,14 +51,17 @@ pub patch-ok : (W H : ℕ) (x0 y0 x1 y1 : ℕ) → boxOk W H (entry 0 x0 y0 x1 y
 unfolding entryOk shapeOk
 patch-ok W H x0 y0 x1 y1 h = rw h refl
 
-pub laid-ok : (l : Layout) (net : ℕ) (S T : Point) (o : Option (List Point)) → pathOf l S T ≡ o → netOk net ≡ true
+pub booked-ok : (l : Layout) (net : ℕ) (cs : List Point) → netOk net ≡ true → isWay (free l) cs ≡ true
+    → all (entryOk (l .width) (l .height)) (legs net cs) ≡ true
+booked-ok l net cs h w = legs-ok (l .width) (l .height) net h (free l) (free-inside l) cs w
+
+laid-ok : (l : Layout) (net : ℕ) (S T : Point) (o : Option (List Point)) → pathOf l S T ≡ o → netOk net ≡ true
     → all (entryOk (l .width) (l .height)) (legs net (Option·getD o [])) ≡ true
-unfolding pathOf legs
-laid-ok l net S T none e h = refl
+unfolding pathOf
+laid-ok l net S T none e h = unfold legs in refl
 laid-ok l net S T (some cs) e h =
-    let i = free-inside l in
-    legs-ok (l .width) (l .height) net h (free l) i T S cs
-    (gives-first (free l) (l .width) (l .height) i S (at T) cs e .path)
+    let p = gives-first (free l) (l .width) (l .height) (free-inside l) S (at T) cs e .path in
+    booked-ok l net cs h (path-way (free l) S (at T) cs p)
 
 -- no more entries than a foil may have are no more than a table has places
 few-after : (r : Room) (l : Layout) → tooLong r l ≡ false → length (l .entries) ≤ maxEntries
@@ -103,14 +108,15 @@ no-12 : (rs : List Refusal) → all (λ (c : Refusal). not (c .applies) || but 1
 unfolding but
 no-12 rs h e = true≢false (sym (first-passes (but 12) rs h 12 e))
 
--- a lay that is refused by 12 has more corners than places
-lay-12 : (net : ℕ) (S T : Point) (r : Room) (l : Layout) → first (refusals (lay net S T) r l) ≡ some 12
-    → Lacks r l
-unfolding refusals but
-lay-12 net S T r l e =
+-- a step that is refused by 12, but not where the corners of the path have room, has more corners than places
+corners-12 : (S T : Point) (r : Room) (l : Layout) (rs : List Refusal)
+    → (ltb (cornerRoom r) (length (cornersOf l S T)) ≡ false
+    → all (λ (c : Refusal). not (c .applies) || but 12 (c .number)) rs ≡ true)
+    → first rs ≡ some 12 → Lacks r l
+corners-12 S T r l rs h e =
     both (ltb (cornerRoom r) (length (cornersOf l S T)))
     (λ t. corners S T (ltb-true (cornerRoom r) (length (cornersOf l S T)) t))
-    (λ t. absurd (no-12 _ (simp (t, or-true)) e))
+    (λ t. absurd (no-12 rs (h t) e))
 
 -- a save that is refused by 12 has more bytes than are lent
 save-12 : (r : Room) (l : Layout) → first (refusals save r l) ≡ some 12 → Lacks r l
@@ -141,9 +147,17 @@ all-off : (p : Point) → offFoil noFoil p ≡ true
 unfolding offFoil
 all-off p = simp (le-leb 0 (p .x) (omega arith))
 
+no-drawing : (cs : List Point) → isWay (free noFoil) cs ≡ true → ⊥
+unfolding isWay
+no-drawing [] w = true≢false (sym w)
+no-drawing (p ∷ cs) w =
+    let k : (free noFoil (p .x) (p .y) && leads (free noFoil) anywhere either p cs) ≡ true =
+    sym (way-is (free noFoil) p cs) ∙ w in
+    omega (arith, free-inside noFoil (p .x) (p .y) (and-l _ _ k) .0)
+
 -- ---- rooms with as much output and the same limit
 
-same-long : (r r′ : Room) (l : Layout) → r .limit ≡ r′ .limit → tooLong r l ≡ tooLong r′ l
+pub same-long : (r r′ : Room) (l : Layout) → r .limit ≡ r′ .limit → tooLong r l ≡ tooLong r′ l
 unfolding tooLong
 same-long r r′ l f = ap (λ (n : ℕ). ltb (min maxEntries n) (length (l .entries))) f
 
@@ -215,7 +229,7 @@ lay-line net S T = record {
   unbroken = refl;
   of-room = λ r r′ l e f. rw (same-long r r′ _ f, same-corners r r′ e) refl;
   blind = λ z. absurd (true≢false z);
-  output = λ r l h. (refl, lay-12 net S T r l h);
+  output = λ r l h. (refl, corners-12 S T r l _ (λ t. simp (t, or-true)) h);
 }
 
 lift-line : (net : ℕ) → Line (lift net)
@@ -273,6 +287,35 @@ save-line = record {
   output = λ r l h. (refl, save-12 r l h);
 }
 
+find-line : (S T : Point) → Line (find S T)
+unfolding next says numberOf numbersFrom ownNumbers but refusals reads
+find-line S T = record {
+  kept = λ r l g h. g refl;
+  unbegun = λ t r h. refl;
+  accepts = λ l. refl;
+  numbers = λ r l. refl;
+  unbroken = refl;
+  of-room = λ r r′ l e f. rw (same-corners r r′ e) refl;
+  blind = λ z. absurd (true≢false z);
+  output = λ r l h. (refl, corners-12 S T r l _ (λ t. simp (t, or-true)) h);
+}
+
+book-line : (net : ℕ) (ks : List ℕ) → Line (book net ks)
+unfolding next says numberOf numbersFrom ownNumbers but refusals reads
+book-line net ks = record {
+  kept = λ r l g h.
+      appended r l (legs net (drawn ks)) (g refl)
+      (booked-ok l net (drawn ks) (not-ff (netOk net) (search none-applies)) (not-ff _ (search none-applies)))
+      (search none-applies depth 9) (search none-applies depth 9);
+  unbegun = λ t r h. absurd (no-drawing (drawn ks) (not-ff _ (search none-applies)));
+  accepts = λ l. refl;
+  numbers = λ r l. refl;
+  unbroken = refl;
+  of-room = λ r r′ l e f. rw (same-long r r′ _ f) refl;
+  blind = λ z. absurd (true≢false z);
+  output = λ r l h. absurd (no-12 _ (simp or-true) h);
+}
+
 slip-line : Line slip
 unfolding next says numberOf numbersFrom ownNumbers but refusals reads
 slip-line = record {
@@ -295,6 +338,8 @@ line (lift net) = lift-line net
 line (lookUp p) = look-line p
 line (putLeg e) = leg-line e
 line save = save-line
+line (find S T) = find-line S T
+line (book net ks) = book-line net ks
 line slip = slip-line
 
 -- a step that answers a refusal was refused by its number

@@ -12,7 +12,8 @@ use Rattle.foil_spec.specs.Limits.{maxEntries, tableSize, maxStrips, stripsSize
 use Rattle.foil_spec.specs.Foil.{Point, Entry, entryNumbers, Layout}
 use Rattle.foil_spec.specs.Strips.{Strip}
 use Rattle.foil_spec.specs.Ledger.{stripsOf, withEntries, tooFine}
-use Rattle.foil_spec.specs.Lent.{Lent, lent, stripNumbers, pointNumbers, written, boardOf, store}
+use Rattle.foil_spec.specs.Corners.{pointNumbers}
+use Rattle.foil_spec.specs.Lent.{Lent, lent, stripNumbers, written, boardOf, store}
 use Rattle.foil_spec.specs.Lent.{entryAt, layoutOf, held, layoutOk, sameNumbers, sound}
 use Rattle.foil_spec.specs.Sequence.{Lending, front, back}
 use Rattle.foil_spec.proofs.Written.{written-again, take-written, written-back, drop-past}

@@ -7,9 +7,10 @@ use mathlib.Core.List.{List, _∷_}
 use lib.ListN.{length}
 use Rattle.foil_spec.specs.Foil.{Point, Layout, netOk, free}
 use Rattle.foil_spec.specs.Paths.{at, isPath, bends}
+use Rattle.foil_spec.specs.Corners.{cornersIn}
 use Rattle.foil_spec.specs.Nets.{inUse}
 use Rattle.foil_spec.specs.Ledger.{lay, lift, refused, accepted, laid, short}
-use Rattle.foil_spec.specs.Lent.{Lent, cornersIn}
+use Rattle.foil_spec.specs.Lent.{Lent}
 use Rattle.foil_spec.specs.Sequence.{Lending, Begins, runLent, told, runLedger}
 use Rattle.path_laws.specs.First.{IsFirst}
 use Rattle.ledger_laws.specs.Moments.{Moment, AtEvery}

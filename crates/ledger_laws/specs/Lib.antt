@@ -3,5 +3,6 @@ pub mod Line
 pub mod Moments
 pub mod Demand2
 pub mod Demand3
+pub mod Drawn
 pub mod Numbers
 pub mod Saved

@@ -5,8 +5,8 @@ use mathlib.Core.Option.{none, some}
 use lib.ListN.{length}
 use Rattle.foil_spec.specs.Lists.{each}
 use Rattle.foil_spec.specs.Foil.{Layout, noFoil}
-use Rattle.foil_spec.specs.Ledger.{Step, newFoil, draw, lay, lift, lookUp, putLeg, save, slip, stripsOf}
-use Rattle.foil_spec.specs.Ledger.{Answer, numberOf, refused, accepted, laid, found, wrote}
+use Rattle.foil_spec.specs.Ledger.{Step, newFoil, draw, lay, lift, lookUp, putLeg, save, find, book, slip, stripsOf}
+use Rattle.foil_spec.specs.Ledger.{Answer, numberOf, refused, accepted, laid, found, wrote, booked}
 use Rattle.foil_spec.specs.Job.{jobRoom, steps}
 use Rattle.foil_spec.specs.Calls.{runRecord, Reply, answered, ran, atEnd, measured, ledgerCall}
 use Rattle.lines.specs.Lines.{boardLine, patchLine, trackRefused, trackLaid, liftLine, legLine}
@@ -19,8 +19,9 @@ trackLine net accepted = []
 trackLine net (laid cs n) = trackLaid net n cs
 trackLine net (found n) = []
 trackLine net (wrote bs) = []
+trackLine net (booked k n) = []
 
--- the line of a step; no record holds a look up, a save or a slip
+-- the line of a step; no record holds a look up, a save, a find, a booking or a slip
 unfoldable pub stepLine : Step → Answer → List ℕ
 stepLine (newFoil W H d) a = boardLine (numberOf a)
 stepLine (draw x0 y0 x1 y1) a = patchLine (numberOf a)
@@ -29,6 +30,8 @@ stepLine (lift net) a = liftLine net (numberOf a)
 stepLine (lookUp p) a = []
 stepLine (putLeg e) a = legLine (e .net) (numberOf a)
 stepLine save a = []
+stepLine (find S T) a = []
+stepLine (book net ks) a = []
 stepLine slip a = []
 
 -- the lines of the steps that were answered

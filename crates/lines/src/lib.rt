@@ -11,7 +11,7 @@ use putting::put_number;
 ghost use Prim.Native.Nat.{_+_, _*_, _≤_};
 ghost use mathlib.Core.List.{_++_};
 ghost use lib.ListN.{length};
-ghost use Rattle.foil_spec.specs.Lent.{cornersIn};
+ghost use Rattle.foil_spec.specs.Corners.{cornersIn};
 ghost use Rattle.putting.specs.Put.{Put};
 ghost use Rattle.foil_spec.specs.Text.{ascii};
 ghost use Rattle.lines.specs.Lines.{item, boardLine, patchLine, trackRefused, trackLaid};

@@ -4,4 +4,5 @@ pub mod Goings
 pub mod Bound
 pub mod Order
 pub mod FirstPath
+pub mod Ways
 pub mod Laws

@@ -9,7 +9,7 @@ use lib.ListN.{getD, length, drop}
 use lib.Seq.{sets, sets-eq}
 use Rattle.foil_spec.specs.Lists.{each}
 use Rattle.foil_spec.specs.Foil.{Point, point}
-use Rattle.foil_spec.specs.Lent.{pointNumbers}
+use Rattle.foil_spec.specs.Corners.{pointNumbers}
 use Rattle.labels.specs.Line.{along}
 use Rattle.labels.specs.Walk.{put, levelOut, uprightOut, LevelWalk, UprightWalk}
 use Rattle.labels.proofs.First.{trail-length}

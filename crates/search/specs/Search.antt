@@ -7,7 +7,7 @@ use mathlib.Core.Option.{Option, none, Option·getD}
 use lib.ListN.{getD, length, drop}
 use Rattle.foil_spec.specs.Lists.{each}
 use Rattle.foil_spec.specs.Foil.{Point, point}
-use Rattle.foil_spec.specs.Lent.{pointNumbers}
+use Rattle.foil_spec.specs.Corners.{pointNumbers}
 use Rattle.grid.specs.Size.{stride, area}
 use Rattle.labels.specs.Rounds.{Ended}
 use Rattle.labels.specs.Walk.{Trail, Walkable}

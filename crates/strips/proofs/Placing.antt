@@ -12,7 +12,7 @@ use Rattle.foil_spec.specs.Lists.{range, any}
 use Rattle.foil_spec.specs.Foil.{Point}
 use Rattle.foil_spec.specs.Strips.{Strip, strips, holds, placeOf}
 use Rattle.foil_spec.specs.Lent.{listedStrip, listedStrips}
-use Rattle.list_laws.proofs.Tests.{both, clash, and-l, and-no-r, or-cases}
+use Rattle.list_laws.proofs.Tests.{both, clash, and-l, and-no-r, or-cases, lt-or-le}
 use Rattle.list_laws.proofs.Members.{in-any, none-of, Sorted, sorted-places}
 use Rattle.strip_laws.specs.Rules.{stripBefore}
 use Rattle.strip_laws.proofs.Laws.{in-a-strip, only-free, strips-in-order}
@@ -86,6 +86,16 @@ module _ (p : Point) where
         let q : 0 + k ≡ k = omega arith in
         let r = first-holds (listedStrip l) count k 0 lt (λ i a b. h i (omega arith)) (rw q e) in
         place-yes (map (listedStrip l) (range 0 count)) (r .0) ∙ ap At (r .1)
+
+    -- a list by y0 has nothing more for a point once a strip begins past it
+    pub place-past : (k : ℕ) → ((i : ℕ) → i < k → holds p (listedStrip l i) ≡ false)
+        → p .y < listedStrip l k .y0 → ByRow l count → placeIn p (listedStrips l count) ≡ Nowhere
+    place-past k h past by =
+        place-none λ i lt.
+        ⊎-elim
+        (h i)
+        (λ (le : k ≤ i). above p (listedStrip l i) (omega (arith, past, by k i le lt)))
+        (lt-or-le i k)
 
 -- on a foil a free point has a place, and no other point has
 module _ (f : ℕ → ℕ → Bool) (W H : ℕ) (p : Point) where

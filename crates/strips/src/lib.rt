@@ -97,6 +97,10 @@ pub fn locate(list: &[u16], count: usize, x: u16, y: u16) -> Place
         if k == count {
             break Place::Nowhere;
         }
+        let begins = strip_at(list, k).y0;
+        if y < begins {
+            break Place::Nowhere;
+        }
         if holds_at(list, k, x, y) {
             break Place::At(k);
         }

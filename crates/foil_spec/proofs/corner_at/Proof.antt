@@ -1,7 +1,7 @@
 -- `foil_spec::corner_at` reads the numbers that `cornerAt` names.
 use mathlib.Core.Path.{refl}
 use borrow.Author.Needs.{needs}
-use Rattle.foil_spec.specs.Lent.{cornerAt}
+use Rattle.foil_spec.specs.Corners.{cornerAt}
 use Rattle.foil_spec.proofs.corner_at.Statement.{statement}
 use Rattle.foil_spec.proofs.corner_at.Tie as tie
 

@@ -3,17 +3,20 @@ use native.Mathlib.Omega.{arith}
 use mathlib.Core.Path.{refl}
 use Rattle.foil_spec.specs.Limits.{maxEntries}
 use Rattle.foil_spec.specs.Ledger.{reads}
-use Rattle.foil.proofs.Giving.{sound-room, limit-is, output-is, lent-wrote}
+use Rattle.foil.proofs.Giving.{sound-room, passed-sound, checked-by, limit-is, output-is, lent-wrote}
 use borrow.Author.Needs.{needs}
 use Rattle.laying.proofs.lay.Statement.{statement}
 use Rattle.laying.proofs.lay.Tie as tie
 
--- back to enum_told and lay_in
-abbrev afterEnumTold : tie.After-lay-in-arg3 → tie.After-enum-told
-afterEnumTold c = c .before .before .before
+-- from the body back to the test that is passed, and from there to where it is made; from the end to the body
+abbrev passed : tie.After-lay-in-arg3 → tie.After-enum-told
+passed c = c .before .before .before
 
-abbrev afterLayIn : tie.After-slice-known6 → tie.After-lay-in
-afterLayIn c = c .before .before .before .before .before .before
+abbrev tested : tie.After-enum-told → tie.After-lent-refusal
+tested c = c .before .before
+
+abbrev body : tie.After-slice-known6 → tie.After-lay-in
+body c = c .before .before .before .before .before .before
 
 lent-refusal-requires : tie.Need-lent-refusal-requires
 lent-refusal-requires c κs = search needs
@@ -32,18 +35,18 @@ same-length-2 c = search needs
 
 returns : tie.Need-returns
 unfolding reads
-returns c = lent-wrote _ _ _ _ (c .refuse .ensures) refl _ _
-    (rw (c .before .before .checked .given .1) at (c .before .before .before .before .lent-refusal .ensures))
+returns c =
+    let told = c .before .before in
+    lent-wrote _ _ _ _ (c .refuse .ensures) refl _ _
+    (checked-by _ _ (told .before .before .lent-refusal .ensures) _ (told .checked .given .1))
 
 enum-told : tie.Need-enum-told
 enum-told c = search needs
 
 lay-in-requires : tie.Need-lay-in-requires
-lay-in-requires c κs = (
-  (rw (afterEnumTold c .enum-told .given .1) at
-      (c .before .before .before .before .before .lent-refusal .ensures)),
-  omega arith,
-)
+lay-in-requires c κs =
+    let ok = passed c in
+    (passed-sound _ _ (tested ok .lent-refusal .ensures) (ok .enum-told .given .1), omega arith)
 
 same-length-3 : tie.Need-same-length-3
 same-length-3 c = search needs
@@ -55,10 +58,11 @@ same-length-5 : tie.Need-same-length-5
 same-length-5 c = search needs
 
 returns-2 : tie.Need-returns-2
-returns-2 c = afterLayIn c .lay-in .ensures _
-    (sound-room _ (rw (afterEnumTold (afterLayIn c .before) .enum-told
-    .given .1) at (c .before .before .before .before .before .before .before .before .before .before .before .before
-    .lent-refusal .ensures)) maxEntries _) (limit-is _ _ _) (output-is _ _ _)
+returns-2 c =
+    let end = body c in
+    let ok = passed (end .before) in
+    let g = passed-sound _ _ (tested ok .lent-refusal .ensures) (ok .enum-told .given .1) in
+    end .lay-in .ensures _ (sound-room _ g maxEntries _) (limit-is _ _ _) (output-is _ _ _)
 
 pub lay-spec : {M : Type 1} → statement M
 lay-spec =

@@ -3,7 +3,7 @@ use Prim.Native.Nat.{_+_, _-_, _*_, _≤_}
 use native.Mathlib.Omega.{arith}
 use mathlib.Core.Path.{_≡_}
 use Rattle.foil_spec.specs.Lists.{each}
-use Rattle.foil_spec.specs.Lent.{cornerAt, cornersIn}
+use Rattle.foil_spec.specs.Corners.{cornerAt, cornersIn}
 use Rattle.lines.specs.Lines.{cornerItem}
 use Rattle.putting.specs.Put.{Put}
 use Rattle.putting.proofs.Putting.{put-length, put-none, row-more}

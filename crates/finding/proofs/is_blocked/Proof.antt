@@ -1,12 +1,12 @@
--- `laying::is_blocked` says whether no strip holds the point.
+-- `finding::is_blocked` says whether no strip holds the point.
 use mathlib.Core.Path.{sym, _∙_}
 use Rattle.ledger_laws.proofs.Sound.{of-sound}
 use Rattle.foil_spec.specs.Foil.{point}
 use Rattle.state.proofs.Rising.{by-row-of}
 use Rattle.foil.proofs.Looking.{strips-long, nowhere-blocked, somewhere-free}
 use borrow.Author.Needs.{needs}
-use Rattle.laying.proofs.is_blocked.Statement.{statement}
-use Rattle.laying.proofs.is_blocked.Tie as tie
+use Rattle.finding.proofs.is_blocked.Statement.{statement}
+use Rattle.finding.proofs.is_blocked.Tie as tie
 
 -- back to the start
 abbrev atStart : tie.After-locate → tie.Start

@@ -15,7 +15,7 @@ use Rattle.foil_spec.specs.Lent.{layoutOf}
 use Rattle.zones.specs.Boxes.{boxFree, Zoned}
 use Rattle.search.specs.Grid as boxes
 use Rattle.search.specs.Search as search
-use Rattle.laying.specs.Found.{Posed, Found}
+use Rattle.finding.specs.Found.{Posed, Found}
 
 no-path : (o : Option (List Point)) (k : ℕ) → (k ≡ 0 → o ≡ none) → k ≡ length (Option·getD o []) → noPath o ≡ eqb k 0
 unfolding noPath
@@ -36,14 +36,14 @@ module _ {t : List ℕ} {n d w h : ℕ} {S T : Point} (P : Posed t n d w h S T) 
   unfolding pathOf layoutOf
   path-is = ap (λ (f : ℕ → ℕ → Bool). firstPath f w h S T) (Z .same)
 
-  pub layout-found : {out out′ : List ℕ} {k : ℕ} → 258 ≤ length out
-      → search.Found (firstPath (boxFree w h c z) w h S T) out out′ k → Found (layoutOf w h d n t) S T out out′ k
+  pub layout-found : {out out′ : List ℕ} {k : ℕ} → search.Found (firstPath (boxFree w h c z) w h S T) out out′ k
+      → Found (layoutOf w h d n t) S T out out′ k
   unfolding cornersOf
-  layout-found {out} {out′} {k} long F =
+  layout-found {out} {out′} {k} F =
       let G = subst (λ (o : Option (List Point)). search.Found o out out′ k) path-is F in
       record {
         none = no-path (pathOf (layoutOf w h d n t) S T) k (G .nowhere) (G .count);
         count = G .count;
-        corners = λ one few. G .corners (omega arith);
+        corners = G .corners;
         untouched = G .untouched;
       }

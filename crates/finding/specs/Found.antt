@@ -17,10 +17,10 @@ pub record Posed (t : List ℕ) (n d w h : ℕ) (S T : Point) : Type 0 where
   pub s-free : free (layoutOf w h d n t) (S .x) (S .y) ≡ true
   pub t-free : free (layoutOf w h d n t) (T .x) (T .y) ≡ true
 
--- k counts the corners of the first path from S to T, 0 where there is none; up to 129 stand at the front of out, which
--- is otherwise as it was, and as it was altogether where they do not fit
+-- k counts the corners of the first path from S to T, 0 where there is none; where they fit they stand at the front of
+-- out, which is otherwise as it was
 pub record Found (l : Layout) (S T : Point) (out out′ : List ℕ) (k : ℕ) : Type 0 where
   pub none : noPath (pathOf l S T) ≡ eqb k 0
   pub count : k ≡ length (cornersOf l S T)
-  pub corners : 1 ≤ k → k ≤ 129 → Written (cornersOf l S T) out out′
+  pub corners : k * 2 ≤ length out → Written (cornersOf l S T) out out′
   pub untouched : length out < k * 2 → out′ ≡ out

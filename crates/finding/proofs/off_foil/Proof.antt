@@ -1,6 +1,6 @@
-use Rattle.laying.proofs.Checking.{off-right, off-below}
-use Rattle.laying.proofs.off_foil.Statement.{statement}
-use Rattle.laying.proofs.off_foil.Tie as tie
+use Rattle.finding.proofs.Points.{off-right, off-below}
+use Rattle.finding.proofs.off_foil.Statement.{statement}
+use Rattle.finding.proofs.off_foil.Tie as tie
 
 returns : tie.Need-returns
 returns c = off-right _ _ (c .if1 .taken)

@@ -1,9 +1,9 @@
 -- The boxes of the table, and the path between them.
 use native.Mathlib.Omega.{arith}
 use borrow.Author.Needs.{needs}
-use Rattle.laying.proofs.Finding.{boxes-posed, layout-found}
-use Rattle.laying.proofs.path_between.Statement.{statement}
-use Rattle.laying.proofs.path_between.Tie as tie
+use Rattle.finding.proofs.Searching.{boxes-posed, layout-found}
+use Rattle.finding.proofs.path_between.Statement.{statement}
+use Rattle.finding.proofs.path_between.Tie as tie
 
 -- from the zones back to the function's start, from the search to the zones, and from the end to the search
 abbrev atStart : tie.After-boxes → tie.Start
@@ -19,13 +19,13 @@ slice-aggregate-zones : tie.Need-slice-aggregate-zones
 slice-aggregate-zones c = search needs
 
 zones-requires : tie.Need-zones-requires
-zones-requires c κs = (atStart c .pre .0 .table, omega arith)
+zones-requires c κs = (atStart c .pre .table, omega arith)
 
 slice-aggregate-first-path : tie.Need-slice-aggregate-first-path
 slice-aggregate-first-path c = search needs
 
 first-path-requires : tie.Need-first-path-requires
-first-path-requires c κs = boxes-posed (atStart (atZones c .before) .pre .0) (atZones c .zones .ensures)
+first-path-requires c κs = boxes-posed (atStart (atZones c .before) .pre) (atZones c .zones .ensures)
 
 same-length : tie.Need-same-length
 same-length c = search needs
@@ -34,7 +34,7 @@ returns : tie.Need-returns
 returns c =
     let zones = atZones (atSearch c .before) in
     let pre = atStart (zones .before) .pre in
-    layout-found (pre .0) (zones .zones .ensures) (pre .1) (atSearch c .first-path .ensures)
+    layout-found pre (zones .zones .ensures) (atSearch c .first-path .ensures)
 
 pub path-between-spec : {M : Type 1} → statement M
 path-between-spec =

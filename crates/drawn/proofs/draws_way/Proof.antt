@@ -1,0 +1,29 @@
+-- `drawn::draws_way` asks the boxes of the table.
+use native.Mathlib.Omega.{arith}
+use Rattle.drawn.proofs.Checking.{layout-way}
+use borrow.Author.Needs.{needs}
+use Rattle.drawn.proofs.draws_way.Statement.{statement}
+use Rattle.drawn.proofs.draws_way.Tie as tie
+
+-- from the test back to the boxes
+abbrev atZones : tie.After-boxes3 → tie.After-zones
+atZones c = c .before .before
+
+slice-aggregate-zones : tie.Need-slice-aggregate-zones
+slice-aggregate-zones c = search needs
+
+zones-requires : tie.Need-zones-requires
+zones-requires c κs = (c .before .before .before .pre, omega arith)
+
+slice-aggregate-is-way : tie.Need-slice-aggregate-is-way
+slice-aggregate-is-way c = search needs
+
+is-way-requires : tie.Need-is-way-requires
+is-way-requires c κs = atZones c .zones .ensures .boxes
+
+returns : tie.Need-returns
+returns c = layout-way _ _ _ _ _ _ (atZones (c .before) .zones .ensures) _ (c .is-way .ensures)
+
+pub draws-way-spec : {M : Type 1} → statement M
+draws-way-spec =
+    tie.close (tie.spec slice-aggregate-zones zones-requires slice-aggregate-is-way is-way-requires returns)

@@ -1,0 +1,4 @@
+-- What the contracts of book cite.
+pub mod Clear
+pub mod Segments
+pub mod Booking

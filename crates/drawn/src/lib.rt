@@ -1,0 +1,125 @@
+// The call book: takes a way over as a track, whoever drew it. Like the other calls it has no `requires`: it is its
+// refusals by 12 and 13, and then a body (`book_in`). What it books by is open to lay.
+mod way;
+
+use booking::Booked;
+use booking::append_legs;
+use booking::bend_count;
+use booking::copy_front;
+use booking::in_use;
+use booking::leg_count;
+use booking::take_over;
+use foil::Answer;
+use foil::Checked;
+use foil::Done;
+use foil::lent_refusal;
+use foil::refuse;
+use foil_spec::Board;
+use foil_spec::MAX_ENTRIES;
+use foil_spec::TABLE_SIZE;
+use state::net_ok;
+use way::is_way;
+use zones::BOXES_SIZE;
+use zones::zones;
+ghost use mathlib.Core.Path.{_≡_};
+ghost use Prim.Native.Nat.{_≤_};
+ghost use mathlib.Core.Bool.{true};
+ghost use Rattle.foil_spec.specs.Limits.{maxEntries};
+ghost use Rattle.foil_spec.specs.Foil.{free};
+ghost use Rattle.foil_spec.specs.Paths.{isWay};
+ghost use Rattle.foil_spec.specs.Corners.{cornersIn, drawn as drawnBy};
+ghost use Rattle.foil_spec.specs.Ledger.{book as books};
+ghost use Rattle.foil_spec.specs.Lent.{lent, layoutOf, held, sound};
+ghost use Rattle.zones.specs.Table.{Table};
+ghost use Rattle.booking.specs.Booked.{Booking};
+ghost use Rattle.foil.specs.Contract.{StepDone, StepIn};
+ghost use Rattle.drawn.specs.Booking.{withLegs, MayBook};
+
+// Books the way that the lent list draws, all of it, as a track of the net: appends an entry for each leg. The list is
+// only read.
+pub fn book(table: &mut [u16], strips: &mut [u16], board: Board, net: u16, corners: &[u16]) -> Done
+    ensures { λ r. ⌜ StepDone (books net (now (corners .entry)))
+        (lent board (now (table .entry)) (now (strips .entry))) r (now (table .exit)) (now (strips .exit)) ⌝ }
+{
+    let checked = lent_refusal(table, strips, board);
+    if let Checked::Refused(number) = checked {
+        return refuse(number, board);
+    }
+    book_in(table, strips, board, MAX_ENTRIES, net, corners)
+}
+
+// Books a way on a foil that keeps the rules and may have so many entries.
+pub fn book_in(
+    table: &mut [u16],
+    strips: &mut [u16],
+    board: Board,
+    limit: usize,
+    net: u16,
+    corners: &[u16],
+) -> Done
+    requires { ⌜ sound (lent board (now table) (now strips)) ≡ true ⌝ }
+    requires { ⌜ limit ≤ maxEntries ⌝ }
+    ensures { λ r. ⌜ StepIn (books net (now (corners .entry))) limit
+        (lent board (now (table .entry)) (now (strips .entry))) r (now (table .exit)) (now (strips .exit)) ⌝ }
+{
+    if !net_ok(net) {
+        return refuse(4, board);
+    }
+    if in_use(table, board.entries, net) {
+        return refuse(5, board);
+    }
+    if !draws_way(table, board, corners) {
+        return refuse(19, board);
+    }
+    let k = corners.len() / 2;
+    if limit < board.entries + leg_count(k) {
+        return refuse(10, board);
+    }
+    let booked = book_path(table, strips, board, net, corners, k);
+    let Booked::Taken(after) = booked else {
+        return refuse(11, board);
+    };
+    Done {
+        answer: Answer::Laid(k, bend_count(k)),
+        board: after,
+    }
+}
+
+// Whether the list, all of it, draws a way over the free points of a table.
+fn draws_way(table: &[u16], board: Board, list: &[u16]) -> bool
+    requires { ⌜ Table (now table) (board .entries) (board .clearance) (board .width) (board .height) ⌝ }
+    ensures { λ r. ⌜ r ≡ isWay (free (layoutOf (board .width) (board .height) (board .clearance) (board .entries)
+        (now (table .entry)))) (drawnBy (now (list .entry))) ⌝ }
+{
+    let mut boxes = [0u16; BOXES_SIZE];
+    let n = zones(
+        &mut boxes,
+        table,
+        board.entries,
+        board.clearance,
+        board.width,
+        board.height,
+    );
+    is_way(&boxes, n, board.width, board.height, list)
+}
+
+// Appends the legs of the way of k corners at the front of a list, for which there is room, and takes the table over
+// with its strips; or changes nothing where there would be too many.
+pub fn book_path(
+    table: &mut [u16],
+    strips: &mut [u16],
+    board: Board,
+    net: u16,
+    path: &[u16],
+    k: usize,
+) -> Booked
+    requires { ⌜ MayBook (lent board (now table) (now strips)) net (now path) k ⌝ }
+    ensures { λ r. ⌜ Booking (withLegs (held (lent board (now (table .entry)) (now (strips .entry)))) net
+        (cornersIn (now (path .entry)) k))
+        (now (table .entry)) (now (strips .entry)) (now (table .exit)) (now (strips .exit)) r ⌝ }
+{
+    let mut rows = [0u16; TABLE_SIZE];
+    copy_front(&mut rows, table, TABLE_SIZE);
+    let all = append_legs(&mut rows, board.entries, net, path, k);
+    take_over(table, strips, &rows, all, board)
+}

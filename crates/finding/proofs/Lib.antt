@@ -1,0 +1,4 @@
+-- Laws of find.
+pub mod Points
+pub mod Searching
+pub mod Finding

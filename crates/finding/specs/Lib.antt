@@ -1,0 +1,3 @@
+-- What the contracts of find cite.
+pub mod Points
+pub mod Found
