@@ -7,7 +7,7 @@ use mathlib.Core.Option.{none, some}
 use lib.ListN.{length}
 use Rattle.foil_spec.specs.Limits.{maxEntries}
 use Rattle.foil_spec.specs.Ledger.{Room, Step, wrote, next, says, first, reads, refusals, settle, refusalOf}
-use Rattle.foil_spec.specs.Lent.{Lent, held, store, sound, roomOf, stepOn, overFront, outputAfter}
+use Rattle.foil_spec.specs.Lent.{Lent, held, sound, roomOf, stepOn, overFront, outputAfter}
 use Rattle.ledger_laws.proofs.Refusals.{own-refused}
 use Rattle.ledger_laws.proofs.Sound.{of-sound, sound-store-is}
 use Rattle.foil.specs.Contract.{answerOf, WriteDone, LentChecked}

@@ -41,7 +41,7 @@ ghost use Rattle.foil.specs.Contract.{Gave, StepDone, StepIn, Looked, ta
 
 // What a call answers: the number of a refusal, or that it is accepted, with the numbers of corners
 // and bends after a lay, a find or a booking, with the strip's place after a look up, and with the
-// number of bytes after a save.
+// number of bytes after a save or a slip.
 pub enum Answer {
     Refused(u8),
     Accepted,

@@ -10,7 +10,7 @@ use lib.ListN.{length}
 use borrow.Author.Tests.{eqb-true, ne-eqb, leb-true}
 use Rattle.foil_spec.specs.Lists.{keep, consIf, all}
 use Rattle.foil_spec.specs.Limits.{maxEntries}
-use Rattle.foil_spec.specs.Foil.{Entry, Layout, netOk, boxOk, shapeOk, entryOk}
+use Rattle.foil_spec.specs.Foil.{Entry, netOk, boxOk, shapeOk, entryOk}
 use Rattle.foil_spec.specs.Nets.{ofNet, legsOf, legSteps, stepsOf, netLength, firstPoint}
 use Rattle.list_laws.proofs.Tests.{and-l, and-r, or-cases, all-keep}
 use Rattle.ledger_laws.proofs.Rules.{of-ok}
