@@ -102,8 +102,8 @@ pub data Step : Type 0 where
   book : ℕ → List ℕ → Step
   slip : Step
 
--- a refusal number; or accepted, with corners and bends after a lay or a find, with a strip's place after a look up, with
--- the bytes that were written after a save or a slip, with the numbers of corners and bends after a booking
+-- a refusal number; or accepted, with corners and bends after a lay or a find, with a strip's place after a look up,
+-- with the bytes that were written after a save or a slip, with the numbers of corners and bends after a booking
 pub data Answer : Type 0 where
   refused : ℕ → Answer
   accepted : Answer
