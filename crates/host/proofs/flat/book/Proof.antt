@@ -11,7 +11,7 @@ use Rattle.host.proofs.flat.book.Tie as tie
 
 -- back to the start, to how many numbers are lent on, to the call, and to the numbers that it left
 abbrev atStart : tie.After-numbers-lent → tie.Start
-atStart c = c .before .before .before
+atStart c = c .before .before .before .before
 
 abbrev lentOn : tie.After-book → tie.After-numbers-lent
 lentOn c = c .before .before .before
