@@ -19,21 +19,31 @@ struct Entry {
     y1: usize,
 }
 
-// Width, height, clearance (document 01's reach) and the row of entries.
+// Width, height, the pen's half width and gap, and the row of entries.
 struct Foil {
     w: usize,
     h: usize,
-    d: usize,
+    half: usize,
+    gap: usize,
     row: Vec<Entry>,
 }
 
 impl Foil {
+    // How far away an entry blocks: the ink of a leg is wider than its points by the half width.
+    fn margin(&self, e: &Entry) -> usize {
+        match e.net {
+            0 => self.half + self.gap,
+            _ => 2 * self.half + self.gap,
+        }
+    }
+
     // Whether each point is free, row by row.
     fn free_points(&self) -> Vec<bool> {
         let mut free = vec![true; self.w * self.h];
         for e in &self.row {
-            let xs = e.x0.saturating_sub(self.d)..(e.x1 + self.d).min(self.w);
-            for y in e.y0.saturating_sub(self.d)..(e.y1 + self.d).min(self.h) {
+            let d = self.margin(e);
+            let xs = e.x0.saturating_sub(d)..(e.x1 + d).min(self.w);
+            for y in e.y0.saturating_sub(d)..(e.y1 + d).min(self.h) {
                 free[y * self.w..][xs.clone()].fill(false);
             }
         }
@@ -263,17 +273,17 @@ fn run_job(bytes: &[u8], text: &mut String) {
     if bytes.len() > BYTES {
         return line("file 18".into());
     }
-    let mut foil = Foil { w: 0, h: 0, d: 0, row: Vec::new() };
+    let mut foil = Foil { w: 0, h: 0, half: 0, gap: 0, row: Vec::new() };
     let mut at = 0;
     loop {
         let Some(&map) = bytes.get(at) else {
             return line("file 14".into());
         };
         let has = |bit: usize| map >> bit & 1 == 1;
-        if map > 31 {
+        if map > 63 {
             return line("file 15".into());
         }
-        if has(0) != (at == 0) {
+        if has(0) != (at == 0) || (has(5) && !has(0)) {
             return line("file 16".into());
         }
         if map == 0 {
@@ -285,23 +295,33 @@ fn run_job(bytes: &[u8], text: &mut String) {
             }
             return;
         }
-        let sizes = [3, 4, 5, 1, 5];
-        let size: usize = (0..5).filter(|&bit| has(bit)).map(|bit| 2 * sizes[bit]).sum();
+        let sizes = [3, 4, 5, 1, 5, 2];
+        let size: usize = (0..6).filter(|&bit| has(bit)).map(|bit| 2 * sizes[bit]).sum();
         if bytes.len() < at + 1 + size {
             return line("file 14".into());
         }
-        let mut numbers = bytes[at + 1..at + 1 + size].chunks(2).map(|b| b[0] as usize + 256 * b[1] as usize);
+        let numbers: Vec<usize> =
+            bytes[at + 1..at + 1 + size].chunks(2).map(|b| b[0] as usize + 256 * b[1] as usize).collect();
+        // The half width and the gap of the pen stand last in the record, though its board comes first.
+        let pen = if has(5) { numbers.last_chunk::<2>().copied() } else { None };
+        let mut numbers = numbers.into_iter();
         let mut number = || numbers.next().expect("all fields are present");
         at += 1 + size;
         if has(0) {
-            let (w, h, d) = (number(), number(), number());
+            let (w, h, reach) = (number(), number(), number());
             let on = |n: usize| (1..=4096).contains(&n);
-            let refusal = if !on(w) || !on(h) { 1 } else if d > 15 { 2 } else { 0 };
+            let [half, gap] = pen.unwrap_or([0, reach]);
+            let refusal = match pen {
+                _ if !on(w) || !on(h) => 1,
+                Some(_) if half > 7 || gap > 15 => 20,
+                None if reach > 15 => 2,
+                _ => 0,
+            };
             line(format!("board {refusal}"));
             if refusal > 0 {
                 return;
             }
-            foil = Foil { w, h, d, row: Vec::new() };
+            foil = Foil { w, h, half, gap, row: Vec::new() };
         }
         if has(1) {
             let refusal = foil.draw(number(), number(), number(), number());

@@ -9,10 +9,11 @@ use lib.Seq.{paste}
 use borrow.Author.Tests.{lt-ltb, le-ltb}
 use Rattle.foil_spec.specs.Lists.{range, each}
 use Rattle.foil_spec.specs.Limits.{maxEntries, tableSize, maxStrips, stripsSize}
-use Rattle.foil_spec.specs.Foil.{entryNumbers, Layout}
+use Rattle.foil_spec.specs.Foil.{entryNumbers, Pen, Layout}
 use Rattle.foil_spec.specs.Strips.{Strip}
 use Rattle.foil_spec.specs.Ledger.{stripsOf, tooFine}
 use Rattle.foil_spec.specs.Lent.{stripNumbers, written, boardOf, entryAt, layoutOf}
+use Rattle.foil_spec.specs.declared.Board.{Board}
 use Rattle.ledger_laws.proofs.Stored.{length-entries, length-strips}
 use Rattle.ledger_laws.proofs.Sound.{length-read, front-written}
 use Rattle.booking.specs.Rows.{rowsOf}
@@ -35,9 +36,15 @@ copied n ns l d fits =
     ∙ append-assoc ns (replicate (n - length ns) 0) (drop n d)
 
 -- the layout of the rows, and its strips ss, built anew
-module _ (w h d n : ℕ) (rows t s : List ℕ) (ss : List Strip) (are : ss ≡ stripsOf (layoutOf w h d n rows)) where
+module _ (w h : ℕ) (p : Pen) (n : ℕ) (rows t s : List ℕ) (ss : List Strip)
+    (are : ss ≡ stripsOf (layoutOf w h p n rows)) where
   abbrev l : Layout
-  l = layoutOf w h d n rows
+  l = layoutOf w h p n rows
+
+  -- the record with these counts
+  abbrev boardWith : ℕ → ℕ → Board
+  boardWith k c =
+      record { width = w; height = h; half = p .half; gap = p .gap; entries = k; strips = c }
 
   pub refused : (t′ s′ : List ℕ) → maxStrips < length ss → t′ ≡ t → s′ ≡ s → Unchanged l t s t′ s′
   unfolding tooFine
@@ -51,7 +58,7 @@ module _ (w h d n : ℕ) (rows t s : List ℕ) (ss : List Strip) (are : ss ≡ s
   pub taken : (out o t′ s′ : List ℕ) (c : ℕ) → n ≤ maxEntries → rows ≡ rowsOf (map (entryAt rows) (range 0 n))
       → c ≡ length ss → c ≤ maxStrips → out ≡ written stripsSize (each stripNumbers ss) o
       → t′ ≡ paste t 0 rows tableSize → s′ ≡ paste s 0 out stripsSize
-      → Stored l t s t′ s′ (record { width = w; height = h; clearance = d; entries = n; strips = c })
+      → Stored l t s t′ s′ (boardWith n c)
   unfolding tooFine boardOf layoutOf rowsOf
   taken out o t′ s′ c few r e m q a b =
       let es = length-entries (map (entryAt rows) (range 0 n)) in
@@ -60,7 +67,7 @@ module _ (w h d n : ℕ) (rows t s : List ℕ) (ss : List Strip) (are : ss ≡ s
       let ls = length-strips (stripsOf l) in
       record {
         fine = le-ltb maxStrips (length (stripsOf l)) (omega arith);
-        board = λ i. record { width = w; height = h; clearance = d; entries = sym k i; strips = z i };
+        board = λ i. boardWith (sym k i) (z i);
         table =
             a ∙ ap (λ (x : List ℕ). paste t 0 x tableSize) r
             ∙ copied tableSize (each entryNumbers (map (entryAt rows) (range 0 n))) [] t (omega arith);

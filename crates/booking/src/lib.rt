@@ -15,14 +15,15 @@ pub use rows::without;
 use strips::Built;
 use strips::rebuild;
 use zones::BOXES_SIZE;
-use zones::zones;
+use zones::pen_zones;
 ghost use mathlib.Core.Path.{_≡_};
 ghost use Prim.Native.Nat.{_≤_};
 ghost use mathlib.Core.List.{map};
 ghost use lib.ListN.{length};
 ghost use Rattle.foil_spec.specs.Lists.{range};
 ghost use Rattle.foil_spec.specs.Limits.{tableSize, stripsSize};
-ghost use Rattle.foil_spec.specs.Lent.{entryAt, layoutOf};
+ghost use Rattle.foil_spec.specs.Foil.{penRule};
+ghost use Rattle.foil_spec.specs.Lent.{entryAt, layoutOf, penIn};
 ghost use Rattle.zones.specs.Table.{Table};
 ghost use Rattle.booking.specs.Rows.{rowsOf};
 ghost use Rattle.booking.specs.Booked.{Booking};
@@ -34,7 +35,7 @@ pub enum Booked {
 }
 
 // Takes the rows' n entries over as the table, with their strips, on a board of the record's size and
-// clearance. Where there would be too many strips nothing is changed.
+// pen. Where there would be too many strips nothing is changed.
 pub fn take_over(
     table: &mut [u16],
     strips: &mut [u16],
@@ -42,22 +43,15 @@ pub fn take_over(
     n: usize,
     board: Board,
 ) -> Booked
-    requires { ⌜ Table (now rows) n (board .clearance) (board .width) (board .height) ⌝ }
+    requires { ⌜ Table (now rows) n (penRule (penIn board)) (board .width) (board .height) ⌝ }
     requires { ⌜ now rows ≡ rowsOf (map (entryAt (now rows)) (range 0 n)) ⌝ }
     requires { ⌜ (tableSize ≤ length (now table)) × (stripsSize ≤ length (now strips)) ⌝ }
-    ensures { λ r. ⌜ Booking (layoutOf (board .width) (board .height) (board .clearance) n (now (rows .entry)))
+    ensures { λ r. ⌜ Booking (layoutOf (board .width) (board .height) (penIn board) n (now (rows .entry)))
         (now (table .entry)) (now (strips .entry)) (now (table .exit)) (now (strips .exit)) r ⌝ }
 {
     let mut boxes = [0u16; BOXES_SIZE];
     let mut out = [0u16; STRIPS_SIZE];
-    let m = zones(
-        &mut boxes,
-        rows,
-        n,
-        board.clearance,
-        board.width,
-        board.height,
-    );
+    let m = pen_zones(&mut boxes, rows, n, board);
     let built = rebuild(&mut out, &boxes, m, board.width, board.height);
     let Built::Strips(count) = built else {
         return Booked::TooFine;
@@ -67,7 +61,8 @@ pub fn take_over(
     Booked::Taken(Board {
         width: board.width,
         height: board.height,
-        clearance: board.clearance,
+        half: board.half,
+        gap: board.gap,
         entries: n,
         strips: count,
     })

@@ -8,11 +8,11 @@ use lib.ListN.{length, replicate, length-append, length-map}
 use lib.Seq.{paste}
 use Rattle.foil_spec.specs.Lists.{range, all}
 use Rattle.foil_spec.specs.Limits.{maxEntries, tableSize, stripsSize}
-use Rattle.foil_spec.specs.Foil.{Point, Layout, entryOk, free}
+use Rattle.foil_spec.specs.Foil.{Point, Layout, entryOk, penRule, free}
 use Rattle.foil_spec.specs.Paths.{isWay}
 use Rattle.foil_spec.specs.Corners.{cornerAt, cornersIn}
 use Rattle.foil_spec.specs.Ledger.{legs}
-use Rattle.foil_spec.specs.Lent.{Lent, lent, entryAt, layoutOf, held}
+use Rattle.foil_spec.specs.Lent.{Lent, lent, entryAt, layoutOf, penIn, held}
 use Rattle.foil_spec.specs.declared.Board.{Board}
 use Rattle.list_laws.proofs.Tests.{clash, all-append}
 use Rattle.list_laws.proofs.Members.{at-place, length-range}
@@ -90,8 +90,8 @@ module _ (b : Board) (t s : List ℕ) (net : ℕ) (path : List ℕ) (k : ℕ) (y
       let at = at-place (λ (q : Point). free l (q .x) (q .y)) (cornerAt path) k (corners-free (free l) cs (y .way)) in
       record {
         long = y .long;
-        small-x = λ i u. omega (arith, free-inside l _ _ (at i u) .0, limits .wide);
-        small-y = λ i u. omega (arith, free-inside l _ _ (at i u) .1, limits .high);
+        small-x = λ i u. omega (arith, free-inside l _ _ (at i u) .0, limits .sized .width);
+        small-y = λ i u. omega (arith, free-inside l _ _ (at i u) .1, limits .sized .height);
       }
 
   module _ (old rows : List ℕ) (all-rows : ℕ) (copied : old ≡ paste (replicate tableSize 0) 0 t tableSize)
@@ -112,22 +112,22 @@ module _ (b : Board) (t s : List ℕ) (net : ℕ) (path : List ℕ) (k : ℕ) (y
         all-append (entryOk (b .width) (b .height)) (l .entries) (legs net cs)
         (of-ok l (facts .kept) .entries) (booked-ok l net cs (y .allowed) (y .way))
 
-    pub booked-table : Table rows all-rows (b .clearance) (b .width) (b .height)
+    pub booked-table : Table rows all-rows (penRule (penIn b)) (b .width) (b .height)
     booked-table =
         rows-table rows (l .entries ++ legs net cs) all-rows booked-count booked-rows
-        (b .width) (b .height) (b .clearance) (added .few) (limits .small) (limits .wide) (limits .high)
+        (penRule (penIn b)) (b .width) (b .height) (added .few) (limits .small) (limits .sized)
         all-ok
 
     pub booked-again : rows ≡ rowsOf (map (entryAt rows) (range 0 all-rows))
     booked-again = rows-again rows (l .entries ++ legs net cs) all-rows booked-count booked-rows
 
-    layout-is : layoutOf (b .width) (b .height) (b .clearance) all-rows rows ≡ withLegs l net cs
+    layout-is : layoutOf (b .width) (b .height) (penIn b) all-rows rows ≡ withLegs l net cs
     unfolding held layoutOf
     layout-is =
         rows-layout rows (l .entries ++ legs net cs) all-rows booked-count booked-rows
-        (b .width) (b .height) (b .clearance)
+        (b .width) (b .height) (penIn b)
 
     pub booked-is : (t′ s′ : List ℕ) (r : Booked)
-        → Booking (layoutOf (b .width) (b .height) (b .clearance) all-rows rows) t s t′ s′ r
+        → Booking (layoutOf (b .width) (b .height) (penIn b) all-rows rows) t s t′ s′ r
         → Booking (withLegs l net cs) t s t′ s′ r
     booked-is t′ s′ r k = subst (λ (x : Layout). Booking x t s t′ s′ r) layout-is k

@@ -16,7 +16,7 @@ use Rattle.foil_spec.specs.Corners.{cornersIn, drawn}
 use Rattle.foil_spec.specs.Nets.{inUse}
 use Rattle.foil_spec.specs.Ledger.{legs, Room, short, tooLong, tooFine, Step, book, Answer, booked, next, says}
 use Rattle.foil_spec.specs.Ledger.{_⇒_, first, refusals, After, settle}
-use Rattle.foil_spec.specs.Lent.{Lent, lent, store, entryAt, layoutOf, held, sound, stepOn}
+use Rattle.foil_spec.specs.Lent.{Lent, lent, store, entryAt, layoutOf, penIn, held, sound, stepOn}
 use Rattle.foil_spec.specs.declared.Board.{Board}
 use Rattle.list_laws.proofs.Tests.{both, clash}
 use Rattle.zones.specs.Boxes.{boxFree, Zoned}
@@ -70,7 +70,7 @@ module _ (b : Board) (t s ks : List ℕ) (net limit : ℕ) (limited : limit ≤ 
         used e r q room long _ = own-done c m 5 r q y room long (rw (sym o-is ∙ not-false o ok, sym u-is ∙ e) refl)
 
         module _ (unused : u ≡ false) (w : Bool)
-            (w-is : w ≡ isWay (free (layoutOf (b .width) (b .height) (b .clearance) (b .entries) t)) (drawn ks)) where
+            (w-is : w ≡ isWay (free (layoutOf (b .width) (b .height) (penIn b) (b .entries) t)) (drawn ks)) where
           from-19 : (room : Room) → first (refusals c room l)
               ≡ first ((not w ⇒ 19) ∷ (tooLong room (next c l) ⇒ 10) ∷ (tooFine (next c l) ⇒ 11) ∷ [])
           unfolding held layoutOf

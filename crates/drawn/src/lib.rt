@@ -20,16 +20,16 @@ use foil_spec::TABLE_SIZE;
 use state::net_ok;
 use way::is_way;
 use zones::BOXES_SIZE;
-use zones::zones;
+use zones::pen_zones;
 ghost use mathlib.Core.Path.{_≡_};
 ghost use Prim.Native.Nat.{_≤_};
 ghost use mathlib.Core.Bool.{true};
 ghost use Rattle.foil_spec.specs.Limits.{maxEntries};
-ghost use Rattle.foil_spec.specs.Foil.{free};
+ghost use Rattle.foil_spec.specs.Foil.{penRule, free};
 ghost use Rattle.foil_spec.specs.Paths.{isWay};
 ghost use Rattle.foil_spec.specs.Corners.{cornersIn, drawn as drawnBy};
 ghost use Rattle.foil_spec.specs.Ledger.{book as books};
-ghost use Rattle.foil_spec.specs.Lent.{lent, layoutOf, held, sound};
+ghost use Rattle.foil_spec.specs.Lent.{lent, layoutOf, penIn, held, sound};
 ghost use Rattle.zones.specs.Table.{Table};
 ghost use Rattle.booking.specs.Booked.{Booking};
 ghost use Rattle.foil.specs.Contract.{StepDone, StepIn};
@@ -87,19 +87,12 @@ pub fn book_in(
 
 // Whether the list, all of it, draws a way over the free points of a table.
 fn draws_way(table: &[u16], board: Board, list: &[u16]) -> bool
-    requires { ⌜ Table (now table) (board .entries) (board .clearance) (board .width) (board .height) ⌝ }
-    ensures { λ r. ⌜ r ≡ isWay (free (layoutOf (board .width) (board .height) (board .clearance) (board .entries)
+    requires { ⌜ Table (now table) (board .entries) (penRule (penIn board)) (board .width) (board .height) ⌝ }
+    ensures { λ r. ⌜ r ≡ isWay (free (layoutOf (board .width) (board .height) (penIn board) (board .entries)
         (now (table .entry)))) (drawnBy (now (list .entry))) ⌝ }
 {
     let mut boxes = [0u16; BOXES_SIZE];
-    let n = zones(
-        &mut boxes,
-        table,
-        board.entries,
-        board.clearance,
-        board.width,
-        board.height,
-    );
+    let n = pen_zones(&mut boxes, table, board.entries, board);
     is_way(&boxes, n, board.width, board.height, list)
 }
 

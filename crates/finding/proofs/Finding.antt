@@ -13,7 +13,7 @@ use Rattle.foil_spec.specs.Foil.{Point, Layout}
 use Rattle.foil_spec.specs.Paths.{bends}
 use Rattle.foil_spec.specs.Ledger.{pathOf, noPath, cornersOf, Room, cornerRoom, Step, find, next, says, _⇒_, first}
 use Rattle.foil_spec.specs.Ledger.{reads, refusals, settle, refusalOf}
-use Rattle.foil_spec.specs.Lent.{Lent, lent, layoutOf, held, sound, roomIn, roomOf, stepOn, overFront, outputAfter}
+use Rattle.foil_spec.specs.Lent.{Lent, lent, layoutOf, penIn, held, sound, roomIn, roomOf, stepOn, overFront, outputAfter}
 use Rattle.foil_spec.specs.declared.Board.{Board}
 use Rattle.ledger_laws.proofs.Refusals.{own-refused}
 use Rattle.ledger_laws.proofs.Sound.{of-sound, sound-store-is}
@@ -30,7 +30,7 @@ use Rattle.finding.specs.Found.{Posed, Found}
 -- a search between free points of a foil that keeps the rules
 pub posed : (b : Board) (t s : List ℕ) (S T : Point) → sound (lent b t s) ≡ true
     → PointsChecked (held (lent b t s)) S T checked.Passed
-    → Posed t (b .entries) (b .clearance) (b .width) (b .height) S T
+    → Posed t (b .entries) (penIn b) (b .width) (b .height) S T
 unfolding held layoutOf
 posed b t s S T g y = record { table = held-table b t s g; s-free = y .0; t-free = y .1 }
 
@@ -71,7 +71,7 @@ module _ (b : Board) (t s ks : List ℕ) (S T : Point) where
     ends-refused n k = refused-done n (own ∙ k _)
 
     module _ (y : PointsChecked l S T checked.Passed) (ks′ : List ℕ) (k : ℕ)
-        (searched : Found (layoutOf (b .width) (b .height) (b .clearance) (b .entries) t) S T ks ks′ k) where
+        (searched : Found (layoutOf (b .width) (b .height) (penIn b) (b .entries) t) S T ks ks′ k) where
       found : Found l S T ks ks′ k
       unfolding held
       found = searched

@@ -5,17 +5,17 @@ use mathlib.Core.Bool.{true}
 use mathlib.Core.List.{List}
 use lib.Dec.{eqb}
 use lib.ListN.{length}
-use Rattle.foil_spec.specs.Foil.{Point, Layout, free}
+use Rattle.foil_spec.specs.Foil.{Point, Pen, Layout, penRule, free}
 use Rattle.foil_spec.specs.Ledger.{pathOf, noPath, cornersOf}
 use Rattle.foil_spec.specs.Lent.{layoutOf}
 use Rattle.zones.specs.Table.{Table}
 use Rattle.search.specs.Search.{Written}
 
--- the first n entries of a table, on a foil of w by h with clearance d, and two free points
-pub record Posed (t : List ℕ) (n d w h : ℕ) (S T : Point) : Type 0 where
-  pub table : Table t n d w h
-  pub s-free : free (layoutOf w h d n t) (S .x) (S .y) ≡ true
-  pub t-free : free (layoutOf w h d n t) (T .x) (T .y) ≡ true
+-- the first n entries of a table, on a foil of w by h with the pen p, and two free points
+pub record Posed (t : List ℕ) (n : ℕ) (p : Pen) (w h : ℕ) (S T : Point) : Type 0 where
+  pub table : Table t n (penRule p) w h
+  pub s-free : free (layoutOf w h p n t) (S .x) (S .y) ≡ true
+  pub t-free : free (layoutOf w h p n t) (T .x) (T .y) ≡ true
 
 -- k counts the corners of the first path from S to T, 0 where there is none; where they fit they stand at the front of
 -- out, which is otherwise as it was

@@ -9,13 +9,13 @@ use search::first_path;
 use strips::Place;
 use strips::locate;
 use zones::BOXES_SIZE;
-use zones::zones;
+use zones::pen_zones;
 ghost use mathlib.Core.Path.{_≡_};
 ghost use Prim.Native.Nat.{_<_};
 ghost use mathlib.Core.Bool.{true};
 ghost use Rattle.foil_spec.specs.Foil.{point};
 ghost use Rattle.foil_spec.specs.Ledger.{find as finds, blocked};
-ghost use Rattle.foil_spec.specs.Lent.{lent, layoutOf, held, sound};
+ghost use Rattle.foil_spec.specs.Lent.{lent, layoutOf, penIn, held, sound};
 ghost use Rattle.foil.specs.Contract.{WriteDone};
 ghost use Rattle.finding.specs.Points.{OffFoil, PointsChecked};
 ghost use Rattle.finding.specs.Found.{Posed, Found};
@@ -134,19 +134,12 @@ pub fn path_between(
     tx: u16,
     ty: u16,
 ) -> usize
-    requires { ⌜ Posed (now table) (board .entries) (board .clearance) (board .width) (board .height)
+    requires { ⌜ Posed (now table) (board .entries) (penIn board) (board .width) (board .height)
         (point sx sy) (point tx ty) ⌝ }
-    ensures { λ r. ⌜ Found (layoutOf (board .width) (board .height) (board .clearance) (board .entries)
+    ensures { λ r. ⌜ Found (layoutOf (board .width) (board .height) (penIn board) (board .entries)
         (now (table .entry))) (point sx sy) (point tx ty) (now (out .entry)) (now (out .exit)) r ⌝ }
 {
     let mut boxes = [0u16; BOXES_SIZE];
-    let n = zones(
-        &mut boxes,
-        table,
-        board.entries,
-        board.clearance,
-        board.width,
-        board.height,
-    );
+    let n = pen_zones(&mut boxes, table, board.entries, board);
     first_path(out, &boxes, n, board.width, board.height, sx, sy, tx, ty)
 }

@@ -9,10 +9,10 @@ use lib.Seq.{paste}
 use borrow.Author.Tests.{lt-ltb, le-ltb, not-true, not-false}
 use Rattle.foil_spec.specs.Lists.{range, all}
 use Rattle.foil_spec.specs.Limits.{maxEntries, tableSize}
-use Rattle.foil_spec.specs.Foil.{Entry, entry, Layout, netOk, boxOk, entryOk}
+use Rattle.foil_spec.specs.Foil.{Entry, entry, Layout, netOk, boxOk, entryOk, penRule}
 use Rattle.foil_spec.specs.Ledger.{Room, tooLong, Step, draw, putLeg, next, says, first, refusals, After, settle}
 use Rattle.foil_spec.specs.Ledger.{Answer as Outcome}
-use Rattle.foil_spec.specs.Lent.{Lent, lent, store, entryAt, layoutOf, held, sound}
+use Rattle.foil_spec.specs.Lent.{Lent, lent, store, entryAt, layoutOf, penIn, held, sound}
 use Rattle.foil_spec.specs.declared.Board.{Board}
 use Rattle.list_laws.proofs.Tests.{and-i, all-append}
 use Rattle.ledger_laws.proofs.Rules.{of-ok}
@@ -68,20 +68,20 @@ module _ (b : Board) (t s : List ℕ) (g : sound (lent b t s) ≡ true) (limit :
       pub added-again : rows ≡ rowsOf (map (entryAt rows) (range 0 (b .entries + 1)))
       added-again = rows-again rows (held m .entries ++ e ∷ []) (b .entries + 1) one-longer added-rows
 
-      pub added-table : Table rows (b .entries + 1) (b .clearance) (b .width) (b .height)
+      pub added-table : Table rows (b .entries + 1) (penRule (penIn b)) (b .width) (b .height)
       added-table =
           let h : Held b = held-limits b t s facts in
           rows-table rows (held m .entries ++ e ∷ []) (b .entries + 1) one-longer added-rows
-          (b .width) (b .height) (b .clearance) (omega arith) (h .small) (h .wide) (h .high) all-ok
+          (penRule (penIn b)) (b .width) (b .height) (omega arith) (h .small) (h .sized) all-ok
 
-      layout-is : layoutOf (b .width) (b .height) (b .clearance) (b .entries + 1) rows ≡ withEntry m e
+      layout-is : layoutOf (b .width) (b .height) (penIn b) (b .entries + 1) rows ≡ withEntry m e
       unfolding held layoutOf
       layout-is =
           rows-layout rows (held m .entries ++ e ∷ []) (b .entries + 1) one-longer added-rows
-          (b .width) (b .height) (b .clearance)
+          (b .width) (b .height) (penIn b)
 
       pub entry-added : (r : Done) (t′ s′ : List ℕ)
-          → Gave (takenOver (layoutOf (b .width) (b .height) (b .clearance) (b .entries + 1) rows) m) r t′ s′
+          → Gave (takenOver (layoutOf (b .width) (b .height) (penIn b) (b .entries + 1) rows) m) r t′ s′
           → Added r t′ s′
       unfolding first tooLong
       entry-added r t′ s′ k room is =

@@ -5,13 +5,13 @@ use mathlib.Core.Path.{_≡_, refl, sym, ap, _∙_, subst}
 use mathlib.Core.Bool.{Bool, true, false, not, and-true}
 use mathlib.Core.List.{List}
 use mathlib.Core.Logic.{⊎-elim}
-use mathlib.Core.Option.{Option, some}
+use mathlib.Core.Option.{Option, none, some}
 use lib.Dec.{ltb}
 use borrow.Author.Tests.{lt-ltb, le-ltb, not-true}
 use lib.ListN.{length}
 use Rattle.foil_spec.specs.Limits.{maxEntries, tableSize, maxStrips, stripsSize}
 use Rattle.foil_spec.specs.Foil.{Layout}
-use Rattle.foil_spec.specs.Ledger.{Room, short, Step, says, next, first, reads, refusals, afterLent}
+use Rattle.foil_spec.specs.Ledger.{Room, short, Step, says, next, Refusal, first, reads, refusals, afterLent}
 use Rattle.foil_spec.specs.Ledger.{After, settle, refusalOf}
 use Rattle.foil_spec.specs.Ledger.{Answer as Outcome}
 use Rattle.foil_spec.specs.Lent.{Lent, lent, held, store, sound, roomIn, stepOn, outputAfter}
@@ -26,7 +26,8 @@ use Rattle.foil.specs.declared.Answer.the-variants.{Accepted}
 use Rattle.foil.specs.declared.Done.{Done}
 use Rattle.foil.specs.declared.lent.Checked.{Checked}
 use Rattle.foil.specs.declared.lent.Checked.the-variants as checked
-use Rattle.foil.specs.Contract.{answerOf, Gave, Wrote, refusedBy, TooShort, LentChecked, takenOver}
+use Rattle.foil.specs.Contract.{answerOf, Gave, Wrote, refusedBy, TooShort, FirstChecked, LentChecked}
+use Rattle.foil.specs.Contract.{takenOver}
 
 -- ---- the lists' lengths
 
@@ -69,6 +70,14 @@ passed-sound m k f e = subst (LentChecked m) e f
 pub checked-by : (m : Lent) (k : Checked) → LentChecked m k → (n : ℕ) → k ≡ checked.Refused n
     → LentChecked m (checked.Refused n)
 checked-by m k f n e = subst (LentChecked m) e f
+
+-- refusals of which none applies, and of which the first has a number
+module _ (rs : List Refusal) (k : Checked) (f : FirstChecked rs k) where
+  pub none-first : k ≡ checked.Passed → first rs ≡ none
+  none-first e = subst (FirstChecked rs) e f
+
+  pub number-first : (n : ℕ) → k ≡ checked.Refused n → first rs ≡ some n
+  number-first n e = subst (FirstChecked rs) e f
 
 -- the room of a call has the limit and the output that it was given
 module _ (limit : ℕ) (m : Lent) (output : ℕ) where

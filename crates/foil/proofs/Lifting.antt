@@ -6,11 +6,11 @@ use mathlib.Core.Bool.{Bool, true, false, not}
 use mathlib.Core.List.{List, map}
 use borrow.Author.Tests.{not-true, not-false}
 use Rattle.foil_spec.specs.Lists.{range, all}
-use Rattle.foil_spec.specs.Foil.{Entry, Layout, netOk, entryOk}
+use Rattle.foil_spec.specs.Foil.{Entry, Layout, netOk, entryOk, penRule}
 use Rattle.foil_spec.specs.Nets.{ofNet, inUse}
 use Rattle.foil_spec.specs.Ledger.{lift, Room, short, next, says, first, refusals, After, settle}
 use Rattle.foil_spec.specs.Ledger.{Answer as Outcome}
-use Rattle.foil_spec.specs.Lent.{Lent, lent, store, entryAt, layoutOf, held, sound, stepOn}
+use Rattle.foil_spec.specs.Lent.{Lent, lent, store, entryAt, layoutOf, penIn, held, sound, stepOn}
 use Rattle.foil_spec.specs.declared.Board.{Board}
 use Rattle.list_laws.proofs.Tests.{all-keep}
 use Rattle.ledger_laws.proofs.Rules.{of-ok}
@@ -59,15 +59,15 @@ module _ (b : Board) (t s : List ℕ) (net : ℕ) (g : sound (lent b t s) ≡ tr
         pub lifted-again : rows ≡ rowsOf (map (entryAt rows) (range 0 n))
         lifted-again = rows-again rows es n (sym (kept .counted)) (kept .is)
 
-        pub lifted-table : Table rows n (b .clearance) (b .width) (b .height)
+        pub lifted-table : Table rows n (penRule (penIn b)) (b .width) (b .height)
         lifted-table =
             let h : Held b = held-limits b t s facts in
-            rows-table rows es n (sym (kept .counted)) (kept .is) (b .width) (b .height) (b .clearance)
-            (omega (arith, kept .few, h .few)) (h .small) (h .wide) (h .high) all-ok
+            rows-table rows es n (sym (kept .counted)) (kept .is) (penRule (penIn b)) (b .width) (b .height)
+            (omega (arith, kept .few, h .few)) (h .small) (h .sized) all-ok
 
-        layout-is : layoutOf (b .width) (b .height) (b .clearance) n rows ≡ next (lift net) (held m)
+        layout-is : layoutOf (b .width) (b .height) (penIn b) n rows ≡ next (lift net) (held m)
         unfolding next held layoutOf otherNets
-        layout-is = rows-layout rows es n (sym (kept .counted)) (kept .is) (b .width) (b .height) (b .clearance)
+        layout-is = rows-layout rows es n (sym (kept .counted)) (kept .is) (b .width) (b .height) (penIn b)
 
         past-6 : (room : Room)
             → settle (first (refusals (lift net) room (held m)))
@@ -77,7 +77,7 @@ module _ (b : Board) (t s : List ℕ) (net : ℕ) (g : sound (lent b t s) ≡ tr
         past-6 room = rw (sym o-is ∙ not-false o allowed, sym u-is ∙ not-false u used) refl
 
         pub lifted : (r : Done) (t′ s′ : List ℕ)
-            → Gave (takenOver (layoutOf (b .width) (b .height) (b .clearance) n rows) m) r t′ s′ → Lifted r t′ s′
+            → Gave (takenOver (layoutOf (b .width) (b .height) (penIn b) n rows) m) r t′ s′ → Lifted r t′ s′
         lifted r t′ s′ k room long =
             subst (λ (a : After Outcome Lent). Gave a r t′ s′)
             (ap (λ (l : Layout). takenOver l m) layout-is

@@ -8,11 +8,11 @@ use lib.ListN.{length, drop, replicate}
 use lib.Seq.{paste}
 use Rattle.foil_spec.specs.Lists.{range, all, each}
 use Rattle.foil_spec.specs.Limits.{maxEntries, tableSize}
-use Rattle.foil_spec.specs.Foil.{Entry, entryNumbers, entryOk}
+use Rattle.foil_spec.specs.Foil.{Entry, entryNumbers, Pen, Rule, entryOk}
 use Rattle.foil_spec.specs.Lent.{Lent, written, store, entryAt, layoutOf, held}
 use Rattle.ledger_laws.proofs.Stored.{read-back, entries-fit}
 use Rattle.ledger_laws.proofs.Sound.{Sound}
-use Rattle.zones.specs.Table.{Table}
+use Rattle.zones.specs.Table.{Small, Sized, Table}
 use Rattle.zones.proofs.Tables.{table-of}
 use Rattle.booking.specs.Rows.{rowsOf}
 use Rattle.booking.proofs.Filling.{length-rows}
@@ -30,15 +30,15 @@ module _ (rows : List ℕ) (es : List Entry) (n : ℕ) (count : length es ≡ n)
   pub rows-again : rows ≡ rowsOf (map (entryAt rows) (range 0 n))
   rows-again = is ∙ ap rowsOf (sym read-rows)
 
-  pub rows-layout : (w h d : ℕ) → layoutOf w h d n rows ≡ record { width = w; height = h; clearance = d; entries = es }
+  pub rows-layout : (w h : ℕ) (p : Pen)
+      → layoutOf w h p n rows ≡ record { width = w; height = h; pen = p; entries = es }
   unfolding layoutOf
-  rows-layout w h d =
-      ap (λ (x : List Entry). record { width = w; height = h; clearance = d; entries = x }) read-rows
+  rows-layout w h p = ap (λ (x : List Entry). record { width = w; height = h; pen = p; entries = x }) read-rows
 
-  pub rows-table : (w h d : ℕ) → n ≤ maxEntries → d ≤ 15 → w ≤ 4096 → h ≤ 4096 → all (entryOk w h) es ≡ true
-      → Table rows n d w h
-  rows-table w h d few small wide high ok =
-      table-of rows n d w h few (omega (arith, length-rows es (omega arith), ap length is)) small wide high
+  pub rows-table : (r : Rule) (w h : ℕ) → n ≤ maxEntries → Small r → Sized w h → all (entryOk w h) es ≡ true
+      → Table rows n r w h
+  rows-table r w h few small sized ok =
+      table-of rows n r w h few (omega (arith, length-rows es (omega arith), ap length is)) small sized
       (ap (all (entryOk w h)) read-rows ∙ ok)
 
 -- the front of a sound table, copied to zeros, is rows of its entries

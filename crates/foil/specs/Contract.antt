@@ -3,17 +3,19 @@ use Prim.Native.Nat.{ℕ}
 use mathlib.Core.Path.{_≡_}
 use mathlib.Core.Bool.{Bool, true, false, not}
 use mathlib.Core.List.{List, [], _∷_, _++_}
-use mathlib.Core.Option.{some}
+use mathlib.Core.Option.{none, some}
 use lib.ListN.{length}
-use Rattle.foil_spec.specs.Foil.{Point, Entry, Layout}
+use Rattle.foil_spec.specs.Foil.{Point, Entry, pen, Layout}
 use Rattle.foil_spec.specs.Ledger.{withEntries, Room, short, tooLong, tooFine, Step, lookUp, Refusal, _⇒_, first}
-use Rattle.foil_spec.specs.Ledger.{afterLent, After, settle}
+use Rattle.foil_spec.specs.Ledger.{Clearance, byPen, byReach, afterLent, After, settle}
 use Rattle.foil_spec.specs.Ledger.{Answer as Outcome, refused, accepted, laid, found, wrote, booked}
 use Rattle.foil_spec.specs.Lent.{Lent, lent, held, store, sound, roomIn, roomOf, stepOn, outputAfter}
 use Rattle.foil_spec.specs.declared.Board.{Board}
 use Rattle.foil.specs.declared.Answer.{Answer}
 use Rattle.foil.specs.declared.Answer.the-variants.{Refused, Accepted, Laid, Found, Wrote as WroteBytes}
 use Rattle.foil.specs.declared.Done.{Done}
+use Rattle.foil.specs.declared.pens.Clearance as asked
+use Rattle.foil.specs.declared.pens.Clearance.the-variants.{Pen, Reach}
 use Rattle.foil.specs.declared.lent.Checked.{Checked}
 use Rattle.foil.specs.declared.lent.Checked.the-variants as checked
 
@@ -25,6 +27,11 @@ answerOf (laid cs n) = Laid (length cs) n
 answerOf (found k) = Found k
 answerOf (wrote bs) = WroteBytes (length bs)
 answerOf (booked k n) = Laid k n
+
+-- what each case of a clearance says
+unfoldable pub clearanceOf : asked.Clearance → Clearance
+clearanceOf (Pen half gap) = byPen (pen half gap)
+clearanceOf (Reach d) = byReach d
 
 -- the answer, the record, the table t and the strips s are those of a
 pub record Gave (a : After Outcome Lent) (d : Done) (t s : List ℕ) : Type 0 where
@@ -73,6 +80,11 @@ refusedBy n b = record { answer = Refused n; board = b }
 -- the answer says whether lists of this length are too short, whatever else is lent
 pub record TooShort (t s : List ℕ) (r : Bool) : Type 0 where
   pub is : (b : Board) (limit output : ℕ) → r ≡ short (roomIn limit (lent b t s) output)
+
+-- none of these refusals applies, or the first that does has this number
+abbrev pub FirstChecked : List Refusal → Checked → Type 0
+FirstChecked rs checked.Passed = first rs ≡ none
+FirstChecked rs (checked.Refused n) = first rs ≡ some n
 
 -- what is lent keeps the rules; or a call that reads it is refused by this number, whatever its own refusals are
 abbrev pub LentChecked : Lent → Checked → Type 0

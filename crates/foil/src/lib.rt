@@ -4,6 +4,7 @@
 // known to keep the rules, which takes the number of entries that the foil may have. Lay is in the
 // crate `laying`.
 mod lent;
+mod pens;
 
 use booking::Booked;
 use booking::append;
@@ -18,8 +19,10 @@ use foil_spec::TABLE_SIZE;
 pub use lent::Checked;
 pub use lent::lent_refusal;
 pub use lent::lists_short;
+pub use pens::Clearance;
+use pens::clearance_refusal;
+use pens::pen_of;
 use state::box_ok;
-use state::clearance_ok;
 use state::entry_ok;
 use state::net_ok;
 use state::size_ok;
@@ -32,12 +35,13 @@ ghost use mathlib.Core.List.{map};
 ghost use lib.ListN.{length};
 ghost use Rattle.foil_spec.specs.Lists.{range};
 ghost use Rattle.foil_spec.specs.Limits.{maxEntries, tableSize, stripsSize};
-ghost use Rattle.foil_spec.specs.Foil.{point, entryOk};
-ghost use Rattle.foil_spec.specs.Ledger.{newFoil, draw as draws, lift as lifts, lookUp, putLeg, Room, short};
-ghost use Rattle.foil_spec.specs.Lent.{lent, entryAt, layoutOf, sound, stepOn};
+ghost use Rattle.foil_spec.specs.Foil.{point, pen, entryOk, penRule};
+ghost use Rattle.foil_spec.specs.Ledger.{byPen, newFoil, draw as draws, lift as lifts, lookUp, putLeg, Room, short};
+ghost use Rattle.foil_spec.specs.Lent.{lent, entryAt, layoutOf, penIn, sound, stepOn};
 ghost use Rattle.zones.specs.Table.{Table};
 ghost use Rattle.booking.specs.Rows.{rowsOf};
-ghost use Rattle.foil.specs.Contract.{Gave, StepDone, StepIn, Looked, takenOver, entryAdded, refusedBy};
+ghost use Rattle.foil.specs.Contract.{clearanceOf, Gave, StepDone, StepIn, Looked, takenOver};
+ghost use Rattle.foil.specs.Contract.{entryAdded, refusedBy};
 
 // What a call answers: the number of a refusal, or that it is accepted, with the numbers of corners
 // and bends after a lay, a find or a booking, with the strip's place after a look up, and with the
@@ -56,15 +60,24 @@ pub struct Done {
     pub board: Board,
 }
 
-// Begins a foil of w by h with clearance d: an empty table, and one strip, the whole foil.
-pub fn new_foil(table: &mut [u16], strips: &mut [u16], board: Board, w: u16, h: u16, d: u16) -> Done
-    ensures { λ r. ⌜ StepDone (newFoil w h d) (lent board (now (table .entry)) (now (strips .entry)))
-        r (now (table .exit)) (now (strips .exit)) ⌝ }
+// Begins a foil of w by h with a pen of this half width and gap: an empty table, and one strip, the
+// whole foil.
+pub fn new_foil(
+    table: &mut [u16],
+    strips: &mut [u16],
+    board: Board,
+    w: u16,
+    h: u16,
+    half: u16,
+    gap: u16,
+) -> Done
+    ensures { λ r. ⌜ StepDone (newFoil w h (byPen (pen half gap)))
+        (lent board (now (table .entry)) (now (strips .entry))) r (now (table .exit)) (now (strips .exit)) ⌝ }
 {
     if lists_short(table, strips) {
         return refuse(12, board);
     }
-    new_foil_in(table, strips, board, w, h, d)
+    new_foil_in(table, strips, board, w, h, Clearance::Pen(half, gap))
 }
 
 // Begins a foil on lists that are long enough, whatever they hold.
@@ -74,12 +87,12 @@ pub fn new_foil_in(
     board: Board,
     w: u16,
     h: u16,
-    d: u16,
+    clearance: Clearance,
 ) -> Done
     requires { ⌜ (tableSize ≤ length (now table)) × (stripsSize ≤ length (now strips)) ⌝ }
     ensures { λ r. ⌜ ((room : Room) → short room ≡ false
-        → Gave (stepOn room (newFoil w h d) (lent board (now (table .entry)) (now (strips .entry))))
-        r (now (table .exit)) (now (strips .exit))) ⌝ }
+        → Gave (stepOn room (newFoil w h (clearanceOf clearance))
+        (lent board (now (table .entry)) (now (strips .entry)))) r (now (table .exit)) (now (strips .exit))) ⌝ }
 {
     if !size_ok(w) {
         return refuse(1, board);
@@ -87,14 +100,17 @@ pub fn new_foil_in(
     if !size_ok(h) {
         return refuse(1, board);
     }
-    if !clearance_ok(d) {
-        return refuse(2, board);
+    let checked = clearance_refusal(clearance);
+    if let Checked::Refused(number) = checked {
+        return refuse(number, board);
     }
+    let pen = pen_of(clearance);
     let rows = [0u16; TABLE_SIZE];
     let bare = Board {
         width: w,
         height: h,
-        clearance: d,
+        half: pen.half,
+        gap: pen.gap,
         entries: 0,
         strips: 0,
     };
@@ -289,11 +305,11 @@ pub fn refuse(number: u8, board: Board) -> Done
 
 // Takes the rows' n entries over, or refuses by 11.
 fn settle(table: &mut [u16], strips: &mut [u16], rows: &[u16], n: usize, board: Board) -> Done
-    requires { ⌜ Table (now rows) n (board .clearance) (board .width) (board .height) ⌝ }
+    requires { ⌜ Table (now rows) n (penRule (penIn board)) (board .width) (board .height) ⌝ }
     requires { ⌜ now rows ≡ rowsOf (map (entryAt (now rows)) (range 0 n)) ⌝ }
     requires { ⌜ (tableSize ≤ length (now table)) × (stripsSize ≤ length (now strips)) ⌝ }
     ensures { λ r. ⌜ Gave (takenOver
-        (layoutOf (board .width) (board .height) (board .clearance) n (now (rows .entry)))
+        (layoutOf (board .width) (board .height) (penIn board) n (now (rows .entry)))
         (lent board (now (table .entry)) (now (strips .entry)))) r (now (table .exit)) (now (strips .exit)) ⌝ }
 {
     let booked = take_over(table, strips, rows, n, board);

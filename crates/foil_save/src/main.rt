@@ -14,7 +14,7 @@ use saving::save;
 const BYTES: usize = 60001;
 
 // As many bytes as the file of a foil with 128 legs has.
-const SAVED_BYTES: usize = 1416;
+const SAVED_BYTES: usize = 1420;
 
 fn main() {
     let mut bytes = [0u8; BYTES];

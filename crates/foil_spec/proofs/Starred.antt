@@ -1,14 +1,15 @@
 -- The starred test foils of document 01, the ohms of its track, legs as booked with the file of their foil, drawn ways,
--- and the slip of two tracks: one list of cases, and one fact over it.
+-- the slip of two tracks, and pens: one list of cases, and one fact over it.
 use Prim.Native.Nat.{ℕ}
 use mathlib.Core.Path.{_≡_, refl}
 use mathlib.Core.Bool.{true, false, xor}
 use mathlib.Core.List.{List, [], _∷_, _++_, map, reverse}
-use mathlib.Core.Option.{some}
+use mathlib.Core.Option.{none, some}
 use lib.IntN.{pos, negsuc}
 use lib.Ieee.{Float, nan, inf, fin, binary64, ofInt, ofBits, add, mul, div, lt, le, eq}
 use Rattle.foil_spec.specs.Foil.{Point, point, Entry, entry, Layout, noFoil}
-use Rattle.foil_spec.specs.Foil.{entryNumbers, sizeOk, clearanceOk, netOk, boxOk, shapeOk, entryOk}
+use Rattle.foil_spec.specs.Foil.{entryNumbers, sizeOk, reachOk, penOk, netOk, boxOk}
+use Rattle.foil_spec.specs.Foil.{shapeOk, entryOk, Pen, pen, penRule, margin, nearEdge, freeBy}
 use Rattle.foil_spec.specs.Foil.{within, blocks, free}
 use Rattle.foil_spec.specs.Strips.{Strip, stopIn, stop, scan, scanAt, starts, isRun, isTop, begun}
 use Rattle.foil_spec.specs.Strips.{stripsFrom, holds, placeOf}
@@ -22,7 +23,8 @@ use Rattle.foil_spec.specs.Slip.{setRight, column, slipLine, netLine, sl
 use Rattle.foil_spec.specs.Ledger.{stripsOf, pathOf, noPath, cornersOf, leg, legsFrom, legs}
 use Rattle.foil_spec.specs.Ledger.{offFoil, blocked, short, cornerRoom, tooLong, tooFine, beginningTooFine}
 use Rattle.foil_spec.specs.Ledger.{next, says, first, reads, refusals, afterLent, settle, refusalOf, ledgerStep}
-use Rattle.foil_spec.specs.Ledger.{newFoil, draw, lay, lift, lookUp, putLeg, save, find, book, slip}
+use Rattle.foil_spec.specs.Ledger.{byPen, penOf, clearanceRefusal, Step, newFoil, draw, lay, lift, lookUp}
+use Rattle.foil_spec.specs.Ledger.{putLeg, save, find, book, slip}
 use Rattle.foil_spec.specs.Ledger.{refused, accepted, laid, found, wrote, booked}
 use Rattle.foil_spec.specs.Job.{number, fieldCount, mapByte, has, fieldsAt, recordEnd, field, stepAt}
 use Rattle.foil_spec.specs.Job.{jobRoom, stepsAt, steps, isEnd, recordChecks}
@@ -33,6 +35,10 @@ use Rattle.foil_spec.specs.Calls.{reply, ledgerCall}
 
 abbrev strip : ℕ → ℕ → ℕ → ℕ → Strip
 strip x0 y0 x1 y1 = record { x0 = x0; y0 = y0; x1 = x1; y1 = y1 }
+
+-- a new foil whose patches and legs block up to d away
+abbrev begin : ℕ → ℕ → ℕ → Step
+begin W H d = newFoil W H (byPen (pen 0 d))
 
 -- the replies to some calls, and the entries and strips that they leave
 pub record Outcome : Type 0 where
@@ -84,7 +90,7 @@ savedEntries =
 -- and its file
 savedBytes : List ℕ
 savedBytes =
-    0x01 ∷ 0x06 ∷ 0x00 ∷ 0x04 ∷ 0x00 ∷ 0x00 ∷ 0x00
+    0x21 ∷ 0x06 ∷ 0x00 ∷ 0x04 ∷ 0x00 ∷ 0x00 ∷ 0x00 ∷ 0x00 ∷ 0x00 ∷ 0x00 ∷ 0x00
     ∷ 0x02 ∷ 0x02 ∷ 0x00 ∷ 0x00 ∷ 0x00 ∷ 0x03 ∷ 0x00 ∷ 0x03 ∷ 0x00
     ∷ 0x10 ∷ 0x05 ∷ 0x00 ∷ 0x00 ∷ 0x00 ∷ 0x00 ∷ 0x00 ∷ 0x01 ∷ 0x00 ∷ 0x04 ∷ 0x00
     ∷ 0x10 ∷ 0x05 ∷ 0x00 ∷ 0x00 ∷ 0x00 ∷ 0x03 ∷ 0x00 ∷ 0x05 ∷ 0x00 ∷ 0x04 ∷ 0x00
@@ -92,6 +98,19 @@ savedBytes =
     ∷ 0x10 ∷ 0x05 ∷ 0x00 ∷ 0x00 ∷ 0x00 ∷ 0x00 ∷ 0x00 ∷ 0x01 ∷ 0x00 ∷ 0x02 ∷ 0x00
     ∷ 0x10 ∷ 0x07 ∷ 0x00 ∷ 0x05 ∷ 0x00 ∷ 0x00 ∷ 0x00 ∷ 0x06 ∷ 0x00 ∷ 0x04 ∷ 0x00
     ∷ 0x00 ∷ []
+
+-- a job whose board has a pen of half width 1, with a reach that does not count; one whose pen is too wide; one with a
+-- pen beside a patch
+penJob : List ℕ
+penJob = 0x21 ∷ 0x0c ∷ 0x00 ∷ 0x05 ∷ 0x00 ∷ 0xff ∷ 0xff ∷ 0x01 ∷ 0x00 ∷ 0x00 ∷ 0x00 ∷ 0x00 ∷ []
+
+widePenJob : List ℕ
+widePenJob = 0x21 ∷ 0x0c ∷ 0x00 ∷ 0x05 ∷ 0x00 ∷ 0x00 ∷ 0x00 ∷ 0x08 ∷ 0x00 ∷ 0x00 ∷ 0x00 ∷ 0x00 ∷ []
+
+latePenJob : List ℕ
+latePenJob =
+    0x01 ∷ 0x0c ∷ 0x00 ∷ 0x05 ∷ 0x00 ∷ 0x10 ∷ 0x00
+    ∷ 0x22 ∷ 0x00 ∷ 0x00 ∷ 0x00 ∷ 0x00 ∷ 0x01 ∷ 0x00 ∷ 0x01 ∷ 0x00 ∷ 0x00 ∷ 0x00 ∷ 0x00 ∷ 0x00 ∷ 0x00 ∷ []
 
 -- a booking of the net by the numbers of a corner list
 abbrev drew : ℕ → List ℕ → Call
@@ -117,7 +136,7 @@ cases : List Case
 cases =
     -- 3 by 3 empty
     record {
-      calls = step (newFoil 3 3 0) ∷ step (lay 1 (point 0 0) (point 2 2)) ∷ [];
+      calls = step (begin 3 3 0) ∷ step (lay 1 (point 0 0) (point 2 2)) ∷ [];
       outcome =
           record {
             replies = answered accepted ∷ answered (laid (point 0 0 ∷ point 2 0 ∷ point 2 2 ∷ []) 1) ∷ [];
@@ -127,7 +146,7 @@ cases =
     }
     -- 4 by 1 empty: two corners
     ∷ record {
-      calls = step (newFoil 4 1 0) ∷ step (lay 1 (point 0 0) (point 3 0)) ∷ [];
+      calls = step (begin 4 1 0) ∷ step (lay 1 (point 0 0) (point 3 0)) ∷ [];
       outcome =
           record {
             replies = answered accepted ∷ answered (laid (point 0 0 ∷ point 3 0 ∷ []) 0) ∷ [];
@@ -137,7 +156,7 @@ cases =
     }
     -- 4 by 1 empty: one corner, one entry
     ∷ record {
-      calls = step (newFoil 4 1 0) ∷ step (lay 1 (point 1 0) (point 1 0)) ∷ [];
+      calls = step (begin 4 1 0) ∷ step (lay 1 (point 1 0) (point 1 0)) ∷ [];
       outcome =
           record {
             replies = answered accepted ∷ answered (laid (point 1 0 ∷ []) 0) ∷ [];
@@ -148,7 +167,7 @@ cases =
     -- 2 by 2, patches on (0,0) and (1,1): touching at a corner joins nothing
     ∷ record {
       calls =
-          step (newFoil 2 2 0) ∷ step (draw 0 0 1 1) ∷ step (draw 1 1 2 2) ∷ step (lay 1 (point 1 0) (point 0 1)) ∷ [];
+          step (begin 2 2 0) ∷ step (draw 0 0 1 1) ∷ step (draw 1 1 2 2) ∷ step (lay 1 (point 1 0) (point 0 1)) ∷ [];
       outcome =
           record {
             replies = answered accepted ∷ answered accepted ∷ answered accepted ∷ answered (refused 9) ∷ [];
@@ -158,7 +177,7 @@ cases =
     }
     -- 3 by 3, patch 1,0,2,3
     ∷ record {
-      calls = step (newFoil 3 3 0) ∷ step (draw 1 0 2 3) ∷ step (lay 1 (point 0 0) (point 2 0)) ∷ [];
+      calls = step (begin 3 3 0) ∷ step (draw 1 0 2 3) ∷ step (lay 1 (point 0 0) (point 2 0)) ∷ [];
       outcome =
           record {
             replies = answered accepted ∷ answered accepted ∷ answered (refused 9) ∷ [];
@@ -168,7 +187,7 @@ cases =
     }
     -- 10 by 10, reach 1, patch 4,4,6,6: 4 strips; (3,3) is 8, (2,3) is free
     ∷ record {
-      calls = step (newFoil 10 10 1) ∷ step (draw 4 4 6 6) ∷ step (lookUp (point 3 3)) ∷ step (lookUp (point 2 3)) ∷ [];
+      calls = step (begin 10 10 1) ∷ step (draw 4 4 6 6) ∷ step (lookUp (point 3 3)) ∷ step (lookUp (point 2 3)) ∷ [];
       outcome =
           record {
             replies = answered accepted ∷ answered accepted ∷ answered (refused 8) ∷ answered (found 1) ∷ [];
@@ -178,7 +197,7 @@ cases =
     }
     -- 1 by 1: no strips are left
     ∷ record {
-      calls = step (newFoil 1 1 0) ∷ step (lay 1 (point 0 0) (point 0 0)) ∷ [];
+      calls = step (begin 1 1 0) ∷ step (lay 1 (point 0 0) (point 0 0)) ∷ [];
       outcome =
           record {
             replies = answered accepted ∷ answered (laid (point 0 0 ∷ []) 0) ∷ [];
@@ -188,7 +207,7 @@ cases =
     }
     -- the foil and track of the job, by calls
     ∷ record {
-      calls = step (newFoil 6 4 0) ∷ step (draw 2 0 3 3) ∷ step (lay 5 (point 0 0) (point 4 0)) ∷ [];
+      calls = step (begin 6 4 0) ∷ step (draw 2 0 3 3) ∷ step (lay 5 (point 0 0) (point 4 0)) ∷ [];
       outcome =
           record {
             replies = answered accepted ∷ answered accepted ∷ answered (laid jobCorners 2) ∷ [];
@@ -262,7 +281,7 @@ cases =
     -- saved
     ∷ record {
       calls =
-          step (newFoil 6 4 0) ∷ step (draw 2 0 3 3) ∷ step (lay 5 (point 0 0) (point 4 0))
+          step (begin 6 4 0) ∷ step (draw 2 0 3 3) ∷ step (lay 5 (point 0 0) (point 4 0))
           ∷ step (putLeg (entry 5 0 0 1 2)) ∷ step (putLeg (entry 0 0 0 1 1)) ∷ step (putLeg (entry 1000 9 9 9 9))
           ∷ step (putLeg (entry 7 0 0 2 2)) ∷ step (putLeg (entry 7 3 0 7 1)) ∷ step (putLeg (entry 7 3 1 3 2))
           ∷ step (putLeg (entry 7 5 0 6 4)) ∷ step save ∷ [];
@@ -293,7 +312,7 @@ cases =
     -- the job's track found and then booked
     ∷ record {
       calls =
-          step (newFoil 6 4 0) ∷ step (draw 2 0 3 3)
+          step (begin 6 4 0) ∷ step (draw 2 0 3 3)
           ∷ step (find (point 0 0) (point 4 0)) ∷ step (find (point 0 0) (point 6 0))
           ∷ step (find (point 0 0) (point 2 0)) ∷ drew 5 (0 ∷ 0 ∷ 0 ∷ 3 ∷ 4 ∷ 3 ∷ 4 ∷ 0 ∷ []) ∷ [];
       outcome =
@@ -310,7 +329,7 @@ cases =
     -- 19, which the points of the net that is booked then have
     ∷ record {
       calls =
-          step (newFoil 6 4 0) ∷ step (draw 2 0 3 3)
+          step (begin 6 4 0) ∷ step (draw 2 0 3 3)
           ∷ drew 5 [] ∷ drew 5 (0 ∷ 0 ∷ 0 ∷ 2 ∷ 0 ∷ 3 ∷ []) ∷ drew 5 (0 ∷ 0 ∷ 0 ∷ 0 ∷ [])
           ∷ drew 5 (0 ∷ 0 ∷ 1 ∷ 1 ∷ []) ∷ drew 5 (0 ∷ 0 ∷ 0 ∷ 3 ∷ 6 ∷ 3 ∷ []) ∷ drew 5 (0 ∷ 0 ∷ 4 ∷ 0 ∷ [])
           ∷ drew 5 (2 ∷ 0 ∷ []) ∷ drew 5 (0 ∷ 0 ∷ 0 ∷ [])
@@ -335,7 +354,7 @@ cases =
     -- ways that cross themselves and that go back over their own points
     ∷ record {
       calls =
-          step (newFoil 3 3 0) ∷ drew 1 (0 ∷ 1 ∷ 2 ∷ 1 ∷ 2 ∷ 0 ∷ 1 ∷ 0 ∷ 1 ∷ 2 ∷ []) ∷ step (newFoil 4 2 0)
+          step (begin 3 3 0) ∷ drew 1 (0 ∷ 1 ∷ 2 ∷ 1 ∷ 2 ∷ 0 ∷ 1 ∷ 0 ∷ 1 ∷ 2 ∷ []) ∷ step (begin 4 2 0)
           ∷ drew 2 (0 ∷ 0 ∷ 3 ∷ 0 ∷ 3 ∷ 1 ∷ 1 ∷ 1 ∷ 1 ∷ 0 ∷ 2 ∷ 0 ∷ []) ∷ [];
       outcome =
           record {
@@ -348,7 +367,7 @@ cases =
     -- the slip of a foil without tracks, and of one with two, the lower net laid last
     ∷ record {
       calls =
-          step (newFoil 6 4 0) ∷ step (draw 2 0 3 3) ∷ step slip ∷ step (lay 5 (point 0 0) (point 4 0))
+          step (begin 6 4 0) ∷ step (draw 2 0 3 3) ∷ step slip ∷ step (lay 5 (point 0 0) (point 4 0))
           ∷ step (lay 3 (point 1 2) (point 1 0)) ∷ step slip ∷ [];
       outcome =
           record {
@@ -359,12 +378,42 @@ cases =
             strips = strip 3 0 4 3 ∷ strip 5 0 6 4 ∷ [];
           };
     }
+    -- a leg blocks twice the half width and the gap away, a patch once; 20 for a pen out of its limits, after 1
+    ∷ record {
+      calls =
+          step (newFoil 12 5 (byPen (pen 8 0))) ∷ step (newFoil 12 5 (byPen (pen 0 16)))
+          ∷ step (newFoil 0 5 (byPen (pen 8 16))) ∷ step (newFoil 12 5 (byPen (pen 1 0)))
+          ∷ step (putLeg (entry 9 5 0 6 5)) ∷ step (draw 0 0 1 5) ∷ [];
+      outcome =
+          record {
+            replies =
+                answered (refused 20) ∷ answered (refused 20) ∷ answered (refused 1) ∷ answered accepted
+                ∷ answered accepted ∷ answered accepted ∷ [];
+            entries = entry 9 5 0 6 5 ∷ entry 0 0 0 1 5 ∷ [];
+            strips = strip 2 0 3 5 ∷ strip 8 0 12 5 ∷ [];
+          };
+    }
+    -- pens in job files: 2 for a reach, and 16 for a pen without a board
+    ∷ record {
+      calls =
+          runRecord latePenJob 0 ∷ runRecord widePenJob 0 ∷ runRecord penJob 0 ∷ runRecord latePenJob 7
+          ∷ step (putLeg (entry 9 5 0 6 5)) ∷ runRecord penJob 11 ∷ [];
+      outcome =
+          record {
+            replies =
+                ran (refused 2 ∷ []) none ∷ ran (refused 20 ∷ []) none ∷ ran (accepted ∷ []) (some 11)
+                ∷ answered (refused 16) ∷ answered accepted ∷ atEnd ∷ [];
+            entries = entry 9 5 0 6 5 ∷ [];
+            strips = strip 0 0 3 5 ∷ strip 8 0 12 5 ∷ [];
+          };
+    }
     ∷ []
 
 -- every case comes out as document 01 says
 starred : map (λ (c : Case). outcomeFrom noFoil [] (c .calls)) cases ≡ map (λ (c : Case). c .outcome) cases
-unfolding outcomeFrom cases jobBytes legJob savedBytes jobSlip
-    entryNumbers sizeOk clearanceOk netOk boxOk shapeOk entryOk within blocks free
+unfolding outcomeFrom cases jobBytes legJob savedBytes jobSlip penJob widePenJob latePenJob
+    entryNumbers sizeOk reachOk penOk netOk boxOk shapeOk entryOk within blocks
+    penRule margin nearEdge freeBy free
     stopIn stop scan scanAt starts isRun isTop begun stripsFrom holds placeOf
     after between levelFree uprightFree segment leads isPathTo isWay bends points goings stepsFrom shortest firstFrom
     firstPathTo cornerAt cornersIn drawn
@@ -372,7 +421,7 @@ unfolding outcomeFrom cases jobBytes legJob savedBytes jobSlip
     twoBytes boardBytes patchBytes legBytes entryBytes jobOf
     netsOf firstPoint digitsIn decimal setRight column slipLine netLine slipOf
     short cornerRoom tooLong tooFine beginningTooFine
-    next says first reads refusals afterLent settle refusalOf ledgerStep
+    penOf clearanceRefusal next says first reads refusals afterLent settle refusalOf ledgerStep
     jobRoom number fieldCount mapByte has fieldsAt recordEnd field stepAt stepsAt steps isEnd recordChecks
     endsJob andThen actAll actRecord tooLarge wholeRefusals ohmsReply reply ledgerCall xor
     legsOf legSteps stepsOf netLength netBends whole sheetOk widthOk bendOk inkOk formula ohmsRefusals ohmsOf half bits

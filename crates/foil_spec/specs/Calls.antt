@@ -30,9 +30,9 @@ pub data Reply : Type 0 where
   atEnd : Reply
   measured : Float → Reply
 
--- a step refused by 1 or 2 ends the job
+-- a step refused by 1, 2 or 20 ends the job
 unfoldable pub endsJob : Answer → Bool
-endsJob (refused n) = eqb n 1 || eqb n 2
+endsJob (refused n) = eqb n 1 || eqb n 2 || eqb n 20
 endsJob accepted = false
 endsJob (laid cs n) = false
 endsJob (found n) = false

@@ -1,11 +1,13 @@
--- The foil: its limits, the entries of its table, what an entry blocks, and which points are free.
+-- The foil: its limits, the entries of its table, how far away they block by the pen, and which points are free.
 use Prim.Native.Nat.{ℕ, suc, _+_}
-use mathlib.Core.Bool.{Bool, not, _&&_, _||_}
+use mathlib.Core.Bool.{Bool, cond, not, _&&_, _||_}
 use mathlib.Core.List.{List, [], _∷_}
 use lib.Dec.{leb, ltb, eqb}
 use Rattle.foil_spec.specs.Lists.{all}
 use Rattle.foil_spec.specs.declared.Point as declaredPoint
 use Rattle.foil_spec.specs.declared.Entry as declaredEntry
+use Rattle.foil_spec.specs.declared.Pen as declaredPen
+use Rattle.foil_spec.specs.declared.Rule as declaredRule
 
 -- a point of the foil
 abbrev pub Point : Type 0
@@ -31,24 +33,36 @@ entry net x0 y0 x1 y1 = record { net = net; x0 = x0; y0 = y0; x1 = x1; y1 = y1 }
 unfoldable pub entryNumbers : Entry → List ℕ
 entryNumbers e = e .net ∷ e .x0 ∷ e .y0 ∷ e .x1 ∷ e .y1 ∷ []
 
--- what a record and a table say: W, H, the clearance (document 01: reach) and the row of entries
+-- a pen: its half width h, and the gap g that its ink keeps
+abbrev pub Pen : Type 0
+Pen = declaredPen.Pen
+
+-- the pen of half width h and gap g
+abbrev pub pen : ℕ → ℕ → Pen
+pen h g = record { half = h; gap = g }
+
+-- what a record and a table say: W, H, the pen and the row of entries
 pub record Layout : Type 0 where
   pub width : ℕ
   pub height : ℕ
-  pub clearance : ℕ
+  pub pen : Pen
   pub entries : List Entry
 
 -- no foil is begun yet
 abbrev pub noFoil : Layout
-noFoil = record { width = 0; height = 0; clearance = 0; entries = [] }
+noFoil = record { width = 0; height = 0; pen = pen 0 0; entries = [] }
 
 -- W and H run from 1 to 4,096
 unfoldable pub sizeOk : ℕ → Bool
 sizeOk n = leb 1 n && leb n 4096
 
--- the clearance runs from 0 to 15
-unfoldable pub clearanceOk : ℕ → Bool
-clearanceOk d = leb d 15
+-- document 01's reach runs from 0 to 15
+unfoldable pub reachOk : ℕ → Bool
+reachOk d = leb d 15
+
+-- h runs from 0 to 7, g from 0 to 15
+unfoldable pub penOk : Pen → Bool
+penOk p = leb (p .half) 7 && leb (p .gap) 15
 
 -- the nets of tracks run from 1 to 999
 unfoldable pub netOk : ℕ → Bool
@@ -70,11 +84,36 @@ entryOk W H e = boxOk W H e && shapeOk e
 unfoldable pub within : ℕ → ℕ → ℕ → ℕ → Bool
 within lo hi d v = leb lo (v + d) && ltb v (hi + d)
 
--- the entry blocks the point (x, y)
+-- the entry, widened by d, has the point (x, y)
 unfoldable pub blocks : ℕ → Entry → ℕ → ℕ → Bool
 blocks d e x y = within (e .x0) (e .x1) d x && within (e .y0) (e .y1) d y
 
--- the point (x, y) is on the foil, and no entry blocks it
+-- a rule of blocking: how far away a patch, a leg and the foil's edge block
+abbrev pub Rule : Type 0
+Rule = declaredRule.Rule
+
+-- the rule of a pen: a patch blocks up to h + g away, a leg up to 2h + g, the edge nothing
+unfoldable pub penRule : Pen → Rule
+penRule p = record { patch = p .half + p .gap; leg = p .half + (p .half + p .gap); edge = 0 }
+
+-- document 01's rule: patches and legs block up to the reach away, the edge nothing
+unfoldable pub reachRule : ℕ → Rule
+reachRule d = record { patch = d; leg = d; edge = 0 }
+
+-- how far away an entry blocks
+unfoldable pub margin : Rule → Entry → ℕ
+margin r e = cond (eqb (e .net) 0) (r .patch) (r .leg)
+
+-- v < m or v ≥ size − m
+unfoldable pub nearEdge : ℕ → ℕ → ℕ → Bool
+nearEdge m size v = ltb v m || leb size (v + m)
+
+-- the point (x, y) is on a foil of W by H and not too near its edge, and none of the entries blocks it
+unfoldable pub freeBy : Rule → ℕ → ℕ → List Entry → ℕ → ℕ → Bool
+freeBy r W H es x y =
+    ltb x W && ltb y H && not (nearEdge (r .edge) W x || nearEdge (r .edge) H y)
+    && all (λ (e : Entry). not (blocks (margin r e) e x y)) es
+
+-- free is free by the rule of the foil's pen
 unfoldable pub free : Layout → ℕ → ℕ → Bool
-free l x y =
-    ltb x (l .width) && ltb y (l .height) && all (λ (e : Entry). not (blocks (l .clearance) e x y)) (l .entries)
+free l x y = freeBy (penRule (l .pen)) (l .width) (l .height) (l .entries) x y

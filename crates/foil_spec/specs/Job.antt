@@ -1,13 +1,13 @@
 -- The job file: the fields of a record, its steps, and its checks in order.
 use Prim.Native.Nat.{ℕ, zero, suc, _+_, _*_, _/_, _%_, _^_}
-use mathlib.Core.Bool.{Bool, cond, not, _&&_, xor}
+use mathlib.Core.Bool.{Bool, cond, not, _&&_, _||_, xor}
 use mathlib.Core.List.{List, [], _∷_}
 use lib.Dec.{leb, ltb, eqb}
 use lib.ListN.{length, getD}
 use Rattle.foil_spec.specs.Lists.{range, consIf}
 use Rattle.foil_spec.specs.Limits.{maxEntries, maxStrips, cornerPlaces}
-use Rattle.foil_spec.specs.Foil.{point, entry}
-use Rattle.foil_spec.specs.Ledger.{Room, Step, newFoil, draw, lay, lift, putLeg, Refusal, _⇒_}
+use Rattle.foil_spec.specs.Foil.{point, entry, pen}
+use Rattle.foil_spec.specs.Ledger.{Room, byPen, byReach, Step, newFoil, draw, lay, lift, putLeg, Refusal, _⇒_}
 
 -- the job program lends whole lists and all corner places
 unfoldable pub jobRoom : Room
@@ -17,16 +17,20 @@ jobRoom = record { table = maxEntries; strips = maxStrips; output = 2 * cornerPl
 unfoldable pub number : List ℕ → ℕ → ℕ
 number bs at = getD bs at 0 + 256 * getD bs (at + 1) 0
 
--- how many numbers belong to each bit: W, H, reach; a patch; net, S and T to lay; net to lift; net and ends of a leg
+-- how many numbers belong to each bit: W, H, reach; a patch; net, S and T to lay; net to lift; net and ends of a
+-- leg; half width and gap of the pen
 abbrev pub fieldCounts : List ℕ
-fieldCounts = 3 ∷ 4 ∷ 5 ∷ 1 ∷ 5 ∷ []
+fieldCounts = 3 ∷ 4 ∷ 5 ∷ 1 ∷ 5 ∷ 2 ∷ []
 
 unfoldable pub fieldCount : ℕ → ℕ
 fieldCount k = getD fieldCounts k 0
 
--- how many bits a map byte may use
+-- how many bits a map byte may use; the last is no step of its own, but the pen of the board
 abbrev pub mapBits : ℕ
-mapBits = 5
+mapBits = 6
+
+abbrev pub stepBits : ℕ
+stepBits = 5
 
 -- the record that begins at a place of the bytes
 module _ (bs : List ℕ) (at : ℕ) where
@@ -51,9 +55,9 @@ module _ (bs : List ℕ) (at : ℕ) where
   unfoldable pub field : ℕ → ℕ → ℕ
   field k i = number bs (fieldsAt k + 2 * i)
 
-  -- the step of bit k, by its fields; every bit has one
+  -- the step of bit k, by its fields
   unfoldable pub stepAt : ℕ → Step
-  stepAt zero = newFoil (field 0 0) (field 0 1) (field 0 2)
+  stepAt zero = newFoil (field 0 0) (field 0 1) (cond (has 5) (byPen (pen (field 5 0) (field 5 1))) (byReach (field 0 2)))
   stepAt (suc zero) = draw (field 1 0) (field 1 1) (field 1 2) (field 1 3)
   stepAt (suc (suc zero)) = lay (field 2 0) (point (field 2 1) (field 2 2)) (point (field 2 3) (field 2 4))
   stepAt (suc (suc (suc zero))) = lift (field 3 0)
@@ -66,7 +70,7 @@ module _ (bs : List ℕ) (at : ℕ) where
 
   -- the steps of the record, in bit order
   unfoldable pub steps : List Step
-  steps = stepsAt (range 0 mapBits)
+  steps = stepsAt (range 0 stepBits)
 
   -- the end mark
   unfoldable pub isEnd : Bool
@@ -77,7 +81,7 @@ module _ (bs : List ℕ) (at : ℕ) where
   recordChecks =
       (leb (length bs) at ⇒ 14)
       ∷ (leb (2 ^ mapBits) mapByte ⇒ 15)
-      ∷ (xor (eqb at 0) (has 0) ⇒ 16)
+      ∷ (xor (eqb at 0) (has 0) || has 5 && not (has 0) ⇒ 16)
       ∷ (isEnd && ltb (at + 1) (length bs) ⇒ 17)
       ∷ (not isEnd && ltb (length bs) recordEnd ⇒ 14)
       ∷ []

@@ -7,7 +7,7 @@ use lib.Dec.{leb, ltb}
 use lib.ListN.{length, take}
 use Rattle.foil_spec.specs.Lists.{range, keep, any}
 use Rattle.foil_spec.specs.Limits.{maxEntries, maxStrips}
-use Rattle.foil_spec.specs.Foil.{Point, Entry, entry, Layout, sizeOk, clearanceOk, netOk, boxOk, entryOk, free}
+use Rattle.foil_spec.specs.Foil.{Point, Entry, entry, Pen, pen, Layout, sizeOk, reachOk, penOk, netOk, boxOk, entryOk, free}
 use Rattle.foil_spec.specs.Strips.{Strip, strips, placeOf}
 use Rattle.foil_spec.specs.Paths.{firstPath, isWay, bends}
 use Rattle.foil_spec.specs.Corners.{drawn}
@@ -50,7 +50,7 @@ legs net (p ∷ q ∷ cs) = legsFrom net p (q ∷ cs)
 
 -- the layout with another row of entries
 abbrev pub withEntries : Layout → List Entry → Layout
-withEntries l es = record { width = l .width; height = l .height; clearance = l .clearance; entries = es }
+withEntries l es = record { width = l .width; height = l .height; pen = l .pen; entries = es }
 
 -- the point is not on the foil
 unfoldable pub offFoil : Layout → Point → Bool
@@ -89,9 +89,19 @@ unfoldable pub beginningTooFine : Layout → Bool
 beginningTooFine l =
     any (λ (n : ℕ). tooFine (withEntries l (take n (l .entries)))) (range 0 (suc (length (l .entries))))
 
+-- what a new foil keeps clear: by its pen; or by document 01's reach, which a record without bit 5 gives
+pub data Clearance : Type 0 where
+  byPen : Pen → Clearance
+  byReach : ℕ → Clearance
+
+-- the pen that it has then; a reach is the gap of a pen of half width 0
+unfoldable pub penOf : Clearance → Pen
+penOf (byPen p) = p
+penOf (byReach d) = pen 0 d
+
 -- the calls that are one step
 pub data Step : Type 0 where
-  newFoil : ℕ → ℕ → ℕ → Step
+  newFoil : ℕ → ℕ → Clearance → Step
   draw : ℕ → ℕ → ℕ → ℕ → Step
   lay : ℕ → Point → Point → Step
   lift : ℕ → Step
@@ -123,7 +133,7 @@ numberOf (booked k n) = 0
 
 -- what an accepted step leaves
 unfoldable pub next : Step → Layout → Layout
-next (newFoil W H d) l = record { width = W; height = H; clearance = d; entries = [] }
+next (newFoil W H c) l = record { width = W; height = H; pen = penOf c; entries = [] }
 next (draw x0 y0 x1 y1) l = withEntries l (l .entries ++ entry 0 x0 y0 x1 y1 ∷ [])
 next (lay net S T) l = withEntries l (l .entries ++ legs net (cornersOf l S T))
 next (lift net) l = withEntries l (keep (λ (e : Entry). not (ofNet net e)) (l .entries))
@@ -136,7 +146,7 @@ next slip l = l
 
 -- what an accepted step answers
 unfoldable pub says : Step → Layout → Answer
-says (newFoil W H d) l = accepted
+says (newFoil W H c) l = accepted
 says (draw x0 y0 x1 y1) l = accepted
 says (lay net S T) l = laid (cornersOf l S T) (bends (cornersOf l S T))
 says (lift net) l = accepted
@@ -162,9 +172,14 @@ unfoldable pub first : List Refusal → Option ℕ
 first [] = none
 first (r ∷ rs) = cond (r .applies) (some (r .number)) (first rs)
 
+-- 20 for a pen that is out of its limits, 2 for a reach
+unfoldable pub clearanceRefusal : Clearance → Refusal
+clearanceRefusal (byPen p) = not (penOk p) ⇒ 20
+clearanceRefusal (byReach d) = not (reachOk d) ⇒ 2
+
 -- the step reads what the foil holds; a new foil does not
 unfoldable pub reads : Step → Bool
-reads (newFoil W H d) = false
+reads (newFoil W H c) = false
 reads (draw x0 y0 x1 y1) = true
 reads (lay net S T) = true
 reads (lift net) = true
@@ -177,7 +192,7 @@ reads slip = true
 
 -- a step's own refusals in their order
 unfoldable pub refusals : Step → Room → Layout → List Refusal
-refusals (newFoil W H d) r l = (not (sizeOk W && sizeOk H) ⇒ 1) ∷ (not (clearanceOk d) ⇒ 2) ∷ []
+refusals (newFoil W H c) r l = (not (sizeOk W && sizeOk H) ⇒ 1) ∷ clearanceRefusal c ∷ []
 refusals (draw x0 y0 x1 y1) r l =
     (not (boxOk (l .width) (l .height) (entry 0 x0 y0 x1 y1)) ⇒ 3)
     ∷ (tooLong r (next (draw x0 y0 x1 y1) l) ⇒ 10)

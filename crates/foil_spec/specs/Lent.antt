@@ -6,7 +6,7 @@ use lib.Dec.{leb, eqb}
 use lib.ListN.{length, getD, drop, replicate}
 use Rattle.foil_spec.specs.Lists.{range, all, each}
 use Rattle.foil_spec.specs.Limits.{maxEntries, tableSize, stripsSize}
-use Rattle.foil_spec.specs.Foil.{Entry, entry, entryNumbers, Layout, sizeOk, clearanceOk, entryOk}
+use Rattle.foil_spec.specs.Foil.{Entry, entry, entryNumbers, Pen, pen, Layout, sizeOk, penOk, entryOk}
 use Rattle.foil_spec.specs.Strips.{Strip}
 use Rattle.foil_spec.specs.Corners.{pointNumbers}
 use Rattle.foil_spec.specs.Ledger.{stripsOf, tooFine, Room, Step, says, next, After, settle, refusalOf}
@@ -41,7 +41,8 @@ boardOf l =
     record {
       width = l .width;
       height = l .height;
-      clearance = l .clearance;
+      half = l .pen .half;
+      gap = l .pen .gap;
       entries = length (l .entries);
       strips = length (stripsOf l);
     }
@@ -74,18 +75,22 @@ listedStrip l k =
 unfoldable pub listedStrips : List ℕ → ℕ → List Strip
 listedStrips l n = map (listedStrip l) (range 0 n)
 
--- the layout of width W, height H and clearance d whose entries are the first n of a table
-unfoldable pub layoutOf : ℕ → ℕ → ℕ → ℕ → List ℕ → Layout
-layoutOf W H d n t = record { width = W; height = H; clearance = d; entries = map (entryAt t) (range 0 n) }
+-- the layout of width W, height H and pen p whose entries are the first n of a table
+unfoldable pub layoutOf : ℕ → ℕ → Pen → ℕ → List ℕ → Layout
+layoutOf W H p n t = record { width = W; height = H; pen = p; entries = map (entryAt t) (range 0 n) }
+
+-- the pen that the record holds
+abbrev pub penIn : Board → Pen
+penIn b = pen (b .half) (b .gap)
 
 -- the layout that the record and the table hold
 unfoldable pub held : Lent → Layout
-held m = layoutOf (m .board .width) (m .board .height) (m .board .clearance) (m .board .entries) (m .table)
+held m = layoutOf (m .board .width) (m .board .height) (penIn (m .board)) (m .board .entries) (m .table)
 
 -- the layout keeps the rules of the sections on the foil and the strips
 unfoldable pub layoutOk : Layout → Bool
 layoutOk l =
-    sizeOk (l .width) && sizeOk (l .height) && clearanceOk (l .clearance)
+    sizeOk (l .width) && sizeOk (l .height) && penOk (l .pen)
     && all (entryOk (l .width) (l .height)) (l .entries) && leb (length (l .entries)) maxEntries && not (tooFine l)
 
 -- the lists are equal

@@ -10,9 +10,9 @@ use Rattle.foil_spec.specs.Foil.{Entry, entryNumbers, Layout}
 unfoldable pub twoBytes : ℕ → List ℕ
 twoBytes n = n % 256 ∷ n / 256 ∷ []
 
--- the board as a record of its own, by bit 0
+-- the board as a record of its own, by bits 0 and 5: the pen takes the place of the reach, which is 0
 unfoldable pub boardBytes : Layout → List ℕ
-boardBytes l = 1 ∷ each twoBytes (l .width ∷ l .height ∷ l .clearance ∷ [])
+boardBytes l = 33 ∷ each twoBytes (l .width ∷ l .height ∷ 0 ∷ l .pen .half ∷ l .pen .gap ∷ [])
 
 -- a patch as a record of its own, by bit 1
 unfoldable pub patchBytes : Entry → List ℕ

@@ -5,8 +5,8 @@ use mathlib.Core.Logic.{_⊎_}
 use mathlib.Core.List.{List, [], _∷_, _++_}
 use mathlib.Core.Option.{Option}
 use lib.ListN.{length, take, drop}
-use Rattle.foil_spec.specs.Foil.{Layout}
-use Rattle.foil_spec.specs.Ledger.{newFoil, Answer, accepted, Room, After}
+use Rattle.foil_spec.specs.Foil.{Pen, Layout}
+use Rattle.foil_spec.specs.Ledger.{byPen, newFoil, Answer, accepted, Room, After}
 use Rattle.foil_spec.specs.Lent.{Lent, store, roomOf}
 use Rattle.foil_spec.specs.Calls.{Call, step, runRecord, Reply, answered, ran, ledgerCall, callOn, outputBy}
 
@@ -75,5 +75,5 @@ runLedger m l (c ∷ cs) =
 -- the call begins a foil: a new foil that is accepted, by call or as the board of a record at place 0
 abbrev pub Begins : Call → Reply → Type 0
 Begins c r =
-    ((W : ℕ) × (H : ℕ) × (d : ℕ) × (c ≡ step (newFoil W H d)) × (r ≡ answered accepted))
+    ((W : ℕ) × (H : ℕ) × (p : Pen) × (c ≡ step (newFoil W H (byPen p))) × (r ≡ answered accepted))
     ⊎ ((bs : List ℕ) × (given : List Answer) × (n : Option ℕ) × (c ≡ runRecord bs 0) × (r ≡ ran (accepted ∷ given) n))

@@ -25,15 +25,29 @@ pub const CORNER_PLACES: usize = 8192;
 
 pub const CORNERS_SIZE: usize = 16384;
 
-// The board's record: its width and height, the clearance (document 01: reach), and how many entries
-// and strips the lent lists hold.
+// The board's record: its width and height, the pen's half width and gap, and how many entries and
+// strips the lent lists hold.
 #[repr(C)]
 pub struct Board {
     pub width: u16,
     pub height: u16,
-    pub clearance: u16,
+    pub half: u16,
+    pub gap: u16,
     pub entries: usize,
     pub strips: usize,
+}
+
+// A pen: its half width, and the gap that its ink keeps.
+pub struct Pen {
+    pub half: u16,
+    pub gap: u16,
+}
+
+// A rule of blocking: how far away a patch, a leg and the foil's edge block.
+pub struct Rule {
+    pub patch: u16,
+    pub leg: u16,
+    pub edge: u16,
 }
 
 // An entry of the patch table: its net, and the points with x0 <= x < x1 and y0 <= y < y1.

@@ -89,7 +89,7 @@ fn maps(words: &[u8], place: usize)
 }
 
 // Short files: nothing, the end mark alone and with a byte after it, a board cut short, one that is repeated and cut
-// short, no end mark, and a byte after it.
+// short, no end mark, a byte after it, a pen cut short, and one without a board.
 fn marks() {
     let mut bytes = [0u8; 60001];
     show::job(b"empty file: ", &bytes, 0);
@@ -104,6 +104,12 @@ fn marks() {
     file::board(&mut bytes, 7, 6, 4, 0);
     show::job(b"second board cut short: ", &bytes, 8);
     show::job(b"second board: ", &bytes, 14);
+    file::pen_board(&mut bytes, 0, 6, 4, 1, 0);
+    show::job(b"pen cut short: ", &bytes, 9);
+    file::end(&mut bytes, 11);
+    show::job(b"pen and end mark: ", &bytes, 12);
+    bytes[0] = 32;
+    show::job(b"pen without a board: ", &bytes, 12);
 }
 
 // 60,000 bytes, mostly lifts of a net that is not there; and one byte more.

@@ -22,6 +22,25 @@ pub(crate) fn board(bytes: &mut [u8; 60001], at: usize, w: u16, h: u16, d: u16) 
     at + 7
 }
 
+// A record with a board and its pen; the reach, which does not count then, is the largest number there is.
+pub(crate) fn pen_board(
+    bytes: &mut [u8; 60001],
+    at: usize,
+    w: u16,
+    h: u16,
+    half: u16,
+    gap: u16,
+) -> usize
+    requires { ⌜ at < 59900 ⌝ }
+    ensures { λ r. ⌜ r ≡ at + 11 ⌝ }
+{
+    board(bytes, at, w, h, 65535);
+    bytes[at] = 33;
+    put(bytes, at + 7, half);
+    put(bytes, at + 9, gap);
+    at + 11
+}
+
 // A record with a patch.
 pub(crate) fn patch(bytes: &mut [u8; 60001], at: usize, x0: u16, y0: u16, x1: u16, y1: u16) -> usize
     requires { ⌜ at < 59900 ⌝ }

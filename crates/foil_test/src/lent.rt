@@ -88,7 +88,7 @@ fn short_corners() {
     let mut strips = [7u16; 16384];
     let mut few = [7u16; 5];
     let mut enough = [7u16; 6];
-    let begun = new_foil(&mut table, &mut strips, no_board(), 3, 3, 0);
+    let begun = new_foil(&mut table, &mut strips, no_board(), 3, 3, 0, 0);
     let first = lay_across(&mut table, &mut strips, &mut few, begun.board);
     answer(b"lay, 5 numbers of a corner list: ", first);
     number_line(b"its first number after that: ", few[0]);

@@ -21,11 +21,23 @@ fn boards() {
     board(b"W 0 and reach 16: ", 0, 1, 16);
     board(b"the largest foil: ", 4096, 4096, 15);
     board(b"the smallest foil: ", 1, 1, 0);
+    pen_board(b"half width 8: ", 1, 1, 8, 0);
+    pen_board(b"gap 16: ", 1, 1, 0, 16);
+    pen_board(b"W 0 and half width 8: ", 0, 1, 8, 0);
+    pen_board(b"the widest pen: ", 4096, 4096, 7, 15);
 }
 
 fn board(words: &[u8], w: u16, h: u16, d: u16) {
     let mut bytes = [0u8; 60001];
     let a = file::board(&mut bytes, 0, w, h, d);
+    let b = file::patch(&mut bytes, a, 0, 0, 1, 1);
+    let n = file::end(&mut bytes, b);
+    show::job(words, &bytes, n);
+}
+
+fn pen_board(words: &[u8], w: u16, h: u16, half: u16, gap: u16) {
+    let mut bytes = [0u8; 60001];
+    let a = file::pen_board(&mut bytes, 0, w, h, half, gap);
     let b = file::patch(&mut bytes, a, 0, 0, 1, 1);
     let n = file::end(&mut bytes, b);
     show::job(words, &bytes, n);

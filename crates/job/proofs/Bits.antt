@@ -1,15 +1,15 @@
 -- The step of a bit is what its arm does, with the fields that it reads.
 use Prim.Native.Nat.{ℕ, zero, suc}
-use mathlib.Core.Path.{_≡_, refl}
+use mathlib.Core.Path.{_≡_, refl, sym, ap, _∙_}
 use mathlib.Core.Bool.{true, false}
 use mathlib.Core.List.{List}
 use mathlib.Core.Option.{Option, none, some}
-use Rattle.foil_spec.specs.Foil.{point, Entry, Layout}
-use Rattle.foil_spec.specs.Ledger.{Step, newFoil, draw, lay, lift, putLeg, accepted, reads, says, settle}
-use Rattle.foil_spec.specs.Ledger.{Room, short, After}
+use Rattle.foil_spec.specs.Foil.{point, Entry, pen, Layout}
+use Rattle.foil_spec.specs.Ledger.{Clearance, byPen, byReach, Step, newFoil, draw, lay, lift, putLeg, accepted, reads}
+use Rattle.foil_spec.specs.Ledger.{says, settle, Room, short, After}
 use Rattle.foil_spec.specs.Ledger.{Answer as Outcome}
 use Rattle.foil_spec.specs.Lent.{Lent, sound, stepOn, outputAfter}
-use Rattle.foil_spec.specs.Job.{field, stepAt}
+use Rattle.foil_spec.specs.Job.{has, field, stepAt}
 use Rattle.foil.specs.Contract.{Gave, OutputIn}
 use Rattle.foil.specs.declared.Done.{Done}
 use Rattle.job.specs.Parts.{BitReady}
@@ -28,6 +28,10 @@ reads-later bs at (suc (suc (suc (suc k)))) h = refl
 pub ready-sound : {bs : List ℕ} {at k : ℕ} {m : Lent} → BitReady bs at k m → (k ≡ 0 → ⊥) → sound m ≡ true
 ready-sound {bs} {at} {k} b h = b .fine (reads-later bs at k h)
 
+-- the board's step is that of bit 0
+pub board-set : {bs : List ℕ} {at k : ℕ} {m : Lent} → BitReady bs at k m → k ≡ 0 → has bs at 0 ≡ true
+board-set {bs} {at} b z = ap (has bs at) (sym z) ∙ b .set
+
 -- ---- the steps that write no corners
 
 pub still-output : (o : Option ℕ) (a : After Outcome Lent) (m : Lent) (out : List ℕ) → a .answer ≡ accepted
@@ -44,18 +48,35 @@ module _ (c : Step) (still : (l : Layout) → says c l ≡ accepted) (limit : �
   still-done h r long few room =
       record { gave = h r long few; output = still-output _ _ m out (still _) }
 
+-- ---- what the board keeps clear
+
+module _ (bs : List ℕ) (at : ℕ) where
+  -- the board's step, whatever it keeps clear
+  abbrev begins : Clearance → Step
+  begins c = newFoil (field bs at 0 0) (field bs at 0 1) c
+
+  pub by-pen : has bs at 5 ≡ true → (h g : ℕ) → h ≡ field bs at 5 0 → g ≡ field bs at 5 1
+      → begins (byPen (pen h g)) ≡ stepAt bs at 0
+  unfolding stepAt
+  by-pen set h g e f = rw (set, e, f) refl
+
+  pub by-reach : has bs at 5 ≡ false → (d : ℕ) → d ≡ field bs at 0 2 → begins (byReach d) ≡ stepAt bs at 0
+  unfolding stepAt
+  by-reach unset d e = rw (unset, e) refl
+
 -- ---- one law a bit
 
 module _ (bs : List ℕ) (at k limit : ℕ) (m : Lent) (out : List ℕ) (d : Done) (t s : List ℕ) where
   abbrev Does : Step → List ℕ → Type 0
   Does c out′ = OutputIn c limit m out d t s out′
 
-  pub does-board : k ≡ 0 → (w h e : ℕ) → w ≡ field bs at 0 0 → h ≡ field bs at 0 1 → e ≡ field bs at 0 2
-      → ((r : Room) → short r ≡ false → Gave (stepOn r (newFoil w h e) m) d t s) → Does (stepAt bs at k) out
-  unfolding stepAt says
-  does-board z w h e f g i done =
-      rw (z, ← f, ← g, ← i)
-      (still-done (newFoil w h e) (λ l. refl) limit m out d t s (λ r long few. done r long))
+  pub does-board : k ≡ 0 → (w h : ℕ) (c : Clearance) → w ≡ field bs at 0 0 → h ≡ field bs at 0 1
+      → newFoil (field bs at 0 0) (field bs at 0 1) c ≡ stepAt bs at 0
+      → ((r : Room) → short r ≡ false → Gave (stepOn r (newFoil w h c) m) d t s) → Does (stepAt bs at k) out
+  unfolding says
+  does-board z w h c f g e done =
+      rw (z, ← e, ← f, ← g)
+      (still-done (newFoil w h c) (λ l. refl) limit m out d t s (λ r long few. done r long))
 
   pub does-patch : k ≡ 1 → (x0 y0 x1 y1 : ℕ) → x0 ≡ field bs at 1 0 → y0 ≡ field bs at 1 1 → x1 ≡ field bs at 1 2
       → y1 ≡ field bs at 1 3

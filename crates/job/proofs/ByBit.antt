@@ -10,7 +10,7 @@ use lib.Dec.{eqb}
 use borrow.Author.Tests.{eq-eqb, ne-eqb}
 use lib.ListN.{length, drop}
 use Rattle.foil_spec.specs.Ledger.{Answer}
-use Rattle.foil_spec.specs.Job.{mapBits}
+use Rattle.foil_spec.specs.Job.{stepBits}
 use Rattle.foil.specs.Contract.{answerOf}
 use Rattle.foil.specs.declared.Answer.{Answer as Answered}
 use Rattle.list_laws.proofs.Tests.{both, lt-or-le}
@@ -138,7 +138,7 @@ told-by on given k y e =
 
 -- ---- a bit's field
 
-pub told-in : (on : ℕ → Bool) (given : List Answer) (k : ℕ) → k < mapBits
+pub told-in : (on : ℕ → Bool) (given : List Answer) (k : ℕ) → k < stepBits
     → toldIn (answersOf on given) k ≡ toldAt on given k
 unfolding toldIn answersOf byBit
 told-in on given zero h = refl

@@ -2,7 +2,7 @@
 use Prim.Native.Nat.{ℕ, _+_, _^_, _≤_, _<_}
 use native.Mathlib.Omega.{arith}
 use mathlib.Core.Path.{_≡_, refl, sym, ap, _∙_}
-use mathlib.Core.Bool.{Bool, true, false, not, and-true, xor}
+use mathlib.Core.Bool.{Bool, true, false, not, _&&_, _||_, and-true, xor}
 use mathlib.Core.List.{List}
 use mathlib.Core.Option.{some}
 use lib.Dec.{eqb}
@@ -69,22 +69,31 @@ module _ (bs : List ℕ) (at : ℕ) where
 
 -- ---- the checks of the record
 
-xor-true : (o : Bool) → xor true o ≡ not o
-unfolding xor
-xor-true true = refl
-xor-true false = refl
+-- a record has no board where it should, or one where it should not, or a pen without a board
+abbrev astray : Bool → Bool → Bool → Bool
+astray first board pen = xor first board || pen && not board
 
-xor-false : (o : Bool) → xor false o ≡ o
+astray-first : (o p : Bool) → not o ≡ astray true o p
 unfolding xor
-xor-false true = refl
-xor-false false = refl
+astray-first true true = refl
+astray-first true false = refl
+astray-first false p = refl
 
 module _ (bs : List ℕ) (at : ℕ) where
-  pub first-board : (o : Bool) → o ≡ has bs at 0 → at ≡ 0 → not o ≡ xor (eqb at 0) (has bs at 0)
-  first-board o e z = rw (eq-eqb at 0 z) (ap not e ∙ sym (xor-true (has bs at 0)))
+  abbrev pub Misplaced : Bool → Type 0
+  Misplaced k = k ≡ astray (eqb at 0) (has bs at 0) (has bs at 5)
 
-  pub later-board : (o : Bool) → o ≡ has bs at 0 → (at ≡ 0 → ⊥) → o ≡ xor (eqb at 0) (has bs at 0)
-  later-board o e z = rw (ne-eqb at 0 z) (e ∙ sym (xor-false (has bs at 0)))
+  pub first-board : (o : Bool) → o ≡ has bs at 0 → at ≡ 0 → Misplaced (not o)
+  first-board o e z = rw (eq-eqb at 0 z) (ap not e ∙ astray-first (has bs at 0) (has bs at 5))
+
+  module _ (o : Bool) (e : o ≡ has bs at 0) (later : at ≡ 0 → ⊥) where
+    pub later-board : o ≡ true → Misplaced true
+    unfolding xor
+    later-board t = rw (ne-eqb at 0 later, sym e ∙ t) refl
+
+    pub later-pen : o ≡ false → (p : Bool) → p ≡ has bs at 5 → Misplaced p
+    unfolding xor
+    later-pen t p f = rw (ne-eqb at 0 later, sym e ∙ t) (f ∙ sym (and-true (has bs at 5)))
 
   pub no-byte : length bs ≤ at → Refused 14 ≡ checkedOf (first (recordChecks bs at))
   unfolding checkedOf first recordChecks
@@ -95,7 +104,7 @@ module _ (bs : List ℕ) (at : ℕ) where
     unfolding checkedOf first recordChecks mapByte
     unknown h = rw (lt-leb (length bs) at there, le-leb (2 ^ mapBits) (getD bs at 0) h) refl
 
-    module _ (known : getD bs at 0 < 2 ^ mapBits) (k : Bool) (k-is : k ≡ xor (eqb at 0) (has bs at 0)) where
+    module _ (known : getD bs at 0 < 2 ^ mapBits) (k : Bool) (k-is : Misplaced k) where
       pub misplaced : k ≡ true → Refused 16 ≡ checkedOf (first (recordChecks bs at))
       unfolding checkedOf first recordChecks mapByte
       misplaced e =

@@ -1,4 +1,4 @@
--- The answers that end the job are the refusals by 1 and 2.
+-- The answers that end the job are the refusals by 1, 2 and 20.
 use Prim.Native.Nat.{ℕ}
 use native.Mathlib.Omega.{arith}
 use mathlib.Core.Path.{_≡_, refl, sym, _∙_}
@@ -34,7 +34,7 @@ ends-other a none = record { is = λ o e. other o (λ n f. none n (e ∙ f)) }
     other (booked k n) h = unfold endsJob in refl
 
 ends-number : (a : Answered) (n : ℕ) → a ≡ Refused n → (o : Answer) → a ≡ answerOf o
-    → (eqb n 1 || eqb n 2) ≡ endsJob o
+    → (eqb n 1 || eqb n 2 || eqb n 20) ≡ endsJob o
 unfolding answerOf endsJob
 ends-number a n q (refused k) e = let h : n ≡ k = cc in rw h refl
 ends-number a n q accepted e = absurd (let z : _≡_ {A = ℕ} 0 1 = cc in omega arith)
@@ -46,5 +46,8 @@ ends-number a n q (booked k j) e = absurd (let z : _≡_ {A = ℕ} 0 1 = cc in o
 pub ends-1 : (a : Answered) (n : ℕ) → a ≡ Refused n → n ≡ 1 → Ends a true
 ends-1 a n q z = record { is = λ o e. sym (rw (eq-eqb n 1 z) refl) ∙ ends-number a n q o e }
 
-pub ends-2 : (a : Answered) (n : ℕ) → a ≡ Refused n → (n ≡ 1 → ⊥) → Ends a (eqb n 2)
-ends-2 a n q z = record { is = λ o e. sym (rw (ne-eqb n 1 z) refl) ∙ ends-number a n q o e }
+pub ends-2 : (a : Answered) (n : ℕ) → a ≡ Refused n → n ≡ 2 → Ends a true
+ends-2 a n q z = record { is = λ o e. sym (rw z refl) ∙ ends-number a n q o e }
+
+pub ends-20 : (a : Answered) (n : ℕ) → a ≡ Refused n → (n ≡ 1 → ⊥) → (n ≡ 2 → ⊥) → Ends a (eqb n 20)
+ends-20 a n q y z = record { is = λ o e. sym (rw (ne-eqb n 1 y, ne-eqb n 2 z) refl) ∙ ends-number a n q o e }

@@ -18,7 +18,8 @@ count-small (suc zero) = omega arith
 count-small (suc (suc zero)) = omega arith
 count-small (suc (suc (suc zero))) = omega arith
 count-small (suc (suc (suc (suc zero)))) = omega arith
-count-small (suc (suc (suc (suc (suc k))))) = omega arith
+count-small (suc (suc (suc (suc (suc zero))))) = omega arith
+count-small (suc (suc (suc (suc (suc (suc k)))))) = omega arith
 
 bytes-small : (b : Bool) (k : ℕ) → cond b (2 * fieldCount k) 0 ≤ 10
 bytes-small true k = omega (arith, count-small k)

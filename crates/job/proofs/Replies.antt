@@ -3,7 +3,7 @@
 use Prim.Native.Nat.{ℕ, zero, suc, _+_, _/_, _≤_}
 use native.Mathlib.Omega.{arith}
 use mathlib.Core.Path.{_≡_, refl, sym, ap, _∙_, subst}
-use mathlib.Core.Bool.{Bool, true, false, cond, not, _&&_, and-true, xor}
+use mathlib.Core.Bool.{Bool, true, false, cond, not, _&&_, _||_, and-true, xor}
 use mathlib.Core.List.{List, [], _∷_, _++_}
 use mathlib.Core.Logic.{_⊎_, inl, inr, ⊎-elim}
 use mathlib.Core.Option.{Option, none, some}
@@ -20,7 +20,7 @@ use Rattle.foil_spec.specs.Lent.{Lent, held, sound, stepOn, overFront, outputAf
 use Rattle.foil_spec.specs.Job.{has, isEnd, recordEnd, stepAt, stepsAt, steps, recordChecks}
 use Rattle.foil_spec.specs.Calls.{Reply as Outcome, answered, ran, atEnd, measured, runRecord, endsJob, andThen, actAll}
 use Rattle.foil_spec.specs.Calls.{actRecord, tooLarge, wholeRefusals, reply, callOn, outputAll}
-use Rattle.list_laws.proofs.Tests.{both, not-ff}
+use Rattle.list_laws.proofs.Tests.{both, or-l, not-ff}
 use Rattle.ledger_laws.proofs.Refusals.{none-applies, unrefused-own}
 use Rattle.ledger_laws.proofs.CornerLists.{corners-read}
 use Rattle.ledger_laws.proofs.Lay.{lay-seeks, laid-on}
@@ -128,8 +128,9 @@ module _ (r : Room) (bs : List ℕ) (at : ℕ) (m : Lent) where
   later-place : first (recordChecks bs at) ≡ none → isEnd bs at ≡ true → eqb at 0 ≡ false
   unfolding recordChecks xor
   later-place e h =
-      let x : xor (eqb at 0) (has bs at 0) ≡ false = search none-applies depth 9 in
-      go (eqb at 0) (rw (end-no-board bs at h) at x)
+      let x : (xor (eqb at 0) (has bs at 0) || has bs at 5 && not (has bs at 0)) ≡ false =
+      search none-applies depth 9 in
+      go (eqb at 0) (rw (end-no-board bs at h) at (or-l (xor (eqb at 0) (has bs at 0)) _ x))
     where
       go : (z : Bool) → xor z false ≡ false → z ≡ false
       go true q = q

@@ -11,7 +11,7 @@ use lib.ListN.{length}
 use Rattle.foil_spec.specs.Lists.{range, any}
 use Rattle.foil_spec.specs.Ledger.{Step, Answer, reads, Room, short}
 use Rattle.foil_spec.specs.Lent.{Lent, lent, sound, roomIn, stepOn, outputAfter}
-use Rattle.foil_spec.specs.Job.{mapBits, has, fieldsAt, recordEnd, stepAt, stepsAt, steps}
+use Rattle.foil_spec.specs.Job.{mapBits, stepBits, has, fieldsAt, recordEnd, stepAt, stepsAt, steps}
 use Rattle.foil_spec.specs.Calls.{endsJob, actAll, actRecord, answersIn, outputAll, outputBy}
 use Rattle.foil_spec.specs.declared.Board.{Board}
 use Rattle.list_laws.proofs.Tests.{both, clash, and-l, and-r, any-append}
@@ -159,7 +159,7 @@ ready-long : (bs : List ℕ) (at : ℕ) (m : Lent) → Ready bs at m → (limit 
 ready-long bs at m y limit n = long-room m (record { table = y .table; strips = y .strips }) limit n
 
 pub bit-ready : (limit : ℕ) (bs : List ℕ) (at : ℕ) (m : Lent) (o : List ℕ) → Ready bs at m
-    → (k : ℕ) (d : Stepped) (t s out : List ℕ) → RanTo (roomIn limit m (length o)) bs at k m o d t s out → k < mapBits
+    → (k : ℕ) (d : Stepped) (t s out : List ℕ) → RanTo (roomIn limit m (length o)) bs at k m o d t s out → k < stepBits
     → length t ≡ length (m .table) → length s ≡ length (m .strips) → MayRun bs at k (d .ended) (lent (d .board) t s)
 bit-ready limit bs at m o y k d t s out j l e f =
     let r : Room = roomIn limit m (length o) in
@@ -193,7 +193,7 @@ next-bit limit bs at m o y k d t s out d′ t′ s′ out′ g e j =
 -- ---- after the last bit
 
 pub steps-done : (limit : ℕ) (bs : List ℕ) (at : ℕ) (m : Lent) (o : List ℕ) (k : ℕ) (d : Stepped) (t s out : List ℕ)
-    → RanTo (roomIn limit m (length o)) bs at k m o d t s out → k ≡ mapBits
+    → RanTo (roomIn limit m (length o)) bs at k m o d t s out → k ≡ stepBits
     → (p : ℕ) → p ≡ fieldsAt bs at mapBits → (n : Next) → n ≡ nextOf (cond (d .ended) none (some p))
     → StepsDone limit bs at m o (record { reply = Ran (d .answers) n; board = d .board }) t s out
 unfolding actRecord replyOf steps recordEnd outputBy answersIn

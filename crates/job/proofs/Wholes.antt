@@ -3,7 +3,7 @@ use Prim.Native.Nat.{ℕ, _<_}
 use native.Mathlib.Omega.{arith}
 use native.Mathlib.Decide.{ℕ-discrete}
 use mathlib.Core.Path.{_≡_, refl, sym, ap, _∙_, subst}
-use mathlib.Core.Bool.{Bool, true, false, not, _&&_, and-false, xor}
+use mathlib.Core.Bool.{Bool, true, false, not, _&&_, _||_, and-false, xor}
 use mathlib.Core.List.{List}
 use mathlib.Core.Logic.{by-cases}
 use mathlib.Core.Option.{Option, none, some}
@@ -17,7 +17,7 @@ use Rattle.foil_spec.specs.Job.{mapByte, has, isEnd, recordEnd, steps, recordCh
 use Rattle.foil_spec.specs.Calls.{actRecord, tooLarge, wholeRefusals, reply}
 use Rattle.foil_spec.specs.Calls.{callOn, answersIn, outputAll, outputBy}
 use Rattle.foil_spec.specs.declared.Board.{Board}
-use Rattle.list_laws.proofs.Tests.{clash}
+use Rattle.list_laws.proofs.Tests.{clash, or-l}
 use Rattle.ledger_laws.proofs.Refusals.{none-applies}
 use Rattle.foil.specs.declared.lent.Checked.{Checked}
 use Rattle.foil.specs.declared.lent.Checked.the-variants.{Passed, Refused}
@@ -69,8 +69,8 @@ module _ (bs : List ℕ) (at : ℕ) (q : Checked) (q-is : q ≡ checkedOf (first
     unfolding recordChecks xor
     board-first z =
         let e = passed in
-        let h : xor (eqb at 0) (has bs at 0) ≡ false = search none-applies in
-        only (has bs at 0) (rw (eq-eqb at 0 z) at h)
+        let h : (xor (eqb at 0) (has bs at 0) || has bs at 5 && not (has bs at 0)) ≡ false = search none-applies in
+        only (has bs at 0) (rw (eq-eqb at 0 z) at (or-l (xor (eqb at 0) (has bs at 0)) _ h))
       where
         only : (t : Bool) → xor true t ≡ false → t ≡ true
         only true x = refl

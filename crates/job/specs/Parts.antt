@@ -10,7 +10,7 @@ use Rattle.foil_spec.specs.Lists.{range, any}
 use Rattle.foil_spec.specs.Limits.{tableSize, stripsSize, maxBytes}
 use Rattle.foil_spec.specs.Ledger.{Answer, first, reads, Room, short, After}
 use Rattle.foil_spec.specs.Lent.{Lent, lent, sound, roomIn, stepOn}
-use Rattle.foil_spec.specs.Job.{mapBits, has, fieldsAt, recordEnd, stepAt, stepsAt, steps}
+use Rattle.foil_spec.specs.Job.{mapBits, stepBits, has, fieldsAt, recordEnd, stepAt, stepsAt, steps}
 use Rattle.foil_spec.specs.Calls.{endsJob, actAll, actRecord, wholeRefusals, outputAll}
 use Rattle.foil_spec.specs.declared.Board.{Board}
 use Rattle.foil.specs.Contract.{answerOf}
@@ -80,7 +80,7 @@ pub record Ready (bs : List ℕ) (at : ℕ) (m : Lent) : Type 0 where
 -- the step of bit k, which is set, may be run on m
 pub record BitReady (bs : List ℕ) (at k : ℕ) (m : Lent) : Type 0 where
   pub whole : Whole bs at
-  pub bit : k < mapBits
+  pub bit : k < stepBits
   pub set : has bs at k ≡ true
   pub table : tableSize ≤ length (m .table)
   pub strips : stripsSize ≤ length (m .strips)
@@ -89,7 +89,7 @@ pub record BitReady (bs : List ℕ) (at k : ℕ) (m : Lent) : Type 0 where
 -- the same if it is set and the job has not ended
 pub record MayRun (bs : List ℕ) (at k : ℕ) (ended : Bool) (m : Lent) : Type 0 where
   pub begun : Begun bs at
-  pub bit : k < mapBits
+  pub bit : k < stepBits
   pub ready : has bs at k ≡ true → ended ≡ false → BitReady bs at k m
 
 -- the steps of the bits below k, run in the room r on m

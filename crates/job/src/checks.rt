@@ -8,7 +8,7 @@ use foil::lists_short;
 use foil_spec::Board;
 use foil_spec::MAX_BYTES;
 ghost use mathlib.Core.Path.{_≡_};
-ghost use mathlib.Core.Bool.{xor};
+ghost use mathlib.Core.Bool.{not, _&&_, _||_, xor};
 ghost use Prim.Native.Nat.{_≤_, _<_};
 ghost use lib.Dec.{eqb};
 ghost use lib.ListN.{length};
@@ -67,14 +67,19 @@ pub(crate) fn record_refusal(bytes: &[u8], at: usize) -> Checked
     Checked::Passed
 }
 
-// Whether the board is absent from the first record or present in a later one.
+// Whether the board is absent from the first record or present in a later one, or a pen stands beside
+// none.
 fn board_misplaced(bytes: &[u8], at: usize) -> bool
     requires { ⌜ at < length (now bytes) ⌝ }
-    ensures { λ r. ⌜ r ≡ xor (eqb at 0) (hasBit (now (bytes .entry)) at 0) ⌝ }
+    ensures { λ r. ⌜ r ≡ (xor (eqb at 0) (hasBit (now (bytes .entry)) at 0)
+        || hasBit (now (bytes .entry)) at 5 && not (hasBit (now (bytes .entry)) at 0)) ⌝ }
 {
     let board = has(bytes, at, 0);
     if at == 0 {
         return !board;
     }
-    board
+    if board {
+        return true;
+    }
+    has(bytes, at, 5)
 }

@@ -1,16 +1,20 @@
 // The fields of a record: which it has, where they begin, and their numbers. The caller names a record
 // whose map byte is among the bytes.
+use foil::Clearance;
 use foil_spec::Entry;
 ghost use mathlib.Core.Path.{_≡_};
-ghost use mathlib.Core.Bool.{cond};
+ghost use mathlib.Core.Bool.{true, cond};
 ghost use Prim.Native.Nat.{_*_, _≤_, _<_};
 ghost use lib.ListN.{length};
-ghost use Rattle.foil_spec.specs.Ledger.{putLeg};
+ghost use Rattle.foil_spec.specs.Ledger.{newFoil, putLeg};
 ghost use Rattle.foil_spec.specs.Job.{mapBits, fieldCount, has as hasBit, fieldsAt, field as fieldOf, stepAt};
-ghost use Rattle.job.specs.Parts.{Begun, Given};
+ghost use Rattle.foil.specs.Contract.{clearanceOf};
+ghost use Rattle.job.specs.Parts.{Begun, Whole, Given};
 
-// How many bits a map byte may use.
-pub const MAP_BITS: usize = 5;
+// How many bits a map byte may use; the last is no step of its own, but the pen of the board.
+pub(crate) const MAP_BITS: usize = 6;
+
+pub const STEP_BITS: usize = 5;
 
 // Whether bit k of the map byte is set.
 pub(crate) fn has(bytes: &[u8], at: usize, k: usize) -> bool
@@ -28,7 +32,7 @@ fn field_bytes(bytes: &[u8], at: usize, k: usize) -> usize
     if !has(bytes, at, k) {
         return 0;
     }
-    let counts = [3usize, 4, 5, 1, 5];
+    let counts = [3usize, 4, 5, 1, 5, 2];
     2 * counts[k]
 }
 
@@ -52,6 +56,18 @@ pub(crate) fn field(bytes: &[u8], at: usize, k: usize, i: usize) -> u16
 {
     let place = fields_at(bytes, at, k) + 2 * i;
     bytes[place] as u16 + 256 * (bytes[place + 1] as u16)
+}
+
+// What the board of the record keeps clear: its pen by the fields of bit 5, or else its reach.
+pub(crate) fn clearance_of(bytes: &[u8], at: usize) -> Clearance
+    requires { ⌜ Whole (now bytes) at × (hasBit (now bytes) at 0 ≡ true) ⌝ }
+    ensures { λ r. ⌜ newFoil (fieldOf (now (bytes .entry)) at 0 0) (fieldOf (now (bytes .entry)) at 0 1) (clearanceOf r)
+        ≡ stepAt (now (bytes .entry)) at 0 ⌝ }
+{
+    if has(bytes, at, 5) {
+        return Clearance::Pen(field(bytes, at, 5, 0), field(bytes, at, 5, 1));
+    }
+    Clearance::Reach(field(bytes, at, 0, 2))
 }
 
 // The leg that the step of bit 4 puts, by its fields.

@@ -5,7 +5,7 @@ mod running;
 
 use checks::lending_refusal;
 use checks::record_refusal;
-pub use fields::MAP_BITS;
+pub use fields::STEP_BITS;
 use fields::field;
 use foil::Answer;
 use foil::Checked;
@@ -16,7 +16,7 @@ ghost use mathlib.Core.Path.{_≡_};
 ghost use Prim.Native.Nat.{_≤_, _<_};
 ghost use Rattle.foil_spec.specs.Limits.{maxEntries};
 ghost use Rattle.foil_spec.specs.Lent.{lent};
-ghost use Rattle.foil_spec.specs.Job.{mapBits, field as fieldOf};
+ghost use Rattle.foil_spec.specs.Job.{stepBits, field as fieldOf};
 ghost use Rattle.job.specs.Contract.{toldIn, RecordIn, RecordDone};
 ghost use Rattle.job.specs.Parts.{Given, refusedBy};
 
@@ -37,7 +37,7 @@ pub struct Answers {
 
 // What the step of bit k told.
 pub fn told_by(answers: Answers, k: usize) -> Told
-    requires { ⌜ k < mapBits ⌝ }
+    requires { ⌜ k < stepBits ⌝ }
     ensures { λ r. ⌜ r ≡ toldIn answers k ⌝ }
 {
     let board = answers.board;

@@ -1,12 +1,14 @@
-// The steps of a record that has passed its checks, bit by bit. A step that is refused by 1 or 2 ends
-// the job, and none is run after it. The foil keeps the rules before every step but the board's, so that
-// no step checks it again.
+// The steps of a record that has passed its checks, bit by bit. A step that is refused by 1, 2 or 20
+// ends the job, and none is run after it. The foil keeps the rules before every step but the board's, so
+// that no step checks it again.
 use crate::Answers;
 use crate::Next;
 use crate::Replied;
 use crate::Reply;
 use crate::Told;
 use crate::fields::MAP_BITS;
+use crate::fields::STEP_BITS;
+use crate::fields::clearance_of;
 use crate::fields::field;
 use crate::fields::fields_at;
 use crate::fields::has;
@@ -67,7 +69,7 @@ pub(crate) fn run_steps(
         board,
     };
     let mut k = 0;
-    while k < MAP_BITS {
+    while k < STEP_BITS {
         so_far = run_bit(table, strips, corners, so_far, limit, bytes, at, k);
         k += 1;
     }
@@ -131,8 +133,8 @@ fn step_of(
     if k == 0 {
         let w = field(bytes, at, 0, 0);
         let h = field(bytes, at, 0, 1);
-        let d = field(bytes, at, 0, 2);
-        return new_foil_in(table, strips, board, w, h, d);
+        let clearance = clearance_of(bytes, at);
+        return new_foil_in(table, strips, board, w, h, clearance);
     }
     if k == 1 {
         let x0 = field(bytes, at, 1, 0);
@@ -194,7 +196,7 @@ fn runs(bytes: &[u8], at: usize, k: usize, ended: bool) -> bool
     !ended
 }
 
-// Whether an answer is a refusal by 1 or 2.
+// Whether an answer is a refusal by 1, 2 or 20.
 fn ends_job(answer: Answer) -> bool
     ensures { λ r. ⌜ Ends answer r ⌝ }
 {
@@ -204,7 +206,10 @@ fn ends_job(answer: Answer) -> bool
     if number == 1 {
         return true;
     }
-    number == 2
+    if number == 2 {
+        return true;
+    }
+    number == 20
 }
 
 // The next place, unless the job has ended.

@@ -7,7 +7,7 @@ use mathlib.Core.List.{List, [], _∷_, _++_, append-nil}
 use mathlib.Core.Option.{Option, none, some}
 use lib.ListN.{length}
 use borrow.Author.Tests.{le-leb, eq-eqb}
-use Rattle.foil_spec.specs.Lists.{all, any, each}
+use Rattle.foil_spec.specs.Lists.{all, any, each, keep}
 use Rattle.foil_spec.specs.Limits.{cornerPlaces}
 use Rattle.foil_spec.specs.Foil.{Point, Layout, noFoil, free}
 use Rattle.foil_spec.specs.Strips.{Strip}
@@ -26,6 +26,7 @@ use Rattle.ledger_laws.specs.Numbers.{among}
 use Rattle.ledger_laws.proofs.Refusals.{first-passes}
 use Rattle.ledger_laws.proofs.Kept.{step-keeps, call-keeps}
 use Rattle.ledger_laws.proofs.Lay.{Laid, lay-seeks, first-laid}
+use Rattle.ledger_laws.proofs.Line.{clearance-number}
 use Rattle.ledger_laws.proofs.Numbers.{answer-passes}
 use Rattle.bend_bound.proofs.Room.{corners-few, step-passes, Fine, small, fine-kept, no-foil-fine}
 use Rattle.lines.specs.Lines.{stripLine}
@@ -94,8 +95,10 @@ module _ (l : Layout) (fine : Fine l) where
 
   step-line : (s : Step) → InLines (stepLine s (ledgerStep jobRoom s l .answer))
   unfolding stepLine bytesOf possible among ownNumbers numbersFrom but refusals
-  step-line (newFoil W H d) =
-      one-line (board _) (number-passes (λ n. possible (board n)) (newFoil W H d) l fine refl refl)
+  step-line (newFoil W H c) =
+      one-line (board _)
+      (number-passes (λ n. possible (board n)) (newFoil W H c) l fine refl
+      (clearance-number (λ n. all (λ k. possible (board k)) (keep (but 12) (1 ∷ n ∷ []))) c refl refl))
   step-line (draw x0 y0 x1 y1) =
       one-line (patch _) (number-passes (λ n. possible (patch n)) (draw x0 y0 x1 y1) l fine refl refl)
   step-line (lay net S T) = unfold ledgerStep in lay-line net S T (refusalOf jobRoom false (lay net S T) l) refl

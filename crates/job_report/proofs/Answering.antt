@@ -11,7 +11,7 @@ use Rattle.foil_spec.specs.Limits.{maxStrips, cornerPlaces}
 use Rattle.foil_spec.specs.Ledger.{Step, newFoil, draw, lay, lift, lookUp, putLeg, save, find, book, slip, stripsOf}
 use Rattle.foil_spec.specs.Ledger.{Answer, refused, accepted, laid, found, wrote, booked, numberOf}
 use Rattle.foil_spec.specs.Lent.{Lent, held}
-use Rattle.foil_spec.specs.Job.{mapBits, has, stepAt, stepsAt, steps}
+use Rattle.foil_spec.specs.Job.{stepBits, has, stepAt, stepsAt, steps}
 use Rattle.list_laws.proofs.Tests.{both}
 use Rattle.ledger_laws.proofs.Stored.{strips-fit, length-strips}
 use Rattle.ledger_laws.proofs.Sound.{Sound}
@@ -91,7 +91,7 @@ module _ (bs : List ℕ) (at : ℕ) (ks : List ℕ) (room : ℕ) (given : List A
   -- the corners of every answer stand in the list
   abbrev AllTracked : Type 0
   AllTracked =
-      (k j : ℕ) → k + suc j ≡ mapBits → (x : Answer) (rest : List Answer) → has bs at k ≡ true
+      (k j : ℕ) → k + suc j ≡ stepBits → (x : Answer) (rest : List Answer) → has bs at k ≡ true
       → drop (setBelow (has bs at) k) given ≡ x ∷ rest → Tracked x room ks
 
   abbrev line : ℕ → List ℕ
@@ -99,7 +99,7 @@ module _ (bs : List ℕ) (at : ℕ) (ks : List ℕ) (room : ℕ) (given : List A
 
   module _ (tracked : AllTracked) where
     -- a bit that is set: its line, and those of the bits after it
-    set-lines : (k n : ℕ) → k + suc n ≡ mapBits → has bs at k ≡ true → (ss : List Step) (later : List ℕ)
+    set-lines : (k n : ℕ) → k + suc n ≡ stepBits → has bs at k ≡ true → (ss : List Step) (later : List ℕ)
         → later ≡ stepLines ss (drop (setBelow (has bs at) k + 1) given) → (left : List Answer)
         → drop (setBelow (has bs at) k) given ≡ left
         → line k ++ later ≡ stepLines (stepAt bs at k ∷ ss) left
@@ -126,7 +126,7 @@ module _ (bs : List ℕ) (at : ℕ) (ks : List ℕ) (room : ℕ) (given : List A
         (ap (λ (l : List ℕ). l ++ stepLines ss rest)
         (step-read (stepAt bs at k) room ks x (tracked k n e x rest set h)))
 
-    lines-from : (k n : ℕ) → k + n ≡ mapBits
+    lines-from : (k n : ℕ) → k + n ≡ stepBits
         → each line (range k n) ≡ stepLines (stepsAt bs at (range k n)) (drop (setBelow (has bs at) k) given)
     unfolding stepsAt
     lines-from k zero e = sym (no-steps (drop (setBelow (has bs at) k) given))
@@ -149,8 +149,8 @@ module _ (bs : List ℕ) (at : ℕ) (ks : List ℕ) (room : ℕ) (given : List A
     pub answers-lines : answerLines bs at ks (answersOf (has bs at) given) ≡ stepLines (steps bs at) given
     unfolding linesOf steps
     answers-lines =
-        lines-from 0 mapBits refl
-        ∙ ap (λ (l : List Answer). stepLines (stepsAt bs at (range 0 mapBits)) l) (unfold setBelow in refl)
+        lines-from 0 stepBits refl
+        ∙ ap (λ (l : List Answer). stepLines (stepsAt bs at (range 0 stepBits)) l) (unfold setBelow in refl)
 
     pub answers-from : Whole bs at → room ≤ 2 * cornerPlaces → room ≤ length ks
         → FromBits bs at ks (answersOf (has bs at) given)
@@ -164,7 +164,7 @@ module _ (bs : List ℕ) (at : ℕ) (ks : List ℕ) (room : ℕ) (given : List A
               λ a e i n q.
               let s = by a e in
               laid-few room ks (s .answer) i n
-              (tracked k (mapBits - suc k) (omega arith) (s .answer) (s .rest) (s .set) (s .from)) (s .is ∙ q) in
+              (tracked k (stepBits - suc k) (omega arith) (s .answer) (s .rest) (s .set) (s .from)) (s .is ∙ q) in
               record {
                 whole = w;
                 set = λ a e. by a e .set;

@@ -10,7 +10,7 @@ use Rattle.foil_spec.specs.Lists.{each}
 use Rattle.foil_spec.specs.Limits.{tableSize, maxStrips, stripsSize, cornerPlaces}
 use Rattle.foil_spec.specs.Ledger.{Answer, Room, stripsOf}
 use Rattle.foil_spec.specs.Lent.{Lent, held, listedStrips, roomIn, roomOf}
-use Rattle.foil_spec.specs.Job.{jobRoom, mapBits, has, steps}
+use Rattle.foil_spec.specs.Job.{jobRoom, stepBits, has, steps}
 use Rattle.foil_spec.specs.Calls.{runRecord, Reply as Outcome, answered, ran, atEnd, callOn, answersIn, outputAll}
 use Rattle.foil_spec.specs.Calls.{outputBy, placeAfter}
 use Rattle.ledger_laws.proofs.Sound.{Sound, of-sound, strips-listed}
@@ -89,7 +89,7 @@ module _ (bs : List ℕ) (at : ℕ) (m : Lent) (out : List ℕ) (d : Replied) (t
     steps-run : Stepped jobRoom bs at m given
     steps-run = stepped jobRoom bs at m given (run .place) (run .is)
 
-    given-is : given ≡ ranTo jobRoom bs at mapBits m .answer
+    given-is : given ≡ ranTo jobRoom bs at stepBits m .answer
     unfolding steps
     given-is = steps-run .answers
 
@@ -97,7 +97,7 @@ module _ (bs : List ℕ) (at : ℕ) (m : Lent) (out : List ℕ) (d : Replied) (t
     unfolding outputBy answersIn
     corners-are = done .output ∙ ap (λ (x : Outcome). outputBy x out) (run .is)
 
-    tracked : (k j : ℕ) → k + suc j ≡ mapBits → (x : Answer) (rest : List Answer) → has bs at k ≡ true
+    tracked : (k j : ℕ) → k + suc j ≡ stepBits → (x : Answer) (rest : List Answer) → has bs at k ≡ true
         → drop (setBelow (has bs at) k) given ≡ x ∷ rest → Tracked x (jobRoom .output) out′
     tracked k j q x rest set h =
         let same : ranTo jobRoom bs at (k + suc j) m .answer ≡ given =

@@ -8,7 +8,7 @@ use lib.ListN.{length}
 use types.Run.{OneOf}
 use Rattle.foil_spec.specs.Lists.{range, each}
 use Rattle.foil_spec.specs.Corners.{cornersIn}
-use Rattle.foil_spec.specs.Job.{mapBits, fieldCount, field, stepAt}
+use Rattle.foil_spec.specs.Job.{mapBits, stepBits, fieldCount, field, stepAt}
 use Rattle.foil.specs.declared.Answer.{Answer}
 use Rattle.foil.specs.declared.Answer.the-variants.{Refused, Accepted, Laid, Found, Wrote}
 use Rattle.list_laws.proofs.Members.{each-append}
@@ -110,7 +110,7 @@ module _ (bs : List ℕ) (place : ℕ) (ks : List ℕ) (k : ℕ) {t : Told} {o :
 
 -- ---- how many bytes they take
 
-pub bytes-rise : (k : ℕ) → k < mapBits → (bytesBelow k ≤ bytesBelow (k + 1)) × (bytesBelow (k + 1) ≤ 98624)
+pub bytes-rise : (k : ℕ) → k < stepBits → (bytesBelow k ≤ bytesBelow (k + 1)) × (bytesBelow (k + 1) ≤ 98624)
 unfolding bytesBelow
 bytes-rise zero h = (omega arith, omega arith)
 bytes-rise (suc zero) h = (omega arith, omega arith)
@@ -120,7 +120,7 @@ bytes-rise (suc (suc (suc (suc zero)))) h = (omega arith, omega arith)
 bytes-rise (suc (suc (suc (suc (suc k))))) h = absurd (omega arith)
 
 -- the line of bit j, of at most n bytes, has room, and ends where that of the next bit may begin
-module _ {at k long : ℕ} (pre : (k < mapBits) × (at ≤ bytesBelow k) × (98624 ≤ long)) (j n : ℕ) (e : k ≡ j)
+module _ {at k long : ℕ} (pre : (k < stepBits) × (at ≤ bytesBelow k) × (98624 ≤ long)) (j n : ℕ) (e : k ≡ j)
     (longest : bytesBelow (j + 1) ≡ bytesBelow j + n) where
   grows : bytesBelow (k + 1) ≡ bytesBelow k + n
   grows = rw e longest
@@ -149,6 +149,6 @@ module _ (bs : List ℕ) (at : ℕ) (ks : List ℕ) (a : Answers) {o : List ℕ}
       ∙ ap (λ (l : List ℕ). each line (range 0 k) ++ l) (append-nil (line k))))
       (put-then f (subst (λ (u : Told). Put o₁ p (toldLine (stepAt bs at k) ks u) o₂ q) e g))
 
-  pub lines-all : {o₁ : List ℕ} {p : ℕ} (k : ℕ) → k ≡ mapBits → Put o 0 (linesOf bs at ks a (range 0 k)) o₁ p
-      → Put o 0 (linesOf bs at ks a (range 0 mapBits)) o₁ p
+  pub lines-all : {o₁ : List ℕ} {p : ℕ} (k : ℕ) → k ≡ stepBits → Put o 0 (linesOf bs at ks a (range 0 k)) o₁ p
+      → Put o 0 (linesOf bs at ks a (range 0 stepBits)) o₁ p
   lines-all {o₁} {p} k e f = subst (λ (n : ℕ). Put o 0 (linesOf bs at ks a (range 0 n)) o₁ p) e f

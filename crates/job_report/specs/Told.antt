@@ -8,7 +8,7 @@ use Rattle.foil_spec.specs.Lists.{range, each}
 use Rattle.foil_spec.specs.Limits.{cornerPlaces}
 use Rattle.foil_spec.specs.Ledger.{Step, newFoil, draw, lay, lift, lookUp, putLeg, save, find, book, slip}
 use Rattle.foil_spec.specs.Corners.{cornersIn}
-use Rattle.foil_spec.specs.Job.{mapBits, has, stepAt}
+use Rattle.foil_spec.specs.Job.{stepBits, has, stepAt}
 use Rattle.foil.specs.declared.Answer.{Answer}
 use Rattle.foil.specs.declared.Answer.the-variants.{Refused, Accepted, Laid, Found, Wrote}
 use Rattle.job.specs.Contract.{toldIn}
@@ -58,7 +58,7 @@ linesOf bs at ks a bits = each (λ (k : ℕ). toldLine (stepAt bs at k) ks (told
 
 -- the lines of all its steps that were run, in bit order
 abbrev pub answerLines : List ℕ → ℕ → List ℕ → Answers → List ℕ
-answerLines bs at ks a = linesOf bs at ks a (range 0 mapBits)
+answerLines bs at ks a = linesOf bs at ks a (range 0 stepBits)
 
 -- how many bytes the lines of the bits below k take at most: 64 a line, and 12 for each of 8,192 corners
 unfoldable pub bytesBelow : ℕ → ℕ
@@ -78,4 +78,4 @@ pub record FromBit (bs : List ℕ) (at : ℕ) (ks : List ℕ) (k : ℕ) (t : Tol
 
 -- the same of all its bits
 pub record FromBits (bs : List ℕ) (at : ℕ) (ks : List ℕ) (a : Answers) : Type 0 where
-  pub bit : (k : ℕ) → k < mapBits → FromBit bs at ks k (toldIn a k)
+  pub bit : (k : ℕ) → k < stepBits → FromBit bs at ks k (toldIn a k)

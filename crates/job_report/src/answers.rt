@@ -1,7 +1,7 @@
 // The lines of the steps of a record, bit by bit.
 use foil::Answer;
 use job::Answers;
-use job::MAP_BITS;
+use job::STEP_BITS;
 use job::Told;
 use job::net_of;
 use job::told_by;
@@ -14,7 +14,7 @@ use lines::track_refused;
 ghost use mathlib.Core.Path.{_≡_};
 ghost use Prim.Native.Nat.{_+_, _≤_, _<_};
 ghost use lib.ListN.{length};
-ghost use Rattle.foil_spec.specs.Job.{mapBits, stepAt};
+ghost use Rattle.foil_spec.specs.Job.{stepBits, stepAt};
 ghost use Rattle.putting.specs.Put.{Put};
 ghost use Rattle.job_report.specs.Told.{numberIn, layLine, toldLine, answerLines, bytesBelow};
 ghost use Rattle.job_report.specs.Told.{InList, FromBit, FromBits};
@@ -44,7 +44,7 @@ pub(crate) fn put_answers(
 {
     let mut a = 0;
     let mut k = 0;
-    while k < MAP_BITS {
+    while k < STEP_BITS {
         a = put_bit(out, a, told_by(answers, k), corners, bytes, place, k);
         k += 1;
     }
@@ -62,7 +62,7 @@ fn put_bit(
     place: usize,
     k: usize,
 ) -> usize
-    requires { ⌜ (k < mapBits) × (at ≤ bytesBelow k) × (98624 ≤ length (now out)) ⌝ }
+    requires { ⌜ (k < stepBits) × (at ≤ bytesBelow k) × (98624 ≤ length (now out)) ⌝ }
     requires { ⌜ FromBit (now bytes) place (now corners) k told ⌝ }
     ensures { λ r. ⌜ Put (now (out .entry)) at
         (toldLine (stepAt (now (bytes .entry)) place k) (now (corners .entry)) told) (now (out .exit)) r ⌝ }

@@ -96,12 +96,13 @@ fn ended(size: usize, board: Board) -> Reported
 
 // The board's record before a foil is begun.
 pub fn no_board() -> Board
-    ensures { λ r. ⌜ r ≡ record { width = 0; height = 0; clearance = 0; entries = 0; strips = 0 } ⌝ }
+    ensures { λ r. ⌜ r ≡ record { width = 0; height = 0; half = 0; gap = 0; entries = 0; strips = 0 } ⌝ }
 {
     Board {
         width: 0,
         height: 0,
-        clearance: 0,
+        half: 0,
+        gap: 0,
         entries: 0,
         strips: 0,
     }

@@ -16,7 +16,7 @@ use Rattle.foil_spec.specs.Paths.{at, isWay, bends}
 use Rattle.foil_spec.specs.Corners.{pointNumbers, cornersIn}
 use Rattle.foil_spec.specs.Ledger.{lay, pathOf, noPath, cornersOf, Room, short, cornerRoom, tooLong, tooFine}
 use Rattle.foil_spec.specs.Ledger.{next, says, _⇒_, first, After, settle, refusalOf, Answer, laid}
-use Rattle.foil_spec.specs.Lent.{Lent, lent, store, overFront, layoutOf, held, sound, stepOn, outputAfter}
+use Rattle.foil_spec.specs.Lent.{Lent, lent, store, overFront, layoutOf, penIn, held, sound, stepOn, outputAfter}
 use Rattle.foil_spec.specs.declared.Board.{Board}
 use Rattle.list_laws.proofs.Tests.{clash}
 use Rattle.path_laws.proofs.Laws.{gives-first}
@@ -72,7 +72,7 @@ module _ (b : Board) (t s ks : List ℕ) (net : ℕ) (S T : Point) (limit : ℕ)
   from-9 room long = lay-from-9 room (not (sound m)) l net S T long (ap not (y .fine)) (y .may)
 
   module _ (path₀ path : List ℕ) (k : ℕ) (long₀ : 258 ≤ length path₀)
-      (searched : Found (layoutOf (b .width) (b .height) (b .clearance) (b .entries) t) S T path₀ path k) where
+      (searched : Found (layoutOf (b .width) (b .height) (penIn b) (b .entries) t) S T path₀ path k) where
     found : Found l S T path₀ path k
     unfolding held
     found = searched

@@ -29,11 +29,11 @@ entries-size [] = omega arith
 entries-size (e ∷ es) =
     omega (arith, length-append (entryBytes e) (each entryBytes es), entry-size e .few, entries-size es)
 
--- the board has 7 bytes, the end mark one
-pub file-size : (l : Layout) → length (jobOf l) ≡ 8 + length (each entryBytes (l .entries))
+-- the board has 11 bytes, the end mark one
+pub file-size : (l : Layout) → length (jobOf l) ≡ 12 + length (each entryBytes (l .entries))
 unfolding jobOf boardBytes twoBytes
 file-size l = omega (arith, length-append (each entryBytes (l .entries)) (0 ∷ []))
 
 -- the most that a foil's file can have
-pub file-small : (l : Layout) → length (l .entries) ≤ maxEntries → length (jobOf l) ≤ 1416
+pub file-small : (l : Layout) → length (l .entries) ≤ maxEntries → length (jobOf l) ≤ 1420
 file-small l few = omega (arith, file-size l, entries-size (l .entries), few)

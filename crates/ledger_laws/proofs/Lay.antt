@@ -127,7 +127,7 @@ path-is l S T none e h = clash refl h
 path-is l S T (some cs) e h = rw e refl
 
 module _ {s : Step} {S T : Point} (k : Seeks s S T) where
-  of-laid : (r : Room) (l : Layout) (cs : List Point) (n : ℕ) → ledgerStep r s l .answer ≡ laid cs n
+  pub of-laid : (r : Room) (l : Layout) (cs : List Point) (n : ℕ) → ledgerStep r s l .answer ≡ laid cs n
       → Laid s S T r false l cs n
   unfolding ledgerStep
   of-laid r l cs n h =

@@ -2,7 +2,7 @@
 use Prim.Native.Nat.{ℕ, _/_, _≤_, min}
 use native.Mathlib.Omega.{arith}
 use mathlib.Core.Path.{_≡_, refl, sym, ap, ap₂, _∙_, subst, subst₂}
-use mathlib.Core.Bool.{Bool, true, false, not, cond, _&&_, xor, and-false}
+use mathlib.Core.Bool.{Bool, true, false, not, cond, _&&_, xor, and-false, or-true}
 use mathlib.Core.List.{List, [], _∷_}
 use mathlib.Core.Option.{Option, none, some}
 use mathlib.Core.Logic.{inl, inr}
@@ -13,18 +13,20 @@ use Rattle.foil_spec.specs.Lists.{each, consIf}
 use Rattle.foil_spec.specs.Limits.{maxEntries, tableSize, maxStrips, stripsSize}
 use Rattle.foil_spec.specs.Foil.{entryNumbers, Layout}
 use Rattle.foil_spec.specs.Ledger.{stripsOf, says, next, Refusal, _⇒_, first, Room, short, reads, refusals, afterLent}
-use Rattle.foil_spec.specs.Ledger.{After, settle, refusalOf, ledgerStep, Step, newFoil, Answer, refused, accepted}
+use Rattle.foil_spec.specs.Ledger.{After, settle, refusalOf, ledgerStep, Clearance, byPen, Step, newFoil, Answer}
+use Rattle.foil_spec.specs.Ledger.{refused, accepted}
 use Rattle.foil_spec.specs.Lent.{Lent, lent, stripNumbers, store, held, layoutOk, sound, roomIn, stepOn}
 use Rattle.foil_spec.specs.Job.{has, stepAt, stepsAt, steps, isEnd, recordEnd, recordChecks}
 use Rattle.foil_spec.specs.Calls.{Call, step, runRecord, ohms, Reply, answered, ran, endsJob, andThen, actAll}
 use Rattle.foil_spec.specs.Calls.{actRecord, tooLarge, wholeRefusals, ohmsReply, reply, ledgerCall, callOn}
 use Rattle.foil_spec.specs.Sequence.{Lending, front, roomFor, back, lend, told, Begins}
 use Rattle.foil_spec.proofs.Written.{length-written}
-use Rattle.list_laws.proofs.Tests.{clash, both, parts}
+use Rattle.list_laws.proofs.Tests.{clash, both, or-l, parts}
 use Rattle.ledger_laws.specs.Moments.{stepsRun}
-use Rattle.ledger_laws.proofs.Refusals.{no-more, none-applies, short-refused, unrefused-long, unrefused-own}
+use Rattle.ledger_laws.proofs.Refusals.{no-more, none-applies, first-passes, short-refused, own-refused}
+use Rattle.ledger_laws.proofs.Refusals.{unrefused-long, unrefused-own}
 use Rattle.ledger_laws.proofs.Stored.{Long, entries-fit, strips-fit, front-store, back-new, back-store}
-use Rattle.ledger_laws.proofs.Line.{line}
+use Rattle.ledger_laws.proofs.Line.{clearance-number, line}
 use Rattle.ledger_laws.proofs.Kept.{then-kept, steps-kept, call-kept}
 use Rattle.ledger_laws.proofs.Steps.{shown, cons-are, steps-are, ran-is, call-is}
 
@@ -159,7 +161,7 @@ pub record Begun (r : Room) (c : Call) (l : Layout) (m : Lent) : Type 0 where
   pub is : callOn r c m ≡ shown m (ledgerCall r c l)
   pub W : ℕ
   pub H : ℕ
-  pub d : ℕ
+  pub d : Clearance
   pub later : List Step
   pub runs : stepsRun c (ledgerCall r c l .answer) ≡ newFoil W H d ∷ later
   pub unrefused : refusalOf r false (newFoil W H d) l ≡ none
@@ -179,7 +181,7 @@ step-alone r s l = go (endsJob (ledgerStep r s l .answer)) (ledgerStep r s l)
     go true a = refl
     go false a = refl
 
-module _ (W H d : ℕ) (r : Room) (l : Layout) where
+module _ (W H : ℕ) (d : Clearance) (r : Room) (l : Layout) where
   settled-new : (o : Option ℕ) (done : After Answer Layout) → settle o done l .answer ≡ accepted → o ≡ none
   unfolding settle
   settled-new none done e = refl
@@ -194,6 +196,14 @@ module _ (W H d : ℕ) (r : Room) (l : Layout) where
   unfolding refusalOf afterLent reads refusals
   new-refusal true l′ = refl
   new-refusal false l′ = refl
+
+  -- where it is refused, the lists being long enough, it ends the job
+  pub new-ends : (k : ℕ) → refusalOf r false (newFoil W H d) l ≡ some k → short r ≡ false → endsJob (refused k) ≡ true
+  unfolding refusals endsJob
+  new-ends k e long =
+      let ends : ℕ → Bool = λ n. endsJob (refused n) in
+      first-passes ends (refusals (newFoil W H d) r l) (simp (clearance-number ends d refl refl, or-true)) k
+      (sym (own-refused r (newFoil W H d) l false long refl) ∙ e)
 
   module _ (e : refusalOf r false (newFoil W H d) l ≡ none) where
     pub new-is : (m : Lent) → stepOn r (newFoil W H d) m ≡ shown m (ledgerStep r (newFoil W H d) l)
@@ -273,11 +283,11 @@ first-answer r s ss l x xs h = then-head (ledgerStep r s l) _ x xs h
 pub record Opens (ss : List Step) : Type 0 where
   pub W : ℕ
   pub H : ℕ
-  pub d : ℕ
+  pub d : Clearance
   pub later : List Step
   pub is : ss ≡ newFoil W H d ∷ later
 
-opens-with : (t : Bool) (W H d : ℕ) (ss : List Step) → t ≡ true → Opens (consIf t (newFoil W H d) ss)
+opens-with : (t : Bool) (W H : ℕ) (d : Clearance) (ss : List Step) → t ≡ true → Opens (consIf t (newFoil W H d) ss)
 opens-with true W H d ss e = record { W = W; H = H; d = d; later = ss; is = refl }
 opens-with false W H d ss e = clash e refl
 
@@ -286,11 +296,15 @@ unfolding xor
 only-true true e = refl
 only-true false e = clash refl e
 
+-- its map byte has bit 0
+pub board-first : (bs : List ℕ) → first (recordChecks bs 0) ≡ none → has bs 0 0 ≡ true
+unfolding recordChecks
+board-first bs h =
+    only-true (has bs 0 0) (or-l (xor true (has bs 0 0)) (has bs 0 5 && not (has bs 0 0)) (search none-applies))
+
 pub opens : (bs : List ℕ) → first (recordChecks bs 0) ≡ none → Opens (steps bs 0)
-unfolding recordChecks steps stepsAt stepAt
-opens bs h =
-    let x : xor true (has bs 0 0) ≡ false = search none-applies in
-    opens-with (has bs 0 0) _ _ _ _ (only-true (has bs 0 0) x)
+unfolding steps stepsAt stepAt
+opens bs h = opens-with (has bs 0 0) _ _ _ _ (board-first bs h)
 
 -- a record that passes the checks as a whole passes its own
 pub own-checks : (r : Room) (b : Bool) (bs : List ℕ) (at : ℕ) → first (wholeRefusals r b bs at) ≡ none
@@ -370,9 +384,9 @@ begun-record r bs xs n l m e =
     }
 
 pub begun : (r : Room) (c : Call) (l : Layout) (m : Lent) → Begins c (ledgerCall r c l .answer) → Begun r c l m
-begun r c l m (inl (W, H, d, e, h)) =
+begun r c l m (inl (W, H, p, e, h)) =
     subst (λ (x : Call). ledgerCall r x l .answer ≡ answered accepted → Begun r x l m) (sym e)
-    (begun-call W H d r l m) h
+    (begun-call W H (byPen p) r l m) h
 begun r c l m (inr (bs, xs, n, e, h)) =
     subst (λ (x : Call). ledgerCall r x l .answer ≡ ran (accepted ∷ xs) n → Begun r x l m) (sym e)
     (begun-record r bs xs n l m) h
@@ -386,7 +400,7 @@ lend-begun c l m b =
     (back-new c m (omega (arith, n .table)) (omega (arith, n .strips)) (ledgerCall (roomFor c m) (c .call) l .state)
     (b .kept))
 
-taken-answer : (W H d : ℕ) (r : Room) (l : Layout) → refusalOf r false (newFoil W H d) l ≡ none
+taken-answer : (W H : ℕ) (d : Clearance) (r : Room) (l : Layout) → refusalOf r false (newFoil W H d) l ≡ none
     → ledgerStep r (newFoil W H d) l .answer ≡ accepted
 unfolding ledgerStep settle says
 taken-answer W H d r l e = rw e refl
@@ -394,14 +408,14 @@ taken-answer W H d r l e = rw e refl
 -- ---- what the ledger held before a foil is begun makes no difference
 
 module _ (r : Room) (l l′ : Layout) where
-  new-anew : (W H d : ℕ) → ledgerStep r (newFoil W H d) l .answer ≡ accepted
+  new-anew : (W H : ℕ) (d : Clearance) → ledgerStep r (newFoil W H d) l .answer ≡ accepted
       → ledgerStep r (newFoil W H d) l ≡ ledgerStep r (newFoil W H d) l′
   unfolding ledgerStep settle says next
   new-anew W H d e =
       let u = new-unrefused W H d r l e in
       rw (new-refusal W H d r l false l′, u) refl
 
-  call-anew : (W H d : ℕ) → ledgerCall r (step (newFoil W H d)) l .answer ≡ answered accepted
+  call-anew : (W H : ℕ) (d : Clearance) → ledgerCall r (step (newFoil W H d)) l .answer ≡ answered accepted
       → ledgerCall r (step (newFoil W H d)) l ≡ ledgerCall r (step (newFoil W H d)) l′
   unfolding ledgerCall reply
   call-anew W H d e =
@@ -419,9 +433,9 @@ module _ (r : Room) (l l′ : Layout) where
       rw (a .unrefused, a .not-end, b .is, new) refl
 
   pub begins-anew : (c : Call) → Begins c (ledgerCall r c l .answer) → ledgerCall r c l ≡ ledgerCall r c l′
-  begins-anew c (inl (W, H, d, e, h)) =
+  begins-anew c (inl (W, H, p, e, h)) =
       subst (λ (x : Call). ledgerCall r x l .answer ≡ answered accepted → ledgerCall r x l ≡ ledgerCall r x l′) (sym e)
-      (call-anew W H d) h
+      (call-anew W H (byPen p)) h
   begins-anew c (inr (bs, xs, n, e, h)) =
       subst (λ (x : Call). ledgerCall r x l .answer ≡ ran (accepted ∷ xs) n → ledgerCall r x l ≡ ledgerCall r x l′)
       (sym e) (record-anew bs xs n) h

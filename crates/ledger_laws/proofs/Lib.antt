@@ -16,6 +16,8 @@ pub mod Told
 pub mod Demand2
 pub mod Demand3
 pub mod Drawn
+pub mod Apart
+pub mod OldJobs
 pub mod Opening
 pub mod Numbers
 pub mod FileSize

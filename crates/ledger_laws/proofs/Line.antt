@@ -10,7 +10,7 @@ use borrow.Author.Tests.{ltb-true, ltb-false, leb-true, le-leb}
 use lib.ListN.{length}
 use Rattle.foil_spec.specs.Lists.{all, keep}
 use Rattle.foil_spec.specs.Limits.{maxEntries}
-use Rattle.foil_spec.specs.Foil.{Point, Entry, entry, Layout, noFoil, sizeOk, clearanceOk, netOk}
+use Rattle.foil_spec.specs.Foil.{Point, Entry, entry, Pen, pen, Layout, noFoil, sizeOk, reachOk, penOk, netOk}
 use Rattle.foil_spec.specs.Foil.{boxOk, shapeOk, entryOk, free}
 use Rattle.foil_spec.specs.Paths.{at, anywhere, either, leads, isWay}
 use Rattle.foil_spec.specs.Corners.{drawn}
@@ -18,7 +18,8 @@ use Rattle.foil_spec.specs.Saving.{jobOf}
 use Rattle.foil_spec.specs.Slip.{slipOf}
 use Rattle.foil_spec.specs.Nets.{ofNet}
 use Rattle.foil_spec.specs.Ledger.{stripsOf, pathOf, cornersOf, legs, withEntries, offFoil, Room, cornerRoom, tooLong}
-use Rattle.foil_spec.specs.Ledger.{tooFine, Step, newFoil, draw, lay, lift, lookUp, putLeg, save, find, book, slip}
+use Rattle.foil_spec.specs.Ledger.{tooFine, Clearance, byPen, byReach, penOf, clearanceRefusal, Step, newFoil, draw}
+use Rattle.foil_spec.specs.Ledger.{lay, lift, lookUp, putLeg, save, find, book, slip}
 use Rattle.foil_spec.specs.Ledger.{numberOf, next, says, refused, Refusal, first, reads, refusals, settle}
 use Rattle.foil_spec.specs.Lent.{layoutOk}
 use Rattle.list_laws.proofs.Tests.{clash, and-l, and-r, and-i, or-l, not-ff, both, parts, all-append, all-keep}
@@ -27,7 +28,7 @@ use Rattle.path_laws.proofs.Laws.{gives-first}
 use Rattle.path_laws.proofs.Ways.{path-way, way-is}
 use Rattle.strip_laws.proofs.Laws.{one-strip}
 use Rattle.ledger_laws.specs.Line.{Line, Lacks, corners, bytes, page, but, numbersFrom, ownNumbers}
-use Rattle.ledger_laws.proofs.Refusals.{none-applies, first-passes}
+use Rattle.ledger_laws.proofs.Refusals.{no-rule, no-more, none-applies, first-passes}
 use Rattle.zones.proofs.Free.{free-inside, bare-free}
 use Rattle.ledger_laws.proofs.Legs.{legs-ok}
 use Rattle.ledger_laws.proofs.Rules.{of-ok, to-ok}
@@ -39,12 +40,12 @@ unfolding sizeOk
 positive n h = leb-true 1 n (and-l (leb 1 n) (leb n 4096) h)
 
 -- a foil without entries
-abbrev pub bare : ℕ → ℕ → ℕ → Layout
-bare W H d = record { width = W; height = H; clearance = d; entries = [] }
+abbrev pub bare : ℕ → ℕ → Pen → Layout
+bare W H p = record { width = W; height = H; pen = p; entries = [] }
 
-pub new-fine : (W H d : ℕ) → sizeOk W ≡ true → sizeOk H ≡ true → tooFine (bare W H d) ≡ false
+pub new-fine : (W H : ℕ) (p : Pen) → sizeOk W ≡ true → sizeOk H ≡ true → tooFine (bare W H p) ≡ false
 unfolding tooFine stripsOf
-new-fine W H d hW hH = rw (one-strip (free (bare W H d)) W H (positive W hW) (positive H hH) (bare-free d W H)) refl
+new-fine W H p hW hH = rw (one-strip (free (bare W H p)) W H (positive W hW) (positive H hH) (bare-free p W H)) refl
 
 pub patch-ok : (W H : ℕ) (x0 y0 x1 y1 : ℕ) → boxOk W H (entry 0 x0 y0 x1 y1) ≡ true
     → entryOk W H (entry 0 x0 y0 x1 y1) ≡ true
@@ -79,7 +80,7 @@ appended r l es g ok long fine =
     (record {
       width = k .width;
       height = k .height;
-      clearance = k .clearance;
+      pen = k .pen;
       entries = all-append (entryOk (l .width) (l .height)) (l .entries) es (k .entries) ok;
       long = le-leb (length (l .entries ++ es)) maxEntries (few-after r _ long);
       fine = fine;
@@ -94,7 +95,7 @@ taken-out l p g fine =
     (record {
       width = k .width;
       height = k .height;
-      clearance = k .clearance;
+      pen = k .pen;
       entries = all-keep (entryOk (l .width) (l .height)) p (l .entries) (k .entries);
       long = le-leb (length (keep p (l .entries))) maxEntries (omega (arith, few, length-keep p (l .entries)));
       fine = fine;
@@ -167,15 +168,28 @@ same-corners r r′ e = ap (λ (n : ℕ). n / 2) e
 
 -- ---- the lines
 
-module _ (W H d : ℕ) where
-  sizes : (r : Room) (l : Layout) → first (refusals (newFoil W H d) r l) ≡ none
-      → (sizeOk W ≡ true) × (sizeOk H ≡ true) × (clearanceOk d ≡ true)
+-- the pen of a clearance that is not refused is within its limits
+pub pen-allowed : (c : Clearance) → clearanceRefusal c .applies ≡ false → penOk (penOf c) ≡ true
+unfolding clearanceRefusal penOf penOk reachOk
+pen-allowed (byPen p) h = not-ff _ h
+pen-allowed (byReach d) h = not-ff _ h
+
+-- a clearance is refused by 2 or 20
+pub clearance-number : (p : ℕ → Bool) (c : Clearance) → p 2 ≡ true → p 20 ≡ true
+    → p (clearanceRefusal c .number) ≡ true
+unfolding clearanceRefusal
+clearance-number p (byPen q) a b = b
+clearance-number p (byReach d) a b = a
+
+module _ (W H : ℕ) (c : Clearance) where
+  sizes : (r : Room) (l : Layout) → first (refusals (newFoil W H c) r l) ≡ none
+      → (sizeOk W ≡ true) × (sizeOk H ≡ true) × (penOk (penOf c) ≡ true)
   unfolding refusals
   sizes r l h =
       let s : (sizeOk W && sizeOk H) ≡ true = not-ff _ (search none-applies) in
-      (and-l (sizeOk W) (sizeOk H) s, and-r (sizeOk W) (sizeOk H) s, not-ff (clearanceOk d) (search none-applies))
+      (and-l (sizeOk W) (sizeOk H) s, and-r (sizeOk W) (sizeOk H) s, pen-allowed c (no-rule _ _ [] (no-more _ 1 _ h)))
 
-  new-line : Line (newFoil W H d)
+  new-line : Line (newFoil W H c)
   unfolding next says numberOf numbersFrom ownNumbers but refusals reads
   new-line = record {
     kept = λ r l g h.
@@ -184,18 +198,18 @@ module _ (W H d : ℕ) where
         (record {
           width = s .0;
           height = s .1;
-          clearance = s .2;
+          pen = s .2;
           entries = refl;
           long = refl;
-          fine = new-fine W H d (s .0) (s .1);
+          fine = new-fine W H (penOf c) (s .0) (s .1);
         });
     unbegun = λ z. clash z refl;
     accepts = λ l. refl;
     numbers = λ r l. refl;
-    unbroken = refl;
+    unbroken = clearance-number (λ n. all (but 13) (keep (but 12) (1 ∷ n ∷ []))) c refl refl;
     of-room = λ r r′ l e f. refl;
     blind = λ z r l l′. (refl, refl, refl);
-    output = λ r l h. absurd (no-12 _ (simp or-true) h);
+    output = λ r l h. absurd (no-12 _ (simp (clearance-number (but 12) c refl refl, or-true)) h);
   }
 
 draw-line : (x0 y0 x1 y1 : ℕ) → Line (draw x0 y0 x1 y1)
@@ -331,7 +345,7 @@ slip-line = record {
 
 -- what every step keeps
 pub line : (s : Step) → Line s
-line (newFoil W H d) = new-line W H d
+line (newFoil W H c) = new-line W H c
 line (draw x0 y0 x1 y1) = draw-line x0 y0 x1 y1
 line (lay net S T) = lay-line net S T
 line (lift net) = lift-line net

@@ -7,7 +7,7 @@ use mathlib.Core.List.{List, [], _∷_, _++_}
 use mathlib.Core.Option.{Option, none, some}
 use Rattle.foil_spec.specs.Limits.{tableSize, stripsSize}
 use Rattle.foil_spec.specs.Foil.{Layout}
-use Rattle.foil_spec.specs.Ledger.{Step, newFoil, Answer, Room, short, After, ledgerStep}
+use Rattle.foil_spec.specs.Ledger.{Clearance, Step, newFoil, Answer, Room, short, After, ledgerStep}
 use Rattle.foil_spec.specs.Lent.{Lent, store, layoutOk, stepOn, outputAfter}
 use Rattle.foil_spec.specs.Job.{steps}
 use Rattle.foil_spec.specs.Calls.{Call, step, runRecord, ohms, Reply, endsJob, andThen, actAll, actRecord}
@@ -258,7 +258,7 @@ onward m long (c ∷ cs) l g =
 record Opened (m : Lent) (ks : List Moment) : Type 0 where
   W : ℕ
   H : ℕ
-  d : ℕ
+  d : Clearance
   opening : Moment
   others : List Moment
   are : ks ≡ opening ∷ others
@@ -355,7 +355,7 @@ module _ (m : Lent) (l : Layout) (c : Lending) (b : Begun (roomFor c m) (c .call
 
 -- a step is the opening new foil, or goes as on the ledger, and so do those after it
 pub data Standing (m : Lent) (k : Moment) (later : List Moment) : Type 0 where
-  opens : (W H d : ℕ) → k .step ≡ newFoil W H d → Shows m (k .ledgerAfter) (k .after) → Standing m k later
+  opens : (W H : ℕ) (d : Clearance) → k .step ≡ newFoil W H d → Shows m (k .ledgerAfter) (k .after) → Standing m k later
   runs-on : Goes m k → Onward m (k .ledgerAfter) later → Standing m k later
 
 found : (m : Lent) (l : Layout) (earlier : List Moment) (k : Moment) (later : List Moment) (end : Layout)

@@ -1,22 +1,21 @@
 -- A record at place 0 on lists that hold anything: it ends the job with the ledger's reply, or it begins a foil.
 use Prim.Native.Nat.{ℕ}
-use native.Mathlib.Omega.{arith}
-use mathlib.Core.Path.{_≡_, refl, sym, ap, _∙_}
-use mathlib.Core.Bool.{Bool, true, false, not, cond, _&&_, xor}
+use mathlib.Core.Path.{_≡_, refl, ap, _∙_}
+use mathlib.Core.Bool.{Bool, true, false, not, cond}
 use mathlib.Core.List.{List, [], _∷_}
 use mathlib.Core.Option.{Option, none, some}
 use borrow.Author.Tests.{eqb-true}
 use Rattle.foil_spec.specs.Lists.{any}
-use Rattle.foil_spec.specs.Foil.{Layout, sizeOk, clearanceOk}
-use Rattle.foil_spec.specs.Ledger.{Step, newFoil, Answer, refused, first, Room, short, refusals}
+use Rattle.foil_spec.specs.Foil.{Layout}
+use Rattle.foil_spec.specs.Ledger.{Clearance, Step, newFoil, Answer, refused, first, Room, short}
 use Rattle.foil_spec.specs.Ledger.{After, settle, refusalOf, ledgerStep, accepted, says}
 use Rattle.foil_spec.specs.Lent.{Lent, held, sound, stepOn}
 use Rattle.foil_spec.specs.Job.{mapByte, has, isEnd, steps, recordEnd, recordChecks}
 use Rattle.foil_spec.specs.Calls.{runRecord, Reply, answered, ran, atEnd, measured, endsJob, andThen, actAll, actRecord}
 use Rattle.foil_spec.specs.Calls.{wholeRefusals, reply, ledgerCall, callOn}
 use Rattle.list_laws.proofs.Tests.{both, clash}
-use Rattle.ledger_laws.proofs.Refusals.{none-applies, own-refused}
-use Rattle.ledger_laws.proofs.Lending.{new-refusal, Begun, Opens, opens, own-checks, whole-at-0, begun-record}
+use Rattle.ledger_laws.proofs.Lending.{new-refusal, new-ends, Begun, Opens, board-first, opens, own-checks}
+use Rattle.ledger_laws.proofs.Lending.{whole-at-0, begun-record}
 
 -- a reply after which there is no next place, and no strip is told
 abbrev pub Over : Reply → Type 0
@@ -38,14 +37,7 @@ unfolding isEnd has
 end-no-board bs at e = rw (eqb-true (mapByte bs at) 0 e) refl
 
 not-at-end : (bs : List ℕ) → first (recordChecks bs 0) ≡ none → isEnd bs 0 ≡ false
-unfolding recordChecks xor
-not-at-end bs e =
-    let x : xor true (has bs 0 0) ≡ false = search none-applies in
-    both (isEnd bs 0) (λ h. no-board (has bs 0 0) (end-no-board bs 0 h) x) (λ h. h)
-  where
-    no-board : (b : Bool) → b ≡ false → xor true b ≡ false → isEnd bs 0 ≡ false
-    no-board true h x = clash refl h
-    no-board false h x = clash refl x
+not-at-end bs e = both (isEnd bs 0) (λ h. clash (board-first bs e) (end-no-board bs 0 h)) (λ h. h)
 
 module _ {S : Type 0} (act : Step → S → After Answer S) where
   -- a first step that ends the job
@@ -59,18 +51,7 @@ module _ {S : Type 0} (act : Step → S → After Answer S) where
   unfolding actRecord
   ends-record ss p s k e f = rw (e, f) refl
 
-module _ (W H d : ℕ) (r : Room) (l : Layout) where
-  -- a new foil that is refused on long lists ends the job
-  board-ends : (k : ℕ) → refusalOf r false (newFoil W H d) l ≡ some k → short r ≡ false → endsJob (refused k) ≡ true
-  unfolding refusals first endsJob
-  board-ends k e long =
-      go (not (sizeOk W && sizeOk H)) (not (clearanceOk d)) (sym (own-refused r (newFoil W H d) l false long refl) ∙ e)
-    where
-      go : (s t : Bool) → cond s (some 1) (cond t (some 2) none) ≡ some k → endsJob (refused k) ≡ true
-      go true t h = let q : k ≡ 1 = cc in rw q refl
-      go false true h = let q : k ≡ 2 = cc in rw q refl
-      go false false h = absurd (let z : _≡_ {A = ℕ} 0 1 = cc in omega arith)
-
+module _ (W H : ℕ) (d : Clearance) (r : Room) (l : Layout) where
   on-ledger : (k : ℕ) → refusalOf r false (newFoil W H d) l ≡ some k
       → ledgerStep r (newFoil W H d) l .answer ≡ refused k
   unfolding ledgerStep settle
@@ -119,7 +100,7 @@ module _ (r : Room) (bs : List ℕ) (l : Layout) (m : Lent) (long : short r ≡ 
     board-refused : (k : ℕ) → refusalOf r false new l ≡ some k → Opening r bs l m
     board-refused k e =
         let both-are = call-at-0 none false passed goes-on in
-        let f = board-ends (b .W) (b .H) (b .d) r l k e long in
+        let f = new-ends (b .W) (b .H) (b .d) r l k e long in
         over (ran (refused k ∷ []) none)
         (ap (λ a. a .answer) (both-are .0)
         ∙ ends-record (stepOn r) (steps bs 0) (recordEnd bs 0) m k

@@ -37,7 +37,7 @@ last-place (e ∷ es) at =
 
 pub ends-last : (l : Layout) → lastPlace 0 (allAccepted l) + 1 ≡ length (jobOf l)
 unfolding lastPlace allAccepted placeAfter boardBytes twoBytes
-ends-last l = omega (arith, last-place (l .entries) 7, file-size l)
+ends-last l = omega (arith, last-place (l .entries) 11, file-size l)
 
 none-refused : (es : List Entry) (at : ℕ) → any refusal (each answersIn (entryReplies at es)) ≡ false
 unfolding entryReplies answersIn refusal numberOf
@@ -121,7 +121,7 @@ module _ (r : Room) (long : short r ≡ false) (l : Layout) (g : layoutOk l ≡ 
         (record {
           width = k .width;
           height = k .height;
-          clearance = k .clearance;
+          pen = k .pen;
           entries =
               to-all is front
               (λ e h.
@@ -254,12 +254,12 @@ module _ (r : Room) (long : short r ≡ false) (l : Layout) (g : layoutOk l ≡ 
         bytes = unfold jobOf in refl;
         entries = refl;
         later = unfold boardBytes in omega arith;
-        fine = let k = of-ok l g in new-fine (l .width) (l .height) (l .clearance) (k .width) (k .height);
+        fine = let k = of-ok l g in new-fine (l .width) (l .height) (l .pen) (k .width) (k .height);
       }
 
   -- one record fewer than may follow the board's
   abbrev more : ℕ
-  more = length (each entryBytes (l .entries)) + 6
+  more = length (each entryBytes (l .entries)) + 10
 
   after-board : readJob r (jobOf l) m
       ≡ record {

@@ -3,16 +3,16 @@ use Prim.Native.Nat.{ℕ, zero, suc, _+_, _*_, _/_, _%_, _≤_, _<_}
 use native.Mathlib.Omega.{arith}
 use native.Mathlib.Nat.{add-zero}
 use mathlib.Core.Path.{_≡_, refl, sym, ap, ap₂, _∙_}
-use mathlib.Core.Bool.{Bool, true, false, cond, xor}
+use mathlib.Core.Bool.{Bool, true, false, cond, not, _&&_, xor}
 use mathlib.Core.List.{List, [], _∷_, _++_}
 use mathlib.Core.Option.{none}
 use lib.Dec.{eqb}
 use borrow.Author.Tests.{ne-eqb, lt-leb, le-ltb}
 use lib.ListN.{length, getD, length-append}
 use lib.Seq.{getD-append-add}
-use Rattle.foil_spec.specs.Foil.{Entry, entry, entryNumbers, Layout}
+use Rattle.foil_spec.specs.Foil.{Entry, entry, entryNumbers, pen, Layout}
 use Rattle.foil_spec.specs.Saving.{twoBytes, boardBytes, patchBytes, legBytes, entryBytes}
-use Rattle.foil_spec.specs.Ledger.{Step, newFoil, draw, putLeg, first}
+use Rattle.foil_spec.specs.Ledger.{byPen, Step, newFoil, draw, putLeg, first}
 use Rattle.foil_spec.specs.Job.{number, fieldCount, mapBits, mapByte, has, fieldsAt, recordEnd, field, stepAt, stepsAt}
 use Rattle.foil_spec.specs.Job.{steps, isEnd, recordChecks}
 
@@ -65,10 +65,11 @@ module _ (done bs : List ℕ) where
 two-back : (n : ℕ) → n % 256 + 256 * (n / 256) ≡ n
 two-back n = omega arith
 
--- the bytes begin with a record of so many bytes, which is one step; a board's record has bit 0
+-- the bytes begin with a record of so many bytes, which is one step; a board's record has bit 0, and it alone bit 5
 pub record OneStep (bs : List ℕ) (board : Bool) (s : Step) (size : ℕ) : Type 0 where
-  pub known : mapByte bs 0 < 32
+  pub known : mapByte bs 0 < 64
   pub opens : has bs 0 0 ≡ board
+  pub pens : has bs 0 5 ≡ board
   pub goes-on : isEnd bs 0 ≡ false
   pub does : steps bs 0 ≡ s ∷ []
   pub ends : recordEnd bs 0 ≡ size
@@ -77,14 +78,19 @@ pub record OneStep (bs : List ℕ) (board : Bool) (s : Step) (size : ℕ) : Type
 
 module _ (rest : List ℕ) where
   pub board-begins : (l : Layout)
-      → OneStep (boardBytes l ++ rest) true (newFoil (l .width) (l .height) (l .clearance)) (length (boardBytes l))
+      → OneStep (boardBytes l ++ rest) true (newFoil (l .width) (l .height) (byPen (l .pen)))
+      (length (boardBytes l))
   unfolding boardBytes twoBytes mapByte has isEnd steps stepsAt stepAt fieldsAt field number recordEnd fieldCount
   board-begins l =
       record {
         known = omega arith;
         opens = refl;
+        pens = refl;
         goes-on = refl;
-        does = λ i. newFoil (two-back (l .width) i) (two-back (l .height) i) (two-back (l .clearance) i) ∷ [];
+        does = λ i.
+            newFoil (two-back (l .width) i) (two-back (l .height) i)
+            (byPen (pen (two-back (l .pen .half) i) (two-back (l .pen .gap) i)))
+            ∷ [];
         ends = refl;
         fits = omega arith;
         some-bytes = omega arith;
@@ -97,6 +103,7 @@ module _ (rest : List ℕ) where
       record {
         known = omega arith;
         opens = refl;
+        pens = refl;
         goes-on = refl;
         does = λ i. draw (two-back (e .x0) i) (two-back (e .y0) i) (two-back (e .x1) i) (two-back (e .y1) i) ∷ [];
         ends = refl;
@@ -111,6 +118,7 @@ module _ (rest : List ℕ) where
       record {
         known = omega arith;
         opens = refl;
+        pens = refl;
         goes-on = refl;
         does = λ i.
             putLeg
@@ -139,6 +147,11 @@ entry-begins e rest = go (eqb (e .net) 0)
 
 -- ---- the record there
 
+-- bit 5 stands beside bit 0
+beside : (t : Bool) → (t && not t) ≡ false
+beside true = refl
+beside false = refl
+
 module _ (done bs : List ℕ) (board : Bool) (s : Step) (size : ℕ) (b : OneStep bs board s size) where
   pub passes-there : xor (eqb (length done) 0) board ≡ false → first (recordChecks (done ++ bs) (length done)) ≡ none
   unfolding recordChecks first
@@ -147,10 +160,13 @@ module _ (done bs : List ℕ) (board : Bool) (s : Step) (size : ℕ) (b : OneSte
       simp (
         lt-leb (length (done ++ bs)) (length done) (omega (arith, b .fits, b .some-bytes)),
         byte-moved done bs,
-        lt-leb 32 (mapByte bs 0) (b .known),
+        lt-leb 64 (mapByte bs 0) (b .known),
         has-moved done bs 0,
+        has-moved done bs 5,
         b .opens,
+        b .pens,
         right,
+        beside board,
         mark-moved done bs,
         b .goes-on,
         end-moved done bs,
@@ -178,12 +194,15 @@ module _ (done : List ℕ) (later : 0 < length done) where
       let n = length-append done (0 ∷ []) in
       let byte : mapByte (0 ∷ []) 0 ≡ 0 = unfold mapByte in refl in
       let no-board : has (0 ∷ []) 0 0 ≡ false = unfold has mapByte in refl in
+      let no-pen : has (0 ∷ []) 0 5 ≡ false = unfold has mapByte in refl in
       simp (
         lt-leb (length (done ++ (0 ∷ []))) (length done) (omega arith),
         byte-moved done (0 ∷ []),
         byte,
         has-moved done (0 ∷ []) 0,
+        has-moved done (0 ∷ []) 5,
         no-board,
+        no-pen,
         ne-eqb (length done) 0 (λ e. omega arith),
         mark-there,
         le-ltb (length done + 1) (length (done ++ (0 ∷ []))) (omega arith),

@@ -5,7 +5,7 @@ use lib.Dec.{leb}
 use lib.ListN.{length}
 use Rattle.foil_spec.specs.Lists.{all}
 use Rattle.foil_spec.specs.Limits.{maxEntries}
-use Rattle.foil_spec.specs.Foil.{Layout, sizeOk, clearanceOk, entryOk}
+use Rattle.foil_spec.specs.Foil.{Layout, sizeOk, penOk, entryOk}
 use Rattle.foil_spec.specs.Ledger.{tooFine}
 use Rattle.foil_spec.specs.Lent.{layoutOk}
 use Rattle.list_laws.proofs.Tests.{parts}
@@ -14,7 +14,7 @@ use Rattle.list_laws.proofs.Tests.{parts}
 pub record Keeps (l : Layout) : Type 0 where
   pub width : sizeOk (l .width) ≡ true
   pub height : sizeOk (l .height) ≡ true
-  pub clearance : clearanceOk (l .clearance) ≡ true
+  pub pen : penOk (l .pen) ≡ true
   pub entries : all (entryOk (l .width) (l .height)) (l .entries) ≡ true
   pub long : leb (length (l .entries)) maxEntries ≡ true
   pub fine : tooFine l ≡ false
@@ -25,7 +25,7 @@ of-ok l g =
     record {
       width = search parts;
       height = search parts;
-      clearance = search parts;
+      pen = search parts;
       entries = search parts;
       long = search parts;
       fine = search parts;
@@ -33,4 +33,4 @@ of-ok l g =
 
 pub to-ok : (l : Layout) → Keeps l → layoutOk l ≡ true
 unfolding layoutOk
-to-ok l g = simp (g .width, g .height, g .clearance, g .entries, g .long, g .fine)
+to-ok l g = simp (g .width, g .height, g .pen, g .entries, g .long, g .fine)

@@ -11,8 +11,8 @@ use lib.ListN.{length}
 use Rattle.foil_spec.specs.Foil.{Entry, entry, Layout, netOk, boxOk, shapeOk, entryOk}
 use Rattle.foil_spec.specs.Saving.{twoBytes, boardBytes, entryBytes}
 use Rattle.foil_spec.specs.Ledger.{withEntries, tooLong, tooFine, next, says, first, Room, short, refusals, afterLent}
-use Rattle.foil_spec.specs.Ledger.{Step, newFoil, draw, putLeg, Answer, refused, accepted, After, settle}
-use Rattle.foil_spec.specs.Ledger.{ledgerStep}
+use Rattle.foil_spec.specs.Ledger.{byPen, Step, newFoil, draw, putLeg, Answer, refused, accepted, After, settle}
+use Rattle.foil_spec.specs.Ledger.{ledgerStep, penOf, clearanceRefusal}
 use Rattle.foil_spec.specs.Lent.{Lent, store, layoutOk}
 use Rattle.foil_spec.specs.Calls.{runRecord, Reply, ran, atEnd, endsJob, andThen, actAll, actRecord, tooLarge}
 use Rattle.foil_spec.specs.Calls.{wholeRefusals, reply, ledgerCall, callOn}
@@ -55,13 +55,13 @@ module _ (r : Room) (long : short r ≡ false) where
   -- ---- on the ledger
 
   new-step : (l : Layout) → layoutOk l ≡ true
-      → ledgerStep r (newFoil (l .width) (l .height) (l .clearance)) l
+      → ledgerStep r (newFoil (l .width) (l .height) (byPen (l .pen))) l
       ≡ record { answer = accepted; state = withEntries l [] }
-  unfolding ledgerStep refusals first next says settle
+  unfolding ledgerStep refusals clearanceRefusal first next penOf says settle
   new-step l g =
       let k = of-ok l g in
-      let own = own-refused r (newFoil (l .width) (l .height) (l .clearance)) l false long refl in
-      rw (own, k .width, k .height, k .clearance) refl
+      let own = own-refused r (newFoil (l .width) (l .height) (byPen (l .pen))) l false long refl in
+      rw (own, k .width, k .height, k .pen) refl
 
   module _ (l : Layout) where
     patch-step : (x0 y0 x1 y1 : ℕ) (t : Bool) → entryOk (l .width) (l .height) (entry 0 x0 y0 x1 y1) ≡ true
@@ -75,7 +75,7 @@ module _ (r : Room) (long : short r ≡ false) where
     leg-step : (e : Entry) (t : Bool) → eqb (e .net) 0 ≡ false → entryOk (l .width) (l .height) e ≡ true
         → tooLong r (plus l e) ≡ false → tooFine (plus l e) ≡ t
         → ledgerStep r (putLeg e) l ≡ record { answer = saidOf t; state = leftOf t l e }
-    unfolding ledgerStep refusals first next says settle
+    unfolding ledgerStep refusals clearanceRefusal first next penOf says settle
     leg-step e t leg ok few fine =
         rw (own-refused r (putLeg e) l false long refl, leg-net (l .width) (l .height) e leg ok, ok, few, fine)
         (settled t l e)
@@ -137,7 +137,7 @@ module _ (r : Room) (long : short r ≡ false) where
     unfolding shown boardBytes twoBytes
     board-call rest l g large =
         let bs : List ℕ = boardBytes l ++ rest in
-        let new = one-step [] bs true (newFoil (l .width) (l .height) (l .clearance)) (length (boardBytes l))
+        let new = one-step [] bs true (newFoil (l .width) (l .height) (byPen (l .pen))) (length (boardBytes l))
         (board-begins rest l) l (withEntries l []) accepted large (unfold xor in refl) (new-step l g)
         (unfold endsJob in refl) in
         begun-record r bs [] (some (length (boardBytes l))) l m (ap (λ (a : After Reply Layout). a .answer) new) .is

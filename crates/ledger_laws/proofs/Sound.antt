@@ -165,7 +165,8 @@ sound-store-is m s =
     (record {
       width = m .board .width;
       height = m .board .height;
-      clearance = m .board .clearance;
+      half = m .board .half;
+      gap = m .board .gap;
       entries = length-read (m .table) (m .board .entries) i;
       strips = sym (s .counted) i;
     })

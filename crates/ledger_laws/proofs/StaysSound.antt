@@ -2,21 +2,20 @@
 -- the job.
 use Prim.Native.Nat.{ℕ}
 use mathlib.Core.Path.{_≡_, refl, sym, ap, _∙_}
-use mathlib.Core.Bool.{true, false, not, _||_, or-true}
+use mathlib.Core.Bool.{true, false, not}
 use mathlib.Core.List.{List, _∷_}
 use mathlib.Core.Option.{Option, none, some}
-use Rattle.foil_spec.specs.Lists.{all, any}
-use Rattle.foil_spec.specs.Ledger.{Room, short, Step, newFoil, Answer, refused, Refusal, reads, refusals}
+use Rattle.foil_spec.specs.Lists.{any}
+use Rattle.foil_spec.specs.Ledger.{Room, short, Clearance, Step, newFoil, Answer, reads}
 use Rattle.foil_spec.specs.Ledger.{After, refusalOf, settle, ledgerStep}
 use Rattle.foil_spec.specs.Lent.{Lent, held, sound, stepOn}
 use Rattle.foil_spec.specs.Calls.{endsJob, andThen, actAll}
 use Rattle.list_laws.proofs.Tests.{both, clash}
-use Rattle.ledger_laws.proofs.Refusals.{first-passes, own-refused}
 use Rattle.ledger_laws.proofs.Stored.{sound-store}
 use Rattle.ledger_laws.proofs.Sound.{of-sound, sound-store-is}
 use Rattle.ledger_laws.proofs.Kept.{steps-kept}
 use Rattle.ledger_laws.proofs.Steps.{shown, steps-are}
-use Rattle.ledger_laws.proofs.Lending.{new-refusal, new-is, new-state}
+use Rattle.ledger_laws.proofs.Lending.{new-refusal, new-ends, new-is, new-state}
 
 module _ (r : Room) where
   pub steps-sound : (ss : List Step) (m : Lent) → sound m ≡ true → sound (actAll (stepOn r) ss m .state) ≡ true
@@ -27,14 +26,9 @@ module _ (r : Room) where
       ∙ ap (λ (a : After (List Answer) Lent). sound (a .state)) (steps-are r ss (held m) m (k .kept))
       ∙ sound-store (actAll (ledgerStep r) ss (held m) .state) m (steps-kept r ss (held m) (k .kept))
 
-  module _ (W H d : ℕ) (m : Lent) (long : short r ≡ false) where
+  module _ (W H : ℕ) (d : Clearance) (m : Lent) (long : short r ≡ false) where
     abbrev new : Step
     new = newFoil W H d
-
-    refusal-ends : all (λ (c : Refusal). not (c .applies) || endsJob (refused (c .number))) (refusals new r (held m))
-        ≡ true
-    unfolding refusals endsJob
-    refusal-ends = simp or-true
 
     accepted-new : refusalOf r false new (held m) ≡ none → sound (stepOn r new m .state) ≡ true
     unfolding shown
@@ -45,9 +39,7 @@ module _ (r : Room) where
     refused-new : (n : ℕ) → refusalOf r false new (held m) ≡ some n → endsJob (stepOn r new m .answer) ≡ true
     unfolding stepOn settle reads
     refused-new n e =
-        rw (new-refusal W H d r (held m) (not (sound m)) (held m), e)
-        (first-passes (λ (k : ℕ). endsJob (refused k)) (refusals new r (held m)) refusal-ends n
-        (sym (own-refused r new (held m) false long refl) ∙ e))
+        rw (new-refusal W H d r (held m) (not (sound m)) (held m), e) (new-ends W H d r (held m) n e long)
 
     -- a new foil that does not end the job
     pub begun-sound : endsJob (stepOn r new m .answer) ≡ false → sound (stepOn r new m .state) ≡ true
@@ -58,7 +50,7 @@ module _ (r : Room) where
         go (some n) e = clash (refused-new n e) h
 
   -- steps of which the first is a new foil and none ends the job
-  pub first-sound : (W H d : ℕ) (ss : List Step) (m : Lent) → short r ≡ false
+  pub first-sound : (W H : ℕ) (d : Clearance) (ss : List Step) (m : Lent) → short r ≡ false
       → any endsJob (actAll (stepOn r) (newFoil W H d ∷ ss) m .answer) ≡ false
       → sound (actAll (stepOn r) (newFoil W H d ∷ ss) m .state) ≡ true
   unfolding actAll andThen

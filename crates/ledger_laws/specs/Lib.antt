@@ -4,5 +4,7 @@ pub mod Moments
 pub mod Demand2
 pub mod Demand3
 pub mod Drawn
+pub mod Apart
+pub mod OldJobs
 pub mod Numbers
 pub mod Saved

@@ -23,7 +23,7 @@ trackLine net (booked k n) = []
 
 -- the line of a step; no record holds a look up, a save, a find, a booking or a slip
 unfoldable pub stepLine : Step → Answer → List ℕ
-stepLine (newFoil W H d) a = boardLine (numberOf a)
+stepLine (newFoil W H c) a = boardLine (numberOf a)
 stepLine (draw x0 y0 x1 y1) a = patchLine (numberOf a)
 stepLine (lay net S T) a = trackLine net a
 stepLine (lift net) a = liftLine net (numberOf a)

@@ -61,6 +61,12 @@ pub both : (b : Bool) {P : Type 0} → (b ≡ true → P) → (b ≡ false → P
 both true f g = f refl
 both false f g = g refl
 
+-- two tests that pass together are one
+pub same-test : (a b : Bool) → (a ≡ true → b ≡ true) → (b ≡ true → a ≡ true) → a ≡ b
+same-test true b f g = sym (f refl)
+same-test false true f g = g refl
+same-test false false f g = refl
+
 pub and-no-r : (a b : Bool) → b ≡ false → (a && b) ≡ false
 and-no-r true b e = e
 and-no-r false b e = refl

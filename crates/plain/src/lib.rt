@@ -9,10 +9,11 @@
 mod rounds;
 mod walk;
 
+use foil_spec::Pen;
 ghost use mathlib.Core.Path.{_≡_};
 ghost use mathlib.Core.Bool.{true, false};
 ghost use Prim.Native.Nat.{_≤_, _<_};
-ghost use Rattle.foil_spec.specs.Foil.{within, blocks};
+ghost use Rattle.foil_spec.specs.Foil.{penRule, margin, within, blocks};
 ghost use Rattle.foil_spec.specs.Lent.{entryAt};
 ghost use Rattle.plain.specs.Free.{Unblocked};
 
@@ -25,22 +26,22 @@ const POINTS: usize = 4096;
 const SEGMENT: u32 = 65536;
 
 // Says of each place whether its point is on the board of w by h, and none of the first n entries of
-// the table blocks it at clearance d.
-pub fn free_points(map: &mut [bool; 4096], table: &[u16; 640], n: usize, d: u16, w: u16, h: u16)
+// the table blocks it by the pen.
+pub fn free_points(map: &mut [bool; 4096], table: &[u16; 640], n: usize, pen: Pen, w: u16, h: u16)
     requires { ⌜ n ≤ 128 ⌝ }
 {
     for p in 0..POINTS {
         let x = (p % SIDE) as u16;
         let y = (p / SIDE) as u16;
-        map[p] = is_free(table, n, d, w, h, x, y);
+        map[p] = is_free(table, n, pen, w, h, x, y);
     }
 }
 
 // Whether the point (x, y) is on the board, and no entry blocks it.
-pub fn is_free(table: &[u16; 640], n: usize, d: u16, w: u16, h: u16, x: u16, y: u16) -> bool
+pub fn is_free(table: &[u16; 640], n: usize, pen: Pen, w: u16, h: u16, x: u16, y: u16) -> bool
     requires { ⌜ n ≤ 128 ⌝ }
-    ensures { λ r. ⌜ (r ≡ true → Unblocked (now (table .entry)) n d w h x y)
-        × (r ≡ false → Unblocked (now (table .entry)) n d w h x y → ⊥) ⌝ }
+    ensures { λ r. ⌜ (r ≡ true → Unblocked (now (table .entry)) n pen w h x y)
+        × (r ≡ false → Unblocked (now (table .entry)) n pen w h x y → ⊥) ⌝ }
 {
     if w <= x {
         return false;
@@ -49,16 +50,30 @@ pub fn is_free(table: &[u16; 640], n: usize, d: u16, w: u16, h: u16, x: u16, y: 
         return false;
     }
     for i in 0..n {
-        if blocks_at(table, i, d, x, y) {
+        if blocks_at(table, i, away(table, i, pen), x, y) {
             return false;
         }
     }
     true
 }
 
-// Whether entry i of the table blocks the point (x, y).
-fn blocks_at(table: &[u16; 640], i: usize, d: u16, x: u16, y: u16) -> bool
+// How far away entry i of the table blocks: a patch half the pen's width and its gap, a leg half the
+// width more.
+fn away(table: &[u16; 640], i: usize, pen: Pen) -> u32
     requires { ⌜ i < 128 ⌝ }
+    ensures { λ r. ⌜ (r ≤ 196605) × (r ≡ margin (penRule pen) (entryAt (now (table .entry)) i)) ⌝ }
+{
+    let half = pen.half as u32;
+    let gap = pen.gap as u32;
+    if table[i * 5] == 0 {
+        return half + gap;
+    }
+    half + (half + gap)
+}
+
+// Whether entry i of the table, widened by d, has the point (x, y).
+fn blocks_at(table: &[u16; 640], i: usize, d: u32, x: u16, y: u16) -> bool
+    requires { ⌜ (i < 128) × (d ≤ 196605) ⌝ }
     ensures { λ r. ⌜ r ≡ blocks d (entryAt (now (table .entry)) i) x y ⌝ }
 {
     if !within(table[i * 5 + 1], table[i * 5 + 3], d, x) {
@@ -68,13 +83,14 @@ fn blocks_at(table: &[u16; 640], i: usize, d: u16, x: u16, y: u16) -> bool
 }
 
 // Whether lo - d <= v < hi + d.
-fn within(lo: u16, hi: u16, d: u16, v: u16) -> bool
+fn within(lo: u16, hi: u16, d: u32, v: u16) -> bool
+    requires { ⌜ d ≤ 196605 ⌝ }
     ensures { λ r. ⌜ r ≡ within lo hi d v ⌝ }
 {
-    if (v as u32) + (d as u32) < (lo as u32) {
+    if (v as u32) + d < (lo as u32) {
         return false;
     }
-    (v as u32) < (hi as u32) + (d as u32)
+    (v as u32) < (hi as u32) + d
 }
 
 // Writes the corners of the first path of fewest bends from (sx, sy) to (tx, ty), and of those of

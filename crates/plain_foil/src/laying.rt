@@ -3,6 +3,7 @@ use crate::Done;
 use crate::Foil;
 use crate::accept;
 use crate::in_use;
+use crate::pen;
 use crate::put;
 use crate::refuse;
 ghost use Prim.Native.Nat.{_+_, _*_, _<_, _≤_};
@@ -46,15 +47,7 @@ fn off(foil: Foil, x: u16, y: u16) -> bool {
 fn blocked(row: &[u16; 640], foil: Foil, x: u16, y: u16) -> bool
     requires { ⌜ foil .entries ≤ 128 ⌝ }
 {
-    !plain::is_free(
-        row,
-        foil.entries,
-        foil.clearance,
-        foil.width,
-        foil.height,
-        x,
-        y,
-    )
+    !plain::is_free(row, foil.entries, pen(foil), foil.width, foil.height, x, y)
 }
 
 // Lays a track between two free points.
@@ -75,7 +68,7 @@ fn lay_between(
     let n = foil.entries;
     let mut map = [false; 4096];
     let mut path = [0u16; 8192];
-    plain::free_points(&mut map, row, n, foil.clearance, foil.width, foil.height);
+    plain::free_points(&mut map, row, n, pen(foil), foil.width, foil.height);
     let k = plain::first_path(&mut path, &map, sx, sy, tx, ty);
     if k == 0 {
         return refuse(9, foil);

@@ -4,6 +4,7 @@ mod laying;
 mod records;
 mod runs;
 
+use foil_spec::Pen;
 pub use laying::lay;
 pub use records::NONE;
 pub use records::Ran;
@@ -12,12 +13,21 @@ pub use runs::strips;
 ghost use mathlib.Core.Path.{_≡_};
 ghost use Prim.Native.Nat.{_+_, _<_, _≤_};
 
-// A foil's size, its clearance, and how many entries its row has.
+// A foil's size, the half width and the gap of its pen, and how many entries its row has.
 pub struct Foil {
     pub width: u16,
     pub height: u16,
-    pub clearance: u16,
+    pub half: u16,
+    pub gap: u16,
     pub entries: usize,
+}
+
+// The foil's pen.
+fn pen(foil: Foil) -> Pen {
+    Pen {
+        half: foil.half,
+        gap: foil.gap,
+    }
 }
 
 // The number of a step, 0 if it is accepted, with the corners of a track; and the foil after it.
@@ -48,7 +58,8 @@ fn accept(corners: usize, foil: Foil, entries: usize) -> Done
         foil: Foil {
             width: foil.width,
             height: foil.height,
-            clearance: foil.clearance,
+            half: foil.half,
+            gap: foil.gap,
             entries,
         },
     }

@@ -73,10 +73,13 @@ fn refusal(bytes: &[u8], at: usize) -> u8
     if bytes.len() <= at {
         return 14;
     }
-    if 32 <= map {
+    if 64 <= map {
         return 15;
     }
     if at == 0 && map % 2 == 0 {
+        return 16;
+    }
+    if 32 <= map && map % 2 == 0 {
         return 16;
     }
     if at != 0 && map % 2 == 1 {
@@ -123,12 +126,20 @@ fn leg_at(bytes: &[u8], at: usize) -> usize
     lift_at(bytes, at) + size(bytes, at, 8, 2)
 }
 
-// The place after the record.
-fn after(bytes: &[u8], at: usize) -> usize
+// Where the fields of the pen begin, or would begin.
+fn pen_at(bytes: &[u8], at: usize) -> usize
     requires { ⌜ at ≤ 60000 ⌝ }
     ensures { λ r. ⌜ r ≤ at + 37 ⌝ }
 {
     leg_at(bytes, at) + size(bytes, at, 16, 10)
+}
+
+// The place after the record.
+fn after(bytes: &[u8], at: usize) -> usize
+    requires { ⌜ at ≤ 60000 ⌝ }
+    ensures { λ r. ⌜ r ≤ at + 41 ⌝ }
+{
+    pen_at(bytes, at) + size(bytes, at, 32, 4)
 }
 
 // A record without steps.
@@ -207,7 +218,7 @@ fn steps(
     ensures { λ r. ⌜ r .foil .entries ≤ 128 ⌝ }
 {
     let begun = board_step(row, foil, bytes, at);
-    if begun.number == 1 || begun.number == 2 {
+    if begun.number == 1 || begun.number == 2 || begun.number == 20 {
         return over(begun);
     }
     later_steps(row, corners, begun, room, bytes, at)
@@ -268,13 +279,44 @@ fn board_step(row: &mut [u16; 640], foil: Foil, bytes: &[u8], at: usize) -> Done
     }
     let width = number(bytes, at + 1);
     let height = number(bytes, at + 3);
-    let clearance = number(bytes, at + 5);
     if width < 1 || 4096 < width || height < 1 || 4096 < height {
         return crate::refuse(1, foil);
     }
-    if 15 < clearance {
+    if has(bytes, at, 32) {
+        return pen_board(row, foil, bytes, at, width, height);
+    }
+    let reach = number(bytes, at + 5);
+    if 15 < reach {
         return crate::refuse(2, foil);
     }
+    begin(row, width, height, 0, reach)
+}
+
+// Begins the foil by the pen of its record, whatever its reach is.
+fn pen_board(
+    row: &mut [u16; 640],
+    foil: Foil,
+    bytes: &[u8],
+    at: usize,
+    width: u16,
+    height: u16,
+) -> Done
+    requires { ⌜ (foil .entries ≤ 128) × (at ≤ 60000) ⌝ }
+    ensures { λ r. ⌜ r .foil .entries ≤ 128 ⌝ }
+{
+    let f = pen_at(bytes, at);
+    let half = number(bytes, f);
+    let gap = number(bytes, f + 2);
+    if 7 < half || 15 < gap {
+        return crate::refuse(20, foil);
+    }
+    begin(row, width, height, half, gap)
+}
+
+// A foil with an empty row.
+fn begin(row: &mut [u16; 640], width: u16, height: u16, half: u16, gap: u16) -> Done
+    ensures { λ r. ⌜ r .foil .entries ≤ 128 ⌝ }
+{
     *row = [0; 640];
     Done {
         number: 0,
@@ -282,7 +324,8 @@ fn board_step(row: &mut [u16; 640], foil: Foil, bytes: &[u8], at: usize) -> Done
         foil: Foil {
             width,
             height,
-            clearance,
+            half,
+            gap,
             entries: 0,
         },
     }

@@ -1,5 +1,6 @@
 // The strips of a foil, by their definition, from its free points.
 use crate::Foil;
+use crate::pen;
 ghost use Prim.Native.Nat.{_+_, _<_, _≤_};
 
 // How many points are in a row of the map, and how many in all.
@@ -17,7 +18,7 @@ pub fn strips(list: &mut [u16; 16384], row: &[u16; 640], foil: Foil) -> usize
         &mut map,
         row,
         foil.entries,
-        foil.clearance,
+        pen(foil),
         foil.width,
         foil.height,
     );

@@ -1,5 +1,6 @@
-// Runs the plain search on the starred boards of document 01 that have a track, and writes what it finds: a line for
-// each pair of points, with the corners of the path.
+// Runs the plain search on the starred boards of document 01 that have a track, and round a patch and a leg by a wide
+// pen, and writes what it finds: a line for each pair of points, with the corners of the path.
+use foil_spec::Pen;
 ghost use Prim.Native.Nat.{_≤_, _<_};
 
 // Writes a point, as x,y.
@@ -20,13 +21,31 @@ fn print_corners(corners: &[u16; 8192], n: usize)
     io::write_all(1, b"\n");
 }
 
-// Writes the path between two points of a board.
-fn show(table: &[u16; 640], n: usize, d: u16, w: u16, h: u16, sx: u16, sy: u16, tx: u16, ty: u16)
+// Writes the path between two points of a board by a pen of half width 0 with a gap.
+fn show(table: &[u16; 640], n: usize, gap: u16, w: u16, h: u16, sx: u16, sy: u16, tx: u16, ty: u16)
+    requires { ⌜ n ≤ 128 ⌝ }
+{
+    let pen = Pen { half: 0, gap };
+    show_by(table, n, pen, w, h, sx, sy, tx, ty);
+}
+
+// Writes the path between two points of a board by a pen.
+fn show_by(
+    table: &[u16; 640],
+    n: usize,
+    pen: Pen,
+    w: u16,
+    h: u16,
+    sx: u16,
+    sy: u16,
+    tx: u16,
+    ty: u16,
+)
     requires { ⌜ n ≤ 128 ⌝ }
 {
     let mut map = [false; 4096];
     let mut corners = [0u16; 8192];
-    plain::free_points(&mut map, table, n, d, w, h);
+    plain::free_points(&mut map, table, n, pen, w, h);
     let found = plain::first_path(&mut corners, &map, sx, sy, tx, ty);
     print_point(sx, sy);
     io::write_all(1, b" to ");
@@ -62,11 +81,17 @@ fn main() {
     // A patch from edge to edge.
     patch(&mut table, 0, 1, 0, 2, 3);
     show(&table, 1, 0, 3, 3, 0, 0, 2, 0);
-    // A patch with clearance 1.
+    // A patch that blocks up to 1 away.
     patch(&mut table, 0, 4, 4, 6, 6);
     show(&table, 1, 1, 10, 10, 3, 3, 0, 0);
     show(&table, 1, 1, 10, 10, 2, 3, 7, 6);
     // The board of the job file.
     patch(&mut table, 0, 2, 0, 3, 3);
     show(&table, 1, 0, 6, 4, 0, 0, 4, 0);
+    // The same points as a patch and as a leg, by a pen of half width 1: a leg blocks further away.
+    let wide = Pen { half: 1, gap: 0 };
+    patch(&mut table, 0, 5, 0, 6, 2);
+    show_by(&table, 1, wide, 12, 5, 0, 0, 11, 0);
+    table[0] = 9;
+    show_by(&table, 1, wide, 12, 5, 0, 0, 11, 0);
 }

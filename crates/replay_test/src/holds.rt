@@ -39,7 +39,8 @@ fn sevens(list: &[u16], from: usize) -> bool {
 fn same_board(board: Board, foil: Foil, count: usize) -> bool {
     board.width == foil.width
         && board.height == foil.height
-        && board.clearance == foil.clearance
+        && board.half == foil.half
+        && board.gap == foil.gap
         && board.entries == foil.entries
         && board.strips == count
 }

@@ -12,7 +12,7 @@ pub(crate) struct Made {
 }
 
 // Where the next byte goes, and the number that is left.
-struct Pen {
+struct Cursor {
     at: usize,
     seed: u32,
 }
@@ -46,15 +46,16 @@ fn net(seed: u32) -> u16 {
     1 + below(seed, 9)
 }
 
-// Puts the board of a file after its map byte, now and then one that ends the job.
-fn board(bytes: &mut [u8; 12000], w: u16, h: u16, seed: u32) -> Pen
+// Puts the board of a file after its map byte, now and then one that ends the job, unless a pen takes the place of the
+// reach.
+fn board(bytes: &mut [u8; 12000], w: u16, h: u16, seed: u32) -> Cursor
     ensures { λ r. ⌜ r .at ≡ 7 ⌝ }
 {
     let kind = seed / 64 % 60;
     put(bytes, 1, if kind == 0 { 0 } else { w });
     put(bytes, 3, if kind == 1 { 4097 } else { h });
     put(bytes, 5, if kind == 2 { 16 } else { below(seed, 3) });
-    Pen {
+    Cursor {
         at: 7,
         seed: next(seed),
     }
@@ -75,15 +76,15 @@ fn end_of(start: u16, size: u16, seed: u32) -> u16
 }
 
 // Puts the fields of a patch, if the map byte asks for it.
-fn patch(bytes: &mut [u8; 12000], map: u16, pen: Pen, w: u16, h: u16) -> Pen
-    requires { ⌜ (pen .at < 11900) × (0 < w) × (w ≤ 64) × (0 < h) × (h ≤ 64) ⌝ }
-    ensures { λ r. ⌜ r .at ≤ pen .at + 8 ⌝ }
+fn patch(bytes: &mut [u8; 12000], map: u16, cursor: Cursor, w: u16, h: u16) -> Cursor
+    requires { ⌜ (cursor .at < 11900) × (0 < w) × (w ≤ 64) × (0 < h) × (h ≤ 64) ⌝ }
+    ensures { λ r. ⌜ r .at ≤ cursor .at + 8 ⌝ }
 {
     if map / 2 % 2 == 0 {
-        return pen;
+        return cursor;
     }
-    let at = pen.at;
-    let a = next(pen.seed);
+    let at = cursor.at;
+    let a = next(cursor.seed);
     let b = next(a);
     let x0 = below(a, w);
     let y0 = below(b, h);
@@ -91,22 +92,22 @@ fn patch(bytes: &mut [u8; 12000], map: u16, pen: Pen, w: u16, h: u16) -> Pen
     put(bytes, at + 2, y0);
     put(bytes, at + 4, end_of(x0, w, a / 8));
     put(bytes, at + 6, end_of(y0, h, b / 8));
-    Pen {
+    Cursor {
         at: at + 8,
         seed: b,
     }
 }
 
 // Puts the fields of a track, if the map byte asks for it.
-fn track(bytes: &mut [u8; 12000], map: u16, pen: Pen, w: u16, h: u16) -> Pen
-    requires { ⌜ (pen .at < 11900) × (0 < w) × (0 < h) ⌝ }
-    ensures { λ r. ⌜ r .at ≤ pen .at + 10 ⌝ }
+fn track(bytes: &mut [u8; 12000], map: u16, cursor: Cursor, w: u16, h: u16) -> Cursor
+    requires { ⌜ (cursor .at < 11900) × (0 < w) × (0 < h) ⌝ }
+    ensures { λ r. ⌜ r .at ≤ cursor .at + 10 ⌝ }
 {
     if map / 4 % 2 == 0 {
-        return pen;
+        return cursor;
     }
-    let at = pen.at;
-    let a = next(pen.seed);
+    let at = cursor.at;
+    let a = next(cursor.seed);
     let b = next(a);
     let c = next(b);
     let e = next(c);
@@ -115,39 +116,39 @@ fn track(bytes: &mut [u8; 12000], map: u16, pen: Pen, w: u16, h: u16) -> Pen
     put(bytes, at + 4, coordinate(h, b));
     put(bytes, at + 6, coordinate(w, c));
     put(bytes, at + 8, coordinate(h, e));
-    Pen {
+    Cursor {
         at: at + 10,
         seed: e,
     }
 }
 
 // Puts the net of a lift, if the map byte asks for it.
-fn lift(bytes: &mut [u8; 12000], map: u16, pen: Pen) -> Pen
-    requires { ⌜ pen .at < 11900 ⌝ }
-    ensures { λ r. ⌜ r .at ≤ pen .at + 2 ⌝ }
+fn lift(bytes: &mut [u8; 12000], map: u16, cursor: Cursor) -> Cursor
+    requires { ⌜ cursor .at < 11900 ⌝ }
+    ensures { λ r. ⌜ r .at ≤ cursor .at + 2 ⌝ }
 {
     if map / 8 % 2 == 0 {
-        return pen;
+        return cursor;
     }
-    let at = pen.at;
-    let a = next(pen.seed);
+    let at = cursor.at;
+    let a = next(cursor.seed);
     put(bytes, at, net(a));
-    Pen {
+    Cursor {
         at: at + 2,
         seed: a,
     }
 }
 
 // Puts the fields of a leg, if the map byte asks for it: a level one or an upright one, now and then of another shape.
-fn leg(bytes: &mut [u8; 12000], map: u16, pen: Pen, w: u16, h: u16) -> Pen
-    requires { ⌜ (pen .at < 11900) × (0 < w) × (w ≤ 64) × (0 < h) × (h ≤ 64) ⌝ }
-    ensures { λ r. ⌜ r .at ≤ pen .at + 10 ⌝ }
+fn leg(bytes: &mut [u8; 12000], map: u16, cursor: Cursor, w: u16, h: u16) -> Cursor
+    requires { ⌜ (cursor .at < 11900) × (0 < w) × (w ≤ 64) × (0 < h) × (h ≤ 64) ⌝ }
+    ensures { λ r. ⌜ r .at ≤ cursor .at + 10 ⌝ }
 {
     if map / 16 % 2 == 0 {
-        return pen;
+        return cursor;
     }
-    let at = pen.at;
-    let a = next(pen.seed);
+    let at = cursor.at;
+    let a = next(cursor.seed);
     let b = next(a);
     let c = next(b);
     let x0 = below(a, w);
@@ -174,18 +175,25 @@ fn leg(bytes: &mut [u8; 12000], map: u16, pen: Pen, w: u16, h: u16) -> Pen
             end_of(y0, h, b / 8)
         },
     );
-    Pen {
+    Cursor {
         at: at + 10,
         seed: c,
     }
 }
 
 // Puts the fields of a record but for a board's. In a crowded file the patches keep to the left half.
-fn fields(bytes: &mut [u8; 12000], map: u16, pen: Pen, w: u16, h: u16, crowded: bool) -> Pen
-    requires { ⌜ (pen .at < 11700) × (0 < w) × (w ≤ 64) × (0 < h) × (h ≤ 64) ⌝ }
-    ensures { λ r. ⌜ r .at ≤ pen .at + 30 ⌝ }
+fn fields(
+    bytes: &mut [u8; 12000],
+    map: u16,
+    cursor: Cursor,
+    w: u16,
+    h: u16,
+    crowded: bool,
+) -> Cursor
+    requires { ⌜ (cursor .at < 11700) × (0 < w) × (w ≤ 64) × (0 < h) × (h ≤ 64) ⌝ }
+    ensures { λ r. ⌜ r .at ≤ cursor .at + 30 ⌝ }
 {
-    let a = patch(bytes, map, pen, part(w, crowded), h);
+    let a = patch(bytes, map, cursor, part(w, crowded), h);
     let b = track(bytes, map, a, w, h);
     let c = lift(bytes, map, b);
     leg(bytes, map, c, w, h)
@@ -210,51 +218,80 @@ fn map_of(seed: u32, crowded: bool) -> u16
 }
 
 // Puts a record without a board.
-fn record(bytes: &mut [u8; 12000], pen: Pen, w: u16, h: u16, crowded: bool) -> Pen
-    requires { ⌜ (pen .at < 11600) × (0 < w) × (w ≤ 64) × (0 < h) × (h ≤ 64) ⌝ }
-    ensures { λ r. ⌜ r .at ≤ pen .at + 31 ⌝ }
+fn record(bytes: &mut [u8; 12000], cursor: Cursor, w: u16, h: u16, crowded: bool) -> Cursor
+    requires { ⌜ (cursor .at < 11600) × (0 < w) × (w ≤ 64) × (0 < h) × (h ≤ 64) ⌝ }
+    ensures { λ r. ⌜ r .at ≤ cursor .at + 31 ⌝ }
 {
-    let at = pen.at;
-    let a = next(pen.seed);
+    let at = cursor.at;
+    let a = next(cursor.seed);
     let map = map_of(a, crowded);
     bytes[at] = map as u8;
-    let after = Pen {
+    let after = Cursor {
         at: at + 1,
         seed: a,
     };
     fields(bytes, map, after, w, h, crowded)
 }
 
-// Puts the first record of a file.
-fn first_record(bytes: &mut [u8; 12000], w: u16, h: u16, seed: u32) -> Pen
+// Puts the first record of a file, now and then with a pen.
+fn first_record(bytes: &mut [u8; 12000], w: u16, h: u16, seed: u32) -> Cursor
     requires { ⌜ (0 < w) × (w ≤ 64) × (0 < h) × (h ≤ 64) ⌝ }
-    ensures { λ r. ⌜ r .at ≤ 37 ⌝ }
+    ensures { λ r. ⌜ r .at ≤ 41 ⌝ }
 {
     let map = map_of(seed, seed / 4 % 2 == 0);
     bytes[0] = (map + 1) as u8;
-    let pen = board(bytes, w, h, next(seed));
-    fields(bytes, map, pen, w, h, false)
+    let cursor = board(bytes, w, h, next(seed));
+    let last = fields(bytes, map, cursor, w, h, false);
+    if seed / 16 % 4 != 0 {
+        return last;
+    }
+    bytes[0] = (map + 33) as u8;
+    pen(bytes, last)
+}
+
+// Puts the fields of a pen, now and then of one that ends the job.
+fn pen(bytes: &mut [u8; 12000], cursor: Cursor) -> Cursor
+    requires { ⌜ cursor .at < 11900 ⌝ }
+    ensures { λ r. ⌜ r .at ≤ cursor .at + 4 ⌝ }
+{
+    let at = cursor.at;
+    let a = next(cursor.seed);
+    let b = next(a);
+    let kind = a / 64 % 24;
+    put(bytes, at, if kind == 0 { 8 } else { below(a, 3) });
+    put(bytes, at + 2, if kind == 1 { 16 } else { below(b, 3) });
+    Cursor {
+        at: at + 4,
+        seed: b,
+    }
 }
 
 // Puts n records, and the end mark.
-fn records(bytes: &mut [u8; 12000], first: Pen, n: usize, w: u16, h: u16, crowded: bool) -> Pen
-    requires { ⌜ (first .at ≤ 37) × (n ≤ 300) × (0 < w) × (w ≤ 64) × (0 < h) × (h ≤ 64) ⌝ }
+fn records(
+    bytes: &mut [u8; 12000],
+    first: Cursor,
+    n: usize,
+    w: u16,
+    h: u16,
+    crowded: bool,
+) -> Cursor
+    requires { ⌜ (first .at ≤ 41) × (n ≤ 300) × (0 < w) × (w ≤ 64) × (0 < h) × (h ≤ 64) ⌝ }
     ensures { λ r. ⌜ (0 < r .at) × (r .at ≤ 11000) ⌝ }
 {
-    let mut pen = first;
+    let mut cursor = first;
     for _ in 0..n {
-        pen = record(bytes, pen, w, h, crowded);
+        cursor = record(bytes, cursor, w, h, crowded);
     }
-    let end = pen.at;
+    let end = cursor.at;
     bytes[end] = 0;
-    Pen {
+    Cursor {
         at: end + 1,
-        seed: pen.seed,
+        seed: cursor.seed,
     }
 }
 
 // Damages a file now and then: it is cut, a byte after the board is changed, its end mark becomes another map byte, it
-// goes on after the end mark, or its first record has no board. The length that it has then.
+// goes on after the end mark, or its first record has no board, or a pen instead. The length that it has then.
 fn damage(bytes: &mut [u8; 12000], length: usize, seed: u32) -> usize
     requires { ⌜ (0 < length) × (length ≤ 11000) ⌝ }
     ensures { λ r. ⌜ r ≤ 12000 ⌝ }
@@ -265,12 +302,11 @@ fn damage(bytes: &mut [u8; 12000], length: usize, seed: u32) -> usize
         3 | 4 | 5 => change(bytes, place, length, seed),
         6 => last(bytes, length, 1),
         7 => last(bytes, length, 32),
-        8 => last(bytes, length, 128),
-        9 => length + 1,
-        10 => {
-            bytes[0] = 2;
-            length
-        }
+        8 => last(bytes, length, 64),
+        9 => last(bytes, length, 128),
+        10 => length + 1,
+        11 => first(bytes, length, 2),
+        12 => first(bytes, length, 34),
         _ => length,
     }
 }
@@ -283,6 +319,15 @@ fn change(bytes: &mut [u8; 12000], place: usize, length: usize, seed: u32) -> us
     if 7 <= place {
         bytes[place] = below(seed / 64, 256) as u8;
     }
+    length
+}
+
+// Sets the first byte; the file keeps its length.
+fn first(bytes: &mut [u8; 12000], length: usize, b: u8) -> usize
+    requires { ⌜ length ≤ 11000 ⌝ }
+    ensures { λ r. ⌜ r ≤ 11000 ⌝ }
+{
+    bytes[0] = b;
     length
 }
 
@@ -327,10 +372,10 @@ pub(crate) fn make(bytes: &mut [u8; 12000], seed: u32) -> Made
     let h = 1 + below(b, 40);
     let crowded = below(c, 12) == 0;
     let first = first_record(bytes, w, h, c);
-    let pen = records(bytes, first, record_count(c / 16, crowded), w, h, crowded);
-    let e = next(pen.seed);
+    let cursor = records(bytes, first, record_count(c / 16, crowded), w, h, crowded);
+    let e = next(cursor.seed);
     Made {
-        length: damage(bytes, pen.at, e / 8),
+        length: damage(bytes, cursor.at, e / 8),
         room: room(e),
         seed: e,
     }

@@ -22,23 +22,23 @@ const JOBS: usize = 300;
 const RECORDS: usize = 3000;
 
 // Where the counts of records, end marks, tracks and differences are; those of the numbers come first.
-const RUN: usize = 20;
+const RUN: usize = 23;
 
-const ENDS: usize = 21;
+const ENDS: usize = 24;
 
-const LAID: usize = 22;
+const LAID: usize = 25;
 
-const DIFFERENT: usize = 23;
+const DIFFERENT: usize = 26;
 
 // Adds one to a count.
-fn count(counts: &mut [u64; 24], k: usize)
-    requires { ⌜ k < 24 ⌝ }
+fn count(counts: &mut [u64; 27], k: usize)
+    requires { ⌜ k < 27 ⌝ }
 {
     counts[k] = std::num::wrapping_add_u64(counts[k], 1);
 }
 
 // Counts the number of a step or a record, if there is one.
-fn count_number(counts: &mut [u64; 24], number: u8) {
+fn count_number(counts: &mut [u64; 27], number: u8) {
     let k = number as usize;
     if k < RUN {
         count(counts, k);
@@ -62,14 +62,16 @@ fn unbegun(seed: u32) -> Stood
         board: Board {
             width: 0,
             height: 0,
-            clearance: 0,
+            half: 0,
+            gap: 0,
             entries: 0,
             strips: 0,
         },
         foil: Foil {
             width: 0,
             height: 0,
-            clearance: 0,
+            half: 0,
+            gap: 0,
             entries: 0,
         },
         at: 0,
@@ -78,7 +80,7 @@ fn unbegun(seed: u32) -> Stood
 }
 
 // Counts what came of a record by the plain foil.
-fn count_record(counts: &mut [u64; 24], want: Ran) {
+fn count_record(counts: &mut [u64; 27], want: Ran) {
     count(counts, RUN);
     if want.end {
         count(counts, ENDS);
@@ -151,7 +153,7 @@ fn agree(
 
 // Runs a record on both foils, and counts what came of it.
 fn replay_one(
-    counts: &mut [u64; 24],
+    counts: &mut [u64; 27],
     table: &mut [u16; 645],
     strips: &mut [u16; 16388],
     corners: &mut [u16; 300],
@@ -189,7 +191,7 @@ fn replay_one(
 }
 
 // Replays a job file, with so many corner places lent, up to its end or a difference.
-fn replay(counts: &mut [u64; 24], bytes: &[u8], room: usize, seed: u32)
+fn replay(counts: &mut [u64; 27], bytes: &[u8], room: usize, seed: u32)
     requires { ⌜ room ≤ 150 ⌝ }
 {
     let mut table = [7u16; 645];
@@ -217,21 +219,21 @@ fn replay(counts: &mut [u64; 24], bytes: &[u8], room: usize, seed: u32)
 }
 
 // Replays the job file that the first n bytes of a list are.
-fn replay_front(counts: &mut [u64; 24], bytes: &[u8], n: usize, room: usize, seed: u32)
+fn replay_front(counts: &mut [u64; 27], bytes: &[u8], n: usize, room: usize, seed: u32)
     requires { ⌜ (n ≤ length (now bytes)) × (room ≤ 150) ⌝ }
 {
     replay(counts, &bytes[..n], room, seed);
 }
 
 // Replays a job file that was made.
-fn replay_made(counts: &mut [u64; 24], bytes: &[u8; 12000], made: Made)
+fn replay_made(counts: &mut [u64; 27], bytes: &[u8; 12000], made: Made)
     requires { ⌜ (made .length ≤ 12000) × (made .room ≤ 150) ⌝ }
 {
     replay_front(counts, bytes, made.length, made.room, made.seed);
 }
 
 // Makes and replays the job files.
-fn run(counts: &mut [u64; 24]) {
+fn run(counts: &mut [u64; 27]) {
     let mut seed: u32 = 1;
     for _ in 0..JOBS {
         let mut bytes = [0u8; 12000];
@@ -249,7 +251,7 @@ fn print_line(words: &[u8], n: u64) {
 }
 
 // Writes a line for each number that refused something.
-fn print_numbers(counts: &[u64; 24]) {
+fn print_numbers(counts: &[u64; 27]) {
     for k in 1..RUN {
         if counts[k] != 0 {
             io::write_all(1, b"refused by ");
@@ -260,7 +262,7 @@ fn print_numbers(counts: &[u64; 24]) {
 }
 
 fn main() {
-    let mut counts = [0u64; 24];
+    let mut counts = [0u64; 27];
     run(&mut counts);
     print_line(b"random jobs: ", JOBS as u64);
     print_line(b"records: ", counts[RUN]);

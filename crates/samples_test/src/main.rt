@@ -31,6 +31,7 @@ fn main() {
     sample(b"too-fine", b"too-fine.job");
     sample(b"too-long", b"too-long.job");
     sample(b"unknown-bit", b"unknown-bit.job");
+    sample(b"wide-pen", b"wide-pen.job");
     sample(b"window", b"window.job");
 }
 

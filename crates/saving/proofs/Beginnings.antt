@@ -9,7 +9,7 @@ use borrow.Author.Count.{below-more}
 use borrow.Author.Tests.{lt-ltb, le-ltb}
 use Rattle.foil_spec.specs.Lists.{range}
 use Rattle.foil_spec.specs.Limits.{maxStrips}
-use Rattle.foil_spec.specs.Foil.{Entry, Layout}
+use Rattle.foil_spec.specs.Foil.{Entry, Pen, Rule, Layout}
 use Rattle.foil_spec.specs.Ledger.{stripsOf, withEntries, tooFine, beginningTooFine}
 use Rattle.foil_spec.specs.Lent.{entryAt, layoutOf}
 use Rattle.list_laws.proofs.Members.{in-any, none-of, in-range, of-range}
@@ -17,14 +17,13 @@ use Rattle.ledger_laws.proofs.Sound.{length-read}
 use Rattle.zones.specs.Table.{Table}
 
 -- fewer entries of a table whose zones can be told
-pub table-front : {t : List ℕ} {n d w h : ℕ} (k : ℕ) → k ≤ n → Table t n d w h → Table t k d w h
+pub table-front : {t : List ℕ} {n w h : ℕ} {r : Rule} (k : ℕ) → k ≤ n → Table t n r w h → Table t k r w h
 table-front k le b =
     record {
       len = omega (arith, b .len);
       few = omega (arith, b .few);
       small = b .small;
-      width = b .width;
-      height = b .height;
+      sized = b .sized;
       x-order = λ j l. b .x-order j (omega arith);
       y-order = λ j l. b .y-order j (omega arith);
       x-end = λ j l. b .x-end j (omega arith);
@@ -46,13 +45,13 @@ take-places g a zero n le = refl
 take-places g a (suc k) zero le = absurd (omega arith)
 take-places {A} g a (suc k) (suc n) le = ap (λ (xs : List A). g a ∷ xs) (take-places g (suc a) k n (omega arith))
 
-module _ (t : List ℕ) (n d w h : ℕ) where
+module _ (t : List ℕ) (n : ℕ) (p : Pen) (w h : ℕ) where
   -- the foil, and whether its first k entries alone have too many strips
   abbrev foil : Layout
-  foil = layoutOf w h d n t
+  foil = layoutOf w h p n t
 
   abbrev alone : ℕ → Bool
-  alone k = tooFine (layoutOf w h d k t)
+  alone k = tooFine (layoutOf w h p k t)
 
   -- the same as the definition has it
   abbrev begun : ℕ → Bool
@@ -72,7 +71,7 @@ module _ (t : List ℕ) (n d w h : ℕ) where
   -- the beginnings of fewer than k entries are fine
   pub record FineTo (k : ℕ) : Type 0 where
     pub up-to : k ≤ n + 1
-    pub fine : (j : ℕ) → j < k → tooFine (layoutOf w h d j t) ≡ false
+    pub fine : (j : ℕ) → j < k → tooFine (layoutOf w h p j t) ≡ false
 
   pub fine-none : FineTo 0
   fine-none = record { up-to = omega arith; fine = λ j l. absurd (omega arith) }
@@ -88,7 +87,7 @@ module _ (t : List ℕ) (n d w h : ℕ) where
       begun-is j (omega arith) ∙ b .fine j (omega arith)))
 
   -- r says whether the first k entries alone have too many strips
-  module _ (k : ℕ) (r : Bool) (le : k ≤ n) (is : r ≡ tooFine (layoutOf w h d k t)) where
+  module _ (k : ℕ) (r : Bool) (le : k ≤ n) (is : r ≡ tooFine (layoutOf w h p k t)) where
     pub fine-more : r ≡ false → FineTo k → FineTo (k + 1)
     fine-more e b =
         record {

@@ -8,7 +8,7 @@ use lib.ListN.{length, getD, take}
 use lib.Seq.{take-suc, take-all}
 use borrow.Author.Tests.{eq-eqb, ne-eqb}
 use Rattle.foil_spec.specs.Lists.{range, each}
-use Rattle.foil_spec.specs.Foil.{Entry, entryNumbers}
+use Rattle.foil_spec.specs.Foil.{Entry, entryNumbers, Pen}
 use Rattle.foil_spec.specs.Lent.{entryAt, layoutOf}
 use Rattle.foil_spec.specs.Saving.{twoBytes, boardBytes, patchBytes, legBytes, entryBytes, jobOf}
 use Rattle.list_laws.proofs.Members.{each-append}
@@ -60,13 +60,14 @@ entries-next t n p = omega (arith, p .next, entries-size (map (entryAt t) (range
 
 -- ---- the file
 
-module _ (w h d : ℕ) {o o₁ : List ℕ} {a : ℕ} (board : Put o 0 (1 ∷ each twoBytes (w ∷ h ∷ d ∷ [])) o₁ a) where
-  pub board-next : a ≡ 7
+module _ (w h : ℕ) (p : Pen) {o o₁ : List ℕ} {a : ℕ}
+    (board : Put o 0 (33 ∷ each twoBytes (w ∷ h ∷ 0 ∷ p .half ∷ p .gap ∷ [])) o₁ a) where
+  pub board-next : a ≡ 11
   unfolding twoBytes
   board-next = board .next
 
   pub file-put : (n : ℕ) (t : List ℕ) {o₂ o₃ : List ℕ} {b r : ℕ}
       → Put o₁ a (each entryBytes (map (entryAt t) (range 0 n))) o₂ b → Put o₂ b (0 ∷ []) o₃ r
-      → Put o 0 (jobOf (layoutOf w h d n t)) o₃ r
+      → Put o 0 (jobOf (layoutOf w h p n t)) o₃ r
   unfolding jobOf boardBytes layoutOf
   file-put n t entries mark = put-then board (put-then entries mark)

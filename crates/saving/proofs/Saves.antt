@@ -9,30 +9,14 @@ use borrow.Author.Tests.{lt-ltb, le-ltb}
 use Rattle.foil_spec.specs.Foil.{Layout}
 use Rattle.foil_spec.specs.Saving.{jobOf}
 use Rattle.foil_spec.specs.Ledger.{save, beginningTooFine, next, says, first, reads, refusals}
-use Rattle.foil_spec.specs.Lent.{Lent, lent, layoutOf, held, sound, roomIn}
+use Rattle.foil_spec.specs.Lent.{Lent, lent, layoutOf, penIn, held, sound, roomIn}
 use Rattle.foil_spec.specs.declared.Board.{Board}
-use Rattle.ledger_laws.proofs.Rules.{of-ok}
-use Rattle.ledger_laws.proofs.Sound.{of-sound, sound-long}
-use Rattle.zones.specs.Table.{Table}
-use Rattle.zones.proofs.Tables.{table-of}
 use Rattle.foil.specs.Contract.{WriteDone, LentChecked}
 use Rattle.foil.specs.declared.Answer.the-variants.{Refused, Wrote}
 use Rattle.foil.specs.declared.lent.Checked.the-variants as checked
 use Rattle.foil.proofs.Writing.{lent-unwritten, own-unwritten, written}
-use Rattle.foil.proofs.Limits.{held-limits}
 use Rattle.putting.specs.Put.{Put}
 use Rattle.putting.proofs.Putting.{front-over}
-
--- the table of a foil that keeps the rules can be read
-pub table-read : (b : Board) (t s : List ℕ) → sound (lent b t s) ≡ true
-    → Table t (b .entries) (b .clearance) (b .width) (b .height)
-unfolding held layoutOf
-table-read b t s g =
-    let facts = of-sound (lent b t s) g in
-    let l = held-limits b t s facts in
-    table-of t (b .entries) (b .clearance) (b .width) (b .height) (l .few)
-    (omega (arith, l .few, sound-long (lent b t s) g .table)) (l .small) (l .wide) (l .high)
-    (of-ok (held (lent b t s)) (facts .kept) .entries)
 
 module _ (b : Board) (t s o : List ℕ) where
   abbrev m : Lent
@@ -40,7 +24,7 @@ module _ (b : Board) (t s o : List ℕ) where
 
   -- the foil that is lent
   abbrev foil : Layout
-  foil = layoutOf (b .width) (b .height) (b .clearance) (b .entries) t
+  foil = layoutOf (b .width) (b .height) (penIn b) (b .entries) t
 
   pub lent-refused : (n : ℕ) → LentChecked m (checked.Refused n) → WriteDone save m o (Refused n) o
   unfolding reads

@@ -8,23 +8,23 @@ ghost use mathlib.Core.List.{_∷_, map};
 ghost use lib.ListN.{length};
 ghost use Rattle.foil_spec.specs.Lists.{range, each};
 ghost use Rattle.foil_spec.specs.Limits.{maxEntries};
-ghost use Rattle.foil_spec.specs.Lent.{entryAt, layoutOf};
+ghost use Rattle.foil_spec.specs.Lent.{entryAt, layoutOf, penIn};
 ghost use Rattle.foil_spec.specs.Saving.{twoBytes, entryBytes, jobOf};
 ghost use Rattle.putting.specs.Put.{Put};
 ghost use Rattle.saving.specs.File.{fileSize};
 
 // The most bytes that the file of a foil can have.
-pub const FILE_SIZE: usize = 1416;
+pub const FILE_SIZE: usize = 1420;
 
 // Puts the whole file of a foil at the front.
 pub fn write_file(out: &mut [u8], table: &[u16], board: Board) -> usize
     requires { ⌜ fileSize ≤ length (now out) ⌝ }
     requires { ⌜ (board .entries ≤ maxEntries) × (board .entries * 5 ≤ length (now table)) ⌝ }
     ensures { λ r. ⌜ Put (now (out .entry)) 0 (jobOf (layoutOf (board .width) (board .height)
-        (board .clearance) (board .entries) (now (table .entry)))) (now (out .exit)) r ⌝ }
+        (penIn board) (board .entries) (now (table .entry)))) (now (out .exit)) r ⌝ }
 {
-    let numbers = [board.width, board.height, board.clearance];
-    let first = put_record(out, 0, 1, &numbers);
+    let numbers = [board.width, board.height, 0, board.half, board.gap];
+    let first = put_record(out, 0, 33, &numbers);
     let end = put_entries(out, first, table, board.entries);
     put_bytes(out, end, b"\0")
 }

@@ -14,8 +14,9 @@ use state::strips_of;
 use strips::Built;
 ghost use mathlib.Core.Path.{_≡_};
 ghost use mathlib.Core.Bool.{true};
+ghost use Rattle.foil_spec.specs.Foil.{penRule};
 ghost use Rattle.foil_spec.specs.Ledger.{tooFine, beginningTooFine, save as saves};
-ghost use Rattle.foil_spec.specs.Lent.{lent, layoutOf, sound};
+ghost use Rattle.foil_spec.specs.Lent.{lent, layoutOf, penIn, sound};
 ghost use Rattle.zones.specs.Table.{Table};
 ghost use Rattle.foil.specs.Contract.{WriteDone};
 
@@ -53,8 +54,8 @@ pub fn save_in(out: &mut [u8], table: &[u16], strips: &[u16], board: Board) -> A
 
 // Whether some beginning of the table alone has too many strips.
 fn beginning_too_fine(table: &[u16], board: Board) -> bool
-    requires { ⌜ Table (now table) (board .entries) (board .clearance) (board .width) (board .height) ⌝ }
-    ensures { λ r. ⌜ r ≡ beginningTooFine (layoutOf (board .width) (board .height) (board .clearance)
+    requires { ⌜ Table (now table) (board .entries) (penRule (penIn board)) (board .width) (board .height) ⌝ }
+    ensures { λ r. ⌜ r ≡ beginningTooFine (layoutOf (board .width) (board .height) (penIn board)
         (board .entries) (now (table .entry))) ⌝ }
 {
     let mut k = 0;
@@ -69,8 +70,8 @@ fn beginning_too_fine(table: &[u16], board: Board) -> bool
 
 // Whether the table's first n entries leave too many strips.
 fn too_fine(table: &[u16], n: usize, board: Board) -> bool
-    requires { ⌜ Table (now table) n (board .clearance) (board .width) (board .height) ⌝ }
-    ensures { λ r. ⌜ r ≡ tooFine (layoutOf (board .width) (board .height) (board .clearance) n
+    requires { ⌜ Table (now table) n (penRule (penIn board)) (board .width) (board .height) ⌝ }
+    ensures { λ r. ⌜ r ≡ tooFine (layoutOf (board .width) (board .height) (penIn board) n
         (now (table .entry))) ⌝ }
 {
     let mut out = [0u16; STRIPS_SIZE];

@@ -1,11 +1,12 @@
 -- When the search can be asked for a path: the boxes of a board leave free what the test of its points has free.
-use Prim.Native.Nat.{ℕ, _≤_}
+use Prim.Native.Nat.{ℕ, _+_, _≤_, _<_}
 use native.Mathlib.Omega.{arith}
 use mathlib.Core.Path.{_≡_, ap, _∙_}
-use mathlib.Core.Bool.{Bool, true}
+use mathlib.Core.Bool.{Bool, true, false}
 use mathlib.Core.List.{List}
 use lib.ListN.{length}
-use Rattle.foil_spec.specs.Foil.{point, free}
+use borrow.Author.Tests.{le-ltb, lt-leb}
+use Rattle.foil_spec.specs.Foil.{point, pen, penRule, nearEdge, free}
 use Rattle.foil_spec.specs.Lent.{layoutOf}
 use Rattle.zones.specs.Boxes.{Zoned}
 use Rattle.zones.specs.Table.{Table}
@@ -14,26 +15,35 @@ use Rattle.search.specs.Grid.{Posed}
 use Rattle.plain.specs.Free.{Unblocked}
 use Rattle.search_test.specs.Box.{AllBoxes}
 
-module _ {t : List ℕ} {n d w h : ℕ} where
-  pub table-of : 640 ≡ length t → n ≤ 128 → d ≤ 15 → w ≤ 4096 → h ≤ 4096 → AllBoxes w h n t → Table t n d w h
-  table-of len few small wide high ok =
+-- the edge blocks nothing
+off-edge : {size v : ℕ} → v < size → nearEdge 0 size v ≡ false
+unfolding nearEdge
+off-edge {size} {v} l = simp (le-ltb v 0 (omega arith), lt-leb size (v + 0) (omega arith))
+
+module _ {t : List ℕ} {n g w h : ℕ} where
+  pub table-of : 640 ≡ length t → n ≤ 128 → g ≤ 15 → 0 < w → 0 < h → w ≤ 4096 → h ≤ 4096 → AllBoxes w h n t
+      → Table t n (penRule (pen 0 g)) w h
+  unfolding penRule
+  table-of len few small some-w some-h wide high ok =
       record {
         len = omega arith;
         few = few;
-        small = small;
-        width = wide;
-        height = high;
+        small = record { patch = omega arith; leg = omega arith; edge = omega arith };
+        sized = record { some-width = some-w; some-height = some-h; width = wide; height = high };
         x-order = λ k l. ok k l .across;
         y-order = λ k l. ok k l .down;
         x-end = λ k l. ok k l .right;
         y-end = λ k l. ok k l .bottom;
       }
 
-  is-free : {x y : ℕ} → Unblocked t n d w h x y → free (layoutOf w h d n t) x y ≡ true
-  is-free {x} {y} u = free-at w h d n t x y (u .x-on) (u .y-on) (u .none)
+  is-free : {x y : ℕ} → Unblocked t n (pen 0 g) w h x y → free (layoutOf w h (pen 0 g) n t) x y ≡ true
+  unfolding penRule free layoutOf
+  is-free {x} {y} u =
+      free-at (penRule (pen 0 g)) w h n t x y (u .x-on) (u .y-on) (off-edge (u .x-on)) (off-edge (u .y-on)) (u .none)
 
-  pub posed : {z : List ℕ} {c sx sy tx ty : ℕ} → Zoned (free (layoutOf w h d n t)) w h z c → Unblocked t n d w h sx sy
-      → Unblocked t n d w h tx ty → Posed z c w h (point sx sy) (point tx ty)
+  pub posed : {z : List ℕ} {c sx sy tx ty : ℕ} → Zoned (free (layoutOf w h (pen 0 g) n t)) w h z c
+      → Unblocked t n (pen 0 g) w h sx sy → Unblocked t n (pen 0 g) w h tx ty
+      → Posed z c w h (point sx sy) (point tx ty)
   posed {sx = sx} {sy = sy} {tx = tx} {ty = ty} Z s g =
       record {
         boxes = Z .boxes;

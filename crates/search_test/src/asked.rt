@@ -1,8 +1,10 @@
 // The search, asked for a path on a board.
 use boards::Made;
+use foil_spec::Board;
+use foil_spec::Pen;
 use foil_spec::entry_at;
 use zones::BOXES_SIZE;
-use zones::zones;
+use zones::pen_zones;
 ghost use mathlib.Core.Path.{_≡_};
 ghost use mathlib.Core.Bool.{true};
 ghost use Prim.Native.Nat.{_<_, _≤_};
@@ -58,19 +60,28 @@ pub(crate) fn first_path(
     requires { ⌜ OnBoard made ⌝ }
 {
     let n = made.entries;
-    let d = made.clearance;
+    let gap = made.clearance;
+    let pen = Pen { half: 0, gap };
     let w = made.width;
     let h = made.height;
     if !boxes_ok(table, n, w, h) {
         return UNASKED;
     }
-    if !plain::is_free(table, n, d, w, h, sx, sy) {
+    if !plain::is_free(table, n, pen, w, h, sx, sy) {
         return UNASKED;
     }
-    if !plain::is_free(table, n, d, w, h, tx, ty) {
+    if !plain::is_free(table, n, pen, w, h, tx, ty) {
         return UNASKED;
     }
     let mut boxes = [0u16; BOXES_SIZE];
-    let count = zones(&mut boxes, table, n, d, w, h);
+    let board = Board {
+        width: w,
+        height: h,
+        half: 0,
+        gap,
+        entries: n,
+        strips: 0,
+    };
+    let count = pen_zones(&mut boxes, table, n, board);
     search::first_path(out, &boxes, count, w, h, sx, sy, tx, ty)
 }

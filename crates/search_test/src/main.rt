@@ -4,6 +4,7 @@
 mod asked;
 
 use boards::Made;
+use foil_spec::Pen;
 ghost use Prim.Native.Nat.{_<_, _≤_};
 ghost use Rattle.boards.specs.Board.{OnBoard};
 
@@ -63,14 +64,9 @@ fn try_board(table: &[u16; 640], made: Made) -> Outcome
     requires { ⌜ OnBoard made ⌝ }
 {
     let mut map = [false; 4096];
-    plain::free_points(
-        &mut map,
-        table,
-        made.entries,
-        made.clearance,
-        made.width,
-        made.height,
-    );
+    let gap = made.clearance;
+    let pen = Pen { half: 0, gap };
+    plain::free_points(&mut map, table, made.entries, pen, made.width, made.height);
     let s = boards::choose(&map, made.sx, made.sy);
     let t = boards::choose(&map, made.tx, made.ty);
     if s == 4096 {

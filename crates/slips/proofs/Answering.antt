@@ -10,7 +10,7 @@ use Rattle.foil_spec.specs.Foil.{entryOk}
 use Rattle.foil_spec.specs.Nets.{ofNet, netLength}
 use Rattle.foil_spec.specs.Slip.{slipOf}
 use Rattle.foil_spec.specs.Ledger.{slip, next, says, first, reads, refusals}
-use Rattle.foil_spec.specs.Lent.{Lent, lent, entryAt, layoutOf, held, sound, roomIn}
+use Rattle.foil_spec.specs.Lent.{Lent, lent, entryAt, layoutOf, penIn, held, sound, roomIn}
 use Rattle.foil_spec.specs.declared.Board.{Board}
 use Rattle.list_laws.proofs.Members.{at-place}
 use Rattle.ledger_laws.proofs.Rules.{of-ok}
@@ -46,7 +46,7 @@ module _ (b : Board) (t s : List ℕ) where
 
     slip-is : slipOf (held m) ≡ lines
     unfolding held
-    slip-is = slip-lines t (b .entries) (b .width) (b .height) (b .clearance)
+    slip-is = slip-lines t (b .entries) (b .width) (b .height) (penIn b)
 
     -- the tracks of a foil that keeps the rules
     pub tracks : Tracks t (b .entries)

@@ -9,9 +9,9 @@ use lib.ListN.{length, getD, take}
 use borrow.Author.Tests.{le-leb, leb-true, ltb-false, le-ltb, not-true, not-false}
 use Rattle.foil_spec.specs.Lists.{range, all, each}
 use Rattle.foil_spec.specs.Limits.{maxEntries, tableSize, maxStrips, stripsSize}
-use Rattle.foil_spec.specs.Foil.{entryNumbers, Layout, sizeOk, clearanceOk, entryOk}
+use Rattle.foil_spec.specs.Foil.{entryNumbers, Layout, entryOk, penRule}
 use Rattle.foil_spec.specs.Ledger.{stripsOf, tooFine}
-use Rattle.foil_spec.specs.Lent.{Lent, lent, stripNumbers, written, store, entryAt, layoutOf, held}
+use Rattle.foil_spec.specs.Lent.{Lent, lent, stripNumbers, written, store, entryAt, layoutOf, penIn, held}
 use Rattle.foil_spec.specs.Lent.{layoutOk, sound}
 use Rattle.foil_spec.specs.declared.Board.{Board}
 use Rattle.foil_spec.proofs.Written.{written-zero}
@@ -20,6 +20,8 @@ use Rattle.ledger_laws.proofs.Stored.{length-entries, length-strips}
 use Rattle.ledger_laws.proofs.Rules.{of-ok, to-ok}
 use Rattle.ledger_laws.proofs.Sound.{Sound, of-sound, to-sound, sound-long, length-read, read-numbers, front-written}
 use Rattle.ledger_laws.proofs.Sound.{is-written, zeros-written}
+use Rattle.zones.specs.Table.{Small, Sized}
+use Rattle.zones.proofs.Tables.{pen-small, foil-sized}
 use Rattle.strips.specs.Told.{Told}
 use Rattle.state.specs.Tests.{Zeros, boardOk, StripsRight}
 
@@ -85,7 +87,7 @@ module _ (b : Board) (t s : List ℕ) where
       let g = of-ok (held m) (k .kept) in
       clash
       (let y : boardOk b ≡ true =
-      simp (g .width, g .height, g .clearance, le-leb (b .entries) maxEntries (k .few)) in y)
+      simp (g .width, g .height, g .pen, le-leb (b .entries) maxEntries (k .few)) in y)
       (sym e ∙ not-true r n))
 
   pub bad-entries : (r : Bool) → r ≡ all (entryOk (b .width) (b .height)) (map (entryAt t) (range 0 (b .entries)))
@@ -115,24 +117,19 @@ module _ (b : Board) (t s : List ℕ) where
   pub record BoardFits : Type 0 where
     pub yes : boardOk b ≡ true
     pub few : b .entries ≤ maxEntries
-    pub small : b .clearance ≤ 15
-    pub wide : b .width ≤ 4096
-    pub high : b .height ≤ 4096
+    pub small : Small (penRule (penIn b))
+    pub sized : Sized (b .width) (b .height)
 
   pub board-fits : (r : Bool) → r ≡ boardOk b → not r ≡ false → BoardFits
-  unfolding boardOk sizeOk clearanceOk
+  unfolding boardOk
   board-fits r e n =
       let h : boardOk b ≡ true = sym e ∙ not-false r n in
-      let x : leb (b .entries) maxEntries ≡ true = search parts in
-      let y : leb (b .clearance) 15 ≡ true = search parts in
-      let u : leb (b .width) 4096 ≡ true = search parts in
-      let v : leb (b .height) 4096 ≡ true = search parts in
+      let few : leb (b .entries) maxEntries ≡ true = search parts in
       record {
         yes = h;
-        few = leb-true (b .entries) maxEntries x;
-        small = leb-true (b .clearance) 15 y;
-        wide = leb-true (b .width) 4096 u;
-        high = leb-true (b .height) 4096 v;
+        few = leb-true (b .entries) maxEntries few;
+        small = pen-small (penIn b) (search parts);
+        sized = foil-sized (b .width) (b .height) (search parts) (search parts);
       }
 
   -- what the tests before that of the strips have shown
@@ -143,7 +140,7 @@ module _ (b : Board) (t s : List ℕ) where
     pub rest : Zeros t (b .entries * 5) tableSize
 
   abbrev l : Layout
-  l = layoutOf (b .width) (b .height) (b .clearance) (b .entries) t
+  l = layoutOf (b .width) (b .height) (penIn b) (b .entries) t
 
   all-kept : Shown → length (stripsOf l) ≤ maxStrips → layoutOk l ≡ true
   unfolding layoutOf tooFine boardOk
@@ -153,7 +150,7 @@ module _ (b : Board) (t s : List ℕ) where
       (record {
         width = search parts;
         height = search parts;
-        clearance = search parts;
+        pen = search parts;
         entries = h .entries;
         long =
             le-leb (length (map (entryAt t) (range 0 (b .entries)))) maxEntries

@@ -8,22 +8,23 @@ use foil_spec::STRIPS_SIZE;
 use foil_spec::TABLE_SIZE;
 use foil_spec::entry_at;
 pub use limits::box_ok;
-pub use limits::clearance_ok;
 pub use limits::net_ok;
+pub use limits::pen_ok;
+pub use limits::reach_ok;
 pub use limits::size_ok;
 use strips::Built;
 use strips::rebuild;
 use zones::BOXES_SIZE;
-use zones::zones;
+use zones::pen_zones;
 ghost use mathlib.Core.Path.{_≡_};
 ghost use Prim.Native.Nat.{_*_, _≤_};
 ghost use mathlib.Core.List.{map};
 ghost use lib.ListN.{length, take};
 ghost use Rattle.foil_spec.specs.Lists.{range, all};
 ghost use Rattle.foil_spec.specs.Limits.{stripsSize};
-ghost use Rattle.foil_spec.specs.Foil.{entryOk};
+ghost use Rattle.foil_spec.specs.Foil.{entryOk, penRule};
 ghost use Rattle.foil_spec.specs.Ledger.{stripsOf};
-ghost use Rattle.foil_spec.specs.Lent.{lent, entryAt, layoutOf, sound};
+ghost use Rattle.foil_spec.specs.Lent.{lent, entryAt, layoutOf, penIn, sound};
 ghost use Rattle.zones.specs.Table.{Table};
 ghost use Rattle.strips.specs.Built.{Rebuilt};
 ghost use Rattle.strips.specs.Told.{Told};
@@ -52,7 +53,7 @@ pub fn is_sound(table: &[u16], strips: &[u16], board: Board) -> bool
     strips_ok(table, strips, board)
 }
 
-// Whether the record's width, height, clearance and number of entries are in their limits.
+// Whether the record's width, height, pen and number of entries are in their limits.
 fn board_ok(board: Board) -> bool
     ensures { λ r. ⌜ r ≡ boardOk board ⌝ }
 {
@@ -62,7 +63,7 @@ fn board_ok(board: Board) -> bool
     if !limits::size_ok(board.height) {
         return false;
     }
-    if !limits::clearance_ok(board.clearance) {
+    if !limits::pen_ok(board.half, board.gap) {
         return false;
     }
     board.entries <= MAX_ENTRIES
@@ -70,9 +71,9 @@ fn board_ok(board: Board) -> bool
 
 // Whether the strips are those of the table, as many as the record says.
 fn strips_ok(table: &[u16], strips: &[u16], board: Board) -> bool
-    requires { ⌜ Table (now table) (board .entries) (board .clearance) (board .width) (board .height) ⌝ }
+    requires { ⌜ Table (now table) (board .entries) (penRule (penIn board)) (board .width) (board .height) ⌝ }
     requires { ⌜ stripsSize ≤ length (now strips) ⌝ }
-    ensures { λ r. ⌜ Told (StripsRight (layoutOf (board .width) (board .height) (board .clearance)
+    ensures { λ r. ⌜ Told (StripsRight (layoutOf (board .width) (board .height) (penIn board)
         (board .entries) (now (table .entry))) (board .strips) (now (strips .entry))) r ⌝ }
 {
     let mut out = [0u16; STRIPS_SIZE];
@@ -86,23 +87,16 @@ fn strips_ok(table: &[u16], strips: &[u16], board: Board) -> bool
     same_front(&out, strips, STRIPS_SIZE)
 }
 
-// Writes the strips of the table's first n entries, on a board of the record's size and clearance, to
-// out, and zeros after them up to 4,096 places. Where there are too many, what out holds is undecided.
+// Writes the strips of the table's first n entries, on a board of the record's size and pen, to out,
+// and zeros after them up to 4,096 places. Where there are too many, what out holds is undecided.
 pub fn strips_of(out: &mut [u16], table: &[u16], n: usize, board: Board) -> Built
-    requires { ⌜ Table (now table) n (board .clearance) (board .width) (board .height) ⌝ }
+    requires { ⌜ Table (now table) n (penRule (penIn board)) (board .width) (board .height) ⌝ }
     requires { ⌜ stripsSize ≤ length (now out) ⌝ }
     ensures { λ r. ⌜ Rebuilt (now (out .entry)) (now (out .exit))
-        (stripsOf (layoutOf (board .width) (board .height) (board .clearance) n (now (table .entry)))) r ⌝ }
+        (stripsOf (layoutOf (board .width) (board .height) (penIn board) n (now (table .entry)))) r ⌝ }
 {
     let mut boxes = [0u16; BOXES_SIZE];
-    let count = zones(
-        &mut boxes,
-        table,
-        n,
-        board.clearance,
-        board.width,
-        board.height,
-    );
+    let count = pen_zones(&mut boxes, table, n, board);
     rebuild(out, &boxes, count, board.width, board.height)
 }
 

@@ -1,7 +1,7 @@
 // Document 01's limits on single values, as tests.
 ghost use mathlib.Core.Path.{_≡_};
 ghost use Prim.Native.Nat.{_<_};
-ghost use Rattle.foil_spec.specs.Foil.{entry, sizeOk, clearanceOk, netOk, boxOk, shapeOk};
+ghost use Rattle.foil_spec.specs.Foil.{entry, pen, sizeOk, reachOk, penOk, netOk, boxOk, shapeOk};
 
 // Whether n is a width or a height that a foil may have.
 pub fn size_ok(n: u16) -> bool
@@ -13,11 +13,21 @@ pub fn size_ok(n: u16) -> bool
     n <= 4096
 }
 
-// Whether d is a clearance that a foil may have.
-pub fn clearance_ok(d: u16) -> bool
-    ensures { λ r. ⌜ r ≡ clearanceOk d ⌝ }
+// Whether d is a reach that document 01 allows.
+pub fn reach_ok(d: u16) -> bool
+    ensures { λ r. ⌜ r ≡ reachOk d ⌝ }
 {
     d <= 15
+}
+
+// Whether a pen may have this half width and this gap.
+pub fn pen_ok(half: u16, gap: u16) -> bool
+    ensures { λ r. ⌜ r ≡ penOk (pen half gap) ⌝ }
+{
+    if 7 < half {
+        return false;
+    }
+    gap <= 15
 }
 
 // Whether net is the number of a track.

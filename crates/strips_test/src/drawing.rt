@@ -41,14 +41,14 @@ fn lines(table: &mut [u16], strips: &mut [u16], board: Board, level: bool, end: 
 pub(crate) fn lined(table: &mut [u16], strips: &mut [u16], w: u16, h: u16, x: u16, y: u16) -> Board
     requires { ⌜ (x ≤ 4096) × (y ≤ 4096) ⌝ }
 {
-    let begun = new_foil(table, strips, lists::no_board(), w, h, 0);
+    let begun = new_foil(table, strips, lists::no_board(), w, h, 0, 0);
     let upright = lines(table, strips, begun.board, false, x);
     lines(table, strips, upright, true, y)
 }
 
 // A foil of 4 by 4 with the patch 1,1,2,2 drawn 128 times.
 pub(crate) fn equal_patches(table: &mut [u16], strips: &mut [u16]) -> Board {
-    let begun = new_foil(table, strips, lists::no_board(), 4, 4, 0);
+    let begun = new_foil(table, strips, lists::no_board(), 4, 4, 0, 0);
     let mut last = begun.board;
     let mut k: usize = 0;
     while k < 128 {
@@ -82,7 +82,7 @@ pub(crate) fn leg(
 
 // The foil of document 01's job with its patch.
 fn job_foil(table: &mut [u16], strips: &mut [u16]) -> Board {
-    let begun = new_foil(table, strips, lists::no_board(), 6, 4, 0);
+    let begun = new_foil(table, strips, lists::no_board(), 6, 4, 0, 0);
     let done = draw(table, strips, begun.board, 2, 0, 3, 3);
     done.board
 }

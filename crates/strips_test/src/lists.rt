@@ -2,11 +2,12 @@
 use foil_spec::Board;
 
 // The record of a square foil.
-pub(crate) fn square(side: u16, clearance: u16, entries: usize, strips: usize) -> Board {
+pub(crate) fn square(side: u16, half: u16, gap: u16, entries: usize, strips: usize) -> Board {
     Board {
         width: side,
         height: side,
-        clearance,
+        half,
+        gap,
         entries,
         strips,
     }
@@ -14,14 +15,15 @@ pub(crate) fn square(side: u16, clearance: u16, entries: usize, strips: usize) -
 
 // A record of zeros, to begin a foil on.
 pub(crate) fn no_board() -> Board {
-    square(0, 0, 0, 0)
+    square(0, 0, 0, 0, 0)
 }
 
 // Whether the records are the same.
 pub(crate) fn same_board(a: Board, b: Board) -> bool {
     a.width == b.width
         && a.height == b.height
-        && a.clearance == b.clearance
+        && a.half == b.half
+        && a.gap == b.gap
         && a.entries == b.entries
         && a.strips == b.strips
 }

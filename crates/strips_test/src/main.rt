@@ -9,10 +9,13 @@ mod spoilt;
 use foil::draw;
 use foil::lift;
 use foil::new_foil;
+use foil::put_leg;
 use foil_spec::Board;
+use foil_spec::Entry;
 
 fn main() {
     sizes();
+    pens();
     short_table();
     short_strips();
     finest_foil();
@@ -25,31 +28,52 @@ fn main() {
 
 // Foils that cannot be begun, and the largest one that can.
 fn sizes() {
-    begin(0, 1, 0);
-    begin(1, 0, 0);
-    begin(4097, 1, 0);
-    begin(1, 4097, 0);
-    begin(1, 1, 16);
-    begin(0, 1, 16);
-    begin(4096, 4096, 15);
+    begin(0, 1, 0, 0);
+    begin(1, 0, 0, 0);
+    begin(4097, 1, 0, 0);
+    begin(1, 4097, 0, 0);
+    begin(1, 1, 8, 0);
+    begin(1, 1, 0, 16);
+    begin(0, 1, 8, 16);
+    begin(4096, 4096, 7, 15);
 }
 
 // Begins a foil on the shortest lists that will do.
-fn begin(w: u16, h: u16, d: u16) {
+fn begin(w: u16, h: u16, half: u16, gap: u16) {
     let mut table = [7u16; 640];
     let mut strips = [7u16; 16384];
-    let done = new_foil(&mut table, &mut strips, lists::no_board(), w, h, d);
+    let done = new_foil(&mut table, &mut strips, lists::no_board(), w, h, half, gap);
     show::size(w, h);
-    show::count(b", reach ", d as u64);
+    show::pen(b", ", half, gap);
     show::done(b": ", done);
     show::end();
+}
+
+// 20 by 20 with a pen of half width 2 and gap 1: a patch blocks 3 points away, and a leg 5.
+fn pens() {
+    let mut table = [7u16; 640];
+    let mut strips = [7u16; 16384];
+    let begun = new_foil(&mut table, &mut strips, lists::no_board(), 20, 20, 2, 1);
+    let drawn = draw(&mut table, &mut strips, begun.board, 8, 8, 10, 10);
+    show::three_strips(&strips, drawn.board);
+    show::point(&table, &strips, drawn.board, 5, 5);
+    show::point(&table, &strips, drawn.board, 4, 8);
+    let leg = Entry {
+        net: 3,
+        x0: 1,
+        y0: 1,
+        x1: 19,
+        y1: 2,
+    };
+    let put = put_leg(&mut table, &mut strips, drawn.board, leg);
+    show::three_strips(&strips, put.board);
 }
 
 // A table that is one number short; 12 comes before 1.
 fn short_table() {
     let mut table = [7u16; 639];
     let mut strips = [7u16; 16384];
-    let done = new_foil(&mut table, &mut strips, lists::no_board(), 0, 1, 0);
+    let done = new_foil(&mut table, &mut strips, lists::no_board(), 0, 1, 0, 0);
     show::done(b"639 numbers of a table: ", done);
     show::end();
 }
@@ -58,7 +82,7 @@ fn short_table() {
 fn short_strips() {
     let mut table = [7u16; 640];
     let mut strips = [7u16; 16383];
-    let done = new_foil(&mut table, &mut strips, lists::no_board(), 0, 1, 0);
+    let done = new_foil(&mut table, &mut strips, lists::no_board(), 0, 1, 0, 0);
     show::done(b"16383 numbers of a strip list: ", done);
     show::end();
 }

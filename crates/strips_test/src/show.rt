@@ -40,6 +40,13 @@ pub(crate) fn size(w: u16, h: u16) {
     count(b" by ", h as u64);
 }
 
+// Words, then a pen.
+pub(crate) fn pen(words: &[u8], half: u16, gap: u16) {
+    io::write_all(1, words);
+    count(b"half width ", half as u64);
+    count(b", gap ", gap as u64);
+}
+
 // A foil by its record.
 pub(crate) fn record(board: Board) {
     size(board.width, board.height);

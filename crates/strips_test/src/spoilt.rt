@@ -15,16 +15,17 @@ pub(crate) fn states() {
     table_number(3, 2);
     table_number(3, 1);
     table_number(639, 1);
-    record(3, 0, 1, 2);
-    record(4, 0, 1, 2);
-    record(3, 16, 1, 2);
-    record(3, 0, 2, 2);
-    record(3, 0, 1, 3);
+    record(3, 0, 0, 1, 2);
+    record(4, 0, 0, 1, 2);
+    record(3, 8, 0, 1, 2);
+    record(3, 0, 16, 1, 2);
+    record(3, 0, 0, 2, 2);
+    record(3, 0, 0, 1, 3);
 }
 
 // The foil, with the record as it is after the draw.
 fn drawn(table: &mut [u16], strips: &mut [u16]) -> Board {
-    let begun = new_foil(table, strips, lists::no_board(), 3, 3, 0);
+    let begun = new_foil(table, strips, lists::no_board(), 3, 3, 0, 0);
     let done = draw(table, strips, begun.board, 1, 0, 2, 3);
     done.board
 }
@@ -61,12 +62,12 @@ fn table_number(at: usize, n: u16)
 }
 
 // Looks a point up by a record of these numbers.
-fn record(side: u16, clearance: u16, entries: usize, count: usize) {
+fn record(side: u16, half: u16, gap: u16, entries: usize, count: usize) {
     let mut table = [7u16; 640];
     let mut strips = [7u16; 16384];
     drawn(&mut table, &mut strips);
-    let board = lists::square(side, clearance, entries, count);
-    show::count(b"record with reach ", clearance as u64);
+    let board = lists::square(side, half, gap, entries, count);
+    show::pen(b"record with ", half, gap);
     io::write_all(1, b", ");
     show::record(board);
     io::write_all(1, b", ");

@@ -1,5 +1,5 @@
--- What is free: a point is free where it is on the foil and no entry, widened by the clearance, or no box has it; so
--- each law of `free` and of `boxFree` is one of a test of places below n.
+-- What is free: a point is free where it is on the foil, not too near its edge, and no entry, widened by the rule, or no
+-- box has it; so each law of `freeBy` and of `boxFree` is one of a test of places below n.
 use Prim.Native.Nat.{ℕ, zero, suc, _+_, _≤_, _<_}
 use native.Mathlib.Omega.{arith}
 use mathlib.Core.Path.{_≡_, refl, ap, ap₂, sym, _∙_}
@@ -8,8 +8,8 @@ use mathlib.Core.List.{List, [], map}
 use lib.Dec.{leb, ltb}
 use borrow.Author.Tests.{le-leb, lt-ltb, lt-leb, le-ltb, leb-true, ltb-true}
 use Rattle.foil_spec.specs.Lists.{range, all}
-use Rattle.foil_spec.specs.Foil.{Entry, Layout, within, blocks, free}
-use Rattle.foil_spec.specs.Lent.{entryAt, layoutOf}
+use Rattle.foil_spec.specs.Foil.{Entry, Pen, Rule, Layout, within, blocks, penRule, margin, nearEdge, freeBy, free}
+use Rattle.foil_spec.specs.Lent.{entryAt}
 use Rattle.list_laws.proofs.Tests.{both, clash, and-l, and-r, and-i, and-no-r, not-f, not-t, parts}
 use Rattle.list_laws.proofs.Members.{all-places, at-place}
 use Rattle.zones.specs.Boxes.{inside, covers, boxFree, Covered}
@@ -108,42 +108,54 @@ row-same w h n z x u y lu ly same =
     (none-same (λ e. covers e x u) (λ e. covers e x y) (entryAt z) (entryAt z) n 0
     (λ k a b. ap (λ (c : Bool). inside (entryAt z k .x0) (entryAt z k .x1) x && c) (same k (omega arith))))
 
--- ---- the entries of a layout
+-- ---- entries and the edge, by a rule
 
--- free are the points of the foil that no entry blocks
-pub free-at : (w h d n : ℕ) (t : List ℕ) (x y : ℕ) → x < w → y < h
-    → ((k : ℕ) → k < n → blocks d (entryAt t k) x y ≡ false) → free (layoutOf w h d n t) x y ≡ true
-unfolding free layoutOf
-free-at w h d n t x y lx ly none =
-    and-i (and-i (lt-ltb x w lx) (lt-ltb y h ly))
-    (all-places (λ (e : Entry). not (blocks d e x y)) (entryAt t) n (λ k l. not-f (none k l)))
+module _ (r : Rule) (w h n : ℕ) (t : List ℕ) (x y : ℕ) where
+  -- free are the points of the foil that are not too near its edge and that no entry blocks
+  pub free-at : x < w → y < h → nearEdge (r .edge) w x ≡ false → nearEdge (r .edge) h y ≡ false
+      → ((k : ℕ) → k < n → blocks (margin r (entryAt t k)) (entryAt t k) x y ≡ false)
+      → freeBy r w h (map (entryAt t) (range 0 n)) x y ≡ true
+  unfolding freeBy
+  free-at lx ly ex ey none =
+      and-i (and-i (and-i (lt-ltb x w lx) (lt-ltb y h ly)) (rw (ex, ey) refl))
+      (all-places (λ (e : Entry). not (blocks (margin r e) e x y)) (entryAt t) n (λ k l. not-f (none k l)))
+
+  -- and no others
+  pub of-free : freeBy r w h (map (entryAt t) (range 0 n)) x y ≡ true
+      → (x < w) × (y < h) × (nearEdge (r .edge) w x ≡ false) × (nearEdge (r .edge) h y ≡ false)
+      × ((k : ℕ) → k < n → blocks (margin r (entryAt t k)) (entryAt t k) x y ≡ false)
+  unfolding freeBy
+  of-free f =
+      let lx : ltb x w ≡ true = search parts in
+      let ly : ltb y h ≡ true = search parts in
+      let ex : nearEdge (r .edge) w x ≡ false = search parts depth 9 in
+      let ey : nearEdge (r .edge) h y ≡ false = search parts depth 9 in
+      let none : all (λ (e : Entry). not (blocks (margin r e) e x y)) (map (entryAt t) (range 0 n)) ≡ true =
+      search parts in (
+        ltb-true x w lx,
+        ltb-true y h ly,
+        ex,
+        ey,
+        λ k l.
+            not-t (blocks (margin r (entryAt t k)) (entryAt t k) x y)
+            (at-place (λ (e : Entry). not (blocks (margin r e) e x y)) (entryAt t) n none k l),
+      )
 
 -- what is free is on the foil
 pub free-inside : (l : Layout) (x y : ℕ) → free l x y ≡ true → (x < l .width) × (y < l .height)
-unfolding free
+unfolding free freeBy
 free-inside l x y h =
     let a : ltb x (l .width) ≡ true = search parts in
     let b : ltb y (l .height) ≡ true = search parts in
     (ltb-true x (l .width) a, ltb-true y (l .height) b)
 
--- boxes that have just the points of the foil that the entries block
-pub zones-same : (w h d n : ℕ) (z t : List ℕ)
-    → ((k x y : ℕ) → k < n → x < w → y < h → covers (entryAt z k) x y ≡ blocks d (entryAt t k) x y)
-    → (x y : ℕ) → boxFree w h n z x y ≡ free (layoutOf w h d n t) x y
-unfolding boxFree free layoutOf
-zones-same w h d n z t same x y =
-    both (ltb x w)
-    (λ a.
-    both (ltb y h)
-    (λ b.
-    rw (a, b)
-    (none-same (λ e. covers e x y) (λ e. blocks d e x y) (entryAt z) (entryAt t) n 0
-    (λ k l m. same k x y (omega arith) (ltb-true x w a) (ltb-true y h b))))
-    (λ b. rw (a, b) refl))
-    (λ a. rw a refl)
+-- a foil whose edge blocks nothing
+off-edge : (size v : ℕ) → v < size → nearEdge 0 size v ≡ false
+unfolding nearEdge
+off-edge size v l = simp (le-ltb v 0 (omega arith), lt-leb size (v + 0) (omega arith))
 
 -- every point of a foil without entries is free
-pub bare-free : (d W H x y : ℕ) → x < W → y < H
-    → free (record { width = W; height = H; clearance = d; entries = [] }) x y ≡ true
-unfolding free
-bare-free d W H x y hx hy = simp (lt-ltb x W hx, lt-ltb y H hy)
+pub bare-free : (p : Pen) (W H x y : ℕ) → x < W → y < H
+    → free (record { width = W; height = H; pen = p; entries = [] }) x y ≡ true
+unfolding free freeBy penRule
+bare-free p W H x y hx hy = simp (lt-ltb x W hx, lt-ltb y H hy, off-edge W x hx, off-edge H y hy)

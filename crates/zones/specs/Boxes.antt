@@ -1,4 +1,4 @@
--- What is blocked of a foil as boxes: a table of them, five numbers a place, in which no net and no clearance counts.
+-- What is blocked of a foil as boxes: a table of them, five numbers a place, in which no net and no rule counts.
 use Prim.Native.Nat.{ℕ, _+_, _*_, _-_, _≤_, _<_, min}
 use mathlib.Core.Path.{_≡_}
 use mathlib.Core.Bool.{Bool, true, not, _&&_}
@@ -47,7 +47,7 @@ pub record Zoned (f : ℕ → ℕ → Bool) (w h : ℕ) (z : List ℕ) (n : ℕ)
   pub same : boxFree w h n z ≡ f
   pub boxes : Boxes z n w h
 
--- what an entry blocks with clearance d, clipped to a foil of w by h
+-- what an entry blocks up to d away, clipped to a foil of w by h
 unfoldable pub zoneOf : ℕ → ℕ → ℕ → Entry → Entry
 zoneOf d w h e = entry 0 (e .x0 - d) (e .y0 - d) (min (e .x1 + d) w) (min (e .y1 + d) h)
 
@@ -55,3 +55,18 @@ zoneOf d w h e = entry 0 (e .x0 - d) (e .y0 - d) (min (e .x1 + d) w) (min (e .y1
 pub record Put (old new : List ℕ) (k : ℕ) (e : Entry) : Type 0 where
   pub here : entryAt new k ≡ e
   pub before : (j : ℕ) → j < k → entryAt new j ≡ entryAt old j
+
+-- the boxes a and b stand at places n and n + 1, and the boxes before them are as they were
+pub record PutTwo (old new : List ℕ) (n : ℕ) (a b : Entry) : Type 0 where
+  pub first : entryAt new n ≡ a
+  pub second : entryAt new (n + 1) ≡ b
+  pub before : (j : ℕ) → j < n → entryAt new j ≡ entryAt old j
+
+-- from place n on stand four boxes with what is nearer than m to the edge of a foil of w by h: on the left, on the right,
+-- above and below; the boxes before them are as they were
+pub record Edged (old new : List ℕ) (n m w h : ℕ) : Type 0 where
+  pub left : entryAt new n ≡ entry 0 0 0 (min m w) h
+  pub right : entryAt new (n + 1) ≡ entry 0 (w - m) 0 w h
+  pub above : entryAt new (n + 2) ≡ entry 0 0 0 w (min m h)
+  pub below : entryAt new (n + 2 + 1) ≡ entry 0 0 (h - m) w h
+  pub before : (j : ℕ) → j < n → entryAt new j ≡ entryAt old j

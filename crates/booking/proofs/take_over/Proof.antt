@@ -8,20 +8,20 @@ use Rattle.booking.proofs.take_over.Statement.{statement}
 use Rattle.booking.proofs.take_over.Tie as tie
 
 -- back to the function's start, to the zones, and to where the strips are built
-abbrev atStart : tie.After-zones → tie.Start
+abbrev atStart : tie.After-pen-zones → tie.Start
 atStart c = c .before .before .before .before .before
 
-abbrev atZones : tie.After-rebuild → tie.After-zones
+abbrev atZones : tie.After-rebuild → tie.After-pen-zones
 atZones c = c .before .before .before .before
 
 abbrev fromKnown : tie.After-known-told → tie.After-rebuild
 fromKnown c = c .before .before .before .before
 
-slice-aggregate-zones : tie.Need-slice-aggregate-zones
-slice-aggregate-zones c = search needs
+slice-aggregate-pen-zones : tie.Need-slice-aggregate-pen-zones
+slice-aggregate-pen-zones c = search needs
 
-zones-requires : tie.Need-zones-requires
-zones-requires c κs = search needs
+pen-zones-requires : tie.Need-pen-zones-requires
+pen-zones-requires c κs = search needs
 
 slice-aggregate-rebuild : tie.Need-slice-aggregate-rebuild
 slice-aggregate-rebuild c = search needs
@@ -42,7 +42,7 @@ returns : tie.Need-returns
 returns c =
     let matched = c .before in
     let r = matched .before .before in
-    refused _ _ _ _ _ _ _ _ (zoned-strips _ _ _ _ _ _ _ (atZones r .zones .ensures)) _ _
+    refused _ _ _ _ _ _ _ _ (zoned-strips _ _ _ _ _ _ _ (atZones r .pen-zones .ensures)) _ _
     ((rw (c .enum-told .given .1) at (r .rebuild .ensures)) .0) refl refl
 
 copy-front-requires : tie.Need-copy-front-requires
@@ -75,15 +75,15 @@ returns-2 c =
     let r = matched .before .before in
     let s = atStart (atZones r) in
     let q = rw (known .built .given .1) at (r .rebuild .ensures) in
-    taken _ _ _ _ _ _ _ _ (zoned-strips _ _ _ _ _ _ _ (atZones r .zones .ensures)) _ _ _ _ _ (s .pre .0 .few)
+    taken _ _ _ _ _ _ _ _ (zoned-strips _ _ _ _ _ _ _ (atZones r .pen-zones .ensures)) _ _ _ _ _ (s .pre .0 .few)
     (s .pre .1 .0) (q .0) (q .1) (q .2) (first .copy-front .ensures) (second .copy-front2 .ensures)
 
 pub take-over-spec : {M : Type 1} → statement M
 take-over-spec =
     tie.close
     (tie.spec
-    slice-aggregate-zones
-    zones-requires
+    slice-aggregate-pen-zones
+    pen-zones-requires
     slice-aggregate-rebuild
     slice-aggregate-rebuild-2
     rebuild-requires

@@ -9,23 +9,23 @@ use Rattle.finding.proofs.path_between.Tie as tie
 abbrev atStart : tie.After-boxes → tie.Start
 atStart c = c .before .before .before
 
-abbrev atZones : tie.After-boxes3 → tie.After-zones
+abbrev atZones : tie.After-boxes3 → tie.After-pen-zones
 atZones c = c .before .before .before
 
 abbrev atSearch : tie.After-slice-known2 → tie.After-first-path
 atSearch c = c .before .before
 
-slice-aggregate-zones : tie.Need-slice-aggregate-zones
-slice-aggregate-zones c = search needs
+slice-aggregate-pen-zones : tie.Need-slice-aggregate-pen-zones
+slice-aggregate-pen-zones c = search needs
 
-zones-requires : tie.Need-zones-requires
-zones-requires c κs = (atStart c .pre .table, omega arith)
+pen-zones-requires : tie.Need-pen-zones-requires
+pen-zones-requires c κs = (atStart c .pre .table, omega arith)
 
 slice-aggregate-first-path : tie.Need-slice-aggregate-first-path
 slice-aggregate-first-path c = search needs
 
 first-path-requires : tie.Need-first-path-requires
-first-path-requires c κs = boxes-posed (atStart (atZones c .before) .pre) (atZones c .zones .ensures)
+first-path-requires c κs = boxes-posed (atStart (atZones c .before) .pre) (atZones c .pen-zones .ensures)
 
 same-length : tie.Need-same-length
 same-length c = search needs
@@ -34,9 +34,9 @@ returns : tie.Need-returns
 returns c =
     let zones = atZones (atSearch c .before) in
     let pre = atStart (zones .before) .pre in
-    layout-found pre (zones .zones .ensures) (atSearch c .first-path .ensures)
+    layout-found pre (zones .pen-zones .ensures) (atSearch c .first-path .ensures)
 
 pub path-between-spec : {M : Type 1} → statement M
 path-between-spec =
-    tie.close (tie.spec slice-aggregate-zones zones-requires slice-aggregate-first-path first-path-requires
+    tie.close (tie.spec slice-aggregate-pen-zones pen-zones-requires slice-aggregate-first-path first-path-requires
     same-length returns)

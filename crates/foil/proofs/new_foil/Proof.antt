@@ -1,6 +1,7 @@
 -- `foil::new_foil` refuses lists that are too short, and else is `new_foil_in`.
 use mathlib.Core.Path.{sym, _∙_}
 use Rattle.foil_spec.specs.Limits.{maxEntries}
+use Rattle.foil.specs.Contract.{clearanceOf}
 use Rattle.foil.proofs.Giving.{long-enough, new-short}
 use borrow.Author.Needs.{needs}
 use Rattle.foil.proofs.new_foil.Statement.{statement}
@@ -45,6 +46,7 @@ same-length-4 : tie.Need-same-length-4
 same-length-4 c = search needs
 
 returns-2 : tie.Need-returns-2
+unfolding clearanceOf
 returns-2 c = afterNewFoilIn c .new-foil-in .ensures _
     (sym (notListsShort (afterNewFoilIn c .before) .before .lists-short .ensures .is _ maxEntries 0)
     ∙ notListsShort (afterNewFoilIn c .before) .if1 .left)

@@ -1,32 +1,51 @@
 -- `foil::new_foil_in` tests the sizes and the clearance, and takes an empty table over.
-use mathlib.Core.Path.{sym, _∙_}
+use mathlib.Core.Path.{_≡_, sym, ap, _∙_}
+use mathlib.Core.Bool.{true}
+use mathlib.Core.List.{[], _∷_}
+use mathlib.Core.Option.{none}
 use borrow.Author.Tests.{not-false}
-use Rattle.foil.proofs.Beginning.{no-rows, bare-table, no-width, no-height, no-clearance, begun}
+use Rattle.foil_spec.specs.Foil.{sizeOk, penOk}
+use Rattle.foil_spec.specs.Ledger.{clearanceRefusal, first}
+use Rattle.foil.specs.Contract.{clearanceOf}
+use Rattle.foil.proofs.Giving.{none-first, number-first}
+use Rattle.foil.proofs.Beginning.{no-rows, passed-pen, bare-table, no-width, no-height, no-pen, begun}
 use borrow.Author.Needs.{needs}
 use Rattle.foil.proofs.new_foil_in.Statement.{statement}
 use Rattle.foil.proofs.new_foil_in.Tie as tie
 
--- back to the start, size_ok, where size_ok holds, size_ok2, where clearance_ok holds and settle
-abbrev afterSizeOk : tie.After-refuse3 → tie.After-size-ok
-afterSizeOk c = c .before .before .before .before .before .before
+-- back to where the width, the height and the clearance are tested, and to the start
+abbrev atWidth : tie.After-size-ok2 → tie.Else1
+atWidth c = c .before
 
-abbrev sizeOk : tie.After-refuse2 → tie.Else1
-sizeOk c = c .before .before .before
+abbrev atHeight : tie.After-clearance-refusal → tie.Else2
+atHeight c = c .before
 
-abbrev afterSizeOk2 : tie.After-rows → tie.After-size-ok2
-afterSizeOk2 c = c .before .before .before .before .before .before
+abbrev atStart : tie.After-size-ok → tie.Start
+atStart c = c .before .before .before
 
-abbrev sizeOkFromRefuse3 : tie.After-refuse3 → tie.Else2
-sizeOkFromRefuse3 c = c .before .before .before
+abbrev refused : tie.After-refuse3 → tie.After-clearance-refusal
+refused c = c .before .before .before .before
 
-abbrev clearanceOk : tie.After-rows → tie.Else3
-clearanceOk c = c .before .before .before
+abbrev passed : tie.After-pen-of → tie.After-clearance-refusal
+passed c = c .before .before .before
 
-abbrev afterSettle : tie.After-slice-known4 → tie.After-settle
-afterSettle c = c .before .before .before .before
+abbrev penned : tie.After-rows → tie.After-pen-of
+penned c = c .before .before .before
 
-abbrev atStart : tie.After-rows → tie.Start
-atStart c = afterSizeOk2 c .before .before .before .before .before
+abbrev settled : tie.After-slice-known4 → tie.After-settle
+settled c = c .before .before .before .before
+
+-- what the tests have shown where all are passed
+wide : (c : tie.Else2) → sizeOk (atStart (c .before .before .before) .args .w) ≡ true
+wide c = let w = atWidth (c .before) in sym (w .before .size-ok .ensures) ∙ not-false _ (w .if1 .left)
+
+high : (c : tie.Else2) → sizeOk (atStart (c .before .before .before) .args .h) ≡ true
+high c = sym (c .before .size-ok2 .ensures) ∙ not-false _ (c .if2 .left)
+
+clear : (c : tie.After-pen-of)
+    → first (clearanceRefusal (clearanceOf
+    (atStart (atHeight (passed c) .before .before .before) .args .clearance)) ∷ []) ≡ none
+clear c = none-first _ _ (passed c .clearance-refusal .ensures) (c .before .enum-told .given .1)
 
 size-ok-requires : tie.Need-size-ok-requires
 size-ok-requires c κs = search needs
@@ -47,37 +66,44 @@ refuse-requires-2 c κs = search needs
 
 returns-2 : tie.Need-returns-2
 returns-2 c = λ room long.
-    no-height _ _ _ _ _ _ room long _ (sizeOk c .before .size-ok .ensures)
-    (sizeOk c .if1 .left) _ (c .before .before .size-ok2 .ensures)
-    (c .before .if2 .taken) _ (c .refuse2 .ensures)
+    let tested = c .before .before in
+    no-height _ _ _ _ _ _ room long _ (atWidth tested .before .size-ok .ensures) (atWidth tested .if1 .left) _
+    (tested .size-ok2 .ensures) (c .before .if2 .taken) _ (c .refuse2 .ensures)
 
-clearance-ok-requires : tie.Need-clearance-ok-requires
-clearance-ok-requires c κs = search needs
+clearance-refusal-requires : tie.Need-clearance-refusal-requires
+clearance-refusal-requires c κs = search needs
+
+enum-known-checked : tie.Need-enum-known-checked
+enum-known-checked c = search needs
 
 refuse-requires-3 : tie.Need-refuse-requires-3
 refuse-requires-3 c κs = search needs
 
 returns-3 : tie.Need-returns-3
 returns-3 c = λ room long.
-    no-clearance _ _ _ _ _ _ room long _ (afterSizeOk c .size-ok .ensures)
-    (sizeOkFromRefuse3 c .before .before .if1 .left) _ (sizeOkFromRefuse3 c .before .size-ok2 .ensures)
-    (sizeOkFromRefuse3 c .if2 .left) _ (c .before .before .clearance-ok .ensures) (c .before .if3 .taken) _
+    let tested = atHeight (refused c) in
+    let width = atWidth (tested .before) in
+    no-pen _ _ _ _ _ _ room long _ (width .before .size-ok .ensures) (width .if1 .left) _
+    (tested .before .size-ok2 .ensures) (tested .if2 .left) _
+    (number-first _ _ (refused c .clearance-refusal .ensures) _ (c .before .before .checked .given .1)) _
     (c .refuse3 .ensures)
+
+enum-told : tie.Need-enum-told
+enum-told c = search needs
+
+pen-of-requires : tie.Need-pen-of-requires
+pen-of-requires c κs = search needs
 
 slice-aggregate-settle : tie.Need-slice-aggregate-settle
 slice-aggregate-settle c = search needs
 
 settle-requires : tie.Need-settle-requires
-settle-requires c κs = (
-  bare-table _ _ _
-      (sym (afterSizeOk2 c .before .before .size-ok .ensures)
-      ∙ not-false _ (afterSizeOk2 c .before .if1 .left))
-      (sym (afterSizeOk2 c .size-ok2 .ensures)
-      ∙ not-false _ (clearanceOk c .before .before .if2 .left))
-      (sym (clearanceOk c .before .clearance-ok .ensures)
-      ∙ not-false _ (clearanceOk c .if3 .left)),
-  (no-rows, atStart c .pre),
-)
+settle-requires c κs =
+    let tested = atHeight (passed (penned c)) in (
+      bare-table _ _ _ (wide tested) (high tested)
+          (ap penOk (penned c .pen-of .ensures) ∙ passed-pen _ (clear (penned c))),
+      (no-rows, atStart (tested .before .before .before) .pre),
+    )
 
 same-length : tie.Need-same-length
 same-length c = search needs
@@ -87,16 +113,31 @@ same-length-2 c = search needs
 
 returns-4 : tie.Need-returns-4
 returns-4 c = λ room long.
-    begun _ _ _ _ _ _ room long _ (afterSizeOk2 (afterSettle c .before) .before .before .size-ok .ensures)
-    (afterSizeOk2 (afterSettle c .before) .before .if1 .left) _
-    (afterSizeOk2 (afterSettle c .before) .size-ok2 .ensures)
-    (clearanceOk (afterSettle c .before) .before .before .if2 .left) _
-    (clearanceOk (afterSettle c .before) .before .clearance-ok .ensures)
-    (clearanceOk (afterSettle c .before) .if3 .left) _ _ _ _
-    (afterSettle c .settle .ensures)
+    let pen = penned (settled c .before) in
+    let tested = atHeight (passed pen) in
+    let width = atWidth (tested .before) in
+    begun _ _ _ _ _ _ room long _ (width .before .size-ok .ensures) (width .if1 .left) _
+    (tested .before .size-ok2 .ensures) (tested .if2 .left) (clear pen) _ (pen .pen-of .ensures) _ _ _ _
+    (settled c .settle .ensures)
 
 pub new-foil-in-spec : {M : Type 1} → statement M
 new-foil-in-spec =
-    tie.close (tie.spec size-ok-requires refuse-requires returns size-ok-requires-2 refuse-requires-2 returns-2
-    clearance-ok-requires refuse-requires-3 returns-3 slice-aggregate-settle settle-requires same-length same-length-2
+    tie.close
+    (tie.spec
+    size-ok-requires
+    refuse-requires
+    returns
+    size-ok-requires-2
+    refuse-requires-2
+    returns-2
+    clearance-refusal-requires
+    enum-known-checked
+    refuse-requires-3
+    returns-3
+    enum-told
+    pen-of-requires
+    slice-aggregate-settle
+    settle-requires
+    same-length
+    same-length-2
     returns-4)

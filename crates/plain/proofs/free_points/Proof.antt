@@ -5,10 +5,10 @@ use Rattle.plain.proofs.free_points.Statement.{statement}
 use Rattle.plain.proofs.free_points.Tie as tie
 
 abbrev Inv-loop : tie.InvT-loop
-Inv-loop map₀ table n d w h p₀ map p = p ≤ 4096
+Inv-loop map₀ table n pen w h p₀ map p = p ≤ 4096
 
 abbrev μ-loop : tie.MeasureT-loop
-μ-loop map₀ table n d w h p₀ map p = 4096 - p
+μ-loop map₀ table n pen w h p₀ map p = 4096 - p
 
 loop-holds : tie.Need-loop-holds Inv-loop μ-loop
 loop-holds c = search needs

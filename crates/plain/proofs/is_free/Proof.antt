@@ -5,19 +5,19 @@ use mathlib.Core.Path.{_≡_, sym, _∙_}
 use mathlib.Core.Bool.{false, true≢false}
 use borrow.Author.Needs.{needs}
 use borrow.Author.Count.{below-more}
-use Rattle.foil_spec.specs.Foil.{blocks}
 use Rattle.foil_spec.specs.Lent.{entryAt}
+use Rattle.plain.specs.Free.{blockedBy}
 use Rattle.plain.proofs.is_free.Statement.{statement}
 use Rattle.plain.proofs.is_free.Tie as tie
 
 abbrev Inv-loop : tie.InvT-loop
-Inv-loop table n d w h x y i₀ i = (i ≤ n) × ((k : ℕ) → k < i → blocks d (entryAt table k) x y ≡ false)
+Inv-loop table n pen w h x y i₀ i = (i ≤ n) × ((k : ℕ) → k < i → blockedBy pen (entryAt table k) x y ≡ false)
 
 abbrev μ-loop : tie.MeasureT-loop
-μ-loop table n d w h x y i₀ i = n - i
+μ-loop table n pen w h x y i₀ i = n - i
 
 -- back to the loop's head
-abbrev atLoop : tie.Else3 Inv-loop μ-loop → tie.At-loop Inv-loop μ-loop
+abbrev atLoop : tie.After-blocks-at Inv-loop μ-loop → tie.At-loop Inv-loop μ-loop
 atLoop c = c .before .before .before
 
 returns : tie.Need-returns Inv-loop μ-loop
@@ -29,13 +29,17 @@ returns-2 c = (λ e. absurd (true≢false (sym e)), λ e u. omega (arith, u .y-o
 loop-holds : tie.Need-loop-holds Inv-loop μ-loop
 loop-holds c = (omega arith, λ k l. absurd (omega arith))
 
+away-requires : tie.Need-away-requires Inv-loop μ-loop
+away-requires c κs = search needs
+
 blocks-at-requires : tie.Need-blocks-at-requires Inv-loop μ-loop
 blocks-at-requires c κs = search needs
 
 returns-3 : tie.Need-returns-3 Inv-loop μ-loop
 returns-3 c = (
   λ e. absurd (true≢false (sym e)),
-  λ e u. true≢false (sym (c .if3 .taken) ∙ c .before .blocks-at .ensures ∙ u .none _ (omega arith)),
+  λ e u. true≢false (sym (c .if3 .taken) ∙ (rw (c .before .before .away .ensures .1) at (c .before .blocks-at .ensures))
+      ∙ u .none _ (omega arith)),
 )
 
 add-i : tie.Need-add-i Inv-loop μ-loop
@@ -47,8 +51,8 @@ loop-less c = search needs
 loop-again : tie.Need-loop-again Inv-loop μ-loop
 loop-again c = (
   omega arith,
-  below-more _ _ (atLoop c .loop .inv .1)
-      (sym (c .before .blocks-at .ensures) ∙ c .if3 .left),
+  below-more _ _ (atLoop (c .before) .loop .inv .1)
+      (sym (rw (c .before .before .away .ensures .1) at (c .before .blocks-at .ensures)) ∙ c .if3 .left),
 )
 
 returns-4 : tie.Need-returns-4 Inv-loop μ-loop
@@ -63,5 +67,5 @@ returns-4 c = (
 
 pub is-free-spec : {M : Type 1} → statement M
 is-free-spec =
-    tie.close (tie.spec Inv-loop μ-loop returns returns-2 loop-holds blocks-at-requires returns-3 add-i loop-less
-    loop-again returns-4)
+    tie.close (tie.spec Inv-loop μ-loop returns returns-2 loop-holds away-requires blocks-at-requires returns-3 add-i
+    loop-less loop-again returns-4)

@@ -1,14 +1,14 @@
--- `replay_test::print_numbers` is safe and ends: the loop counts up to 20.
+-- `replay_test::print_numbers` is safe and ends: the loop counts up to 23.
 use Prim.Native.Nat.{_≤_, _-_}
 use borrow.Author.Needs.{needs}
 use Rattle.replay_test.proofs.print_numbers.Statement.{statement}
 use Rattle.replay_test.proofs.print_numbers.Tie as tie
 
 abbrev Inv-loop : tie.InvT-loop
-Inv-loop counts k₀ t3 t4 k = (1 ≤ k) × (k ≤ 20)
+Inv-loop counts k₀ t3 t4 k = (1 ≤ k) × (k ≤ 23)
 
 abbrev μ-loop : tie.MeasureT-loop
-μ-loop counts k₀ t3 t4 k = 20 - k
+μ-loop counts k₀ t3 t4 k = 23 - k
 
 loop-holds : tie.Need-loop-holds Inv-loop μ-loop
 loop-holds c = search needs

@@ -1,12 +1,13 @@
 -- `saving::beginning_too_fine` meets its contract: the beginnings of fewer than k entries were fine.
 use Prim.Native.Nat.{_+_, _-_}
 use native.Mathlib.Omega.{arith}
+use Rattle.foil_spec.specs.Lent.{penIn}
 use Rattle.saving.proofs.Beginnings.{table-front, FineTo, fine-none, fine-more, fine-all, fine-not}
 use Rattle.saving.proofs.beginning_too_fine.Statement.{statement}
 use Rattle.saving.proofs.beginning_too_fine.Tie as tie
 
 abbrev Inv-loop : tie.InvT-loop
-Inv-loop table board k₀ k = FineTo table (board .entries) (board .clearance) (board .width) (board .height) k
+Inv-loop table board k₀ k = FineTo table (board .entries) (penIn board) (board .width) (board .height) k
 
 abbrev μ-loop : tie.MeasureT-loop
 μ-loop table board k₀ k = board .entries + 1 - k

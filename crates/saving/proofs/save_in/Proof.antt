@@ -1,8 +1,9 @@
 -- `saving::save_in` meets its contract: 11 by the beginnings, 12 by the size of the file, and else the file in front.
 use native.Mathlib.Omega.{arith}
 use mathlib.Core.Path.{sym}
+use Rattle.foil.proofs.Limits.{held-table}
 use Rattle.putting.proofs.Putting.{front-long}
-use Rattle.saving.proofs.Saves.{table-read, begins-too-fine, no-room, saved}
+use Rattle.saving.proofs.Saves.{begins-too-fine, no-room, saved}
 use borrow.Author.Needs.{needs}
 use Rattle.saving.proofs.save_in.Statement.{statement}
 use Rattle.saving.proofs.save_in.Tie as tie
@@ -18,7 +19,7 @@ abbrev atFile : tie.After-file3 → tie.After-write-file
 atFile c = c .before .before .before .before
 
 beginning-too-fine-requires : tie.Need-beginning-too-fine-requires
-beginning-too-fine-requires c κs = table-read _ _ _ (c .before .before .before .pre)
+beginning-too-fine-requires c κs = held-table _ _ _ (c .before .before .before .pre)
 
 returns : tie.Need-returns
 returns c =
@@ -30,7 +31,7 @@ slice-aggregate-write-file c = search needs
 
 write-file-requires : tie.Need-write-file-requires
 write-file-requires c κs =
-    let table = table-read _ _ _ (atStart (c .before .before) .pre) in
+    let table = held-table _ _ _ (atStart (c .before .before) .pre) in
     (omega arith, (table .few, table .len))
 
 returns-2 : tie.Need-returns-2

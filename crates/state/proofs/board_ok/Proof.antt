@@ -34,8 +34,8 @@ returns-2 c =
       sym (c .before .size-ok2 .ensures) ∙ not-true _ (c .if2 .taken),
     )
 
-clearance-ok-requires : tie.Need-clearance-ok-requires
-clearance-ok-requires c κs = search needs
+pen-ok-requires : tie.Need-pen-ok-requires
+pen-ok-requires c κs = search needs
 
 returns-3 : tie.Need-returns-3
 unfolding boardOk
@@ -44,7 +44,7 @@ returns-3 c =
       sym (afterSizeOk (afterSizeOk2 c) .size-ok .ensures) ∙ not-false _
           (afterSizeOk2 c .before .if1 .left),
       sym (afterSizeOk2 c .size-ok2 .ensures) ∙ not-false _ (c .before .before .if2 .left),
-      sym (c .before .clearance-ok .ensures) ∙ not-true _ (c .if3 .taken),
+      sym (c .before .pen-ok .ensures) ∙ not-true _ (c .if3 .taken),
     )
 
 returns-4 : tie.Need-returns-4
@@ -54,7 +54,7 @@ returns-4 c =
       sym (afterSizeOk (sizeOk c .before) .size-ok .ensures) ∙ not-false _
           (sizeOk c .before .before .if1 .left),
       sym (sizeOk c .before .size-ok2 .ensures) ∙ not-false _ (sizeOk c .if2 .left),
-      sym (c .before .before .clearance-ok .ensures) ∙ not-false _ (c .before .if3 .left),
+      sym (c .before .before .pen-ok .ensures) ∙ not-false _ (c .before .if3 .left),
     )
 
 pub board-ok-spec : {M : Type 1} → statement M
@@ -65,6 +65,6 @@ board-ok-spec =
     returns
     size-ok-requires-2
     returns-2
-    clearance-ok-requires
+    pen-ok-requires
     returns-3
     returns-4)

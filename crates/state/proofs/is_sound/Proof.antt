@@ -52,7 +52,7 @@ strips-ok-requires : tie.Need-strips-ok-requires
 strips-ok-requires c κs =
     let e = entriesOk c in
     let b = fits (e .before .before) in (
-      table-of _ _ _ _ _ (b .few) (omega (arith, b .few)) (b .small) (b .wide) (b .high)
+      table-of _ _ _ _ _ (b .few) (omega (arith, b .few)) (b .small) (b .sized)
           (sym (e .before .entries-ok .ensures) ∙ not-false _ (e .if4 .left)),
       omega arith,
     )

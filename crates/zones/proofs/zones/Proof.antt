@@ -1,99 +1,62 @@
--- `zones::zones` meets its contract: the loop has written the zones of the entries before k.
-use Prim.Native.Nat.{_-_}
+-- `zones::zones` meets its contract: the zones of the entries, and four boxes along the edge where it blocks something.
 use native.Mathlib.Omega.{arith}
-use mathlib.Core.Path.{_≡_, ap, _∙_}
-use Rattle.foil_spec.specs.Lent.{entryAt}
-use Rattle.zones.specs.Boxes.{zoneOf}
-use Rattle.zones.proofs.Zoning.{Zoning, zoning-start, zoning-more, zoning-done}
+use mathlib.Core.Path.{_≡_, refl}
+use borrow.Author.Needs.{needs}
+use Rattle.zones.proofs.Zoning.{zones-alone, zones-edged}
 use Rattle.zones.proofs.zones.Statement.{statement}
 use Rattle.zones.proofs.zones.Tie as tie
 
-abbrev Inv-loop : tie.InvT-loop
-Inv-loop out₀ table n d w h k₀ out k = Zoning table n d w h out₀ out k
+-- back to where the zones are put, and to the start
+abbrev atZones : tie.After-slice-known2 → tie.After-put-zones
+atZones c = c .before .before
 
-abbrev μ-loop : tie.MeasureT-loop
-μ-loop out₀ table n d w h k₀ out k = n - k
-
--- back to the function's start, to the loop's turn, and to where the zone is known
-abbrev atStart : tie.In-loop Inv-loop μ-loop → tie.Start Inv-loop μ-loop
+abbrev atStart : tie.After-put-zones → tie.Start
 atStart c = c .before .before .before .before
 
-abbrev fromEnd : tie.After-loop Inv-loop μ-loop → tie.Start Inv-loop μ-loop
-fromEnd c = c .before .before .before .before
+abbrev atEdge : tie.After-slice-known3 → tie.Else1
+atEdge c = c .before .before .before .before
 
-abbrev atZone : tie.After-slice-known2 Inv-loop μ-loop → tie.After-zone-of Inv-loop μ-loop
-atZone c = c .before .before .before .before
+put-zones-requires : tie.Need-put-zones-requires
+put-zones-requires c κs = c .before .before .before .pre
 
-abbrev inLoop : tie.After-zone-of Inv-loop μ-loop → tie.In-loop Inv-loop μ-loop
-inLoop c = c .before .before
+same-length : tie.Need-same-length
+same-length c = search needs
 
--- the zone is that of the entry at place k
-zone-is : (c : tie.After-zone-of Inv-loop μ-loop)
-    → c .zone-of .result
-    ≡ zoneOf (atStart (inLoop c) .args .d) (atStart (inLoop c) .args .w) (atStart (inLoop c) .args .h)
-    (entryAt (atStart (inLoop c) .args .table .now) (inLoop c .before .loop .k))
-zone-is c =
-    c .zone-of .ensures
-    ∙ ap (zoneOf (atStart (inLoop c) .args .d) (atStart (inLoop c) .args .w) (atStart (inLoop c) .args .h))
-    (c .before .entry-at .ensures)
-
-loop-holds : tie.Need-loop-holds Inv-loop μ-loop
-loop-holds c = zoning-start _ _ _ _ _ _
-
-entry-at-requires : tie.Need-entry-at-requires Inv-loop μ-loop
-entry-at-requires c κs = omega (arith, c .loop-test .taken, atStart c .pre .0 .len)
-
-zone-of-requires : tie.Need-zone-of-requires Inv-loop μ-loop
-zone-of-requires c κs =
-    let t = atStart (c .before) .pre .0 in
-    rw (c .entry-at .ensures)
-    (omega (
-      arith,
-      t .small,
-      t .width,
-      t .height,
-      t .x-end _ (c .before .loop-test .taken),
-      t .y-end _ (c .before .loop-test .taken),
-    ))
-
-put-requires : tie.Need-put-requires Inv-loop μ-loop
-put-requires c κs =
-    let l = inLoop (c .before) in
-    omega (arith, l .loop-test .taken, atStart l .pre .0 .few, atStart l .pre .1, l .before .loop .inv .same)
-
-add-k : tie.Need-add-k Inv-loop μ-loop
-add-k c = omega (arith, inLoop (atZone c) .loop-test .taken, atStart (inLoop (atZone c)) .pre .0 .few)
-
-loop-less : tie.Need-loop-less Inv-loop μ-loop
-loop-less c = omega (arith, inLoop (atZone c) .loop-test .taken)
-
-loop-again : tie.Need-loop-again Inv-loop μ-loop
-loop-again c =
-    let l = inLoop (atZone c) in
-    let p = c .before .before .put in
-    zoning-more _ _ _ _ _ _ _ _ _ _ (l .loop-test .taken) (p .kept .0) (l .before .loop .inv) (zone-is (atZone c))
-    (p .ensures)
-
-same-length : tie.Need-same-length Inv-loop μ-loop
-same-length c = c .before .loop .inv .same
-
-returns : tie.Need-returns Inv-loop μ-loop
+returns : tie.Need-returns
 returns c =
-    let s = fromEnd c in
-    zoning-done _ _ _ _ _ _ _ _ (s .pre .0) (s .pre .1) (c .loop-test .left) (c .before .loop .inv)
+    let zoned = atZones (c .before) in
+    let pre = atStart zoned .pre in
+    zones-alone _ _ _ _ _ (pre .0) _ (zoned .put-zones .ensures) (omega (arith, pre .1, zoned .put-zones .kept .0))
+    (c .if1 .taken)
+
+put-edge-requires : tie.Need-put-edge-requires
+put-edge-requires c κs =
+    let zoned = atZones (c .before .before) in
+    let pre = atStart zoned .pre in
+    (pre .0 .few, omega (arith, pre .1, pre .0 .few, zoned .put-zones .kept .0))
+
+add-result : tie.Need-add-result
+add-result c = omega (arith, atStart (atZones (atEdge c .before)) .pre .0 .few)
+
+same-length-2 : tie.Need-same-length-2
+same-length-2 c = search needs
+
+returns-2 : tie.Need-returns-2
+returns-2 c =
+    let edge = c .before .before .put-edge in
+    let zoned = atZones (atEdge c .before) in
+    let pre = atStart zoned .pre in
+    zones-edged _ _ _ _ _ (pre .0) _ _ (omega (arith, atEdge c .if1 .left)) (edge .ensures) (zoned .put-zones .ensures)
+    (omega (arith, pre .1, zoned .put-zones .kept .0, edge .kept .0))
 
 pub zones-spec : {M : Type 1} → statement M
 zones-spec =
     tie.close
     (tie.spec
-    Inv-loop
-    μ-loop
-    loop-holds
-    entry-at-requires
-    zone-of-requires
-    put-requires
-    add-k
-    loop-less
-    loop-again
+    put-zones-requires
     same-length
-    returns)
+    returns
+    put-edge-requires
+    add-result
+    same-length-2
+    returns-2)

@@ -1,5 +1,5 @@
--- The answer is a refusal by 1, by 2, or neither.
-use Rattle.job.proofs.Ending.{no-refusal, ends-other, ends-1, ends-2}
+-- The answer is a refusal by 1, by 2, by 20, or none of these.
+use Rattle.job.proofs.Ending.{no-refusal, ends-other, ends-1, ends-2, ends-20}
 use borrow.Author.Needs.{needs}
 use Rattle.job.proofs.running.ends_job.Statement.{statement}
 use Rattle.job.proofs.running.ends_job.Tie as tie
@@ -14,7 +14,10 @@ returns-2 : tie.Need-returns-2
 returns-2 c = ends-1 _ _ (c .before .before .answer .given .1) (c .if1 .taken)
 
 returns-3 : tie.Need-returns-3
-returns-3 c = ends-2 _ _ (c .before .before .answer .given .1) (c .if1 .left)
+returns-3 c = ends-2 _ _ (c .before .before .before .answer .given .1) (c .if2 .taken)
+
+returns-4 : tie.Need-returns-4
+returns-4 c = ends-20 _ _ (c .before .before .before .answer .given .1) (c .before .if1 .left) (c .if2 .left)
 
 pub ends-job-spec : {M : Type 1} → statement M
-ends-job-spec = tie.close (tie.spec enum-known-answer returns returns-2 returns-3)
+ends-job-spec = tie.close (tie.spec enum-known-answer returns returns-2 returns-3 returns-4)

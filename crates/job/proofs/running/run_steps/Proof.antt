@@ -4,7 +4,7 @@ use native.Mathlib.Omega.{arith}
 use mathlib.Core.Path.{_≡_, refl}
 use lib.ListN.{length}
 use Rattle.foil_spec.specs.Lent.{lent, roomIn}
-use Rattle.foil_spec.specs.Job.{mapBits}
+use Rattle.foil_spec.specs.Job.{stepBits}
 use Rattle.job.specs.Parts.{RanTo}
 use Rattle.job.proofs.Stepping.{ran-none, bit-ready, next-bit, steps-done}
 use borrow.Author.Needs.{needs}
@@ -13,13 +13,13 @@ use Rattle.job.proofs.running.run_steps.Tie as tie
 
 abbrev Inv-loop : tie.InvT-loop
 Inv-loop table₀ strips₀ corners₀ limit bytes at so-far₀ k₀ table strips corners so-far k =
-    (k ≤ mapBits) × (length table ≡ length table₀) × (length strips ≡ length strips₀)
+    (k ≤ stepBits) × (length table ≡ length table₀) × (length strips ≡ length strips₀)
     × (length corners ≡ length corners₀)
     × RanTo (roomIn limit (lent (so-far₀ .board) table₀ strips₀) (length corners₀)) bytes at k
     (lent (so-far₀ .board) table₀ strips₀) corners₀ so-far table strips corners
 
 abbrev μ-loop : tie.MeasureT-loop
-μ-loop table₀ strips₀ corners₀ limit bytes at so-far₀ k₀ table strips corners so-far k = mapBits - k
+μ-loop table₀ strips₀ corners₀ limit bytes at so-far₀ k₀ table strips corners so-far k = stepBits - k
 
 -- back to the start, the loop's head, the loop's end and run_bit
 abbrev atStart : tie.At-loop Inv-loop μ-loop → tie.Start Inv-loop μ-loop
@@ -77,7 +77,7 @@ same-length-3 : tie.Need-same-length-3 Inv-loop μ-loop
 same-length-3 c = omega (arith, afterLoop c .before .loop .inv .3)
 
 returns : tie.Need-returns Inv-loop μ-loop
-returns c = let last : afterLoop c .before .loop .k ≡ mapBits = omega (arith, afterLoop c .before .loop .inv .0) in
+returns c = let last : afterLoop c .before .loop .k ≡ stepBits = omega (arith, afterLoop c .before .loop .inv .0) in
     steps-done _ _ _ _ _ _ _ _ _ _ (afterLoop c .before .loop .inv .4) last _ (c .before .before .fields-at .ensures)
     _ (c .before .next-place .ensures)
 

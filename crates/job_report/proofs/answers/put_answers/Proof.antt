@@ -3,7 +3,7 @@ use Prim.Native.Nat.{_-_, _≤_}
 use native.Mathlib.Omega.{arith}
 use mathlib.Core.Path.{_≡_}
 use Rattle.foil_spec.specs.Lists.{range}
-use Rattle.foil_spec.specs.Job.{mapBits}
+use Rattle.foil_spec.specs.Job.{stepBits}
 use Rattle.putting.specs.Put.{Put}
 use Rattle.putting.proofs.Putting.{put-length}
 use Rattle.job_report.specs.Told.{linesOf, bytesBelow}
@@ -13,10 +13,10 @@ use Rattle.job_report.proofs.answers.put_answers.Tie as tie
 
 abbrev Inv-loop : tie.InvT-loop
 Inv-loop out₀ answers corners bytes place a₀ k₀ out a k =
-    (k ≤ mapBits) × Put out₀ 0 (linesOf bytes place corners answers (range 0 k)) out a × (a ≤ bytesBelow k)
+    (k ≤ stepBits) × Put out₀ 0 (linesOf bytes place corners answers (range 0 k)) out a × (a ≤ bytesBelow k)
 
 abbrev μ-loop : tie.MeasureT-loop
-μ-loop out₀ answers corners bytes place a₀ k₀ out a k = mapBits - k
+μ-loop out₀ answers corners bytes place a₀ k₀ out a k = stepBits - k
 
 -- back to the start, the loop's head and told_by
 abbrev atStart : tie.After-told-by Inv-loop μ-loop → tie.Start Inv-loop μ-loop
@@ -58,7 +58,7 @@ same-length : tie.Need-same-length Inv-loop μ-loop
 same-length c = put-length (c .before .loop .inv .1)
 
 returns : tie.Need-returns Inv-loop μ-loop
-returns c = let last : c .before .loop .k ≡ mapBits = omega arith in
+returns c = let last : c .before .loop .k ≡ stepBits = omega arith in
     lines-all _ _ _ _ _ last (c .before .loop .inv .1)
 
 pub put-answers-spec : {M : Type 1} → statement M

@@ -5,10 +5,10 @@ use Rattle.replay_test.proofs.jobs.records.Statement.{statement}
 use Rattle.replay_test.proofs.jobs.records.Tie as tie
 
 abbrev Inv-loop : tie.InvT-loop
-Inv-loop bytes₀ n w h crowded pen₀ counter₀ bytes pen counter = (counter ≤ n) × (pen .at ≤ 37 + 31 * counter)
+Inv-loop bytes₀ n w h crowded cursor₀ counter₀ bytes cursor counter = (counter ≤ n) × (cursor .at ≤ 41 + 31 * counter)
 
 abbrev μ-loop : tie.MeasureT-loop
-μ-loop bytes₀ n w h crowded pen₀ counter₀ bytes pen counter = n - counter
+μ-loop bytes₀ n w h crowded cursor₀ counter₀ bytes cursor counter = n - counter
 
 loop-holds : tie.Need-loop-holds Inv-loop μ-loop
 loop-holds c = search needs

@@ -1,0 +1,62 @@
+-- `foil::pens::clearance_refusal` meets its contract, case by case.
+use borrow.Author.Needs.{needs}
+use borrow.Author.Tests.{not-true, not-false}
+use mathlib.Core.Path.{refl, sym, _∙_}
+use Rattle.foil_spec.specs.Ledger.{clearanceRefusal, first}
+use Rattle.foil.specs.Contract.{clearanceOf}
+use Rattle.foil.proofs.pens.clearance_refusal.Statement.{statement}
+use Rattle.foil.proofs.pens.clearance_refusal.Tie as tie
+
+-- back to where the case is known
+abbrev byPen : tie.After-pen-ok → tie.After-clearance
+byPen c = c .before .before
+
+abbrev byReach : tie.After-reach-ok → tie.After-clearance2
+byReach c = c .before .before
+
+enum-known-clearance : tie.Need-enum-known-clearance
+enum-known-clearance c = search needs
+
+pen-ok-requires : tie.Need-pen-ok-requires
+pen-ok-requires c κs = search needs
+
+returns : tie.Need-returns
+unfolding clearanceOf clearanceRefusal first
+returns c =
+    rw (byPen (c .before) .clearance .given .1, sym (c .before .pen-ok .ensures) ∙ not-true _ (c .if1 .taken)) refl
+
+enum-known-clearance-2 : tie.Need-enum-known-clearance-2
+enum-known-clearance-2 c = search needs
+
+reach-ok-requires : tie.Need-reach-ok-requires
+reach-ok-requires c κs = search needs
+
+returns-2 : tie.Need-returns-2
+unfolding clearanceOf clearanceRefusal first
+returns-2 c =
+    rw (byReach (c .before) .clearance2 .given .1, sym (c .before .reach-ok .ensures) ∙ not-true _ (c .if2 .taken))
+    refl
+
+returns-3 : tie.Need-returns-3
+unfolding clearanceOf clearanceRefusal first
+returns-3 c =
+    rw (byPen (c .before) .clearance .given .1, sym (c .before .pen-ok .ensures) ∙ not-false _ (c .if1 .left)) refl
+
+returns-4 : tie.Need-returns-4
+unfolding clearanceOf clearanceRefusal first
+returns-4 c =
+    rw (byReach (c .before) .clearance2 .given .1, sym (c .before .reach-ok .ensures) ∙ not-false _ (c .if2 .left))
+    refl
+
+pub clearance-refusal-spec : {M : Type 1} → statement M
+clearance-refusal-spec =
+    tie.close
+    (tie.spec
+    enum-known-clearance
+    pen-ok-requires
+    returns
+    enum-known-clearance-2
+    reach-ok-requires
+    returns-2
+    returns-3
+    returns-4)

@@ -1,0 +1,45 @@
+-- What the plotter's engineer asks of a new track (document 02, P5): how far it keeps from all on the foil.
+use Prim.Native.Nat.{ℕ, _+_, _*_, _≤_, _<_}
+use mathlib.Core.Path.{_≡_}
+use mathlib.Core.List.{List, _++_}
+use mathlib.Core.Logic.{_⊎_}
+use Rattle.foil_spec.specs.Foil.{Point, Entry, Layout}
+use Rattle.foil_spec.specs.Paths.{gap}
+use Rattle.foil_spec.specs.Corners.{drawn}
+use Rattle.foil_spec.specs.Ledger.{legs, lay, book, laid, booked}
+use Rattle.list_laws.proofs.Members.{In}
+use Rattle.ledger_laws.specs.Moments.{Moment, AtEvery}
+
+-- the entry has the point: x0 ≤ x < x1 and y0 ≤ y < y1
+pub record Has (e : Entry) (p : Point) : Type 0 where
+  pub from-x : e .x0 ≤ p .x
+  pub to-x : p .x < e .x1
+  pub from-y : e .y0 ≤ p .y
+  pub to-y : p .y < e .y1
+
+-- the points are more than d apart, in x or in y
+abbrev pub Apart : ℕ → Point → Point → Type 0
+Apart d p q = (d < gap (p .x) (q .x)) ⊎ (d < gap (p .y) (q .y))
+
+-- each point of the track, whose legs are given, is more than d away from each point of the entry e
+abbrev pub Clears : ℕ → List Entry → Entry → Type 0
+Clears d track e = (part : Entry) → In part track → (p q : Point) → Has part p → Has e q → Apart d p q
+
+-- with a pen of half width h and gap g, the track is more than 2h + g away from each leg of the layout, and more than
+-- h + g from each patch
+pub record KeepsApart (l : Layout) (track : List Entry) : Type 0 where
+  pub from-legs : (e : Entry) → In e (l .entries) → 0 < e .net → Clears (2 * l .pen .half + l .pen .gap) track e
+  pub from-patches : (e : Entry) → In e (l .entries) → e .net ≡ 0 → Clears (l .pen .half + l .pen .gap) track e
+
+-- the step is a lay or a booking of the net that is accepted, over these corners
+abbrev pub Tracks : Moment → ℕ → List Point → Type 0
+Tracks k net cs =
+    ((S T : Point) × (n : ℕ) × (k .step ≡ lay net S T) × (k .answer ≡ laid cs n))
+    ⊎ ((ks : List ℕ) × (i n : ℕ) × (k .step ≡ book net ks) × (drawn ks ≡ cs) × (k .answer ≡ booked i n))
+
+-- a track that is laid or booked keeps apart from all that was in the table before it; its legs are appended there
+abbrev pub TracksApart : Type 0
+TracksApart =
+    AtEvery (λ k later.
+    (net : ℕ) (cs : List Point) → Tracks k net cs
+    → (k .ledgerAfter .entries ≡ k .ledgerBefore .entries ++ legs net cs) × KeepsApart (k .ledgerBefore) (legs net cs))
