@@ -518,7 +518,7 @@ READ = (TABLES % 'whole-read', 'whole-read' + ' _' * 8)
 LOOK = (TABLES % 'whole-looked', 'whole-looked' + ' _' * 6)
 OHMS = (TABLES % 'whole-ohms', 'whole-ohms' + ' _' * 7)
 STRIPS, CORNERS = '&mut [u16]', '&mut [u16]'
-changing('new_foil', 'table.clear', 'flat.new_foil', 'Left', 'Answer', [STRIPS] + ['u16'] * 3, STEP)
+changing('new_foil', 'table.clear', 'flat.new_foil', 'Left', 'Answer', [STRIPS] + ['u16'] * 4, STEP)
 changing('draw', 'table.append', 'flat.draw', 'Left', 'Answer', [STRIPS] + ['u16'] * 4, STEP)
 changing('lay', 'table.append_track', 'flat.lay', 'Left', 'Answer', [STRIPS, CORNERS] + ['u16'] * 5, WRITE)
 changing('lift', 'table.lift', 'flat.lift', 'Left', 'Answer', [STRIPS, 'u16'], STEP)

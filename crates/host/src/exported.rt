@@ -21,13 +21,14 @@ use crate::slip;
 use foil_spec::Board;
 use foil_spec::Entry;
 use foil_spec::Ink;
-ghost use Rattle.foil_spec.specs.Foil.{point};
-ghost use Rattle.foil_spec.specs.Ledger.{newFoil, draw as draws, lay as lays, lift as lifts, putLeg, save as saves};
-ghost use Rattle.foil_spec.specs.Ledger.{find as finds, book as books, slip as slips};
+ghost use Rattle.foil_spec.specs.Foil.{point, pen};
+ghost use Rattle.foil_spec.specs.Ledger.{byPen, newFoil, draw as draws, lay as lays, lift as lifts, putLeg};
+ghost use Rattle.foil_spec.specs.Ledger.{save as saves, find as finds, book as books, slip as slips};
 ghost use Rattle.host.specs.Calls.{ToldBy, saidOf, ohmsSaid, HostDone, HostWrote, HostLooked, HostRead, HostOhms};
 ghost use Rattle.host.specs.Records.{recordSaidOf, HostRan};
 
-// Begins a foil of w by h with clearance d: an empty table, and one strip, the whole foil.
+// Begins a foil of w by h with a pen of this half width and gap: an empty table, and one strip, the
+// whole foil.
 #[no_mangle]
 pub extern "C" fn foil_new_foil(
     board: &mut Board,
@@ -35,13 +36,14 @@ pub extern "C" fn foil_new_foil(
     strips: &mut [u16],
     w: u16,
     h: u16,
-    d: u16,
+    half: u16,
+    gap: u16,
 ) -> Said
-    ensures { λ r. ⌜ ToldBy saidOf (λ a. HostDone (newFoil w h d)
+    ensures { λ r. ⌜ ToldBy saidOf (λ a. HostDone (newFoil w h (byPen (pen half gap)))
         (now (board .entry)) (now (table .entry)) (now (strips .entry))
         a (now (board .exit)) (now (table .exit)) (now (strips .exit))) r ⌝ }
 {
-    let answer = new_foil(board, table, strips, w, h, d);
+    let answer = new_foil(board, table, strips, w, h, half, gap);
     said_of(answer)
 }
 

@@ -8,9 +8,9 @@ use foil_spec::MAX_ENTRIES;
 use foil_spec::TABLE_SIZE;
 use ohms::Resistance;
 ghost use mathlib.Core.Path.{_≡_};
-ghost use Rattle.foil_spec.specs.Foil.{point};
-ghost use Rattle.foil_spec.specs.Ledger.{newFoil, draw as draws, lay as lays, lift as lifts, putLeg, save as saves};
-ghost use Rattle.foil_spec.specs.Ledger.{find as finds, book as books, slip as slips};
+ghost use Rattle.foil_spec.specs.Foil.{point, pen};
+ghost use Rattle.foil_spec.specs.Ledger.{byPen, newFoil, draw as draws, lay as lays, lift as lifts, putLeg};
+ghost use Rattle.foil_spec.specs.Ledger.{save as saves, find as finds, book as books, slip as slips};
 ghost use Rattle.foil_spec.specs.Lent.{entryAt};
 ghost use Rattle.strips.specs.Told.{Told};
 ghost use Rattle.host.specs.Flats.{zeros, withEntry, placesLent, numbersLent, entriesOf};
@@ -177,12 +177,12 @@ fn leave(done: Done, at: [u16; TABLE_SIZE], len: usize) -> Left
 }
 
 // Begins a foil.
-pub fn new_foil(b: Board, t: Flat, strips: &mut [u16], w: u16, h: u16, d: u16) -> Left
-    ensures { λ r. ⌜ FlatDone (newFoil w h d) b t (now (strips .entry)) r (now (strips .exit)) ⌝ }
+pub fn new_foil(b: Board, t: Flat, strips: &mut [u16], w: u16, h: u16, half: u16, gap: u16) -> Left
+    ensures { λ r. ⌜ FlatDone (newFoil w h (byPen (pen half gap))) b t (now (strips .entry)) r (now (strips .exit)) ⌝ }
 {
     let mut a = t.at;
     let n = numbers_lent(t.len);
-    let done = foil::new_foil(&mut a[..n], strips, b, w, h, d);
+    let done = foil::new_foil(&mut a[..n], strips, b, w, h, half, gap);
     leave(done, a, t.len)
 }
 

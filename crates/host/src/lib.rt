@@ -13,27 +13,29 @@ use foil_spec::Ink;
 use job::Reply;
 use ohms::Resistance;
 use table::load;
-ghost use Rattle.foil_spec.specs.Foil.{point};
-ghost use Rattle.foil_spec.specs.Ledger.{newFoil, draw as draws, lay as lays, lift as lifts, putLeg, save as saves};
-ghost use Rattle.foil_spec.specs.Ledger.{find as finds, book as books, slip as slips};
+ghost use Rattle.foil_spec.specs.Foil.{point, pen};
+ghost use Rattle.foil_spec.specs.Ledger.{byPen, newFoil, draw as draws, lay as lays, lift as lifts, putLeg};
+ghost use Rattle.foil_spec.specs.Ledger.{save as saves, find as finds, book as books, slip as slips};
 ghost use Rattle.host.specs.Calls.{HostDone, HostWrote, HostLooked, HostRead, HostOhms};
 ghost use Rattle.host.specs.Records.{HostRan};
 
-// Begins a foil of w by h with clearance d: an empty table, and one strip, the whole foil.
+// Begins a foil of w by h with a pen of this half width and gap: an empty table, and one strip, the
+// whole foil.
 pub fn new_foil(
     board: &mut Board,
     table: &mut [Entry],
     strips: &mut [u16],
     w: u16,
     h: u16,
-    d: u16,
+    half: u16,
+    gap: u16,
 ) -> Answer
-    ensures { λ r. ⌜ HostDone (newFoil w h d)
+    ensures { λ r. ⌜ HostDone (newFoil w h (byPen (pen half gap)))
         (now (board .entry)) (now (table .entry)) (now (strips .entry))
         r (now (board .exit)) (now (table .exit)) (now (strips .exit)) ⌝ }
 {
     let b = *board;
-    let out = table::clear(b, table, strips, w, h, d);
+    let out = table::clear(b, table, strips, w, h, half, gap);
     *board = out.board;
     out.answer
 }

@@ -13,8 +13,9 @@ use crate::records::Ran;
 use foil_spec::Board;
 use foil_spec::Entry;
 ghost use mathlib.Core.Path.{_≡_};
-ghost use Rattle.foil_spec.specs.Foil.{point};
-ghost use Rattle.foil_spec.specs.Ledger.{newFoil, draw as draws, lay as lays, lift as lifts, putLeg, book as books};
+ghost use Rattle.foil_spec.specs.Foil.{point, pen};
+ghost use Rattle.foil_spec.specs.Ledger.{byPen, newFoil, draw as draws, lay as lays, lift as lifts, putLeg};
+ghost use Rattle.foil_spec.specs.Ledger.{book as books};
 ghost use Rattle.host.specs.Flats.{frontOf, overFront};
 ghost use Rattle.host.specs.Calls.{HostDone, HostWrote};
 ghost use Rattle.host.specs.Records.{HostRan};
@@ -54,12 +55,20 @@ pub fn store(table: &mut [Entry], f: Flat)
 }
 
 // Empties the table: a foil begins.
-pub fn clear(b: Board, table: &mut [Entry], strips: &mut [u16], w: u16, h: u16, d: u16) -> Left
-    ensures { λ r. ⌜ HostDone (newFoil w h d) b (now (table .entry)) (now (strips .entry))
+pub fn clear(
+    b: Board,
+    table: &mut [Entry],
+    strips: &mut [u16],
+    w: u16,
+    h: u16,
+    half: u16,
+    gap: u16,
+) -> Left
+    ensures { λ r. ⌜ HostDone (newFoil w h (byPen (pen half gap))) b (now (table .entry)) (now (strips .entry))
         (r .answer) (r .board) (now (table .exit)) (now (strips .exit)) ⌝ }
 {
     let t = load(table);
-    let out = flat::new_foil(b, t, strips, w, h, d);
+    let out = flat::new_foil(b, t, strips, w, h, half, gap);
     let u = out.table;
     store(table, u);
     out
