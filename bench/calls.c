@@ -1,6 +1,6 @@
-/* One call by its name, `times` times, on a foil that is made first: calls NAME TIMES. The difference of the instructions
-   of two runs, with one call and with two, is the cost of a call: what is made first, and the first touch of the stack,
-   is in both. */
+/* One call by its name, `times` times, on a foil that is made first: calls NAME TIMES. The difference of the
+   instructions of two runs, with one call and with two, is the cost of a call: what is made first, and the first touch
+   of the stack, is in both. */
 #include <stdio.h>
 #include <stdlib.h>
 #include <string.h>
@@ -19,7 +19,7 @@ static uint8_t bytes[FOIL_SLIP_LINE * FOIL_ENTRIES];
 static void finest(void)
 {
     unsigned k;
-    foil_new_foil(LENT, 127, 127, 0);
+    foil_new_foil(LENT, 127, 127, 0, 0);
     for (k = 1; k < 126; k += 2)
         foil_draw(LENT, k, 0, k + 1, 127);
     for (k = 1; k < 126; k += 2)
@@ -30,7 +30,7 @@ static void finest(void)
 static void points(unsigned n)
 {
     unsigned k;
-    foil_new_foil(LENT, 4096, 4096, 0);
+    foil_new_foil(LENT, 4096, 4096, 0, 0);
     for (k = 0; k < n; k++) {
         struct foil_entry leg = {1 + 7 * k, 31 * k, 29 * k, 31 * k + 1, 29 * k + 1};
         foil_put_leg(LENT, leg);
@@ -41,7 +41,7 @@ static void points(unsigned n)
 static void bars(unsigned n)
 {
     unsigned k;
-    foil_new_foil(LENT, 4096, 4096, 0);
+    foil_new_foil(LENT, 4096, 4096, 0, 0);
     for (k = 0; k < n; k++)
         foil_draw(LENT, 30 * k % 2600, 32 * k, 30 * k % 2600 + 1400, 32 * k + 9);
 }
@@ -88,7 +88,7 @@ int main(int argc, char **argv)
         n = stairs(129);
         /* 128 entries far from the stairs: the whole list is tried, and then there is no place for its legs (10) */
         unsigned k;
-        foil_new_foil(LENT, 4096, 4096, 0);
+        foil_new_foil(LENT, 4096, 4096, 0, 0);
         for (k = 0; k < 128; k++)
             foil_draw(LENT, 1000 + 20 * k, 500 + 25 * k, 1011 + 20 * k, 507 + 25 * k);
         for (; times > 0; times--)

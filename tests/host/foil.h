@@ -11,16 +11,16 @@
 #include <stddef.h>
 #include <stdint.h>
 
-/* what a foil's lists must have room for; and the bytes that are enough to save any foil: 8, 9 for each patch and 11
+/* what a foil's lists must have room for; and the bytes that are enough to save any foil: 12, 9 for each patch and 11
    for each leg */
-enum { FOIL_ENTRIES = 128, FOIL_STRIPS = 4096, FOIL_BYTES = 8 + 11 * FOIL_ENTRIES };
+enum { FOIL_ENTRIES = 128, FOIL_STRIPS = 4096, FOIL_BYTES = 12 + 11 * FOIL_ENTRIES };
 
 /* a line of a slip, its line feed included; a foil has no more nets than entries */
 enum { FOIL_SLIP_LINE = 33 };
 
-/* the board's record */
+/* the board's record, with the pen's half width and gap */
 struct foil_board {
-    uint16_t width, height, clearance;
+    uint16_t width, height, half, gap;
     size_t entries, strips;
 };
 
@@ -63,9 +63,10 @@ struct foil_resistance {
     double ohms;
 };
 
-/* begins a foil of w by h with clearance d */
+/* begins a foil of w by h with a pen of half width 0 to 7 and gap 0 to 15: a patch blocks the points up to half + gap
+   away, a leg those up to 2 * half + gap */
 struct foil_said foil_new_foil(struct foil_board *board, struct foil_entry *table, size_t entries, uint16_t *strips,
-                               size_t strip_numbers, uint16_t w, uint16_t h, uint16_t d);
+                               size_t strip_numbers, uint16_t w, uint16_t h, uint16_t half, uint16_t gap);
 
 /* draws a patch */
 struct foil_said foil_draw(struct foil_board *board, struct foil_entry *table, size_t entries, uint16_t *strips,

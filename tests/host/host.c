@@ -1,6 +1,7 @@
 /* A host program: the foil of document 01's job, by calls and then as the job's bytes, as a customer's program would
-   make it; a track found and a drawing booked, with the slip of both; the foil saved, and read on other lists; and
-   lists in protected pages, which show what a call does not touch: if it did, the program would die. */
+   make it; a track found and a drawing booked, with the slip of both; the foil saved, and read on other lists; tracks
+   of a wider pen; and lists in protected pages, which show what a call does not touch: if it did, the program would
+   die. */
 #define _DEFAULT_SOURCE
 #include <stdio.h>
 #include <stdlib.h>
@@ -26,8 +27,8 @@ static size_t entries, strip_numbers, corner_numbers;
 static void show_foil(void)
 {
     size_t k;
-    printf("foil %u by %u, clearance %u, entries %zu, strips %zu\n", board.width, board.height, board.clearance,
-           board.entries, board.strips);
+    printf("foil %u by %u, half %u, gap %u, entries %zu, strips %zu\n", board.width, board.height, board.half,
+           board.gap, board.entries, board.strips);
     for (k = 0; k < board.entries; k++)
         printf("entry %u %u %u %u %u\n", table[k].net, table[k].x0, table[k].y0, table[k].x1, table[k].y1);
     for (k = 0; k < board.strips; k++)
@@ -56,6 +57,23 @@ static void show_save(uint8_t *bytes, size_t byte_count)
 {
     struct foil_said said = foil_save(LENT, bytes, byte_count);
     printf("save %u %zu\n", said.number, said.bytes);
+}
+
+/* saves the foil, shows its file, and answers how many bytes this has */
+static size_t show_file(uint8_t *bytes, size_t byte_count)
+{
+    size_t k, count = foil_save(LENT, bytes, byte_count).bytes;
+    printf("saved %zu:", count);
+    for (k = 0; k < count; k++)
+        printf(" %02x", bytes[k]);
+    printf("\n");
+    return count;
+}
+
+static void show_place(uint16_t x, uint16_t y)
+{
+    struct foil_said said = foil_look_up(LENT, x, y);
+    printf("place %u %zu\n", said.number, said.place);
 }
 
 static void show_find(uint16_t sx, uint16_t sy, uint16_t tx, uint16_t ty, size_t places)
@@ -126,7 +144,6 @@ static void document_01(void)
 {
     static struct foil_entry own_table[FOIL_ENTRIES];
     static uint16_t own_strips[4 * FOIL_STRIPS], own_corners[2 * 8192];
-    struct foil_said said;
     table = own_table;
     entries = FOIL_ENTRIES;
     strips = own_strips;
@@ -135,8 +152,8 @@ static void document_01(void)
     corner_numbers = 2 * 8192;
     /* nothing is begun yet: the lists hold zeros, which are no foil */
     printf("patch %u\n", foil_draw(LENT, 2, 0, 3, 3).number);
-    printf("board %u\n", foil_new_foil(LENT, 0, 4, 0).number);
-    printf("board %u\n", foil_new_foil(LENT, 6, 4, 0).number);
+    printf("board %u\n", foil_new_foil(LENT, 0, 4, 0, 0).number);
+    printf("board %u\n", foil_new_foil(LENT, 6, 4, 0, 0).number);
     printf("patch %u\n", foil_draw(LENT, 2, 0, 3, 3).number);
     printf("patch %u\n", foil_draw(LENT, 3, 0, 2, 3).number);
     show_lay(5, foil_lay(LENT, CORNERS, 5, 0, 0, 4, 0));
@@ -144,10 +161,8 @@ static void document_01(void)
     show_lay(6, foil_lay(LENT, CORNERS, 6, 1, 0, 5, 0));
     show_lay(7, foil_lay(LENT, corners, 1, 7, 1, 0, 1, 2));
     show_foil();
-    said = foil_look_up(LENT, 5, 3);
-    printf("place %u %zu\n", said.number, said.place);
-    said = foil_look_up(LENT, 2, 2);
-    printf("place %u %zu\n", said.number, said.place);
+    show_place(5, 3);
+    show_place(2, 2);
     show_ohms(5, 0.5, 2, 0.5);
     show_ohms(5, 0.1, 3, 0.7);
     show_ohms(5, 1000, 65, 4);
@@ -172,7 +187,7 @@ static void drawn(void)
     static const uint16_t job_corners[] = {0, 0, 0, 3, 6, 3, 6, 0};
     static const uint16_t round_the_patch[] = {1, 0, 1, 2, 0, 2, 0, 3, 5, 3, 5, 0};
     static uint8_t slip[2 * FOIL_SLIP_LINE];
-    printf("board %u\n", foil_new_foil(LENT, 6, 4, 0).number);
+    printf("board %u\n", foil_new_foil(LENT, 6, 4, 0, 0).number);
     printf("patch %u\n", foil_draw(LENT, 2, 0, 3, 3).number);
     show_slip(slip, 0);
     /* 8 and 9 numbers are places for four corners, 7 for three */
@@ -200,7 +215,7 @@ static void saved(void)
     static uint8_t bytes[FOIL_BYTES];
     struct foil_entry *was_table = table;
     uint16_t *was_strips = strips;
-    size_t k, count;
+    size_t count;
     show_leg(5, 0, 0, 1, 2);
     /* 0 and 1,000 are no track's net; then a leg that goes off the foil, and a shape that is no leg */
     show_leg(0, 0, 0, 1, 1);
@@ -208,11 +223,7 @@ static void saved(void)
     show_leg(7, 3, 0, 7, 1);
     show_leg(7, 0, 0, 2, 2);
     show_leg(7, 5, 0, 6, 4);
-    count = foil_save(LENT, bytes, sizeof bytes).bytes;
-    printf("saved %zu:", count);
-    for (k = 0; k < count; k++)
-        printf(" %02x", bytes[k]);
-    printf("\n");
+    count = show_file(bytes, sizeof bytes);
     show_save(bytes, count - 1);
     table = read_table;
     strips = read_strips;
@@ -223,6 +234,25 @@ static void saved(void)
     printf("read back: %s table, %s strips\n",
            memcmp(table, was_table, sizeof read_table) == 0 ? "the same" : "another",
            memcmp(strips, was_strips, sizeof read_strips) == 0 ? "the same" : "other");
+}
+
+/* a pen of half width 1 and gap 1: a patch blocks up to 2 away, a leg up to 3 */
+static void wider_pen(void)
+{
+    static uint8_t bytes[FOIL_BYTES];
+    /* the widest pen */
+    printf("board %u\n", foil_new_foil(LENT, 20, 16, 7, 15).number);
+    printf("board %u\n", foil_new_foil(LENT, 20, 16, 1, 1).number);
+    printf("patch %u\n", foil_draw(LENT, 9, 5, 11, 7).number);
+    show_place(7, 3);
+    show_place(6, 3);
+    show_foil();
+    /* a track just past what the patch blocks, and one beside it: 3 away, then 4 */
+    show_lay(3, foil_lay(LENT, CORNERS, 3, 2, 2, 17, 2));
+    show_lay(4, foil_lay(LENT, CORNERS, 4, 2, 5, 17, 5));
+    show_lay(4, foil_lay(LENT, CORNERS, 4, 2, 6, 17, 6));
+    show_foil();
+    run_job(bytes, show_file(bytes, sizeof bytes));
 }
 
 /* pages with a border among them: the first part of a list ends there, and its other places lie behind it */
@@ -279,7 +309,6 @@ static const char *kept(struct pages p)
    those of a byte list past the end of the file */
 static void longer_lists(struct pages t, struct pages s, struct pages b)
 {
-    struct foil_said said;
     table = (struct foil_entry *)(void *)t.border - FOIL_ENTRIES;
     entries = 200;
     strips = (uint16_t *)(void *)s.border - 4 * FOIL_STRIPS;
@@ -287,15 +316,14 @@ static void longer_lists(struct pages t, struct pages s, struct pages b)
     protect(t.border, t.behind, PROT_NONE);
     protect(s.border, s.behind, PROT_NONE);
     protect(b.border, b.behind, PROT_NONE);
-    printf("board %u\n", foil_new_foil(LENT, 6, 4, 0).number);
+    printf("board %u\n", foil_new_foil(LENT, 6, 4, 0, 0).number);
     printf("patch %u\n", foil_draw(LENT, 2, 0, 3, 3).number);
     printf("patch %u\n", foil_draw(LENT, 3, 0, 2, 3).number);
     show_lay(5, foil_lay(LENT, CORNERS, 5, 0, 0, 4, 0));
-    said = foil_look_up(LENT, 5, 3);
-    printf("place %u %zu\n", said.number, said.place);
+    show_place(5, 3);
     printf("lift 5 %u\n", foil_lift(LENT, 5).number);
     show_leg(5, 0, 0, 1, 4);
-    show_save(b.border - 28, 28 + b.behind);
+    show_save(b.border - 32, 32 + b.behind);
     run_job(job, sizeof job);
     writable(t);
     writable(s);
@@ -310,13 +338,18 @@ static void refused_calls(struct pages t, struct pages s, struct pages c, struct
 {
     /* the record at place 1 lifts net 6, which is not there */
     static const uint8_t lift_6[] = {0x00, 0x08, 0x06, 0x00};
+    /* a job whose pen has a half width of 8 */
+    static const uint8_t wide_job[] = {0x21, 0x06, 0x00, 0x04, 0x00, 0x00, 0x00, 0x08, 0x00, 0x00, 0x00, 0x00};
     unsigned k;
     corners = (uint16_t *)(void *)c.border - corner_numbers;
     read_only(t);
     read_only(s);
     read_only(c);
     read_only(b);
-    printf("board %u\n", foil_new_foil(LENT, 6, 4, 16).number);
+    printf("board %u\n", foil_new_foil(LENT, 6, 4, 8, 0).number);
+    printf("board %u\n", foil_new_foil(LENT, 6, 4, 0, 16).number);
+    printf("board %u\n", foil_new_foil(LENT, 0, 4, 8, 16).number);
+    run_job(wide_job, sizeof wide_job);
     printf("patch %u\n", foil_draw(LENT, 3, 0, 2, 3).number);
     show_lay(5, foil_lay(LENT, CORNERS, 5, 0, 0, 4, 0));
     show_lay(6, foil_lay(LENT, CORNERS, 6, 1, 0, 5, 0));
@@ -328,7 +361,7 @@ static void refused_calls(struct pages t, struct pages s, struct pages c, struct
     printf("lift 6 %u\n", foil_lift(LENT, 6).number);
     show_leg(0, 0, 0, 1, 4);
     show_leg(7, 0, 0, 2, 2);
-    show_save(b.border - 49, 49);
+    show_save(b.border - 53, 53);
     show_slip(b.border - 32, 32);
     printf("lift 5 %u\n", foil_lift(&board, table, 127, strips, strip_numbers, 5).number);
     printf("lift 6 %u\n", foil_run_record(LENT, CORNERS, lift_6, sizeof lift_6, 1).lift.said.number);
@@ -337,7 +370,7 @@ static void refused_calls(struct pages t, struct pages s, struct pages c, struct
     writable(t);
     writable(s);
     writable(c);
-    printf("board %u\n", foil_new_foil(LENT, 129, 127, 0).number);
+    printf("board %u\n", foil_new_foil(LENT, 129, 127, 0, 0).number);
     for (k = 1; k < 128; k += 2)
         foil_draw(LENT, k, 0, k + 1, 127);
     for (k = 1; k < 124; k += 2)
@@ -360,9 +393,9 @@ static void refused_calls(struct pages t, struct pages s, struct pages c, struct
     show_lay(6, foil_lay(LENT, CORNERS, 6, 2, 125, 2, 125));
     show_leg(6, 2, 125, 3, 126);
     /* the file of a full table, with a byte too few and with as many as it has; the foil's lists are only read */
-    show_save(b.border - 1161, 1161);
+    show_save(b.border - 1165, 1165);
     writable(b);
-    show_save(b.border - 1162, 1162);
+    show_save(b.border - 1166, 1166);
 }
 
 int main(void)
@@ -374,6 +407,7 @@ int main(void)
     document_01();
     drawn();
     saved();
+    wider_pen();
     longer_lists(t, s, b);
     refused_calls(t, s, c, b);
     return 0;
