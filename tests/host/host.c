@@ -242,6 +242,7 @@ static void wider_pen(void)
     static uint8_t bytes[FOIL_BYTES];
     /* the widest pen */
     printf("board %u\n", foil_new_foil(LENT, 20, 16, 7, 15).number);
+    show_foil();
     printf("board %u\n", foil_new_foil(LENT, 20, 16, 1, 1).number);
     printf("patch %u\n", foil_draw(LENT, 9, 5, 11, 7).number);
     show_place(7, 3);
