@@ -15,7 +15,8 @@ pub(crate) fn no_board() -> Board {
     Board {
         width: 0,
         height: 0,
-        clearance: 0,
+        half: 0,
+        gap: 0,
         entries: 0,
         strips: 0,
     }
@@ -23,7 +24,7 @@ pub(crate) fn no_board() -> Board {
 
 // Document 01's foil of 6 by 4, with its patch.
 pub(crate) fn patched(table: &mut [u16; TABLE_SIZE], strips: &mut [u16; STRIPS_SIZE]) -> Board {
-    let begun = new_foil(table, strips, no_board(), 6, 4, 0);
+    let begun = new_foil(table, strips, no_board(), 6, 4, 0, 0);
     let drawn = draw(table, strips, begun.board, 2, 0, 3, 3);
     drawn.board
 }
@@ -42,7 +43,7 @@ pub(crate) fn laid(
 
 // A foil of 4,096 by 4,096 whose last column is 128 legs of net 999, the first of them a point.
 pub(crate) fn widest(table: &mut [u16; TABLE_SIZE], strips: &mut [u16; STRIPS_SIZE]) -> Board {
-    let begun = new_foil(table, strips, no_board(), 4096, 4096, 0);
+    let begun = new_foil(table, strips, no_board(), 4096, 4096, 0, 0);
     let mut board = with_leg(table, strips, begun.board, 999, 4095, 4095);
     for _ in 1..MAX_ENTRIES {
         board = with_leg(table, strips, board, 999, 4095, 0);
@@ -52,7 +53,7 @@ pub(crate) fn widest(table: &mut [u16; TABLE_SIZE], strips: &mut [u16; STRIPS_SI
 
 // A foil of 256 by 256 with a leg of each of the nets 999 down to 872, scattered.
 pub(crate) fn full(table: &mut [u16; TABLE_SIZE], strips: &mut [u16; STRIPS_SIZE]) -> Board {
-    let begun = new_foil(table, strips, no_board(), 256, 256, 0);
+    let begun = new_foil(table, strips, no_board(), 256, 256, 0, 0);
     let mut board = begun.board;
     for k in 0..128 {
         board = with_leg(table, strips, board, 999 - k, k * 2, k * 37 % 256);
