@@ -1,5 +1,5 @@
 -- The starred test foils of document 01, the ohms of its track, legs as booked with the file of their foil, drawn ways,
--- the slip of two tracks, and pens: one list of cases, and one fact over it.
+-- the slip of two tracks, pens, and foils that the edge blocks: one list of cases, and one fact over it.
 use Prim.Native.Nat.{ℕ}
 use mathlib.Core.Path.{_≡_, refl}
 use mathlib.Core.Bool.{true, false, xor}
@@ -36,7 +36,7 @@ use Rattle.foil_spec.specs.Calls.{reply, ledgerCall}
 abbrev strip : ℕ → ℕ → ℕ → ℕ → Strip
 strip x0 y0 x1 y1 = record { x0 = x0; y0 = y0; x1 = x1; y1 = y1 }
 
--- a new foil whose patches and legs block up to d away
+-- a new foil whose patches, legs and edge block up to d away
 abbrev begin : ℕ → ℕ → ℕ → Step
 begin W H d = newFoil W H (byPen (pen 0 d))
 
@@ -192,7 +192,7 @@ cases =
           record {
             replies = answered accepted ∷ answered accepted ∷ answered (refused 8) ∷ answered (found 1) ∷ [];
             entries = entry 0 4 4 6 6 ∷ [];
-            strips = strip 0 0 10 3 ∷ strip 0 3 3 7 ∷ strip 7 3 10 7 ∷ strip 0 7 10 10 ∷ [];
+            strips = strip 1 1 9 3 ∷ strip 1 3 3 7 ∷ strip 7 3 9 7 ∷ strip 1 7 9 9 ∷ [];
           };
     }
     -- 1 by 1: no strips are left
@@ -390,7 +390,7 @@ cases =
                 answered (refused 20) ∷ answered (refused 20) ∷ answered (refused 1) ∷ answered accepted
                 ∷ answered accepted ∷ answered accepted ∷ [];
             entries = entry 9 5 0 6 5 ∷ entry 0 0 0 1 5 ∷ [];
-            strips = strip 2 0 3 5 ∷ strip 8 0 12 5 ∷ [];
+            strips = strip 2 1 3 4 ∷ strip 8 1 11 4 ∷ [];
           };
     }
     -- pens in job files: 2 for a reach, and 16 for a pen without a board
@@ -404,8 +404,23 @@ cases =
                 ran (refused 2 ∷ []) none ∷ ran (refused 20 ∷ []) none ∷ ran (accepted ∷ []) (some 11)
                 ∷ answered (refused 16) ∷ answered accepted ∷ atEnd ∷ [];
             entries = entry 9 5 0 6 5 ∷ [];
-            strips = strip 0 0 3 5 ∷ strip 8 0 12 5 ∷ [];
+            strips = strip 1 1 3 4 ∷ strip 8 1 11 4 ∷ [];
           };
+    }
+    -- the edge leaves one point of 5 by 5 with a reach of 2
+    ∷ record {
+      calls = step (begin 5 5 2) ∷ step (lookUp (point 2 2)) ∷ step (lookUp (point 2 3)) ∷ [];
+      outcome =
+          record {
+            replies = answered accepted ∷ answered (found 0) ∷ answered (refused 8) ∷ [];
+            entries = [];
+            strips = strip 2 2 3 3 ∷ [];
+          };
+    }
+    -- and none of 4 by 5
+    ∷ record {
+      calls = step (begin 4 5 2) ∷ step (lookUp (point 2 2)) ∷ [];
+      outcome = record { replies = answered accepted ∷ answered (refused 8) ∷ []; entries = []; strips = [] };
     }
     ∷ []
 

@@ -92,9 +92,9 @@ blocks d e x y = within (e .x0) (e .x1) d x && within (e .y0) (e .y1) d y
 abbrev pub Rule : Type 0
 Rule = declaredRule.Rule
 
--- the rule of a pen: a patch blocks up to h + g away, a leg up to 2h + g, the edge nothing
+-- the rule of a pen: a patch and the edge block up to h + g away, a leg up to 2h + g
 unfoldable pub penRule : Pen → Rule
-penRule p = record { patch = p .half + p .gap; leg = p .half + (p .half + p .gap); edge = 0 }
+penRule p = record { patch = p .half + p .gap; leg = p .half + (p .half + p .gap); edge = p .half + p .gap }
 
 -- document 01's rule: patches and legs block up to the reach away, the edge nothing
 unfoldable pub reachRule : ℕ → Rule

@@ -201,36 +201,56 @@ module _ (f : ℕ → ℕ → Bool) (W H : ℕ) where
         above = a .not-empty;
       })
 
--- the whole foil as a strip
-abbrev pub wholeFoil : ℕ → ℕ → Strip
-wholeFoil W H = record { x0 = 0; y0 = 0; x1 = W; y1 = H }
+-- a place is 0, or what is said of the one before it holds
+behind : {A : Type 0} (a : ℕ) → (pred a < a → A) → (a ≡ 0) ⊎ A
+behind zero k = inl refl
+behind (suc a) k = inr (k (omega arith))
 
--- a foil all of whose points are free has one strip, the whole foil
+-- a foil on which a point is free just if it lies in a box
 module _
-    (f : ℕ → ℕ → Bool) (W H : ℕ) (w : 0 < W) (h : 0 < H) (free : (x y : ℕ) → x < W → y < H → f x y ≡ true) where
-  whole-listed : In (wholeFoil W H) (strips f W H)
-  whole-listed =
-      strip-listed f W H (wholeFoil W H)
-      (record {
-        not-empty = h;
-        on-board = omega arith;
-        are-runs = λ y a b.
-            record {
-              not-empty = w;
-              on-board = omega arith;
-              all-free = λ x c d. free x y d b;
-              left = inl refl;
-              right = inl refl;
-            };
-        above = inl refl;
-        below = inl refl;
-      })
+    (f : ℕ → ℕ → Bool) (W H : ℕ) (box : Strip) (all-free : (p : Point) → Held p box → f (p .x) (p .y) ≡ true)
+    (no-other : (p : Point) → f (p .x) (p .y) ≡ true → Held p box) where
+  beside : (p : Point) → (Held p box → ⊥) → f (p .x) (p .y) ≡ false
+  beside p n = both (f (p .x) (p .y)) (λ e. absurd (n (no-other p e))) (λ e. e)
 
-  pub one-strip : strips f W H ≡ wholeFoil W H ∷ []
-  one-strip =
-      stands-alone (wholeFoil W H) (strips f W H) (strips-in-order f W H) whole-listed
-      (λ s i.
+  -- the first point of a strip lies in it
+  first-in : (s : Strip) → In s (strips f W H) → Held (point (s .x0) (s .y0)) box
+  first-in s i =
       let p : Point = point (s .x0) (s .y0) in
-      let k = only-free f W H p s i (holds-first f W H s i) in
-      in-one-only f W H p s (wholeFoil W H) i whole-listed (holds-first f W H s i)
-      (to-holds p (wholeFoil W H) (record { right = omega arith; left = k .0; below = omega arith; above = k .1 })))
+      no-other p (only-free f W H p s i (holds-first f W H s i) .2)
+
+  module _ (across : box .x0 < box .x1) (down : box .y0 < box .y1) (wide : box .x1 ≤ W) (high : box .y1 ≤ H) where
+    box-listed : In box (strips f W H)
+    box-listed =
+        strip-listed f W H box
+        (record {
+          not-empty = down;
+          on-board = high;
+          are-runs = λ y a b.
+              record {
+                not-empty = across;
+                on-board = wide;
+                all-free = λ x c d. all-free (point x y) (record { right = c; left = d; below = a; above = b });
+                left =
+                    behind (box .x0)
+                    (λ l. beside (point (pred (box .x0)) y) (λ k. omega (arith, k .right)));
+                right = inr (beside (point (box .x1) y) (λ k. omega (arith, k .left)));
+              };
+          above =
+              behind (box .y0)
+              (λ l r.
+              omega (arith, no-other (point (box .x0) (pred (box .y0))) (r .all-free _ (omega arith) across) .below));
+          below = inr (λ r. omega (arith, no-other (point (box .x0) (box .y1)) (r .all-free _ (omega arith) across) .above));
+        })
+
+    -- has the box for its one strip
+    pub one-strip : strips f W H ≡ box ∷ []
+    one-strip =
+        stands-alone box (strips f W H) (strips-in-order f W H) box-listed
+        (λ s i.
+        let p : Point = point (s .x0) (s .y0) in
+        in-one-only f W H p s box i box-listed (holds-first f W H s i) (to-holds p box (first-in s i)))
+
+  -- or none where the box is empty
+  pub no-strip : ((p : Point) → Held p box → ⊥) → strips f W H ≡ []
+  no-strip none = none-stands (strips f W H) (λ s i. none (point (s .x0) (s .y0)) (first-in s i))

@@ -6,11 +6,11 @@ use mathlib.Core.Path.{_≡_, refl, ap, ap₂, sym, _∙_}
 use mathlib.Core.Bool.{Bool, true, false, not, _&&_}
 use mathlib.Core.List.{List, [], map}
 use lib.Dec.{leb, ltb}
-use borrow.Author.Tests.{le-leb, lt-ltb, lt-leb, le-ltb, leb-true, ltb-true}
+use borrow.Author.Tests.{le-leb, lt-ltb, lt-leb, le-ltb, leb-true, leb-false, ltb-true, ltb-false}
 use Rattle.foil_spec.specs.Lists.{range, all}
 use Rattle.foil_spec.specs.Foil.{Entry, Pen, Rule, Layout, within, blocks, penRule, margin, nearEdge, freeBy, free}
 use Rattle.foil_spec.specs.Lent.{entryAt}
-use Rattle.list_laws.proofs.Tests.{both, clash, and-l, and-r, and-i, and-no-r, not-f, not-t, parts}
+use Rattle.list_laws.proofs.Tests.{both, clash, and-l, and-r, and-i, and-no-r, or-l, or-r, not-f, not-t, parts}
 use Rattle.list_laws.proofs.Members.{all-places, at-place}
 use Rattle.zones.specs.Boxes.{inside, covers, boxFree, Covered}
 
@@ -149,13 +149,39 @@ free-inside l x y h =
     let b : ltb y (l .height) ≡ true = search parts in
     (ltb-true x (l .width) a, ltb-true y (l .height) b)
 
--- a foil whose edge blocks nothing
-off-edge : (size v : ℕ) → v < size → nearEdge 0 size v ≡ false
-unfolding nearEdge
-off-edge size v l = simp (le-ltb v 0 (omega arith), lt-leb size (v + 0) (omega arith))
+-- ---- the edge
 
--- every point of a foil without entries is free
-pub bare-free : (p : Pen) (W H x y : ℕ) → x < W → y < H
+-- a coordinate that is m or more away from both ends
+module _ (m size v : ℕ) where
+  pub far : m ≤ v → v + m < size → nearEdge m size v ≡ false
+  unfolding nearEdge
+  far a b = simp (le-ltb v m a, lt-leb size (v + m) b)
+
+  pub of-far : nearEdge m size v ≡ false → (m ≤ v) × (v + m < size)
+  unfolding nearEdge
+  of-far e = (
+    ltb-false v m (or-l (ltb v m) (leb size (v + m)) e),
+    leb-false size (v + m) (or-r (ltb v m) (leb size (v + m)) e),
+  )
+
+-- what is free is h + g or more away from the edge
+pub free-far : (l : Layout) (x y : ℕ) → free l x y ≡ true
+    → (l .pen .half + l .pen .gap ≤ x) × (x + (l .pen .half + l .pen .gap) < l .width)
+    × (l .pen .half + l .pen .gap ≤ y) × (y + (l .pen .half + l .pen .gap) < l .height)
+unfolding free freeBy penRule
+free-far l x y h =
+    let m : ℕ = l .pen .half + l .pen .gap in
+    let ex : nearEdge m (l .width) x ≡ false = search parts depth 9 in
+    let ey : nearEdge m (l .height) y ≡ false = search parts depth 9 in
+    let (left, right) = of-far m (l .width) x ex in
+    let (above, below) = of-far m (l .height) y ey in
+    (left, right, above, below)
+
+-- and every such point of a foil without entries is
+pub bare-free : (p : Pen) (W H x y : ℕ) → p .half + p .gap ≤ x → x + (p .half + p .gap) < W
+    → p .half + p .gap ≤ y → y + (p .half + p .gap) < H
     → free (record { width = W; height = H; pen = p; entries = [] }) x y ≡ true
 unfolding free freeBy penRule
-bare-free p W H x y hx hy = simp (lt-ltb x W hx, lt-ltb y H hy, off-edge W x hx, off-edge H y hy)
+bare-free p W H x y left right above below =
+    let m : ℕ = p .half + p .gap in
+    simp (lt-ltb x W (omega arith), lt-ltb y H (omega arith), far m W x left right, far m H y above below)

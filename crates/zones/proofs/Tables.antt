@@ -61,7 +61,7 @@ pen-small p ok =
     let b : leb (p .gap) 15 ≡ true = search parts in
     let half = leb-true (p .half) 7 a in
     let gap = leb-true (p .gap) 15 b in
-    record { patch = omega (arith, half, gap); leg = omega (arith, half, gap); edge = omega arith }
+    record { patch = omega (arith, half, gap); leg = omega (arith, half, gap); edge = omega (arith, half, gap) }
 
 -- a foil within its limits
 pub foil-sized : (w h : ℕ) → sizeOk w ≡ true → sizeOk h ≡ true → Sized w h

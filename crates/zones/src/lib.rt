@@ -126,10 +126,12 @@ fn pen_rule(half: u16, gap: u16) -> Rule
     requires { ⌜ Small (penRule (pen half gap)) ⌝ }
     ensures { λ r. ⌜ r ≡ penRule (pen half gap) ⌝ }
 {
+    let near = half + gap;
+    let far = half + near;
     Rule {
-        patch: half + gap,
-        leg: half + (half + gap),
-        edge: 0,
+        patch: near,
+        leg: far,
+        edge: near,
     }
 }
 
