@@ -75,4 +75,4 @@ module _ (b : Board) (t s : List ℕ) (w h : ℕ) (c : Clearance) (room : Room) 
         unfolding stepOn settle next says store layoutOf first
         begun clear p e bare r t′ s′ k =
             rw (from-1 ∙ past-1 ∙ clear, sym e)
-            (rw (new-fine w h p (sym u-is ∙ not-false u wide) (sym v-is ∙ not-false v high)) at k)
+            (rw (new-fine w h p) at k)

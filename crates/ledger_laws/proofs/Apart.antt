@@ -1,4 +1,5 @@
--- Each point of a way is free, and so keeps its distance from every leg and every patch that is on the foil.
+-- Each point of a way is free, and so keeps its distance from every leg and every patch that is on the foil, and from
+-- the edge.
 use Prim.Native.Nat.{ℕ, _+_, _*_, _<_}
 use native.Mathlib.Omega.{arith}
 use mathlib.Core.Path.{_≡_, refl, sym, ap, _∙_, subst}
@@ -18,7 +19,7 @@ use Rattle.list_laws.proofs.Tests.{clash, and-l, and-r, and-i, not-t, not-ff, l
 use Rattle.list_laws.proofs.Members.{In, of-all}
 use Rattle.path_laws.proofs.Segments.{Level, Upright, between-at, of-segment}
 use Rattle.path_laws.proofs.Ways.{path-way}
-use Rattle.zones.proofs.Free.{within-yes}
+use Rattle.zones.proofs.Free.{within-yes, free-far}
 use Rattle.ledger_laws.specs.Moments.{Moment}
 use Rattle.ledger_laws.specs.Apart.{Has, Apart, KeepsApart, TracksApart}
 use Rattle.ledger_laws.proofs.Refusals.{none-applies, unrefused-own}
@@ -109,12 +110,15 @@ module _ (l : Layout) where
   unfolding margin penRule
   patch-margin e n = rw (eq-eqb (e .net) 0 n) refl
 
-  -- the legs of a way over free points keep apart from all entries
+  -- the legs of a way over free points keep apart from all entries and from the edge
   pub way-apart : (net : ℕ) (cs : List Point) → isWay (free l) cs ≡ true → KeepsApart l (legs net cs)
   way-apart net cs w =
       record {
         from-legs = λ e i n part j p q on-part on-e. clears e i (leg-margin e n) part j p q on-part on-e;
         from-patches = λ e i n part j p q on-part on-e. clears e i (patch-margin e n) part j p q on-part on-e;
+        from-edge = λ part j p on.
+            let (left, right, above, below) = free-far l (p .x) (p .y) (legs-free (free l) net cs w part j p on) in
+            record { left = left; right = right; above = above; below = below };
       }
     where
       clears : (e : Entry) → In e (l .entries) → {d : ℕ} → margin (penRule (l .pen)) e ≡ d

@@ -1,17 +1,18 @@
 -- Each step of the ledger keeps what lists of calls ask of it.
-use Prim.Native.Nat.{ℕ, _/_, min, _≤_, _<_}
+use Prim.Native.Nat.{ℕ, _+_, _-_, _/_, min, _≤_, _<_}
 use native.Mathlib.Omega.{arith}
 use mathlib.Core.Path.{_≡_, refl, sym, ap, _∙_}
-use mathlib.Core.Bool.{Bool, true, false, not, _&&_, _||_, or-true, true≢false}
+use mathlib.Core.Bool.{Bool, true, false, cond, not, _&&_, _||_, or-true, true≢false}
 use mathlib.Core.List.{List, [], _∷_, _++_}
 use mathlib.Core.Option.{Option, none, some, Option·getD}
 use lib.Dec.{leb, ltb}
-use borrow.Author.Tests.{ltb-true, ltb-false, leb-true, le-leb}
+use borrow.Author.Tests.{lt-ltb, ltb-true, ltb-false, leb-true, le-leb}
 use lib.ListN.{length}
 use Rattle.foil_spec.specs.Lists.{all, keep}
 use Rattle.foil_spec.specs.Limits.{maxEntries}
 use Rattle.foil_spec.specs.Foil.{Point, Entry, entry, Pen, pen, Layout, noFoil, sizeOk, reachOk, penOk, netOk}
 use Rattle.foil_spec.specs.Foil.{boxOk, shapeOk, entryOk, free}
+use Rattle.foil_spec.specs.Strips.{Strip}
 use Rattle.foil_spec.specs.Paths.{at, anywhere, either, leads, isWay}
 use Rattle.foil_spec.specs.Corners.{drawn}
 use Rattle.foil_spec.specs.Saving.{jobOf}
@@ -26,26 +27,61 @@ use Rattle.list_laws.proofs.Tests.{clash, and-l, and-r, and-i, or-l, not-ff, bo
 use Rattle.list_laws.proofs.Members.{length-keep}
 use Rattle.path_laws.proofs.Laws.{gives-first}
 use Rattle.path_laws.proofs.Ways.{path-way, way-is}
-use Rattle.strip_laws.proofs.Laws.{one-strip}
+use Rattle.strip_laws.proofs.Strips.{Held}
+use Rattle.strip_laws.proofs.Laws.{one-strip, no-strip}
 use Rattle.ledger_laws.specs.Line.{Line, Lacks, corners, bytes, page, but, numbersFrom, ownNumbers}
 use Rattle.ledger_laws.proofs.Refusals.{no-rule, no-more, none-applies, first-passes}
-use Rattle.zones.proofs.Free.{free-inside, bare-free}
+use Rattle.zones.proofs.Free.{free-inside, free-far, bare-free}
 use Rattle.ledger_laws.proofs.Legs.{legs-ok}
 use Rattle.ledger_laws.proofs.Rules.{of-ok, to-ok}
 
 -- ---- what the steps leave
 
-positive : (n : ℕ) → sizeOk n ≡ true → 0 < n
-unfolding sizeOk
-positive n h = leb-true 1 n (and-l (leb 1 n) (leb n 4096) h)
-
 -- a foil without entries
 abbrev pub bare : ℕ → ℕ → Pen → Layout
 bare W H p = record { width = W; height = H; pen = p; entries = [] }
 
-pub new-fine : (W H : ℕ) (p : Pen) → sizeOk W ≡ true → sizeOk H ≡ true → tooFine (bare W H p) ≡ false
-unfolding tooFine stripsOf
-new-fine W H p hW hH = rw (one-strip (free (bare W H p)) W H (positive W hW) (positive H hH) (bare-free p W H)) refl
+module _ (W H : ℕ) (p : Pen) where
+  -- how far away its edge blocks
+  abbrev m : ℕ
+  m = p .half + p .gap
+
+  -- what the edge leaves of it
+  abbrev inner : Strip
+  inner = record { x0 = m; y0 = m; x1 = W - m; y1 = H - m }
+
+  inner-free : (q : Point) → Held q inner → free (bare W H p) (q .x) (q .y) ≡ true
+  inner-free q k =
+      bare-free p W H (q .x) (q .y) (k .right) (omega (arith, k .left)) (k .below) (omega (arith, k .above))
+
+  free-inner : (q : Point) → free (bare W H p) (q .x) (q .y) ≡ true → Held q inner
+  free-inner q e =
+      let (left, right, above, below) = free-far (bare W H p) (q .x) (q .y) e in
+      record { right = left; left = omega arith; below = above; above = omega arith }
+
+  -- its strips: that as the only one, or none where nothing is left
+  pub bare-strips : stripsOf (bare W H p) ≡ cond (ltb (m + m) W && ltb (m + m) H) (inner ∷ []) []
+  unfolding stripsOf
+  bare-strips =
+      both (ltb (m + m) W && ltb (m + m) H)
+      (λ e.
+      let across = ltb-true (m + m) W (and-l _ _ e) in
+      let down = ltb-true (m + m) H (and-r (ltb (m + m) W) _ e) in
+      rw e
+      (one-strip (free (bare W H p)) W H inner inner-free free-inner (omega arith) (omega arith) (omega arith)
+      (omega arith)))
+      (λ e.
+      rw e
+      (no-strip (free (bare W H p)) W H inner inner-free free-inner
+      (λ q k.
+      clash
+      (and-i (lt-ltb (m + m) W (omega (arith, k .right, k .left)))
+      (lt-ltb (m + m) H (omega (arith, k .below, k .above))))
+      e)))
+
+  pub new-fine : tooFine (bare W H p) ≡ false
+  unfolding tooFine
+  new-fine = both (ltb (m + m) W && ltb (m + m) H) (λ e. rw (bare-strips, e) refl) (λ e. rw (bare-strips, e) refl)
 
 pub patch-ok : (W H : ℕ) (x0 y0 x1 y1 : ℕ) → boxOk W H (entry 0 x0 y0 x1 y1) ≡ true
     → entryOk W H (entry 0 x0 y0 x1 y1) ≡ true
@@ -201,7 +237,7 @@ module _ (W H : ℕ) (c : Clearance) where
           pen = s .2;
           entries = refl;
           long = refl;
-          fine = new-fine W H (penOf c) (s .0) (s .1);
+          fine = new-fine W H (penOf c);
         });
     unbegun = λ z. clash z refl;
     accepts = λ l. refl;

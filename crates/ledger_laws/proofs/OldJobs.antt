@@ -1,8 +1,8 @@
--- Jobs without pens give what they gave.
-use Prim.Native.Nat.{ℕ, _+_, _/_, _%_, _<_}
+-- Jobs without pens give what they gave, but for points near the edge.
+use Prim.Native.Nat.{ℕ, _+_, _/_, _%_}
 use native.Mathlib.Omega.{arith}
 use mathlib.Core.Path.{_≡_, refl, sym, ap, _∙_, fun-ext}
-use mathlib.Core.Bool.{Bool, false, not, _&&_, _||_, xor, or-false}
+use mathlib.Core.Bool.{Bool, true, false, not, _&&_, _||_, xor, and-true, and-false, or-false}
 use mathlib.Core.List.{List, [], _∷_}
 use mathlib.Core.Logic.{⊎-elim}
 use lib.Dec.{leb, ltb, eqb}
@@ -14,8 +14,8 @@ use Rattle.foil_spec.specs.Ledger.{byPen, byReach, penOf, clearanceRefusal, new
 use Rattle.foil_spec.specs.Ledger.{putLeg, save, find, book, slip, next, _⇒_, refusals}
 use Rattle.foil_spec.specs.Job.{mapByte, has, fieldsAt, recordEnd, stepAt, isEnd, recordChecks}
 use Rattle.foil_spec.specs.Calls.{endsJob}
-use Rattle.list_laws.proofs.Tests.{both, clash, lt-or-le, parts}
-use Rattle.zones.proofs.Free.{bare-free}
+use Rattle.list_laws.proofs.Tests.{both, clash, lt-or-le}
+use Rattle.zones.proofs.Free.{far}
 use Rattle.ledger_laws.specs.Line.{but, numbersFrom, ownNumbers}
 use Rattle.ledger_laws.specs.Numbers.{among}
 use Rattle.ledger_laws.specs.OldJobs.{oldChecks, OldRecords, OldBoards, OldFree, OnlyPens20, OldEnds}
@@ -65,44 +65,63 @@ old-boards W H d r l = record { refusals-are = refl; leaves = refl }
 
 -- ---- what is free
 
-rule-same : (d : ℕ) → penRule (pen 0 d) ≡ reachRule d
-unfolding penRule reachRule
-rule-same d =
+-- the rule by which all entries block up to d away, and the edge up to k
+abbrev even : ℕ → ℕ → Rule
+even d k = record { patch = d; leg = d; edge = k }
+
+pen-even : (d k : ℕ) → d ≡ k → penRule (pen 0 d) ≡ even d k
+unfolding penRule
+pen-even d k e =
     let patch : 0 + d ≡ d = omega arith in
     let leg : 0 + (0 + d) ≡ d = omega arith in
-    λ i. record { patch = patch i; leg = leg i; edge = 0 }
+    let edge : 0 + d ≡ k = omega arith in
+    λ i. record { patch = patch i; leg = leg i; edge = edge i }
 
-margin-same : (d : ℕ) (e : Entry) → margin (reachRule d) e ≡ d
-unfolding margin reachRule
-margin-same d e = both (eqb (e .net) 0) (λ t. rw t refl) (λ t. rw t refl)
+even-margin : (d k : ℕ) (e : Entry) → margin (even d k) e ≡ d
+unfolding margin
+even-margin d k e = both (eqb (e .net) 0) (λ t. rw t refl) (λ t. rw t refl)
 
--- on the foil the edge blocks nothing
-edge-free : (d W H x y : ℕ) → x < W → y < H → (nearEdge 0 W x || nearEdge 0 H y) ≡ false
-unfolding free freeBy penRule
-edge-free d W H x y lx ly = let bare = bare-free (pen 0 d) W H x y lx ly in search parts
+swapped : (a b c : Bool) → (a && b && c) ≡ (a && c && b)
+swapped true true c = sym (and-true c)
+swapped true false c = sym (and-false c)
+swapped false b c = refl
 
--- and off it nothing is free
-by-reach : (W H d : ℕ) (es : List Entry) (x y : ℕ) → freeBy (reachRule d) W H es x y
-    ≡ (ltb x W && ltb y H && all (λ (e : Entry). not (blocks d e x y)) es)
-unfolding freeBy reachRule
-by-reach W H d es x y =
-    let clear : all (λ (e : Entry). not (blocks (margin (reachRule d) e) e x y)) es
-    ≡ all (λ (e : Entry). not (blocks d e x y)) es =
-    ap (λ (p : Entry → Bool). all p es)
-    (fun-ext (λ (e : Entry). ap (λ (k : ℕ). not (blocks k e x y)) (margin-same d e))) in
-    both (ltb x W)
-    (λ lx.
-    both (ltb y H)
-    (λ ly. rw (lx, ly, edge-free d W H x y (ltb-true x W lx) (ltb-true y H ly)) clear)
-    (λ ly. rw (lx, ly) refl))
-    (λ lx. rw lx refl)
+module _ (W H d : ℕ) (es : List Entry) (x y : ℕ) where
+  -- on the foil, and no entry blocks the point
+  abbrev clear : Bool
+  clear = ltb x W && ltb y H && all (λ (e : Entry). not (blocks d e x y)) es
+
+  even-free : (k : ℕ) → freeBy (even d k) W H es x y ≡ (clear && not (nearEdge k W x || nearEdge k H y))
+  unfolding freeBy
+  even-free k =
+      ap (λ (p : Entry → Bool). ltb x W && ltb y H && not (nearEdge k W x || nearEdge k H y) && all p es)
+      (fun-ext (λ (e : Entry). ap (λ (n : ℕ). not (blocks n e x y)) (even-margin d k e)))
+      ∙ swapped (ltb x W && ltb y H) _ _
+
+  -- no point of the foil is nearer than 0 to its edge
+  by-reach : freeBy (reachRule d) W H es x y ≡ clear
+  unfolding reachRule
+  by-reach =
+      even-free 0
+      ∙ both (ltb x W)
+      (λ lx.
+      both (ltb y H)
+      (λ ly.
+      rw (far 0 W x (omega arith) (omega (arith, ltb-true x W lx)))
+      (rw (far 0 H y (omega arith) (omega (arith, ltb-true y H ly))) (and-true clear)))
+      (λ ly. rw (lx, ly) refl))
+      (λ lx. rw lx refl)
 
 pub old-free : OldFree
-unfolding free
+unfolding free reachRule
 old-free W H d es x y =
     record {
-      by-pen = ap (λ (r : Rule). freeBy r W H es x y) (rule-same d);
       by-reach = by-reach W H d es x y;
+      by-pen =
+          ap (λ (r : Rule). freeBy r W H es x y) (pen-even d d refl)
+          ∙ even-free W H d es x y d
+          ∙ ap (λ (t : Bool). t && not (nearEdge d W x || nearEdge d H y)) (sym (by-reach W H d es x y));
+      by-none = λ z. ap (λ (r : Rule). freeBy r W H es x y) (pen-even d 0 z);
     }
 
 -- ---- numbers

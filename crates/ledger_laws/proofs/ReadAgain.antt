@@ -254,7 +254,7 @@ module _ (r : Room) (long : short r ≡ false) (l : Layout) (g : layoutOk l ≡ 
         bytes = unfold jobOf in refl;
         entries = refl;
         later = unfold boardBytes in omega arith;
-        fine = let k = of-ok l g in new-fine (l .width) (l .height) (l .pen) (k .width) (k .height);
+        fine = new-fine (l .width) (l .height) (l .pen);
       }
 
   -- one record fewer than may follow the board's

@@ -1,4 +1,5 @@
--- What the plotter's engineer asks of a new track (document 02, P5): how far it keeps from all on the foil.
+-- What the plotter's engineer asks of a new track (document 02, P5 and P6): how far it keeps from all on the foil and
+-- from its edge.
 use Prim.Native.Nat.{ℕ, _+_, _*_, _≤_, _<_}
 use mathlib.Core.Path.{_≡_}
 use mathlib.Core.List.{List, _++_}
@@ -25,11 +26,20 @@ Apart d p q = (d < gap (p .x) (q .x)) ⊎ (d < gap (p .y) (q .y))
 abbrev pub Clears : ℕ → List Entry → Entry → Type 0
 Clears d track e = (part : Entry) → In part track → (p q : Point) → Has part p → Has e q → Apart d p q
 
+-- m points or more lie between the point and each edge of a foil of W by H
+pub record OffEdge (m W H : ℕ) (p : Point) : Type 0 where
+  pub left : m ≤ p .x
+  pub right : p .x + m < W
+  pub above : m ≤ p .y
+  pub below : p .y + m < H
+
 -- with a pen of half width h and gap g, the track is more than 2h + g away from each leg of the layout, and more than
--- h + g from each patch
+-- h + g from each patch; h + g points or more lie between each of its points and each edge
 pub record KeepsApart (l : Layout) (track : List Entry) : Type 0 where
   pub from-legs : (e : Entry) → In e (l .entries) → 0 < e .net → Clears (2 * l .pen .half + l .pen .gap) track e
   pub from-patches : (e : Entry) → In e (l .entries) → e .net ≡ 0 → Clears (l .pen .half + l .pen .gap) track e
+  pub from-edge : (part : Entry) → In part track → (p : Point) → Has part p
+      → OffEdge (l .pen .half + l .pen .gap) (l .width) (l .height) p
 
 -- the step is a lay or a booking of the net that is accepted, over these corners
 abbrev pub Tracks : Moment → ℕ → List Point → Type 0
@@ -37,7 +47,8 @@ Tracks k net cs =
     ((S T : Point) × (n : ℕ) × (k .step ≡ lay net S T) × (k .answer ≡ laid cs n))
     ⊎ ((ks : List ℕ) × (i n : ℕ) × (k .step ≡ book net ks) × (drawn ks ≡ cs) × (k .answer ≡ booked i n))
 
--- a track that is laid or booked keeps apart from all that was in the table before it; its legs are appended there
+-- a track that is laid or booked keeps apart from all that was in the table before it and from the edge; its legs are
+-- appended there
 abbrev pub TracksApart : Type 0
 TracksApart =
     AtEvery (λ k later.

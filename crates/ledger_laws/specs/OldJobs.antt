@@ -1,4 +1,5 @@
--- What a job without pens gives (document 02, P5): what it gave by document 01, with its reach.
+-- What a job without pens gives (document 02, P5 and P6): what it gave by document 01, with its reach, but for points
+-- that are nearer to the edge than the reach.
 use Prim.Native.Nat.{ℕ, _+_}
 use mathlib.Core.Path.{_≡_}
 use mathlib.Core.Bool.{true, false, not, _&&_, _||_, xor}
@@ -6,7 +7,7 @@ use mathlib.Core.List.{List, [], _∷_}
 use lib.Dec.{leb, ltb, eqb}
 use lib.ListN.{length}
 use Rattle.foil_spec.specs.Lists.{all}
-use Rattle.foil_spec.specs.Foil.{Entry, Pen, pen, Layout, sizeOk, blocks, reachRule, freeBy, free}
+use Rattle.foil_spec.specs.Foil.{Entry, Pen, pen, Layout, sizeOk, blocks, reachRule, nearEdge, freeBy, free}
 use Rattle.foil_spec.specs.Ledger.{Room, byPen, byReach, Step, newFoil, next, refused, Refusal, _⇒_, refusals}
 use Rattle.foil_spec.specs.Job.{mapByte, has, fieldsAt, recordEnd, field, stepAt, isEnd, recordChecks}
 use Rattle.foil_spec.specs.Calls.{endsJob}
@@ -34,22 +35,27 @@ pub record ReadAsBefore (bs : List ℕ) (at : ℕ) : Type 0 where
 abbrev pub OldRecords : Type 0
 OldRecords = (bs : List ℕ) (at : ℕ) → has bs at 5 ≡ false → ReadAsBefore bs at
 
--- a new foil by a reach is refused by 1, then by 2 above 15, and has the pen of half width 0 with the reach for a gap
+-- a foil by a reach: its pen has the half width 0, and the reach for a gap
+abbrev pub ofReach : ℕ → ℕ → ℕ → List Entry → Layout
+ofReach W H d es = record { width = W; height = H; pen = pen 0 d; entries = es }
+
+-- a new foil by a reach is refused by 1, then by 2 above 15
 pub record BeginsAsBefore (W H d : ℕ) (r : Room) (l : Layout) : Type 0 where
   pub refusals-are : refusals (newFoil W H (byReach d)) r l
       ≡ (not (sizeOk W && sizeOk H) ⇒ 1) ∷ (not (leb d 15) ⇒ 2) ∷ []
-  pub leaves : next (newFoil W H (byReach d)) l ≡ record { width = W; height = H; pen = pen 0 d; entries = [] }
+  pub leaves : next (newFoil W H (byReach d)) l ≡ ofReach W H d []
 
 abbrev pub OldBoards : Type 0
 OldBoards = (W H d : ℕ) (r : Room) (l : Layout) → BeginsAsBefore W H d r l
 
--- the point is free by that pen, or by document 01's rule, just if it is on the foil and no entry blocks it up to the
--- reach away
+-- by document 01's rule the point is free just if it is on the foil and no entry blocks it up to the reach away; on a
+-- foil by the reach just if, besides, it is not nearer than the reach to the edge, which for a reach of 0 adds nothing
 pub record FreeAsBefore (W H d : ℕ) (es : List Entry) (x y : ℕ) : Type 0 where
-  pub by-pen : free (record { width = W; height = H; pen = pen 0 d; entries = es }) x y
-      ≡ freeBy (reachRule d) W H es x y
   pub by-reach : freeBy (reachRule d) W H es x y
       ≡ (ltb x W && ltb y H && all (λ (e : Entry). not (blocks d e x y)) es)
+  pub by-pen : free (ofReach W H d es) x y
+      ≡ (freeBy (reachRule d) W H es x y && not (nearEdge d W x || nearEdge d H y))
+  pub by-none : d ≡ 0 → free (ofReach W H d es) x y ≡ freeBy (reachRule d) W H es x y
 
 abbrev pub OldFree : Type 0
 OldFree = (W H d : ℕ) (es : List Entry) (x y : ℕ) → FreeAsBefore W H d es x y

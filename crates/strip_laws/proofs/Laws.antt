@@ -240,7 +240,9 @@ module _
               behind (box .y0)
               (λ l r.
               omega (arith, no-other (point (box .x0) (pred (box .y0))) (r .all-free _ (omega arith) across) .below));
-          below = inr (λ r. omega (arith, no-other (point (box .x0) (box .y1)) (r .all-free _ (omega arith) across) .above));
+          below =
+              inr
+              (λ r. omega (arith, no-other (point (box .x0) (box .y1)) (r .all-free _ (omega arith) across) .above));
         })
 
     -- has the box for its one strip
