@@ -13,7 +13,7 @@ use foil_spec::Pen;
 ghost use mathlib.Core.Path.{_≡_};
 ghost use mathlib.Core.Bool.{true, false};
 ghost use Prim.Native.Nat.{_≤_, _<_};
-ghost use Rattle.foil_spec.specs.Foil.{penRule, margin, within, blocks};
+ghost use Rattle.foil_spec.specs.Foil.{penRule, margin, nearEdge, within, blocks};
 ghost use Rattle.foil_spec.specs.Lent.{entryAt};
 ghost use Rattle.plain.specs.Free.{Unblocked};
 
@@ -25,8 +25,8 @@ const POINTS: usize = 4096;
 // What a segment costs, beside its steps.
 const SEGMENT: u32 = 65536;
 
-// Says of each place whether its point is on the board of w by h, and none of the first n entries of
-// the table blocks it by the pen.
+// Says of each place whether its point is on the board of w by h, and neither its edge nor one of the
+// first n entries of the table blocks it by the pen.
 pub fn free_points(map: &mut [bool; 4096], table: &[u16; 640], n: usize, pen: Pen, w: u16, h: u16)
     requires { ⌜ n ≤ 128 ⌝ }
 {
@@ -37,16 +37,17 @@ pub fn free_points(map: &mut [bool; 4096], table: &[u16; 640], n: usize, pen: Pe
     }
 }
 
-// Whether the point (x, y) is on the board, and no entry blocks it.
+// Whether the point (x, y) is on the board, and neither its edge nor an entry blocks it.
 pub fn is_free(table: &[u16; 640], n: usize, pen: Pen, w: u16, h: u16, x: u16, y: u16) -> bool
     requires { ⌜ n ≤ 128 ⌝ }
     ensures { λ r. ⌜ (r ≡ true → Unblocked (now (table .entry)) n pen w h x y)
         × (r ≡ false → Unblocked (now (table .entry)) n pen w h x y → ⊥) ⌝ }
 {
-    if w <= x {
+    let m = (pen.half as u32) + (pen.gap as u32);
+    if near_edge(m, w, x) {
         return false;
     }
-    if h <= y {
+    if near_edge(m, h, y) {
         return false;
     }
     for i in 0..n {
@@ -55,6 +56,17 @@ pub fn is_free(table: &[u16; 640], n: usize, pen: Pen, w: u16, h: u16, x: u16, y
         }
     }
     true
+}
+
+// Whether v is nearer than m to an end of a side of so many points, or not on it.
+fn near_edge(m: u32, size: u16, v: u16) -> bool
+    requires { ⌜ m ≤ 131070 ⌝ }
+    ensures { λ r. ⌜ r ≡ nearEdge m size v ⌝ }
+{
+    if (v as u32) < m {
+        return true;
+    }
+    (size as u32) <= (v as u32) + m
 }
 
 // How far away entry i of the table blocks: a patch half the pen's width and its gap, a leg half the

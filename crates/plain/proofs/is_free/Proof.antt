@@ -1,4 +1,4 @@
--- `plain::is_free` meets its contract: none of the entries up to i blocks the point.
+-- `plain::is_free` meets its contract: the edge does not block the point, and none of the entries up to i does.
 use Prim.Native.Nat.{ℕ, _<_, _≤_, _-_}
 use native.Mathlib.Omega.{arith}
 use mathlib.Core.Path.{_≡_, sym, _∙_}
@@ -11,20 +11,41 @@ use Rattle.plain.proofs.is_free.Statement.{statement}
 use Rattle.plain.proofs.is_free.Tie as tie
 
 abbrev Inv-loop : tie.InvT-loop
-Inv-loop table n pen w h x y i₀ i = (i ≤ n) × ((k : ℕ) → k < i → blockedBy pen (entryAt table k) x y ≡ false)
+Inv-loop table n pen w h x y m i₀ i = (i ≤ n) × ((k : ℕ) → k < i → blockedBy pen (entryAt table k) x y ≡ false)
 
 abbrev μ-loop : tie.MeasureT-loop
-μ-loop table n pen w h x y i₀ i = n - i
+μ-loop table n pen w h x y m i₀ i = n - i
 
 -- back to the loop's head
 abbrev atLoop : tie.After-blocks-at Inv-loop μ-loop → tie.At-loop Inv-loop μ-loop
 atLoop c = c .before .before .before
 
+cast-m : tie.Need-cast-m Inv-loop μ-loop
+cast-m c = search needs
+
+cast-m-2 : tie.Need-cast-m-2 Inv-loop μ-loop
+cast-m-2 c = search needs
+
+add-m : tie.Need-add-m Inv-loop μ-loop
+add-m c = search needs
+
+near-edge-requires : tie.Need-near-edge-requires Inv-loop μ-loop
+near-edge-requires c κs = search needs
+
 returns : tie.Need-returns Inv-loop μ-loop
-returns c = (λ e. absurd (true≢false (sym e)), λ e u. omega (arith, u .x-on))
+returns c = (
+  λ e. absurd (true≢false (sym e)),
+  λ e u. true≢false (sym (c .if1 .taken) ∙ c .before .near-edge .ensures ∙ u .x-off),
+)
+
+near-edge-requires-2 : tie.Need-near-edge-requires-2 Inv-loop μ-loop
+near-edge-requires-2 c κs = search needs
 
 returns-2 : tie.Need-returns-2 Inv-loop μ-loop
-returns-2 c = (λ e. absurd (true≢false (sym e)), λ e u. omega (arith, u .y-on))
+returns-2 c = (
+  λ e. absurd (true≢false (sym e)),
+  λ e u. true≢false (sym (c .if2 .taken) ∙ c .before .near-edge2 .ensures ∙ u .y-off),
+)
 
 loop-holds : tie.Need-loop-holds Inv-loop μ-loop
 loop-holds c = (omega arith, λ k l. absurd (omega arith))
@@ -56,16 +77,18 @@ loop-again c = (
 )
 
 returns-4 : tie.Need-returns-4 Inv-loop μ-loop
-returns-4 c = (
-  λ e. record {
-    x-on = omega arith;
-    y-on = omega arith;
-    none = λ k l. c .before .loop .inv .1 k (omega arith);
-  },
-  λ e u. true≢false e,
-)
+returns-4 c =
+    let up = c .before .before in
+    let across = up .before .before in (
+      λ e. record {
+        x-off = sym (across .before .near-edge .ensures) ∙ across .if1 .left;
+        y-off = sym (up .before .near-edge2 .ensures) ∙ up .if2 .left;
+        none = λ k l. c .before .loop .inv .1 k (omega arith);
+      },
+      λ e u. true≢false e,
+    )
 
 pub is-free-spec : {M : Type 1} → statement M
 is-free-spec =
-    tie.close (tie.spec Inv-loop μ-loop returns returns-2 loop-holds away-requires blocks-at-requires returns-3 add-i
-    loop-less loop-again returns-4)
+    tie.close (tie.spec Inv-loop μ-loop cast-m cast-m-2 add-m near-edge-requires returns near-edge-requires-2 returns-2
+    loop-holds away-requires blocks-at-requires returns-3 add-i loop-less loop-again returns-4)
