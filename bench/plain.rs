@@ -37,9 +37,15 @@ impl Foil {
         }
     }
 
-    // Whether each point is free, row by row.
+    // Whether each point is free, row by row: the points nearer than the half width and the gap to the edge are not.
     fn free_points(&self) -> Vec<bool> {
-        let mut free = vec![true; self.w * self.h];
+        let m = self.half + self.gap;
+        let mut free = vec![false; self.w * self.h];
+        for y in m..self.h.saturating_sub(m) {
+            for x in m..self.w.saturating_sub(m) {
+                free[y * self.w + x] = true;
+            }
+        }
         for e in &self.row {
             let d = self.margin(e);
             let xs = e.x0.saturating_sub(d)..(e.x1 + d).min(self.w);
