@@ -128,14 +128,15 @@ fn tooth(table: &mut [u16; 640], i: usize, x: u16, height: u16, gap: u16, lower:
     }
 }
 
-// Draws two combs, one in the other, so that a path winds between their teeth.
+// Draws two combs, one in the other, so that a path winds between their teeth, off the board's edge by d.
 fn combs(table: &mut [u16; 640], width: u16, height: u16, d: u16, seed: u32) -> Drawn
     requires { ⌜ (width ≤ 64) × (0 < height) × (height ≤ 64) × (d ≤ 15) ⌝ }
     ensures { λ r. ⌜ r .entries ≤ 128 ⌝ }
 {
     let mut s = seed;
     let mut i: usize = 0;
-    let mut x = d + 1;
+    let off = d + d + 1;
+    let mut x = off;
     while x < width {
         s = next(s);
         tooth(
@@ -143,11 +144,11 @@ fn combs(table: &mut [u16; 640], width: u16, height: u16, d: u16, seed: u32) -> 
             i,
             x,
             height,
-            least(d + 1 + below(s, 3), height - 1),
+            least(off + below(s, 3), height - 1),
             i % 2 == 0,
         );
         i += 1;
-        x += d + d + 2;
+        x += off + 1;
     }
     Drawn {
         entries: i,

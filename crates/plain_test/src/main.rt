@@ -81,17 +81,19 @@ fn main() {
     // A patch from edge to edge.
     patch(&mut table, 0, 1, 0, 2, 3);
     show(&table, 1, 0, 3, 3, 0, 0, 2, 0);
-    // A patch that blocks up to 1 away.
+    // A patch and an edge that block up to 1 away.
     patch(&mut table, 0, 4, 4, 6, 6);
-    show(&table, 1, 1, 10, 10, 3, 3, 0, 0);
+    show(&table, 1, 1, 10, 10, 3, 3, 1, 1);
     show(&table, 1, 1, 10, 10, 2, 3, 7, 6);
+    show(&table, 1, 1, 10, 10, 1, 1, 9, 8);
+    show(&table, 1, 1, 10, 10, 1, 1, 8, 8);
     // The board of the job file.
     patch(&mut table, 0, 2, 0, 3, 3);
     show(&table, 1, 0, 6, 4, 0, 0, 4, 0);
     // The same points as a patch and as a leg, by a pen of half width 1: a leg blocks further away.
     let wide = Pen { half: 1, gap: 0 };
     patch(&mut table, 0, 5, 0, 6, 2);
-    show_by(&table, 1, wide, 12, 5, 0, 0, 11, 0);
+    show_by(&table, 1, wide, 12, 6, 1, 1, 10, 1);
     table[0] = 9;
-    show_by(&table, 1, wide, 12, 5, 0, 0, 11, 0);
+    show_by(&table, 1, wide, 12, 6, 1, 1, 10, 1);
 }

@@ -1,24 +1,18 @@
 -- When the search can be asked for a path: the boxes of a board leave free what the test of its points has free.
-use Prim.Native.Nat.{ℕ, _+_, _≤_, _<_}
+use Prim.Native.Nat.{ℕ, _≤_, _<_}
 use native.Mathlib.Omega.{arith}
 use mathlib.Core.Path.{_≡_, ap, _∙_}
-use mathlib.Core.Bool.{Bool, true, false}
+use mathlib.Core.Bool.{Bool, true}
 use mathlib.Core.List.{List}
 use lib.ListN.{length}
-use borrow.Author.Tests.{le-ltb, lt-leb}
-use Rattle.foil_spec.specs.Foil.{point, pen, penRule, nearEdge, free}
+use Rattle.foil_spec.specs.Foil.{point, pen, penRule, free}
 use Rattle.foil_spec.specs.Lent.{layoutOf}
 use Rattle.zones.specs.Boxes.{Zoned}
 use Rattle.zones.specs.Table.{Table}
-use Rattle.zones.proofs.Free.{free-at}
+use Rattle.zones.proofs.Free.{free-at, of-far}
 use Rattle.search.specs.Grid.{Posed}
 use Rattle.plain.specs.Free.{Unblocked}
 use Rattle.search_test.specs.Box.{AllBoxes}
-
--- the edge blocks nothing
-off-edge : {size v : ℕ} → v < size → nearEdge 0 size v ≡ false
-unfolding nearEdge
-off-edge {size} {v} l = simp (le-ltb v 0 (omega arith), lt-leb size (v + 0) (omega arith))
 
 module _ {t : List ℕ} {n g w h : ℕ} where
   pub table-of : 640 ≡ length t → n ≤ 128 → g ≤ 15 → 0 < w → 0 < h → w ≤ 4096 → h ≤ 4096 → AllBoxes w h n t
@@ -39,7 +33,8 @@ module _ {t : List ℕ} {n g w h : ℕ} where
   is-free : {x y : ℕ} → Unblocked t n (pen 0 g) w h x y → free (layoutOf w h (pen 0 g) n t) x y ≡ true
   unfolding penRule free layoutOf
   is-free {x} {y} u =
-      free-at (penRule (pen 0 g)) w h n t x y (u .x-on) (u .y-on) (off-edge (u .x-on)) (off-edge (u .y-on)) (u .none)
+      free-at (penRule (pen 0 g)) w h n t x y (omega (arith, of-far _ w x (u .x-off) .1))
+      (omega (arith, of-far _ h y (u .y-off) .1)) (u .x-off) (u .y-off) (u .none)
 
   pub posed : {z : List ℕ} {c sx sy tx ty : ℕ} → Zoned (free (layoutOf w h (pen 0 g) n t)) w h z c
       → Unblocked t n (pen 0 g) w h sx sy → Unblocked t n (pen 0 g) w h tx ty

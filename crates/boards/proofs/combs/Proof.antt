@@ -5,13 +5,16 @@ use Rattle.boards.proofs.combs.Statement.{statement}
 use Rattle.boards.proofs.combs.Tie as tie
 
 abbrev Inv-loop : tie.InvT-loop
-Inv-loop table₀ width height d seed s₀ i₀ x₀ table s i x = (i < x) × (x ≤ 128)
+Inv-loop table₀ width height d seed s₀ i₀ off x₀ table s i x = (i < x) × (x ≤ 128)
 
 abbrev μ-loop : tie.MeasureT-loop
-μ-loop table₀ width height d seed s₀ i₀ x₀ table s i x = 128 - x
+μ-loop table₀ width height d seed s₀ i₀ off x₀ table s i x = 128 - x
 
-add-x : tie.Need-add-x Inv-loop μ-loop
-add-x c = search needs
+add-off : tie.Need-add-off Inv-loop μ-loop
+add-off c = search needs
+
+add-off-2 : tie.Need-add-off-2 Inv-loop μ-loop
+add-off-2 c = search needs
 
 loop-holds : tie.Need-loop-holds Inv-loop μ-loop
 loop-holds c = search needs
@@ -19,14 +22,11 @@ loop-holds c = search needs
 next-requires : tie.Need-next-requires Inv-loop μ-loop
 next-requires c κs = search needs
 
-add-least : tie.Need-add-least Inv-loop μ-loop
-add-least c = search needs
-
 below-requires : tie.Need-below-requires Inv-loop μ-loop
 below-requires c κs = search needs
 
-add-least-2 : tie.Need-add-least-2 Inv-loop μ-loop
-add-least-2 c = search needs
+add-least : tie.Need-add-least Inv-loop μ-loop
+add-least c = search needs
 
 sub-least : tie.Need-sub-least Inv-loop μ-loop
 sub-least c = search needs
@@ -40,14 +40,11 @@ tooth-requires c κs = search needs
 add-i : tie.Need-add-i Inv-loop μ-loop
 add-i c = search needs
 
+add-x : tie.Need-add-x Inv-loop μ-loop
+add-x c = search needs
+
 add-x-2 : tie.Need-add-x-2 Inv-loop μ-loop
 add-x-2 c = search needs
-
-add-x-3 : tie.Need-add-x-3 Inv-loop μ-loop
-add-x-3 c = search needs
-
-add-x-4 : tie.Need-add-x-4 Inv-loop μ-loop
-add-x-4 c = search needs
 
 loop-less : tie.Need-loop-less Inv-loop μ-loop
 loop-less c = search needs
@@ -60,5 +57,5 @@ returns c = search needs
 
 pub combs-spec : {M : Type 1} → statement M
 combs-spec =
-    tie.close (tie.spec Inv-loop μ-loop add-x loop-holds next-requires add-least below-requires add-least-2 sub-least
-    least-requires tooth-requires add-i add-x-2 add-x-3 add-x-4 loop-less loop-again returns)
+    tie.close (tie.spec Inv-loop μ-loop add-off add-off-2 loop-holds next-requires below-requires add-least sub-least
+    least-requires tooth-requires add-i add-x add-x-2 loop-less loop-again returns)
