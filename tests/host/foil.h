@@ -63,8 +63,9 @@ struct foil_resistance {
     double ohms;
 };
 
-/* begins a foil of w by h with a pen of half width 0 to 7 and gap 0 to 15: a patch blocks the points up to half + gap
-   away, a leg those up to 2 * half + gap */
+/* begins a foil of w by h with a pen of half width 0 to 7 and gap 0 to 15: a patch and the foil's edge block the points
+   up to half + gap away, a leg those up to 2 * half + gap; so a new foil has one strip, or none where the edge leaves
+   nothing */
 struct foil_said foil_new_foil(struct foil_board *board, struct foil_entry *table, size_t entries, uint16_t *strips,
                                size_t strip_numbers, uint16_t w, uint16_t h, uint16_t half, uint16_t gap);
 

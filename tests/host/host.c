@@ -236,11 +236,11 @@ static void saved(void)
            memcmp(strips, was_strips, sizeof read_strips) == 0 ? "the same" : "other");
 }
 
-/* a pen of half width 1 and gap 1: a patch blocks up to 2 away, a leg up to 3 */
+/* a pen of half width 1 and gap 1: a patch and the edge block up to 2 away, a leg up to 3 */
 static void wider_pen(void)
 {
     static uint8_t bytes[FOIL_BYTES];
-    /* the widest pen */
+    /* the widest pen leaves nothing of this foil */
     printf("board %u\n", foil_new_foil(LENT, 20, 16, 7, 15).number);
     show_foil();
     printf("board %u\n", foil_new_foil(LENT, 20, 16, 1, 1).number);

@@ -60,8 +60,8 @@ pub struct Done {
     pub board: Board,
 }
 
-// Begins a foil of w by h with a pen of this half width and gap: an empty table, and one strip, the
-// whole foil.
+// Begins a foil of w by h with a pen of this half width and gap: an empty table, and one strip, what
+// the edge leaves, or none.
 pub fn new_foil(
     table: &mut [u16],
     strips: &mut [u16],

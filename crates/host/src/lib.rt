@@ -19,8 +19,8 @@ ghost use Rattle.foil_spec.specs.Ledger.{save as saves, find as finds, book as 
 ghost use Rattle.host.specs.Calls.{HostDone, HostWrote, HostLooked, HostRead, HostOhms};
 ghost use Rattle.host.specs.Records.{HostRan};
 
-// Begins a foil of w by h with a pen of this half width and gap: an empty table, and one strip, the
-// whole foil.
+// Begins a foil of w by h with a pen of this half width and gap: an empty table, and one strip, what
+// the edge leaves, or none.
 pub fn new_foil(
     board: &mut Board,
     table: &mut [Entry],

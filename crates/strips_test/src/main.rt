@@ -15,6 +15,7 @@ use foil_spec::Entry;
 
 fn main() {
     sizes();
+    edges();
     pens();
     short_table();
     short_strips();
@@ -49,7 +50,29 @@ fn begin(w: u16, h: u16, half: u16, gap: u16) {
     show::end();
 }
 
-// 20 by 20 with a pen of half width 2 and gap 1: a patch blocks 3 points away, and a leg 5.
+// What the edge leaves of a foil without entries: one point, none, and the largest foil but for 22
+// points along each side.
+fn edges() {
+    bare(5, 5, 0, 2, 2, 2);
+    bare(5, 5, 0, 2, 2, 3);
+    bare(4, 5, 0, 2, 2, 2);
+    bare(4096, 4096, 7, 15, 22, 4073);
+    bare(4096, 4096, 7, 15, 22, 4074);
+}
+
+// Begins a foil, and looks a point up.
+fn bare(w: u16, h: u16, half: u16, gap: u16, x: u16, y: u16) {
+    let mut table = [7u16; 640];
+    let mut strips = [7u16; 16384];
+    let done = new_foil(&mut table, &mut strips, lists::no_board(), w, h, half, gap);
+    show::pen(b"", half, gap);
+    io::write_all(1, b", ");
+    show::record(done.board);
+    io::write_all(1, b", ");
+    show::point(&table, &strips, done.board, x, y);
+}
+
+// 20 by 20 with a pen of half width 2 and gap 1: a patch and the edge block 3 points away, and a leg 5.
 fn pens() {
     let mut table = [7u16; 640];
     let mut strips = [7u16; 16384];
