@@ -41,9 +41,9 @@ impl Foil {
     fn free_points(&self) -> Vec<bool> {
         let m = self.half + self.gap;
         let mut free = vec![false; self.w * self.h];
-        for y in m..self.h.saturating_sub(m) {
-            for x in m..self.w.saturating_sub(m) {
-                free[y * self.w + x] = true;
+        if self.w > 2 * m {
+            for y in m..self.h.saturating_sub(m) {
+                free[y * self.w..][m..self.w - m].fill(true);
             }
         }
         for e in &self.row {
