@@ -1,0 +1,11 @@
+"""The desk's tools: they stand around the proved programs, and decide nothing.
+
+    command      the command ./foil
+    textform     the text form of a job, to bytes and back
+    job          the bytes of a job file: records and steps, and where a file is at fault
+    program      the proved job program: where it is, and running it
+    lines        the program's lines, and which step each of them is about
+    refusals     README's table: what a number says, and what to do
+    words        what came of each line of a text
+    foils        the foil that a job leaves
+    picture      its picture; with legend, labels, colours, boxes and svg"""

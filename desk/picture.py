@@ -1,0 +1,240 @@
+"""The picture of a foil, as an SVG that stands alone.
+
+A point (x, y) is the unit square from x, y to x + 1, y + 1, and y grows downwards. A track is the points of its legs
+with the pen around them, 2 half + 1 points wide. The gap around all ink is a pale zone, and no other track's ink
+comes into it. The edge zone has the points that the edge blocks, those nearer to it than half + gap. Each net has one
+`path`, and nothing else is a path.
+
+The page fits a printed one upright, and has colours of its own for a dark window."""
+from desk import colours, labels, legend, svg, words
+from desk.boxes import common, cut, frame_of, widened
+from desk.refusals import refusal
+
+# the largest page and the narrowest, the margins around the foil, the height of a legend, the widest that a point is
+WIDE, HIGH, NARROW = 700, 960, 420
+LEFT, RIGHT, TOP, BELOW = 44, 30, 78, 28
+FOOT = 3 * legend.ROW
+POINT = 48
+# how high a label is, and how wide its characters; how many characters of a name there is room for
+HIGH_TEXT, WIDE_TEXT, NAME = 11, 7.2, 60
+# ink that is narrower cannot be seen, and is drawn as wide as this; so is a track that is shorter than a dot
+THINNEST, DOT = 1.6, 3
+# how wide the foil's outline is
+OUTLINE = 1.4
+# a refused track: its line, the halo around that, a broad unseen line for the pointer; and the ring at a point
+LINE, HALO, NEAR, RING = 1.4, 3.6, 6, 3.5
+# how many refused tracks have a label
+LABELLED = 200
+# the least between two numbers of a ruler
+APART = 36
+
+
+def picture(foil, name, strips, table):
+    """The picture of a foil as text; with its free strips on demand. `table` has the words of refusals."""
+    made = Picture(foil, name, strips, table)
+    made.draw_head()
+    made.draw_rulers()
+    made.draw_ground()
+    made.draw_patches()
+    made.draw_tracks()
+    made.draw_refused()
+    made.draw_labels()
+    made.draw_legend()
+    return svg.written(made.svg)
+
+
+def ruler_step(scale):
+    """How many points there are between two numbers of a ruler: 1, 2 or 5 with zeros."""
+    step = 1
+    while step * scale < APART:
+        step = step * 5 // 2 if str(step)[0] == "2" else step * 2
+    return step
+
+
+def head_of(foil):
+    """A line on the foil: its size and pen, and how much is on it."""
+    pen = "reach %d" % foil.gap if not foil.half else "pen of half width %d, gap %d" % (foil.half, foil.gap)
+    patches, tracks = words.count(len(foil.patches), "patch", "es"), words.count(len(foil.nets), "track")
+    refused = ", %d refused" % len(foil.refused) if foil.refused else ""
+    return "%d by %d points, %s; %s, %s%s" % (foil.width, foil.height, pen, patches, tracks, refused)
+
+
+def net_title(net):
+    """What a browser shows of a track under the pointer."""
+    ends = ", from %d,%d to %d,%d" % (net.ends[0] + net.ends[1]) if net.ends else ""
+    return "net %d: %s, length %d%s" % (net.net, words.count(net.bends, "bend"), net.length, ends)
+
+
+def refused_title(track, table):
+    """What a browser shows of a refused track."""
+    points = "from %d,%d to %d,%d" % (track.start + track.end)
+    return "track %d %s refused (%d): %s" % (track.net, points, track.number, refusal(track.number, table).says)
+
+
+def middle(point):
+    """The middle of a point's square."""
+    return (point[0] + 0.5, point[1] + 0.5)
+
+
+class Picture:
+    """A picture in the making: the foil, how large its points are, and a group of elements whose unit is a point."""
+
+    def __init__(self, foil, name, strips, table):
+        self.foil, self.table = foil, table
+        self.strips = (foil.strips or []) if strips else []
+        self.scale = min((WIDE - LEFT - RIGHT) / foil.width, (HIGH - TOP - BELOW - FOOT) / foil.height, POINT)
+        self.name = "".join(letter for letter in name if letter.isprintable())[:NAME]
+        self.head = head_of(foil)
+        wide_head = LEFT + legend.CHARACTER * len(self.head)
+        self.wide = max(LEFT + foil.width * self.scale + RIGHT, wide_head, NARROW)
+        self.foot = TOP + foil.height * self.scale + BELOW
+        self.lines = [(track, self.line_of(track)) for track in dict.fromkeys(foil.refused)]
+        self.seen = [(track, line) for track, line in self.lines if line]
+        thickened = any(self.thickening(net) for net in foil.nets)
+        explained = legend.items(foil, self.strips, self.lines, max(0, len(self.seen) - LABELLED), thickened)
+        self.legend = legend.rows(explained, LEFT, self.wide)
+        self.svg = svg.page(self.wide, self.foot + legend.ROW * len(self.legend) + 6, self.name)
+        self.points = self.group(LEFT, TOP)
+
+    def px(self, pixels):
+        """So many pixels, in points."""
+        return pixels / self.scale
+
+    def group(self, x, y):
+        """A group at a place of the page, whose unit is a point."""
+        place = "translate(%s %s) scale(%.6g)" % (svg.short(x), svg.short(y), self.scale)
+        return svg.put(self.svg, "g", transform=place)
+
+    def on_page(self, box):
+        """A box of points as it lies on the page."""
+        x0, y0, x1, y1 = (number * self.scale for number in box)
+        return (LEFT + x0, TOP + y0, LEFT + x1, TOP + y1)
+
+    @property
+    def whole(self):
+        """The foil's box."""
+        return (0, 0, self.foil.width, self.foil.height)
+
+    def ink(self, net):
+        """The boxes of a net's ink."""
+        return [widened(leg, self.foil.half) for leg in net.legs]
+
+    def thickening(self, net):
+        """What is added to the width of a net's ink, in points, so that it can be seen."""
+        longest = max(max(x1 - x0, y1 - y0) for x0, y0, x1, y1 in self.ink(net))
+        return max(0, self.px(THINNEST) - (2 * self.foil.half + 1), self.px(DOT) - longest)
+
+    def line_of(self, track):
+        """The line of a refused track between the middles of its points, as far as there is room around the foil."""
+        return cut(middle(track.start), middle(track.end), widened(self.whole, self.px(RIGHT - 8)))
+
+    def ends_of(self, track, line):
+        """The middles of a refused track's points that are in the picture."""
+        return [end for end in line if end in (middle(track.start), middle(track.end))]
+
+    def draw_head(self):
+        """The name, and a line on the foil."""
+        svg.put(self.svg, "text", self.name, x=LEFT, y=24, kind="head")
+        svg.put(self.svg, "text", self.head, x=LEFT, y=42)
+
+    def draw_rulers(self):
+        """The numbers of points, at the top and on the left, with a tick at the middle of the point."""
+        step = ruler_step(self.scale)
+        for x in range(0, self.foil.width, step):
+            at = LEFT + (x + 0.5) * self.scale
+            svg.put(self.svg, "line", x1=at, y1=TOP - 7, x2=at, y2=TOP - 2, kind="tick")
+            svg.put(self.svg, "text", str(x), x=at, y=TOP - 11, kind="tick-x")
+        for y in range(0, self.foil.height, step):
+            at = TOP + (y + 0.5) * self.scale
+            svg.put(self.svg, "line", x1=LEFT - 7, y1=at, x2=LEFT - 2, y2=at, kind="tick")
+            svg.put(self.svg, "text", str(y), x=LEFT - 11, y=at + 4, kind="tick-y")
+
+    def draw_ground(self):
+        """The foil in its outline, the clearance around all that is on it, its edge zone, and its free strips."""
+        foil = self.foil
+        svg.put_box(self.points, self.whole, "sheet")
+        inked = [(box, "a patch") for box in dict.fromkeys(foil.patches)]
+        inked += [(box, "net %d" % net.net) for net in foil.nets for box in self.ink(net)]
+        for box, of in inked if foil.gap else []:
+            svg.put_box(self.points, common(widened(box, foil.gap), self.whole), "clearance", "clearance of " + of)
+        self.draw_edge()
+        for at, box in enumerate(self.strips):
+            svg.put_box(self.points, box, "strip", "strip %d: %d %d %d %d" % (at, *box), stroke_width=self.px(0.8))
+        svg.put_box(self.points, widened(self.whole, self.px(OUTLINE / 2)), "outline", stroke_width=self.px(OUTLINE))
+
+    def draw_edge(self):
+        """The edge zone, which is all of the foil where nothing is left inside it."""
+        edge = self.foil.half + self.foil.gap
+        if edge:
+            svg.put_hatch(self.points, self.px(5), self.px(1.6))
+            for box in frame_of(self.whole, edge):
+                title = "edge zone: points nearer than %d to the edge are blocked" % edge
+                svg.put_box(self.points, box, "edge", title)
+
+    def draw_patches(self):
+        """The patches."""
+        for box in self.foil.patches:
+            svg.put_box(self.points, box, "patch", "patch %d %d %d %d" % box, stroke_width=self.px(1))
+
+    def draw_tracks(self):
+        """A path for each net: the boxes of its ink, all the way round in the same sense, so that they are one area."""
+        for net, colour in zip(self.foil.nets, colours.assigned(self.foil.nets)):
+            boxes = "".join("M%d %dH%dV%dH%dZ" % (x0, y0, x1, y1, x0) for x0, y0, x1, y1 in self.ink(net))
+            wider = self.thickening(net)
+            svg.put(self.points, "path", title=net_title(net), d=boxes, kind="c%d" % colour, stroke_width=wider)
+
+    def draw_refused(self):
+        """A dashed line for each refused track, as far as it is in the picture, and rings at its points that are."""
+        for track, line in self.seen:
+            group = svg.put(self.points, "g", title=refused_title(track, self.table))
+            for kind, wide in (("near", NEAR), ("halo", HALO), ("refused", LINE)):
+                self.put_line(group, kind, wide, *line)
+            for x, y in self.ends_of(track, line):
+                for kind, wide in (("halo", HALO), ("refused", LINE)):
+                    svg.put(group, "circle", kind=kind, cx=x, cy=y, r=self.px(RING), stroke_width=self.px(wide))
+
+    def put_line(self, group, kind, wide, start, end):
+        """A line, dashed where it is that of a refused track."""
+        (x1, y1), (x2, y2) = start, end
+        line = svg.put(group, "line", kind=kind, x1=x1, y1=y1, x2=x2, y2=y2, stroke_width=self.px(wide))
+        if kind == "refused":
+            line.set("stroke-dasharray", "%s %s" % (svg.short(self.px(5)), svg.short(self.px(3))))
+
+    def wishes(self):
+        """The labels: of each net, and of each refused track with the number."""
+        for net in self.foil.nets:
+            text, wider = str(net.net), self.thickening(net) / 2
+            ink = [self.on_page(widened(box, wider)) for box in self.ink(net)]
+            wide = WIDE_TEXT * len(text)
+            places = labels.along(ink, wide, HIGH_TEXT)
+            yield labels.Wish(text, wide, HIGH_TEXT, places, ink, (places[0].x, places[0].y))
+        for track, line in self.seen[:LABELLED]:
+            text = "%d (%d)" % (track.net, track.number)
+            wide = WIDE_TEXT * len(text)
+            start, end = (self.on_page(end + end)[:2] for end in line)
+            rings = [widened(self.on_page(end + end), RING) for end in self.ends_of(track, line)]
+            yield labels.Wish(text, wide, HIGH_TEXT, labels.on_line(start, end, wide, HIGH_TEXT), rings)
+
+    def draw_labels(self):
+        """The labels, where they cover each other least."""
+        wishes = list(self.wishes())
+        frame = (LEFT - 2, TOP - 2, self.wide - 2, self.foot - 2)
+        patches = [self.on_page(box) for box in dict.fromkeys(self.foil.patches)]
+        places = labels.placed(wishes, frame, patches)
+        for wish, place in zip(wishes, places):
+            if place.led:
+                svg.put(self.svg, "line", x1=wish.point[0], y1=wish.point[1], x2=place.x, y2=place.y, kind="leader")
+        for wish, place in zip(wishes, places):
+            svg.put(self.svg, "text", wish.text, x=place.x, y=place.y + 4, kind="label")
+
+    def draw_legend(self):
+        """The legend under the foil."""
+        for at, row in enumerate(self.legend):
+            y = self.foot + legend.ROW * at
+            for x, kind, text in row:
+                sample = self.group(x, y)
+                if kind == "refused":
+                    self.put_line(sample, kind, LINE, (0, self.px(6)), (self.px(18), self.px(6)))
+                elif kind:
+                    svg.put_box(sample, (0, 0, self.px(18), self.px(12)), kind, stroke_width=self.px(1))
+                svg.put(self.svg, "text", text, x=x + (legend.SAMPLE if kind else 0), y=y + 10)

@@ -1,0 +1,180 @@
+"""The command: its exit status, what it prints and what it keeps. A program that writes stored lines stands for the
+proved one."""
+import contextlib
+import io
+import pathlib
+import subprocess
+import sys
+import tempfile
+import unittest
+import xml.etree.ElementTree as ET
+from unittest import mock
+
+from desk import command, program
+from desk.tests import given
+
+
+class Command(unittest.TestCase):
+    def setUp(self):
+        folder = tempfile.TemporaryDirectory()
+        self.addCleanup(folder.cleanup)
+        self.folder = pathlib.Path(folder.name)
+
+    def run_foil(self, *given_words, written=""):
+        """Runs the command on a program that writes these lines: its status, its output, and what it complains of."""
+        path, folder = given.replay(written)
+        self.addCleanup(folder.cleanup)
+        out, err = io.StringIO(), io.StringIO()
+        with contextlib.redirect_stdout(out), contextlib.redirect_stderr(err):
+            status = command.main([str(word) for word in given_words], path)
+        return status, out.getvalue(), err.getvalue()
+
+    def run_sample(self, name, *options):
+        """The same for a sample and its stored lines."""
+        return self.run_foil(*options, given.SAMPLES / (name + ".txt"), written=given.written_for(name))
+
+    def test_status(self):
+        for name, status in (("document-01", 0), ("less-ink", 1), ("board-size", 1), ("cut-short", 2), ("too-long", 2)):
+            with self.subTest(name):
+                self.assertEqual(self.run_sample(name)[0], status)
+
+    def test_job_is_kept(self):
+        kept = self.folder / "kept.job"
+        self.run_sample("window", "--job", kept)
+        self.assertEqual(kept.read_bytes(), given.SAMPLES.joinpath("window.job").read_bytes())
+
+    def test_lines_of_the_program(self):
+        for name in given.NAMES:
+            self.assertEqual(self.run_sample(name, "--lines")[1], given.written_for(name))
+
+    def test_quiet_has_refusals_only(self):
+        self.assertEqual(self.run_sample("document-01", "--quiet")[:2], (0, ""))
+        status, out, _ = self.run_sample("less-ink", "--quiet")
+        self.assertEqual((status, out.count("refused (8)"), out.count("laid")), (1, 1, 0))
+        self.assertIn("at fault (14)", self.run_sample("cut-short", "--quiet")[1])
+
+    def test_nothing_is_run_for_a_text_that_cannot_be_read(self):
+        text, kept = self.folder / "bad.txt", self.folder / "kept.job"
+        text.write_text("board 9 9 0\ntrak 1\nlift\nend\n")
+        status, out, err = self.run_foil("--job", kept, text, written="board 0\n")
+        self.assertEqual((status, out, kept.exists()), (2, "", False))
+        self.assertEqual([line.split(": ")[0] for line in err.splitlines()], ["%s, line 2" % text, "%s, line 3" % text])
+
+    def text(self, content):
+        """A text of the test's own: its path."""
+        path = self.folder / "a.txt"
+        path.write_bytes(content.encode() if isinstance(content, str) else content)
+        return path
+
+    def test_only_the_first_of_many_faults_are_told(self):
+        _, _, err = self.run_foil(self.text("board\n" * 1000))
+        self.assertEqual((err.count("\n"), err.splitlines()[-1]), (command.TOLD + 1, "and 980 more"))
+        _, _, err = self.run_foil(self.text("board\n" * command.TOLD))
+        self.assertEqual(err.count("\n"), command.TOLD)
+
+    def test_bytes_that_are_no_text(self):
+        status, out, err = self.run_foil(self.text(b"board 5 5 0\n# Schl\xfcssel\nend\n"))
+        self.assertEqual((status, out, err.split(": ")[0]), (2, "", "%s, line 2" % (self.folder / "a.txt")))
+
+    def test_texts_that_the_router_does_not_read_to_their_end(self):
+        for content, written, told in (
+                ("", "file 14\n", "the end of the file  at fault (14)"),
+                ("board 5 5 0\r\n", "board 0\nfile 14\n", "the end of the file  at fault (14)"),
+                ("patch 0 0 1 1\nboard 5 5 0\nend\n", "file 16\n", "1  patch 0 0 1 1  at fault (16)"),
+                ("board 5 5 0\nboard 5 5 0\nend\n", "board 0\nfile 16\n", "2  board 5 5 0  at fault (16)"),
+                ("board 5 5 0\n" + "lift 1\n" * 20_000 + "end\n", "file 18\n", "the whole file  at fault (18)")):
+            with self.subTest(told):
+                status, out, err = self.run_foil(self.text(content), written=written)
+                self.assertEqual((status, err), (2, ""))
+                self.assertIn(told, out)
+
+    def test_nothing_is_written_over_what_is_read(self):
+        path = self.text("board 5 5 0\nend\n")
+        for option in ("--job", "--picture"):
+            with self.assertRaises(SystemExit) as raised, contextlib.redirect_stderr(io.StringIO()) as err:
+                command.main([option, str(self.folder / "." / "a.txt"), str(path)])
+            self.assertEqual(raised.exception.code, 2)
+            self.assertIn("a.txt would be written over", err.getvalue())
+        self.assertEqual(path.read_text(), "board 5 5 0\nend\n")
+
+    def test_without_the_program(self):
+        (self.folder / "tools").mkdir()
+        built = self.folder / "tools" / "built"
+        built.write_text("#!/bin/sh\nexit 1\n")
+        built.chmod(0o755)
+        with mock.patch.object(program, "ROOT", self.folder), contextlib.redirect_stderr(io.StringIO()) as err:
+            self.assertEqual(command.main([str(given.SAMPLES / "less-ink.txt")]), 2)
+        self.assertIn("`rt check foil_job` proves and builds it", err.getvalue())
+
+    def test_a_program_that_fails(self):
+        path, folder = given.replay("")
+        self.addCleanup(folder.cleanup)
+        for script, told in (
+                ("exit 3", "the job program ended with status 3"), ("printf '\\377\\n'", "a line that is none")):
+            path.write_text("#!/bin/sh\ncat > /dev/null\n%s\n" % script)
+            with contextlib.redirect_stderr(io.StringIO()) as err:
+                self.assertEqual(command.main([str(given.SAMPLES / "less-ink.txt")], path), 2)
+            self.assertIn(told, err.getvalue())
+
+    def test_a_folder(self):
+        self.assertEqual(self.run_foil(self.folder), (2, "", "%s: Is a directory\n" % self.folder))
+
+    def test_what_is_not_there(self):
+        status, out, err = self.run_foil(self.folder / "none.txt")
+        self.assertEqual((status, out), (2, ""))
+        self.assertIn("none.txt: No such file", err)
+        self.assertEqual(self.run_foil("--picture", self.folder / "no" / "x.svg", given.SAMPLES / "document-01.txt",
+                                       written=given.written_for("document-01"))[0], 2)
+
+    def test_lines_that_are_not_those_of_the_job(self):
+        status, out, err = self.run_foil(given.SAMPLES / "document-01.txt", written="board 0\nlift 5 0\n")
+        self.assertEqual((status, out), (2, ""))
+        self.assertIn("a line `lift` for a step `patch`", err)
+
+    def test_picture(self):
+        for suffix in (".txt", ".job"):
+            drawn = self.folder / "x.svg"
+            status, out, _ = self.run_foil("--picture", drawn, "--strips", given.SAMPLES / ("document-01" + suffix),
+                                           written=given.written_for("document-01"))
+            self.assertEqual((status, out.count("laid: 2 bends, length 10")), (0, 1))
+            self.assertTrue(ET.parse(drawn).getroot().tag.endswith("svg"))
+            drawn.unlink()
+
+    def test_no_picture_without_a_foil(self):
+        drawn = self.folder / "x.svg"
+        status, _, err = self.run_sample("board-size", "--picture", drawn)
+        self.assertEqual((status, err, drawn.exists()), (1, "no foil was begun, so there is no picture\n", False))
+
+    def test_text_of_a_job_runs_nothing(self):
+        status, out, _ = self.run_foil("--text", given.SAMPLES / "document-01.job", written="no line at all")
+        self.assertEqual((status, out), (0, "board 6 4 0, patch 2 0 3 3\ntrack 5 0 0 4 0\nend\n"))
+        status, out, _ = self.run_foil("--text", given.SAMPLES / "cut-short.job")
+        self.assertEqual(status, 2)
+        self.assertIn("# file 14: the file ends inside a record or before its end mark\n", out)
+
+    def test_words_that_do_not_go_together(self):
+        for words in ("--strips x.txt", "--text --picture x.svg x.job", "--lines --quiet x.txt", "--text x.txt", ""):
+            with self.assertRaises(SystemExit) as raised, contextlib.redirect_stderr(io.StringIO()):
+                command.main(words.split())
+            self.assertEqual(raised.exception.code, 2)
+
+    def test_output_that_is_cut_off(self):
+        drawn = self.folder / "x.svg"
+        path, folder = given.replay(given.written_for("document-01"))
+        self.addCleanup(folder.cleanup)
+        words = "command.main(['--picture', '%s', 'samples/document-01.txt'], '%s')" % (drawn, path)
+        script = "import sys; from desk import command; sys.exit(%s)" % words
+        with subprocess.Popen([sys.executable, "-B", "-c", script], cwd=program.ROOT, stdout=subprocess.PIPE,
+                              stderr=subprocess.PIPE) as running:
+            running.stdout.close()
+            complaints = running.stderr.read()
+        self.assertEqual((running.returncode, complaints, drawn.exists()), (2, b"", True))
+
+    def test_the_script(self):
+        words = [program.ROOT / "foil", "--text", "samples/document-01.job"]
+        done = subprocess.run(words, cwd=program.ROOT, capture_output=True, text=True)
+        self.assertEqual((done.returncode, done.stdout.count("\n"), done.stderr), (0, 3, ""))
+
+
+if __name__ == "__main__":
+    unittest.main()

@@ -1,0 +1,202 @@
+"""The picture: well formed, one path a track, ink of its true width, and labels that do not cover each other."""
+import unittest
+import xml.etree.ElementTree as ET
+
+from desk import boxes, foils, labels, lines, picture, program, refusals, textform
+from desk.tests import given
+
+TABLE = refusals.readme_table()
+SVG = "{http://www.w3.org/2000/svg}"
+
+
+def foil_by(text, written):
+    """The foil of a text whose job writes these lines."""
+    made = textform.read(text).job
+    return foils.foil_of(lines.run_of(made, written))
+
+
+def drawn(foil, strips=False, name="a foil"):
+    """The picture of a foil, read back."""
+    return ET.fromstring(picture.picture(foil, name, strips, TABLE))
+
+
+def elements(root, tag, kind=None):
+    """The elements of a tag, and of a class where one is given."""
+    return [element for element in root.iter(SVG + tag) if kind is None or element.get("class") == kind]
+
+
+def title(element):
+    """What a browser shows of an element under the pointer."""
+    return element.find(SVG + "title").text
+
+
+PEN = foil_by("board 60 40 pen 2 1\npatch 30 10 40 20\ntrack 7 5 5 20 30\ntrack 8 0 0 50 30\ntrack 9 70 5 50 30\nend\n",
+              "board 0\npatch 0\ntrack 7 0 1 5,5 20,5 20,30\ntrack 8 8\ntrack 9 7\nstrip 3 9 16 37\n")
+
+
+class Tracks(unittest.TestCase):
+    def test_one_path_a_track(self):
+        for name in given.NAMES:
+            foil = foils.foil_of(given.run_of(name))
+            if foil:
+                with self.subTest(name):
+                    self.assertEqual(len(elements(drawn(foil), "path")), len(foil.nets))
+
+    def test_the_foil_that_a_job_leaves(self):
+        text = "board 9 9 0\ntrack 1 0 0 2 0\nlift 1\ntrack 2 0 0 0 0\nleg 3 5 0 6 9\nleg 3 5 8 9 9\n"
+        text += "patch 0 0 0 0\nend\n"
+        written = "board 0\ntrack 1 0 0 0,0 2,0\nlift 1 0\ntrack 2 0 0 0,0\nleg 3 0\nleg 3 0\npatch 3\n"
+        foil = foil_by(text, written)
+        point = foils.Net(2, [(0, 0, 1, 1)], 0, 0, ((0, 0), (0, 0)))
+        self.assertEqual(foil.nets, [point, foils.Net(3, [(5, 0, 6, 9), (5, 8, 9, 9)], 1, 11, None)])
+        self.assertEqual(foil.patches, [])
+
+    def test_no_foil_is_begun(self):
+        for name in ("board-size", "board-clearance", "too-long"):
+            self.assertIsNone(foils.foil_of(given.run_of(name)))
+
+    def test_ink_is_as_wide_as_the_pen(self):
+        path, = elements(drawn(PEN), "path")
+        self.assertEqual(path.get("d"), "M3 3H23V8H3ZM18 3H23V33H18Z")
+        self.assertEqual(path.get("stroke-width"), "0")
+
+    def test_ink_of_a_large_foil_can_be_seen(self):
+        foil = foil_by("board 4096 4096 0\ntrack 1 0 0 4095 0\nend\n", "board 0\ntrack 1 0 0 0,0 4095,0\n")
+        root = drawn(foil)
+        path, = elements(root, "path")
+        scale = picture.Picture(foil, "", False, TABLE).scale
+        self.assertAlmostEqual((1 + float(path.get("stroke-width"))) * scale, picture.THINNEST, 2)
+        self.assertIn("ink is drawn wider than it is", [text.text for text in elements(root, "text")])
+
+    def test_a_track_of_one_point_is_a_dot(self):
+        text = "board 4096 4096 0\ntrack 1 9 9 9 9\ntrack 2 0 0 4095 0\nend\n"
+        foil = foil_by(text, "board 0\ntrack 1 0 0 9,9\ntrack 2 0 0 0,0 4095,0\n")
+        scale = picture.Picture(foil, "", False, TABLE).scale
+        wide = [(1 + float(path.get("stroke-width"))) * scale for path in elements(drawn(foil), "path")]
+        for drawn_wide, least in zip(wide, (picture.DOT, picture.THINNEST)):
+            self.assertAlmostEqual(drawn_wide, least, 2)
+
+    def test_titles(self):
+        root = drawn(PEN)
+        self.assertEqual(title(elements(root, "path")[0]), "net 7: 1 bend, length 40, from 5,5 to 20,30")
+        self.assertEqual(title(elements(root, "rect", "patch")[0]), "patch 30 10 40 20")
+        self.assertIn("points nearer than 3 to the edge", title(elements(root, "rect", "edge")[0]))
+
+
+class Ground(unittest.TestCase):
+    def box(self, element):
+        x, y, wide, high = (float(element.get(name)) for name in ("x", "y", "width", "height"))
+        return (x, y, x + wide, y + high)
+
+    def test_zones(self):
+        root = drawn(PEN)
+        self.assertEqual([self.box(rect) for rect in elements(root, "rect", "sheet")], [(0, 0, 60, 40)])
+        *edge, _ = [self.box(rect) for rect in elements(root, "rect", "edge")]
+        self.assertEqual(edge, [(0, 0, 60, 3), (0, 37, 60, 40), (0, 3, 3, 37), (57, 3, 60, 37)])
+        *zones, _ = [self.box(rect) for rect in elements(root, "rect", "clearance")]
+        self.assertEqual(zones, [(29, 9, 41, 21), (2, 2, 24, 9), (17, 2, 24, 34)])
+
+    def test_no_point_is_left_by_the_edge(self):
+        for size, edges in (("5 40 3", 1), ("6 40 3", 1), ("7 40 3", 4), ("9 9 0", 0)):
+            root = drawn(foil_by("board %s\nend\n" % size, "board 0\n"))
+            self.assertEqual(len(root.findall("%sg/%srect[@class='edge']" % (SVG, SVG))), edges + (edges > 0), size)
+
+    def test_the_outline_is_just_outside(self):
+        outline, = elements(drawn(PEN), "rect", "outline")
+        x0, y0, x1, y1 = self.box(outline)
+        half = float(outline.get("stroke-width")) / 2
+        for inner, side in ((x0 + half, 0), (y0 + half, 0), (x1 - half, 60), (y1 - half, 40)):
+            self.assertAlmostEqual(inner, side, 2)
+
+    def test_strips_on_demand(self):
+        strip, sample = elements(drawn(PEN, strips=True), "rect", "strip")
+        self.assertEqual((self.box(strip), title(strip)), ((3, 9, 16, 37), "strip 0: 3 9 16 37"))
+        self.assertEqual(elements(drawn(PEN), "rect", "strip"), [])
+
+    def test_rulers(self):
+        for scale, step in ((48, 1), (20, 2), (8, 5), (4, 10), (2, 20), (1, 50), (0.2, 200), (0.15, 500)):
+            self.assertEqual(picture.ruler_step(scale), step)
+
+    def test_it_fits_a_page(self):
+        for size in ("1 1 0", "6 4 0", "4096 4096 15", "4096 1 0", "1 4096 0", "200 300 2"):
+            root = drawn(foil_by("board %s\nend\n" % size, "board 0\n"))
+            self.assertLessEqual(float(root.get("width")), picture.WIDE)
+            self.assertLessEqual(float(root.get("height")), picture.HIGH)
+
+    def test_names_are_written_as_they_must_be(self):
+        root = drawn(PEN, name="a<b>&\"c\x01\udc80" + "x" * 300)
+        self.assertTrue(elements(root, "text", "head")[0].text.startswith("a<b>&\"cxxx"))
+
+
+class Refused(unittest.TestCase):
+    def test_dashed_lines_with_their_numbers(self):
+        root = drawn(PEN)
+        dashed = [line for line in elements(root, "line", "refused") if "stroke-dasharray" in line.keys()]
+        self.assertEqual(len(dashed), 3)
+        titles = [title(group) for group in elements(root, "g") if group.find(SVG + "title") is not None]
+        self.assertEqual(titles, ["track 8 from 0,0 to 50,30 refused (8): " + TABLE[8][0],
+                                  "track 9 from 70,5 to 50,30 refused (7): " + TABLE[7][0]])
+        self.assertLessEqual({"7", "8 (8)", "9 (7)"}, {text.text for text in elements(root, "text", "label")})
+
+    def test_what_is_far_off_is_told(self):
+        text = "board 9 9 0\n" + "".join("track %d 900 900 905 905\n" % net for net in range(1, 10)) + "end\n"
+        root = drawn(foil_by(text, "board 0\n" + "".join("track %d 7\n" % net for net in range(1, 10))))
+        self.assertEqual(elements(root, "line", "refused"), [])
+        told = [text.text for text in elements(root, "text")]
+        self.assertIn("not in the picture: 1 (7), 2 (7), 3 (7), 4 (7), 5 (7), 6 (7) and 3 more", told)
+
+    def test_lines_are_cut_at_a_frame(self):
+        frame = (0, 0, 10, 10)
+        self.assertEqual(boxes.cut((2, 2), (8, 5), frame), ((2, 2), (8, 5)))
+        self.assertEqual(boxes.cut((-5, 5), (15, 5), frame), ((0, 5), (10, 5)))
+        self.assertEqual(boxes.cut((5, 20), (5, 5), frame), ((5, 10), (5, 5)))
+        self.assertEqual(boxes.cut((3, 3), (3, 3), frame), ((3, 3), (3, 3)))
+        for start, end in (((11, 0), (20, 9)), ((-1, 5), (-1, 6)), ((-3, 9), (3, 15)), ((12, 12), (12, 12))):
+            self.assertIsNone(boxes.cut(start, end, frame))
+
+
+class Labels(unittest.TestCase):
+    def covered(self, foil):
+        """How many pairs of labels cover each other."""
+        at = []
+        for text in elements(drawn(foil), "text", "label"):
+            wish = labels.Wish(text.text, picture.WIDE_TEXT * len(text.text), picture.HIGH_TEXT, [], [])
+            at.append(wish.box(labels.Place(float(text.get("x")), float(text.get("y")), 0)))
+        return sum(boxes.area(boxes.common(a, b)) > 0.1 for k, a in enumerate(at) for b in at[:k])
+
+    def test_labels_of_the_samples(self):
+        for name in given.NAMES:
+            foil = foils.foil_of(given.run_of(name))
+            if foil:
+                with self.subTest(name):
+                    self.assertEqual(self.covered(foil), 0)
+
+    def test_labels_of_128_tracks(self):
+        spots = [(net, 3 + 5 * (net % 12), 2 + 5 * (net // 12)) for net in range(1, 129)]
+        steps = "".join("track %d %d %d %d %d\n" % (net, x, y, x + 1, y) for net, x, y in spots)
+        told = "".join("track %d 0 0 %d,%d %d,%d\n" % (net, x, y, x + 1, y) for net, x, y in spots)
+        foil = foil_by("board 64 60 0\n" + steps + "end\n", "board 0\n" + told)
+        self.assertEqual(len(elements(drawn(foil), "path")), 128)
+        self.assertEqual(self.covered(foil), 0)
+
+    def test_a_label_does_not_cover_a_small_patch(self):
+        places = [labels.Place(0, 0, 0), labels.Place(20, 0, 0.1)]
+        wish = labels.Wish("1", 10, 10, places, [])
+        self.assertEqual(labels.placed([wish], (-50, -50, 50, 50), [(-2, -2, 2, 2)]), places[1:])
+        self.assertEqual(labels.placed([wish], (-50, -50, 50, 50), [(-40, -40, 40, 40)]), places[:1])
+
+    def test_a_label_takes_the_next_place(self):
+        places = [labels.Place(0, 0, 0), labels.Place(20, 0, 0.1)]
+        wishes = [labels.Wish("1", 10, 10, places, []), labels.Wish("2", 10, 10, places, [])]
+        self.assertEqual(labels.placed(wishes, (-50, -50, 50, 50), []), places)
+        self.assertEqual(labels.placed(wishes[:1], (5, -50, 50, 50), []), places[1:])
+
+
+class InTheRepository(unittest.TestCase):
+    def test_the_picture_of_readme_is_what_is_drawn(self):
+        shown = picture.picture(foils.foil_of(given.run_of("less-ink")), "less-ink", False, TABLE)
+        self.assertEqual((program.ROOT / "docs" / "less-ink.svg").read_text(encoding="utf-8"), shown)
+
+
+if __name__ == "__main__":
+    unittest.main()

@@ -1,0 +1,108 @@
+"""What came of each line of a text, in words. `table` has those of refusals."""
+import bisect
+import textwrap
+from typing import NamedTuple
+
+from desk import textform
+from desk.refusals import refusal
+
+WIDTH = 116
+
+
+class Row(NamedTuple):
+    """A row of what is printed: a line's number or none, what stands there, what came of it, whether it was refused."""
+    number: int
+    said: str
+    words: list
+    refused: bool = False
+
+
+def turned_down(how, number, table):
+    """The words of a refusal: what it says, and what to do."""
+    says, to_do = refusal(number, table)
+    return ["%s (%d): %s" % (how, number, says)] + (["what to do: " + to_do] if to_do else [])
+
+
+def count(n, thing, ending="s"):
+    """So many of a thing."""
+    return "%s %s%s" % (n or "no", thing, "" if n == 1 else ending)
+
+
+def accepted(step, said):
+    """What an accepted step did."""
+    if step.word == "board":
+        half, gap = step.pen
+        pen = "reach %d" % gap if len(step.numbers) == 3 else "a pen of half width %d with gap %d" % (half, gap)
+        return "begun: %d by %d points, %s" % (step.numbers[0], step.numbers[1], pen)
+    if step.word == "track":
+        return "laid: %s, length %d" % (count(said.bends, "bend"), said.length)
+    return {"patch": "drawn", "lift": "lifted", "leg": "put back as it was booked"}[step.word]
+
+
+def of_outcome(outcome, table):
+    """What came of a step."""
+    if outcome.said is None:
+        return ["not done"]
+    if outcome.said.number:
+        return turned_down("refused", outcome.said.number, table)
+    return [accepted(outcome.step, outcome.said)]
+
+
+def left_free(strips):
+    """What a job leaves free."""
+    points = sum((x1 - x0) * (y1 - y0) for x0, y0, x1, y1 in strips)
+    return "%s free, in %s" % (count(points, "point"), count(len(strips), "strip")) if strips else "no point is free"
+
+
+def rows(text, run, table):
+    """The rows for a text whose job was run: for each of its lines, those of the records that begin on it."""
+    fault = run.fault and turned_down("at fault", run.fault.number, table)
+    if fault and run.fault.number == 18:
+        lines = [Row(line.number, line.said, ["not done"]) for line in text.lines]
+        return [Row(None, "the whole file", fault, True)] + lines
+    places = [outcome.place for outcome in run.outcomes]
+    shown = []
+    for line in text.lines:
+        begun = run.outcomes[bisect.bisect_left(places, line.place):bisect.bisect_left(places, line.after)]
+        shown += line_rows(line, begun, run, table)
+    if fault and run.place == len(text.job):
+        shown.append(Row(None, "the end of the file", fault, True))
+    return shown
+
+
+def line_rows(line, begun, run, table):
+    """The rows for a line: the steps that begin on it, then the end mark or what is at fault, where that is on it."""
+    ends = run.place is not None and line.place <= run.place < line.after
+    if ends and run.fault:
+        begun = [outcome for outcome in begun if outcome.said]
+    shown = [Row(line.number, textform.step_text(outcome.step), of_outcome(outcome, table), is_refused(outcome))
+             for outcome in begun]
+    if ends and run.fault:
+        shown.append(Row(line.number, line.said, turned_down("at fault", run.fault.number, table), True))
+    elif ends:
+        shown.append(Row(line.number, "end", [left_free(run.strips)]))
+    elif not begun:
+        above = run.place is not None and line.place < run.place
+        shown.append(Row(line.number, line.said, ["part of the line above" if above else "not done"]))
+    return shown
+
+
+def is_refused(outcome):
+    """Whether a step was run and refused."""
+    return outcome.said is not None and outcome.said.number != 0
+
+
+def page(shown):
+    """The rows as lines: number, what stands there, and the words beside it, broken where they are long."""
+    wide = min(28, max((len(row.said) for row in shown), default=0))
+    lines, last = [], None
+    for row in shown:
+        number = "" if row.number in (None, last) else row.number
+        last = row.number
+        said = row.said if len(row.said) <= wide else row.said[:wide - 2] + ".."
+        before = "%5s  %-*s  " % (number, wide, said)
+        for words in row.words:
+            for part in textwrap.wrap(words, WIDTH - len(before), break_long_words=False, break_on_hyphens=False):
+                lines.append(before + part)
+                before = " " * len(before)
+    return "".join(line + "\n" for line in lines)
