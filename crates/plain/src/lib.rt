@@ -10,6 +10,7 @@ mod rounds;
 mod walk;
 
 use foil_spec::Pen;
+pub use walk::is_way;
 ghost use mathlib.Core.Path.{_≡_};
 ghost use mathlib.Core.Bool.{true, false};
 ghost use Prim.Native.Nat.{_≤_, _<_};

@@ -4,6 +4,7 @@ ghost use Prim.Native.Nat.{_<_, _≤_};
 use crate::POINTS;
 use crate::SEGMENT;
 use crate::SIDE;
+use crate::place;
 
 // Which way the next segment may go.
 enum Heading {
@@ -72,6 +73,26 @@ fn after(p: usize, q: usize) -> Heading {
     } else {
         Heading::Level
     }
+}
+
+// Whether the first k corners of a list are a way over free points.
+pub fn is_way(map: &[bool; 4096], list: &[u16; 8192], k: usize) -> bool
+    requires { ⌜ (0 < k) × (k ≤ 4096) ⌝ }
+{
+    let mut heading = Heading::Either;
+    let mut p = place(map, list[0], list[1]);
+    if p == POINTS {
+        return false;
+    }
+    for i in 1..k {
+        let q = place(map, list[i * 2], list[i * 2 + 1]);
+        if q == POINTS || !segment(map, heading, p, q) {
+            return false;
+        }
+        heading = after(p, q);
+        p = q;
+    }
+    true
 }
 
 // How far apart two places are.

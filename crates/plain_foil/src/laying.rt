@@ -1,7 +1,8 @@
-// A lay, by the plain search over all points.
+// A track: found by the plain search over all points, booked as it was drawn, or both.
 use crate::Done;
 use crate::Foil;
 use crate::accept;
+use crate::free_points;
 use crate::in_use;
 use crate::pen;
 use crate::put;
@@ -29,13 +30,35 @@ pub fn lay(
     if in_use(row, foil.entries, net) {
         return refuse(5, foil);
     }
-    if off(foil, sx, sy) || off(foil, tx, ty) {
-        return refuse(7, foil);
+    let mut path = [0u16; 8192];
+    let found = find(&mut path, row, foil, room, sx, sy, tx, ty);
+    if found.number != 0 {
+        return found;
     }
-    if blocked(row, foil, sx, sy) || blocked(row, foil, tx, ty) {
-        return refuse(8, foil);
+    let done = append(row, foil, net, &path, found.corners);
+    if done.number != 0 {
+        return done;
     }
-    lay_between(row, corners, foil, room, net, sx, sy, tx, ty)
+    copy(corners, &path, done.corners);
+    done
+}
+
+// Books the first n numbers of a list, the corners that someone drew, as a track.
+pub fn book(row: &mut [u16; 640], foil: Foil, net: u16, list: &[u16; 8192], n: usize) -> Done
+    requires { ⌜ (foil .entries ≤ 128) × (n ≤ 8192) ⌝ }
+    ensures { λ r. ⌜ r .foil .entries ≤ 128 ⌝ }
+{
+    if net < 1 || 999 < net {
+        return refuse(4, foil);
+    }
+    if in_use(row, foil.entries, net) {
+        return refuse(5, foil);
+    }
+    let k = n / 2;
+    if k == 0 || n % 2 == 1 || !draws_way(row, foil, list, k) {
+        return refuse(19, foil);
+    }
+    append(row, foil, net, list, k)
 }
 
 // Whether a point is off the foil.
@@ -50,25 +73,29 @@ fn blocked(row: &[u16; 640], foil: Foil, x: u16, y: u16) -> bool
     !plain::is_free(row, foil.entries, pen(foil), foil.width, foil.height, x, y)
 }
 
-// Lays a track between two free points.
-fn lay_between(
-    row: &mut [u16; 640],
+// Finds the path between two points, with room for so many corners; they are put at the front of the list.
+pub fn find(
     corners: &mut [u16; 8192],
+    row: &[u16; 640],
     foil: Foil,
     room: usize,
-    net: u16,
     sx: u16,
     sy: u16,
     tx: u16,
     ty: u16,
 ) -> Done
     requires { ⌜ foil .entries ≤ 128 ⌝ }
-    ensures { λ r. ⌜ r .foil .entries ≤ 128 ⌝ }
+    ensures { λ r. ⌜ (r .foil .entries ≤ 128) × (r .corners ≤ room) ⌝ }
 {
-    let n = foil.entries;
+    if off(foil, sx, sy) || off(foil, tx, ty) {
+        return refuse(7, foil);
+    }
+    if blocked(row, foil, sx, sy) || blocked(row, foil, tx, ty) {
+        return refuse(8, foil);
+    }
     let mut map = [false; 4096];
     let mut path = [0u16; 8192];
-    plain::free_points(&mut map, row, n, pen(foil), foil.width, foil.height);
+    free_points(&mut map, row, foil);
     let k = plain::first_path(&mut path, &map, sx, sy, tx, ty);
     if k == 0 {
         return refuse(9, foil);
@@ -76,14 +103,36 @@ fn lay_between(
     if room < k {
         return refuse(12, foil);
     }
-    if k == 1 {
-        return dot(row, corners, foil, net, sx, sy);
+    copy(corners, &path, k);
+    Done {
+        number: 0,
+        corners: k,
+        foil,
+    }
+}
+
+// Whether the first k corners of a list are a way over the foil's free points.
+fn draws_way(row: &[u16; 640], foil: Foil, list: &[u16; 8192], k: usize) -> bool
+    requires { ⌜ (foil .entries ≤ 128) × (0 < k) × (k ≤ 4096) ⌝ }
+{
+    let mut map = [false; 4096];
+    free_points(&mut map, row, foil);
+    plain::is_way(&map, list, k)
+}
+
+// Appends the legs of a path of k corners to the row.
+fn append(row: &mut [u16; 640], foil: Foil, net: u16, path: &[u16; 8192], k: usize) -> Done
+    requires { ⌜ foil .entries ≤ 128 ⌝ }
+    ensures { λ r. ⌜ r .foil .entries ≤ 128 ⌝ }
+{
+    let n = foil.entries;
+    if k < 2 {
+        return dot(row, foil, net, path[0], path[1]);
     }
     if 129 - n < k {
         return refuse(10, foil);
     }
-    legs(row, n, net, &path, k);
-    copy(corners, &path, k);
+    legs(row, n, net, path, k);
     accept(k, foil, n + k - 1)
 }
 
@@ -97,23 +146,17 @@ fn legs(row: &mut [u16; 640], n: usize, net: u16, path: &[u16; 8192], k: usize)
 }
 
 // Copies the first k corners of a path to the front of the list.
-fn copy(corners: &mut [u16; 8192], path: &[u16; 8192], k: usize)
-    requires { ⌜ k ≤ 129 ⌝ }
-{
-    for i in 0..k * 2 {
+fn copy(corners: &mut [u16; 8192], path: &[u16; 8192], k: usize) {
+    for i in 0..8192 {
+        if k <= i / 2 {
+            return;
+        }
         corners[i] = path[i];
     }
 }
 
 // Lays a track of a single point.
-fn dot(
-    row: &mut [u16; 640],
-    corners: &mut [u16; 8192],
-    foil: Foil,
-    net: u16,
-    x: u16,
-    y: u16,
-) -> Done
+fn dot(row: &mut [u16; 640], foil: Foil, net: u16, x: u16, y: u16) -> Done
     requires { ⌜ foil .entries ≤ 128 ⌝ }
     ensures { λ r. ⌜ r .foil .entries ≤ 128 ⌝ }
 {
@@ -122,8 +165,6 @@ fn dot(
         return refuse(10, foil);
     }
     put(row, n, net, x, y, after(x), after(y));
-    corners[0] = x;
-    corners[1] = y;
     accept(1, foil, n + 1)
 }
 

@@ -5,6 +5,8 @@ mod records;
 mod runs;
 
 use foil_spec::Pen;
+pub use laying::book;
+pub use laying::find;
 pub use laying::lay;
 pub use records::NONE;
 pub use records::Ran;
@@ -30,6 +32,13 @@ fn pen(foil: Foil) -> Pen {
     }
 }
 
+// Says of each place of a map whether its point is free.
+fn free_points(map: &mut [bool; 4096], row: &[u16; 640], foil: Foil)
+    requires { ⌜ foil .entries ≤ 128 ⌝ }
+{
+    plain::free_points(map, row, foil.entries, pen(foil), foil.width, foil.height);
+}
+
 // The number of a step, 0 if it is accepted, with the corners of a track; and the foil after it.
 pub struct Done {
     pub number: u8,
@@ -39,7 +48,7 @@ pub struct Done {
 
 // A refused step.
 fn refuse(number: u8, foil: Foil) -> Done
-    ensures { λ r. ⌜ r .foil .entries ≡ foil .entries ⌝ }
+    ensures { λ r. ⌜ (r .foil .entries ≡ foil .entries) × (r .corners ≡ 0) ⌝ }
 {
     Done {
         number,

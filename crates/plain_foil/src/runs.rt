@@ -1,6 +1,6 @@
 // The strips of a foil, by their definition, from its free points.
 use crate::Foil;
-use crate::pen;
+use crate::free_points;
 ghost use Prim.Native.Nat.{_+_, _<_, _≤_};
 
 // How many points are in a row of the map, and how many in all.
@@ -14,14 +14,7 @@ pub fn strips(list: &mut [u16; 16384], row: &[u16; 640], foil: Foil) -> usize
     ensures { λ r. ⌜ r ≤ 4096 ⌝ }
 {
     let mut map = [false; 4096];
-    plain::free_points(
-        &mut map,
-        row,
-        foil.entries,
-        pen(foil),
-        foil.width,
-        foil.height,
-    );
+    free_points(&mut map, row, foil);
     let mut count: usize = 0;
     for p in 0..POINTS {
         count = strip_at(list, count, &map, p % SIDE, p / SIDE);

@@ -32,18 +32,23 @@ fn bends(corners: usize) -> usize {
     if corners < 2 { 0 } else { corners - 2 }
 }
 
-// Whether a track was laid with the corners and bends that it should have, or was not laid.
-fn same_track(told: Told, want: Ran) -> bool {
-    if want.track != 0 {
-        return number_of(told) == want.track;
+// Whether the answer is a number or, for 0, a track with so many corners.
+pub(crate) fn same_laid(answer: Answer, number: u8, corners: usize) -> bool {
+    match answer {
+        Answer::Refused(given) => given != 0 && given == number,
+        Answer::Accepted => false,
+        Answer::Laid(given, turns) => number == 0 && given == corners && turns == bends(corners),
+        Answer::Found(_) => false,
+        Answer::Wrote(_) => false,
     }
+}
+
+// Whether a track was answered as it should be, if the record has one.
+fn same_track(told: Told, want: Ran) -> bool {
     let Told::Said(answer) = told else {
-        return false;
+        return want.track == NONE;
     };
-    let Answer::Laid(corners, turns) = answer else {
-        return false;
-    };
-    corners == want.corners && turns == bends(want.corners)
+    same_laid(answer, want.track, want.corners)
 }
 
 // Whether the steps of a record were answered as they should be.

@@ -1,7 +1,8 @@
-// Replays random job files beside a plain foil, and writes how many records there were, how many of their steps were
-// accepted and refused by each number, and how often the two differ: in an answer, in the record, in the table, the
-// strips or the corner list, or in the strip of a point that is looked up.
+// Replays random job files beside a plain foil, with a find and a book now and then, and writes how many records there
+// were, how many steps were accepted and refused by each number, and how often the two differ: in an answer, in the
+// record, in the table, the strips or the corner list, or in the strip of a point that is looked up.
 mod compare;
+mod drawings;
 mod holds;
 mod jobs;
 
@@ -21,24 +22,31 @@ const JOBS: usize = 300;
 // More records than any of these files has.
 const RECORDS: usize = 3000;
 
-// Where the counts of records, end marks, tracks and differences are; those of the numbers come first.
+// Where the counts of records, end marks, tracks, paths found, lists booked and differences are; those of the numbers
+// come first.
 const RUN: usize = 23;
 
 const ENDS: usize = 24;
 
 const LAID: usize = 25;
 
-const DIFFERENT: usize = 26;
+const FOUND: usize = 26;
+
+const BOOKED: usize = 27;
+
+const DIFFERENT: usize = 28;
+
+const COUNTS: usize = 29;
 
 // Adds one to a count.
-fn count(counts: &mut [u64; 27], k: usize)
-    requires { ⌜ k < 27 ⌝ }
+fn count(counts: &mut [u64; COUNTS], k: usize)
+    requires { ⌜ k < 29 ⌝ }
 {
     counts[k] = std::num::wrapping_add_u64(counts[k], 1);
 }
 
 // Counts the number of a step or a record, if there is one.
-fn count_number(counts: &mut [u64; 27], number: u8) {
+fn count_number(counts: &mut [u64; COUNTS], number: u8) {
     let k = number as usize;
     if k < RUN {
         count(counts, k);
@@ -80,7 +88,7 @@ fn unbegun(seed: u32) -> Stood
 }
 
 // Counts what came of a record by the plain foil.
-fn count_record(counts: &mut [u64; 27], want: Ran) {
+fn count_record(counts: &mut [u64; COUNTS], want: Ran) {
     count(counts, RUN);
     if want.end {
         count(counts, ENDS);
@@ -153,7 +161,7 @@ fn agree(
 
 // Runs a record on both foils, and counts what came of it.
 fn replay_one(
-    counts: &mut [u64; 27],
+    counts: &mut [u64; COUNTS],
     table: &mut [u16; 645],
     strips: &mut [u16; 16388],
     corners: &mut [u16; 300],
@@ -182,16 +190,17 @@ fn replay_one(
         };
     }
     let reply = given.reply;
-    Stood {
+    let after = Stood {
         board,
         foil,
         at: compare::next_place(reply),
         point,
-    }
+    };
+    drawings::draw(counts, table, strips, corners, row, path, after)
 }
 
 // Replays a job file, with so many corner places lent, up to its end or a difference.
-fn replay(counts: &mut [u64; 27], bytes: &[u8], room: usize, seed: u32)
+fn replay(counts: &mut [u64; COUNTS], bytes: &[u8], room: usize, seed: u32)
     requires { ⌜ room ≤ 150 ⌝ }
 {
     let mut table = [7u16; 645];
@@ -219,21 +228,21 @@ fn replay(counts: &mut [u64; 27], bytes: &[u8], room: usize, seed: u32)
 }
 
 // Replays the job file that the first n bytes of a list are.
-fn replay_front(counts: &mut [u64; 27], bytes: &[u8], n: usize, room: usize, seed: u32)
+fn replay_front(counts: &mut [u64; COUNTS], bytes: &[u8], n: usize, room: usize, seed: u32)
     requires { ⌜ (n ≤ length (now bytes)) × (room ≤ 150) ⌝ }
 {
     replay(counts, &bytes[..n], room, seed);
 }
 
 // Replays a job file that was made.
-fn replay_made(counts: &mut [u64; 27], bytes: &[u8; 12000], made: Made)
+fn replay_made(counts: &mut [u64; COUNTS], bytes: &[u8; 12000], made: Made)
     requires { ⌜ (made .length ≤ 12000) × (made .room ≤ 150) ⌝ }
 {
     replay_front(counts, bytes, made.length, made.room, made.seed);
 }
 
 // Makes and replays the job files.
-fn run(counts: &mut [u64; 27]) {
+fn run(counts: &mut [u64; COUNTS]) {
     let mut seed: u32 = 1;
     for _ in 0..JOBS {
         let mut bytes = [0u8; 12000];
@@ -251,7 +260,7 @@ fn print_line(words: &[u8], n: u64) {
 }
 
 // Writes a line for each number that refused something.
-fn print_numbers(counts: &[u64; 27]) {
+fn print_numbers(counts: &[u64; COUNTS]) {
     for k in 1..RUN {
         if counts[k] != 0 {
             io::write_all(1, b"refused by ");
@@ -262,13 +271,15 @@ fn print_numbers(counts: &[u64; 27]) {
 }
 
 fn main() {
-    let mut counts = [0u64; 27];
+    let mut counts = [0u64; COUNTS];
     run(&mut counts);
     print_line(b"random jobs: ", JOBS as u64);
     print_line(b"records: ", counts[RUN]);
     print_line(b"end marks: ", counts[ENDS]);
     print_line(b"steps accepted: ", counts[0]);
     print_line(b"tracks among them: ", counts[LAID]);
+    print_line(b"paths found among them: ", counts[FOUND]);
+    print_line(b"lists booked among them: ", counts[BOOKED]);
     print_numbers(&counts);
     print_line(b"different: ", counts[DIFFERENT]);
 }

@@ -1,20 +1,20 @@
--- `plain_foil::laying::copy` is safe and ends: the loop counts up to the last number.
+-- `plain_foil::laying::copy` is safe and ends: the loop counts up to 8,192.
 use Prim.Native.Nat.{_≤_, _-_}
 use borrow.Author.Needs.{needs}
 use Rattle.plain_foil.proofs.laying.copy.Statement.{statement}
 use Rattle.plain_foil.proofs.laying.copy.Tie as tie
 
 abbrev Inv-loop : tie.InvT-loop
-Inv-loop corners₀ path k i₀ i-end corners i = i ≤ i-end
+Inv-loop corners₀ path k i₀ corners i = i ≤ 8192
 
 abbrev μ-loop : tie.MeasureT-loop
-μ-loop corners₀ path k i₀ i-end corners i = i-end - i
-
-mul-i-end : tie.Need-mul-i-end Inv-loop μ-loop
-mul-i-end c = search needs
+μ-loop corners₀ path k i₀ corners i = 8192 - i
 
 loop-holds : tie.Need-loop-holds Inv-loop μ-loop
 loop-holds c = search needs
+
+returns : tie.Need-returns Inv-loop μ-loop
+returns c = search needs
 
 mul-corners : tie.Need-mul-corners Inv-loop μ-loop
 mul-corners c = search needs
@@ -37,10 +37,22 @@ loop-less c = search needs
 loop-again : tie.Need-loop-again Inv-loop μ-loop
 loop-again c = search needs
 
-returns : tie.Need-returns Inv-loop μ-loop
-returns c = search needs
+returns-2 : tie.Need-returns-2 Inv-loop μ-loop
+returns-2 c = search needs
 
 pub copy-spec : {M : Type 1} → statement M
 copy-spec =
-    tie.close (tie.spec Inv-loop μ-loop mul-i-end loop-holds mul-corners element-copy-out-corners mul-corners-2
-    element-write-corners add-i loop-less loop-again returns)
+    tie.close
+    (tie.spec
+    Inv-loop
+    μ-loop
+    loop-holds
+    returns
+    mul-corners
+    element-copy-out-corners
+    mul-corners-2
+    element-write-corners
+    add-i
+    loop-less
+    loop-again
+    returns-2)

@@ -10,9 +10,6 @@ Inv-loop list₀ row map count₀ p₀ list count p = (p ≤ 4096) × (count ≤
 abbrev μ-loop : tie.MeasureT-loop
 μ-loop list₀ row map count₀ p₀ list count p = 4096 - p
 
-pen-requires : tie.Need-pen-requires Inv-loop μ-loop
-pen-requires c κs = search needs
-
 free-points-requires : tie.Need-free-points-requires Inv-loop μ-loop
 free-points-requires c κs = search needs
 
@@ -36,5 +33,5 @@ returns c = search needs
 
 pub strips-spec : {M : Type 1} → statement M
 strips-spec =
-    tie.close (tie.spec Inv-loop μ-loop pen-requires free-points-requires loop-holds strip-at-requires add-p loop-less
+    tie.close (tie.spec Inv-loop μ-loop free-points-requires loop-holds strip-at-requires add-p loop-less
     loop-again returns)

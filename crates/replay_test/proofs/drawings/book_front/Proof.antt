@@ -1,0 +1,18 @@
+-- `replay_test::drawings::book_front` is safe: the part that is booked lies in the list.
+use borrow.Author.Needs.{needs}
+use native.Mathlib.Omega.{arith}
+use lib.ListN.{length-take}
+use Rattle.replay_test.proofs.drawings.book_front.Statement.{statement}
+use Rattle.replay_test.proofs.drawings.book_front.Tie as tie
+
+slice-aggregate-book : tie.Need-slice-aggregate-book
+slice-aggregate-book c = simp length-take (omega arith)
+
+book-requires : tie.Need-book-requires
+book-requires c κs = search needs
+
+returns : tie.Need-returns
+returns c = search needs
+
+pub book-front-spec : {M : Type 1} → statement M
+book-front-spec = tie.close (tie.spec slice-aggregate-book book-requires returns)
