@@ -201,7 +201,8 @@ fn of_samples(bench: &mut Bench, samples: &Path) {
         let (lines, _) = bench.both(&job);
         let (a, b) = (bench.instructions(&ours, &job, ""), bench.instructions(&plain, &job, ""));
         let stem = name.file_stem().expect("a name").to_string_lossy();
-        println!("| {stem} | {} | {} | {} | {:.2} |", lines.lines().count(), millions(a), millions(b), b as f64 / a as f64);
+        let ratio = b as f64 / a as f64;
+        println!("| {stem} | {} | {} | {} | {ratio:.2} |", lines.lines().count(), millions(a), millions(b));
     }
 }
 

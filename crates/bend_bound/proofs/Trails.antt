@@ -110,7 +110,8 @@ module _ (f : ℕ → ℕ → Bool) (W H : ℕ) (T : Point) where
   )
 
   -- the segments of a trail
-  pub trail-course : (p : Point) (qs : List Point) → Trail p qs → Course (segmentsFor (length qs)) f (At T) (p .x) (p .y)
+  pub trail-course : (p : Point) (qs : List Point)
+      → Trail p qs → Course (segmentsFor (length qs)) f (At T) (p .x) (p .y)
   trail-course p [] (s, (i, h), k) =
       (T .x, along-row f W H s i p T h k, (T .y, along-column f W H s i p T h k, (refl, refl)))
   trail-course p (q ∷ []) (s, a, c, apart, t) =

@@ -1,10 +1,9 @@
 -- Book, return by return.
-use Prim.Native.Nat.{ℕ, _+_, _-_, _*_, _/_, _%_, _≤_, _<_, min, max}
+use Prim.Native.Nat.{ℕ, _+_, _-_, _/_, _%_, _≤_, _<_, min, max}
 use native.Mathlib.Omega.{arith}
 use mathlib.Core.Path.{_≡_, refl, sym, ap, _∙_, subst}
 use mathlib.Core.Bool.{Bool, true, false, not}
 use mathlib.Core.List.{List, [], _∷_, map}
-use mathlib.Core.Option.{none}
 use lib.Dec.{eqb}
 use lib.ListN.{length}
 use borrow.Author.Tests.{eqb-true, eqb-false, lt-ltb, le-ltb, not-true, not-false}
@@ -14,7 +13,7 @@ use Rattle.foil_spec.specs.Foil.{Point, Layout, netOk, free}
 use Rattle.foil_spec.specs.Paths.{isWay, bends}
 use Rattle.foil_spec.specs.Corners.{cornersIn, drawn}
 use Rattle.foil_spec.specs.Nets.{inUse}
-use Rattle.foil_spec.specs.Ledger.{legs, Room, short, tooLong, tooFine, Step, book, Answer, booked, next, says}
+use Rattle.foil_spec.specs.Ledger.{Room, tooLong, tooFine, Step, book, Answer, booked, next, says}
 use Rattle.foil_spec.specs.Ledger.{_⇒_, first, refusals, After, settle}
 use Rattle.foil_spec.specs.Lent.{Lent, lent, store, entryAt, layoutOf, penIn, held, sound, stepOn}
 use Rattle.foil_spec.specs.declared.Board.{Board}

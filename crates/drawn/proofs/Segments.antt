@@ -1,16 +1,15 @@
 -- A segment by the box that its ends span, and the way it goes.
-use Prim.Native.Nat.{ℕ, _≤_, min, max}
+use Prim.Native.Nat.{ℕ, _≤_}
 use native.Mathlib.Omega.{arith}
 use mathlib.Core.Path.{_≡_, refl, sym, _∙_, subst, subst₂}
-use mathlib.Core.Bool.{Bool, true, false, not, _&&_, and-false, or-false}
-use mathlib.Core.List.{List, [], _∷_}
+use mathlib.Core.Bool.{Bool, true, false, not, and-false, or-false}
 use lib.Dec.{eqb}
 use borrow.Author.Tests.{eqb-true, eq-eqb, ne-eqb, not-true, not-false}
 use Rattle.foil_spec.specs.Foil.{Point}
 use Rattle.foil_spec.specs.Paths.{either, between, levelFree, uprightFree, after, segment}
 use Rattle.list_laws.proofs.Tests.{both, clash, and-l}
 use Rattle.path_laws.proofs.Segments.{between-at, between-to, of-level, of-upright, after-level, after-upright}
-use Rattle.drawn.specs.Clear.{lowOf, highOf, Inside, Cleared}
+use Rattle.drawn.specs.Clear.{lowOf, highOf, Cleared}
 use Rattle.drawn.specs.Segments.{headed, heads}
 
 -- ---- which way a segment goes, return by return

@@ -1,5 +1,5 @@
 -- Find, return by return.
-use Prim.Native.Nat.{ℕ, _-_, _*_, _/_, _≤_, _<_}
+use Prim.Native.Nat.{ℕ, _-_, _/_, _≤_, _<_}
 use native.Mathlib.Omega.{arith}
 use mathlib.Core.Path.{_≡_, refl, sym, ap, _∙_, subst}
 use mathlib.Core.Bool.{Bool, true, false, not, and-true}
@@ -13,7 +13,8 @@ use Rattle.foil_spec.specs.Foil.{Point, Layout}
 use Rattle.foil_spec.specs.Paths.{bends}
 use Rattle.foil_spec.specs.Ledger.{pathOf, noPath, cornersOf, Room, cornerRoom, Step, find, next, says, _⇒_, first}
 use Rattle.foil_spec.specs.Ledger.{reads, refusals, settle, refusalOf}
-use Rattle.foil_spec.specs.Lent.{Lent, lent, layoutOf, penIn, held, sound, roomIn, roomOf, stepOn, overFront, outputAfter}
+use Rattle.foil_spec.specs.Lent.{Lent, lent, layoutOf, penIn, held, sound, roomIn, roomOf, stepOn}
+use Rattle.foil_spec.specs.Lent.{overFront, outputAfter}
 use Rattle.foil_spec.specs.declared.Board.{Board}
 use Rattle.ledger_laws.proofs.Refusals.{own-refused}
 use Rattle.ledger_laws.proofs.Sound.{of-sound, sound-store-is}

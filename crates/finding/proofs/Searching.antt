@@ -1,6 +1,5 @@
 -- The boxes of a table leave free what its layout has free, so the first path between them is the layout's.
-use Prim.Native.Nat.{ℕ, _≤_}
-use native.Mathlib.Omega.{arith}
+use Prim.Native.Nat.{ℕ}
 use mathlib.Core.Path.{_≡_, sym, ap, _∙_, subst}
 use mathlib.Core.Bool.{Bool, true≢false}
 use mathlib.Core.List.{List, []}

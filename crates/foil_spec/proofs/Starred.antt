@@ -9,7 +9,7 @@ use lib.IntN.{pos, negsuc}
 use lib.Ieee.{Float, nan, inf, fin, binary64, ofInt, ofBits, add, mul, div, lt, le, eq}
 use Rattle.foil_spec.specs.Foil.{Point, point, Entry, entry, Layout, noFoil}
 use Rattle.foil_spec.specs.Foil.{entryNumbers, sizeOk, reachOk, penOk, netOk, boxOk}
-use Rattle.foil_spec.specs.Foil.{shapeOk, entryOk, Pen, pen, penRule, margin, nearEdge, freeBy}
+use Rattle.foil_spec.specs.Foil.{shapeOk, entryOk, pen, penRule, margin, nearEdge, freeBy}
 use Rattle.foil_spec.specs.Foil.{within, blocks, free}
 use Rattle.foil_spec.specs.Strips.{Strip, stopIn, stop, scan, scanAt, starts, isRun, isTop, begun}
 use Rattle.foil_spec.specs.Strips.{stripsFrom, holds, placeOf}

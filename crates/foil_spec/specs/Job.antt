@@ -57,7 +57,8 @@ module _ (bs : List ℕ) (at : ℕ) where
 
   -- the step of bit k, by its fields
   unfoldable pub stepAt : ℕ → Step
-  stepAt zero = newFoil (field 0 0) (field 0 1) (cond (has 5) (byPen (pen (field 5 0) (field 5 1))) (byReach (field 0 2)))
+  stepAt zero =
+      newFoil (field 0 0) (field 0 1) (cond (has 5) (byPen (pen (field 5 0) (field 5 1))) (byReach (field 0 2)))
   stepAt (suc zero) = draw (field 1 0) (field 1 1) (field 1 2) (field 1 3)
   stepAt (suc (suc zero)) = lay (field 2 0) (point (field 2 1) (field 2 2)) (point (field 2 3) (field 2 4))
   stepAt (suc (suc (suc zero))) = lift (field 3 0)

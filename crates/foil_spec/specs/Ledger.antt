@@ -7,7 +7,8 @@ use lib.Dec.{leb, ltb}
 use lib.ListN.{length, take}
 use Rattle.foil_spec.specs.Lists.{range, keep, any}
 use Rattle.foil_spec.specs.Limits.{maxEntries, maxStrips}
-use Rattle.foil_spec.specs.Foil.{Point, Entry, entry, Pen, pen, Layout, sizeOk, reachOk, penOk, netOk, boxOk, entryOk, free}
+use Rattle.foil_spec.specs.Foil.{Point, Entry, entry, Pen, pen, Layout}
+use Rattle.foil_spec.specs.Foil.{sizeOk, reachOk, penOk, netOk, boxOk, entryOk, free}
 use Rattle.foil_spec.specs.Strips.{Strip, strips, placeOf}
 use Rattle.foil_spec.specs.Paths.{firstPath, isWay, bends}
 use Rattle.foil_spec.specs.Corners.{drawn}

@@ -45,7 +45,8 @@ module _ (bs : List ℕ) (at : ℕ) (b : Board) (t : Flat) (s ks : List ℕ) (d 
   abbrev after : Ran
   after = record { board = d .board; reply = d .reply; table = written-over t new n }
 
-  pub flat-ran : (r : Ran) → length (t .at) ≡ tableSize → n ≡ numbersLent (t .len) → length new ≡ length (take n (t .at))
+  pub flat-ran : (r : Ran)
+      → length (t .at) ≡ tableSize → n ≡ numbersLent (t .len) → length new ≡ length (take n (t .at))
       → RecordDone bs at (lent b (take n (t .at)) s) ks d new s′ ks′ → r ≡ after → FlatRan bs at b t s ks r s′ ks′
   flat-ran r full e l q is =
       subst (λ (x : Ran). FlatRan bs at b t s ks x s′ ks′) (sym is)

@@ -249,7 +249,8 @@ module _ {f : ℕ → ℕ → Bool} {T : ℕ → ℕ → Type 0} (tf : TargetFre
       go q lq lk rq zero e = ih q lq j lj e rq
       go q lq lk rq (suc a) e =
           let b = C .le q lq j lj in
-          A .says j lj i li .never z (suc a) (omega arith) (step-course tf F B i j q a li lj lq lk (e ∙ sym (add-one a)))
+          A .says j lj i li .never z (suc a) (omega arith)
+          (step-course tf F B i j q a li lj lq lk (e ∙ sym (add-one a)))
 
 -- Every label but the first rests on one of the other direction, and is at most as large as the rounds allow.
 grounded-pass : {other inks edge cross : List ℕ} {m n v : ℕ} {l l′ w w′ : List ℕ} → Pass other edge m n v l l′ →

@@ -37,7 +37,8 @@ module _ (f : ℕ → ℕ → Bool) (W H : ℕ) (inside : (x y : ℕ) → f x y 
   of-linked p q h =
       ⊎-elim (λ k. inl (same-eq p q k)) (λ k. inr k) (or-cases (same p q) (segment f either p q) h)
 
-  of-arrives : (n : ℕ) (p : Point) → arrives (suc n) p ≡ true → (q : Point) × (linked f p q ≡ true) × (arrives n q ≡ true)
+  of-arrives : (n : ℕ) (p : Point)
+      → arrives (suc n) p ≡ true → (q : Point) × (linked f p q ≡ true) × (arrives n q ≡ true)
   unfolding arrivesBy
   of-arrives n p h =
       let r = of-any (λ (q : Point). linked f p q && arrives n q) (points W H) h in

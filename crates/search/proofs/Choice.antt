@@ -236,7 +236,8 @@ module _ {f : ℕ → ℕ → Bool} {T : ℕ → ℕ → Type 0} (tf : TargetFre
             → along wu i j ≡ ink cs (getD cols i 0) (getD rows j 0)
             → LexD (getD rows j 0) true (coords rows cols qs) false cs
         earlier (upright-only z (inl x)) qs tr cs p kl s =
-            absurd (level-says .never x (length cs) (omega arith) (path-course cs f T (getD cols i 0) (getD rows j 0) p))
+            absurd
+            (level-says .never x (length cs) (omega arith) (path-course cs f T (getD cols i 0) (getD rows j 0) p))
         earlier (upright-only z (inr x)) qs tr cs p kl s =
             absurd
             (level-says .least (along l j i - 1) (omega arith) (length cs) (omega arith)

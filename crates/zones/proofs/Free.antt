@@ -1,5 +1,5 @@
--- What is free: a point is free where it is on the foil, not too near its edge, and no entry, widened by the rule, or no
--- box has it; so each law of `freeBy` and of `boxFree` is one of a test of places below n.
+-- What is free: a point is free where it is on the foil, not too near its edge, and no entry, widened by the rule, or
+-- no box has it; so each law of `freeBy` and of `boxFree` is one of a test of places below n.
 use Prim.Native.Nat.{ℕ, zero, suc, _+_, _≤_, _<_}
 use native.Mathlib.Omega.{arith}
 use mathlib.Core.Path.{_≡_, refl, ap, ap₂, sym, _∙_}

@@ -62,8 +62,8 @@ pub record PutTwo (old new : List ℕ) (n : ℕ) (a b : Entry) : Type 0 where
   pub second : entryAt new (n + 1) ≡ b
   pub before : (j : ℕ) → j < n → entryAt new j ≡ entryAt old j
 
--- from place n on stand four boxes with what is nearer than m to the edge of a foil of w by h: on the left, on the right,
--- above and below; the boxes before them are as they were
+-- from place n on stand four boxes with what is nearer than m to the edge of a foil of w by h: on the left, on the
+-- right, above and below; the boxes before them are as they were
 pub record Edged (old new : List ℕ) (n m w h : ℕ) : Type 0 where
   pub left : entryAt new n ≡ entry 0 0 0 (min m w) h
   pub right : entryAt new (n + 1) ≡ entry 0 (w - m) 0 w h

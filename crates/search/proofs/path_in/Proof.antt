@@ -121,13 +121,16 @@ same-length-31 : tie.Need-same-length-31
 same-length-31 c = atLabels (itFits (c .before .before .before) .before .before) .labels .kept .1 .1 .1 .1 .1 .1 .1 .0
 
 same-length-32 : tie.Need-same-length-32
-same-length-32 c = atLabels (itFits (c .before .before .before) .before .before) .labels .kept .1 .1 .1 .1 .1 .1 .1 .1 .0
+same-length-32 c =
+    atLabels (itFits (c .before .before .before) .before .before) .labels .kept .1 .1 .1 .1 .1 .1 .1 .1 .0
 
 same-length-33 : tie.Need-same-length-33
-same-length-33 c = atLabels (itFits (c .before .before .before) .before .before) .labels .kept .1 .1 .1 .1 .1 .1 .1 .1 .1 .0
+same-length-33 c =
+    atLabels (itFits (c .before .before .before) .before .before) .labels .kept .1 .1 .1 .1 .1 .1 .1 .1 .1 .0
 
 same-length-34 : tie.Need-same-length-34
-same-length-34 c = atLabels (itFits (c .before .before .before) .before .before) .labels .kept .1 .1 .1 .1 .1 .1 .1 .1 .1 .1 .0
+same-length-34 c =
+    atLabels (itFits (c .before .before .before) .before .before) .labels .kept .1 .1 .1 .1 .1 .1 .1 .1 .1 .1 .0
 
 returns-3 : tie.Need-returns-3
 returns-3 c =

@@ -1,6 +1,5 @@
 -- `zones::zones` meets its contract: the zones of the entries, and four boxes along the edge where it blocks something.
 use native.Mathlib.Omega.{arith}
-use mathlib.Core.Path.{_≡_, refl}
 use borrow.Author.Needs.{needs}
 use Rattle.zones.proofs.Zoning.{zones-alone, zones-edged}
 use Rattle.zones.proofs.zones.Statement.{statement}

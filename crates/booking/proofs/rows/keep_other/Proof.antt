@@ -36,7 +36,8 @@ same-length c = search needs
 
 returns-2 : tie.Need-returns-2
 returns-2 c =
-    kept-more _ _ _ _ (atOther c .before .before .entry-at .ensures) _ _ (atStart (atOther c .before .before) .pre .2) _ (atOther c .if1 .left)
+    kept-more _ _ _ _ (atOther c .before .before .entry-at .ensures) _ _ (atStart (atOther c .before .before) .pre .2) _
+    (atOther c .if1 .left)
     (c .before .before .append .ensures)
 
 pub keep-other-spec : {M : Type 1} → statement M

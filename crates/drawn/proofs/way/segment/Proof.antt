@@ -1,5 +1,4 @@
 -- `drawn::way::segment` tests which way the points lie, and then the box that they span.
-use native.Mathlib.Omega.{arith}
 use Rattle.drawn.proofs.Segments.{no-segment, spans, segment-clear}
 use borrow.Author.Needs.{needs}
 use Rattle.drawn.proofs.way.segment.Statement.{statement}
