@@ -2,28 +2,24 @@
 -- lists hold what the ledger holds, and each record goes as on the ledger.
 use Prim.Native.Nat.{ℕ, zero, suc, _+_, _≤_, _<_}
 use native.Mathlib.Omega.{arith}
-use mathlib.Core.Path.{_≡_, refl, sym, ap, _∙_, subst}
-use mathlib.Core.Bool.{Bool, true, false, cond, not, _&&_}
+use mathlib.Core.Path.{_≡_, refl, sym, ap, _∙_}
+use mathlib.Core.Bool.{true, false}
 use mathlib.Core.List.{List, [], _++_, append-nil}
-use mathlib.Core.Option.{Option, none, some}
-use lib.Dec.{ltb}
+use mathlib.Core.Option.{none, some}
 use lib.ListN.{length}
-use borrow.Author.Tests.{ltb-false}
-use Rattle.foil_spec.specs.Lists.{any}
 use Rattle.foil_spec.specs.Limits.{maxBytes}
 use Rattle.foil_spec.specs.Foil.{Layout, noFoil}
-use Rattle.foil_spec.specs.Ledger.{Step, first, Room, short, After, afterLent, ledgerStep}
+use Rattle.foil_spec.specs.Ledger.{Step, short, After}
 use Rattle.foil_spec.specs.Lent.{Lent, store, held, layoutOk}
-use Rattle.foil_spec.specs.Job.{jobRoom, mapBits, fieldsAt, recordEnd, steps, isEnd, recordChecks}
-use Rattle.foil_spec.specs.Calls.{runRecord, Reply, answered, ran, atEnd, measured, endsJob, actAll, actRecord}
-use Rattle.foil_spec.specs.Calls.{tooLarge, wholeRefusals, reply, ledgerCall, placeAfter}
-use Rattle.ledger_laws.proofs.Refusals.{none-applies}
+use Rattle.foil_spec.specs.Job.{jobRoom, steps}
+use Rattle.foil_spec.specs.Calls.{runRecord, Reply, answered, ran, atEnd, measured, ledgerCall, placeAfter}
 use Rattle.ledger_laws.proofs.Stored.{held-store}
 use Rattle.ledger_laws.proofs.Kept.{call-kept}
 use Rattle.ledger_laws.proofs.Steps.{shown, call-is}
 use Rattle.ledger_laws.proofs.Opening.{Over, Opening, over, begins, opening}
 use Rattle.lines.specs.Output.{stepLines, replyLines, outputFrom, output}
 use Rattle.job_report.specs.Report.{ranRecord, recordLines, onward, reportFrom, WritesOutput}
+use Rattle.job_report.proofs.Places.{ledger-later}
 
 -- ---- the lines of a record, and those from the next place on
 
@@ -54,46 +50,6 @@ lines-rest ss (ran given (some n)) l rest rest′ h = ap (λ (x : List ℕ). ste
 lines-rest ss atEnd l rest rest′ h = refl
 lines-rest ss (measured x) l rest rest′ h = refl
 
--- ---- a next place lies after the record, and among the bytes of a file that is not too large
-
-record Later (bs : List ℕ) (at n : ℕ) : Type 0 where
-  after : at < n
-  within : n ≤ length bs
-  few : length bs ≤ maxBytes
-
-fields-after : (bs : List ℕ) (at k : ℕ) → at < fieldsAt bs at k
-unfolding fieldsAt
-fields-after bs at zero = omega arith
-fields-after bs at (suc k) = omega (arith, fields-after bs at k)
-
-module _ (r : Room) (bs : List ℕ) (at : ℕ) (l : Layout) where
-  checked : first (wholeRefusals r false bs at) ≡ none → isEnd bs at ≡ false → Later bs at (recordEnd bs at)
-  unfolding wholeRefusals afterLent recordChecks tooLarge
-  checked e f =
-      let large : ltb maxBytes (length bs) ≡ false = search none-applies in
-      let ends : (not (isEnd bs at) && ltb (length bs) (recordEnd bs at)) ≡ false = search none-applies depth 12 in
-      record {
-        after = unfold recordEnd in fields-after bs at mapBits;
-        within = ltb-false (length bs) (recordEnd bs at) (rw f at ends);
-        few = ltb-false maxBytes (length bs) large;
-      }
-
-  next-later : (n : ℕ) → placeAfter (ledgerCall r (runRecord bs at) l .answer) ≡ some n → Later bs at n
-  unfolding ledgerCall reply actRecord placeAfter
-  next-later n = go (first (wholeRefusals r false bs at)) (isEnd bs at) refl refl
-    where
-      place : (t : Bool) → cond t none (some (recordEnd bs at)) ≡ some n → recordEnd bs at ≡ n
-      place true h = absurd (let z : _≡_ {A = ℕ} 0 1 = cc in omega arith)
-      place false h = cc
-
-      go : (o : Option ℕ) (e : Bool) → first (wholeRefusals r false bs at) ≡ o → isEnd bs at ≡ e
-          → placeAfter (actRecord (ledgerStep r) o e (steps bs at) (recordEnd bs at) l .answer) ≡ some n
-          → Later bs at n
-      go (some k) e f g h = absurd (let z : _≡_ {A = ℕ} 0 1 = cc in omega arith)
-      go none true f g h = absurd (let z : _≡_ {A = ℕ} 0 1 = cc in omega arith)
-      go none false f g h =
-          subst (Later bs at) (place (any endsJob (actAll (ledgerStep r) (steps bs at) l .answer)) h) (checked f g)
-
 -- ---- as many records as the file can have
 
 fuel : (k j : ℕ) (bs : List ℕ) (at : ℕ) (l : Layout) → at ≤ length bs → length bs < at + k → length bs < at + j
@@ -104,7 +60,7 @@ fuel (suc k) zero bs at l h e f = absurd (omega arith)
 fuel (suc k) (suc j) bs at l h e f =
     let t : After Reply Layout = ledgerCall jobRoom (runRecord bs at) l in
     lines-rest (steps bs at) (t .answer) (t .state) _ _ (λ n q.
-    let p = next-later jobRoom bs at l n q in
+    let p = ledger-later jobRoom bs at l n q in
     fuel k j bs n (t .state) (p .within) (omega (arith, p .after)) (omega (arith, p .after)))
 
 -- ---- a record on lists that hold what the ledger holds
@@ -174,6 +130,6 @@ writes-output bs m = go (opening jobRoom bs noFoil m long)
         ∙ lines-rest (steps bs 0) (line .answer) (line .state)
         (λ (n : ℕ). outputFrom maxBytes bs n (line .state)) wanted
         (λ n q.
-        let p = next-later jobRoom bs 0 noFoil n q in
+        let p = ledger-later jobRoom bs 0 noFoil n q in
         fuel maxBytes (length bs) bs n (line .state) (p .within)
         (omega (arith, p .after, p .few)) (omega (arith, p .after)))

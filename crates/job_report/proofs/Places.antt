@@ -1,0 +1,95 @@
+-- The next place lies after the record, and among the bytes of a file that is not too large.
+use Prim.Native.Nat.{ℕ, zero, suc, _+_, _≤_, _<_}
+use native.Mathlib.Omega.{arith}
+use mathlib.Core.Path.{_≡_, refl, subst}
+use mathlib.Core.Bool.{Bool, true, false, cond, not, _&&_}
+use mathlib.Core.List.{List}
+use mathlib.Core.Option.{Option, none, some}
+use lib.Dec.{ltb}
+use lib.ListN.{length}
+use borrow.Author.Tests.{ltb-false}
+use Rattle.foil_spec.specs.Lists.{any}
+use Rattle.foil_spec.specs.Limits.{maxBytes}
+use Rattle.foil_spec.specs.Foil.{Layout}
+use Rattle.foil_spec.specs.Ledger.{Step, Answer, first, Room, After, afterLent, ledgerStep}
+use Rattle.foil_spec.specs.Lent.{Lent, sound, stepOn}
+use Rattle.foil_spec.specs.Job.{mapBits, fieldCount, has, fieldsAt, recordEnd, steps, isEnd, recordChecks}
+use Rattle.foil_spec.specs.Calls.{runRecord, endsJob, actAll, actRecord, tooLarge, wholeRefusals, reply}
+use Rattle.foil_spec.specs.Calls.{ledgerCall, callOn, placeAfter}
+use Rattle.ledger_laws.proofs.Refusals.{none-applies}
+use Rattle.ledger_laws.proofs.Lending.{board-first, own-checks}
+
+pub record Later (bs : List ℕ) (at n : ℕ) : Type 0 where
+  pub after : at < n
+  pub within : n ≤ length bs
+  pub few : length bs ≤ maxBytes
+
+fields-after : (bs : List ℕ) (at k : ℕ) → at < fieldsAt bs at k
+unfolding fieldsAt
+fields-after bs at zero = omega arith
+fields-after bs at (suc k) = omega (arith, fields-after bs at k)
+
+-- the fields of a board take six bytes
+fields-board : (bs : List ℕ) (at k : ℕ) → has bs at 0 ≡ true → at + 6 < fieldsAt bs at (suc k)
+unfolding fieldsAt fieldCount
+fields-board bs at zero set = rw set (omega arith)
+fields-board bs at (suc k) set = omega (arith, fields-board bs at k set)
+
+-- a record after which there is a next place, where `act` does a step and `broken` says that the state breaks a rule
+module _ {S : Type 0} (act : Step → S → After Answer S) (r : Room) (broken : Bool) (bs : List ℕ) (at : ℕ) (s : S) where
+  record Goes (n : ℕ) : Type 0 where
+    unrefused : first (wholeRefusals r broken bs at) ≡ none
+    not-end : isEnd bs at ≡ false
+    place : recordEnd bs at ≡ n
+
+  goes : (n : ℕ)
+      → placeAfter
+      (actRecord act (first (wholeRefusals r broken bs at)) (isEnd bs at) (steps bs at) (recordEnd bs at) s .answer)
+      ≡ some n → Goes n
+  unfolding actRecord placeAfter
+  goes n = go (first (wholeRefusals r broken bs at)) (isEnd bs at) refl refl
+    where
+      ends : (t : Bool) → cond t none (some (recordEnd bs at)) ≡ some n → recordEnd bs at ≡ n
+      ends true h = absurd (let z : _≡_ {A = ℕ} 0 1 = cc in omega arith)
+      ends false h = cc
+
+      go : (o : Option ℕ) (e : Bool) → first (wholeRefusals r broken bs at) ≡ o → isEnd bs at ≡ e
+          → placeAfter (actRecord act o e (steps bs at) (recordEnd bs at) s .answer) ≡ some n → Goes n
+      go (some k) e f g h = absurd (let z : _≡_ {A = ℕ} 0 1 = cc in omega arith)
+      go none true f g h = absurd (let z : _≡_ {A = ℕ} 0 1 = cc in omega arith)
+      go none false f g h =
+          record { unrefused = f; not-end = g; place = ends (any endsJob (actAll act (steps bs at) s .answer)) h }
+
+  later : (n : ℕ) → Goes n → Later bs at n
+  unfolding wholeRefusals afterLent recordChecks tooLarge
+  later n g =
+      let e = g .unrefused in
+      let large : ltb maxBytes (length bs) ≡ false = search none-applies in
+      let ends : (not (isEnd bs at) && ltb (length bs) (recordEnd bs at)) ≡ false = search none-applies depth 12 in
+      subst (Later bs at) (g .place)
+      (record {
+        after = unfold recordEnd in fields-after bs at mapBits;
+        within = ltb-false (length bs) (recordEnd bs at) (rw (g .not-end) at ends);
+        few = ltb-false maxBytes (length bs) large;
+      })
+
+-- on the ledger, and on what is lent
+pub ledger-later : (r : Room) (bs : List ℕ) (at : ℕ) (l : Layout) (n : ℕ)
+    → placeAfter (ledgerCall r (runRecord bs at) l .answer) ≡ some n → Later bs at n
+unfolding ledgerCall reply
+ledger-later r bs at l n h =
+    later (ledgerStep r) r false bs at l n (goes (ledgerStep r) r false bs at l n h)
+
+module _ (r : Room) (bs : List ℕ) (m : Lent) where
+  pub call-later : (at n : ℕ) → placeAfter (callOn r (runRecord bs at) m .answer) ≡ some n → Later bs at n
+  unfolding callOn reply
+  call-later at n h =
+      later (stepOn r) r (not (sound m)) bs at m n (goes (stepOn r) r (not (sound m)) bs at m n h)
+
+  -- the first record has a board
+  pub first-later : (n : ℕ) → placeAfter (callOn r (runRecord bs 0) m .answer) ≡ some n → 6 < n
+  unfolding callOn reply recordEnd
+  first-later n h =
+      let g = goes (stepOn r) r (not (sound m)) bs 0 m n h in
+      let set = board-first bs (own-checks r (not (sound m)) bs 0 (g .unrefused)) in
+      omega (arith, fields-board bs 0 5 set, g .place)
