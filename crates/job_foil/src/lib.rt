@@ -14,6 +14,10 @@ use job::Reply;
 use job::Told;
 use job_report::no_board;
 use job_report::run_one;
+ghost use mathlib.Core.Path.{_≡_};
+ghost use Rattle.foil_spec.specs.Lent.{lent};
+ghost use Rattle.job_foil.specs.Left.{noBoard, JobLeft};
+ghost use Rattle.job_foil.specs.Parts.{nextIn, numberTold, endedBy};
 
 // More records than any file has that is not too long, and one call more for its end.
 const RECORDS: usize = 60001;
@@ -31,7 +35,10 @@ pub fn run_job(
     table: &mut [u16; TABLE_SIZE],
     strips: &mut [u16; STRIPS_SIZE],
     bytes: &[u8],
-) -> Ended {
+) -> Ended
+    ensures { λ r. ⌜ JobLeft (now (bytes .entry)) (lent noBoard (now (table .entry)) (now (strips .entry))) r
+        (now (table .exit)) (now (strips .exit)) ⌝ }
+{
     let mut corners = [0u16; CORNERS_SIZE];
     let mut board = no_board();
     let mut at: usize = 0;
@@ -44,11 +51,14 @@ pub fn run_job(
         board = done.board;
         at = place;
     }
+    // No job comes here: each record takes a byte, and a file that is too long is refused by the first call.
     Ended::ByFile(18)
 }
 
 // Where a job goes on after a record.
-fn next_of(done: Replied) -> Next {
+fn next_of(done: Replied) -> Next
+    ensures { λ r. ⌜ r ≡ nextIn (done .reply) ⌝ }
+{
     let reply = done.reply;
     let Reply::Ran(_, next) = reply else {
         return Next::Nowhere;
@@ -57,7 +67,9 @@ fn next_of(done: Replied) -> Next {
 }
 
 // How a job ended with its last record.
-fn how_ended(done: Replied) -> Ended {
+fn how_ended(done: Replied) -> Ended
+    ensures { λ r. ⌜ r ≡ endedBy (done .reply) (done .board) ⌝ }
+{
     let reply = done.reply;
     let board = done.board;
     match reply {
@@ -68,7 +80,9 @@ fn how_ended(done: Replied) -> Ended {
 }
 
 // The number of a record's board, 0 if it is accepted.
-fn board_number(answers: Answers) -> u8 {
+fn board_number(answers: Answers) -> u8
+    ensures { λ r. ⌜ r ≡ numberTold (answers .board) ⌝ }
+{
     let told = answers.board;
     let Told::Said(answer) = told else {
         return 0;

@@ -29,7 +29,7 @@ use Rattle.job_report.specs.Told.{numberIn, layLine, lineOf, toldLine, l
 
 -- ---- the line of a step
 
-number-in : (a : Answer) → numberIn (answerOf a) ≡ numberOf a
+pub number-in : (a : Answer) → numberIn (answerOf a) ≡ numberOf a
 unfolding numberIn answerOf numberOf
 number-in (refused n) = refl
 number-in accepted = refl
