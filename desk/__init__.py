@@ -3,7 +3,8 @@
     command      the command ./foil
     textform     the text form of a job, to bytes and back
     job          the bytes of a job file: records and steps, and where a file is at fault
-    program      the proved job program: where it is, and running it
+    building     the proved programs: whether they are those of the sources, and building them where not
+    program      running one
     lines        the program's lines, and which step each of them is about
     refusals     README's table: what a number says, and what to do
     words        what came of each line of a text

@@ -15,7 +15,7 @@ import os
 import pathlib
 import sys
 
-from desk import foils, job, lines, picture, program, refusals, textform, words
+from desk import building, foils, job, lines, picture, program, refusals, textform, words
 
 ACCEPTED, REFUSED, UNREADABLE = 0, 1, 2
 # how many lines of a text are told that cannot be read
@@ -85,7 +85,7 @@ def run(asked, text, table, path):
     """Runs the job of a text, and shows what came of it."""
     if asked.job:
         asked.job.write_bytes(text.job)
-    written = program.run(path or program.built(), text.job)
+    written = program.run(path or building.built("foil_job")[0], text.job)
     done = lines.run_of(text.job, written)
     if asked.picture:
         draw(asked, foils.foil_of(done), table)

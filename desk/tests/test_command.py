@@ -10,7 +10,7 @@ import unittest
 import xml.etree.ElementTree as ET
 from unittest import mock
 
-from desk import command, program
+from desk import building, command, program
 from desk.tests import given
 
 
@@ -98,13 +98,10 @@ class Command(unittest.TestCase):
         self.assertEqual(path.read_text(), "board 5 5 0\nend\n")
 
     def test_without_the_program(self):
-        (self.folder / "tools").mkdir()
-        built = self.folder / "tools" / "built"
-        built.write_text("#!/bin/sh\nexit 1\n")
-        built.chmod(0o755)
-        with mock.patch.object(program, "ROOT", self.folder), contextlib.redirect_stderr(io.StringIO()) as err:
+        with mock.patch.object(building, "built", side_effect=program.NotRun("no program")), \
+                contextlib.redirect_stderr(io.StringIO()) as err:
             self.assertEqual(command.main([str(given.SAMPLES / "less-ink.txt")]), 2)
-        self.assertIn("`rt check foil_job` proves and builds it", err.getvalue())
+        self.assertEqual(err.getvalue(), "no program\n")
 
     def test_a_program_that_fails(self):
         path, folder = given.replay("")
