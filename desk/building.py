@@ -2,7 +2,10 @@
 
 A program that was built has a record, target/built/NAME: the digest of the sources that it was proved from, its own
 digest, and the toolchain. A program whose record does not fit what stands there now is removed and built anew, with its
-stamp: `rt` asks no stamp whether the program beside it is the one that was built."""
+stamp: `rt` asks no stamp whether the program beside it is the one that was built. One run builds at a time."""
+import collections
+import contextlib
+import fcntl
 import hashlib
 import os
 import shutil
@@ -14,7 +17,11 @@ from desk.program import ROOT, NotRun
 
 # what a program is proved from, in each crate that it stands on
 PARTS = ("src", "specs", "proofs")
-# how many lines of a check that failed are told
+# what a run holds that builds: it stands beside target/, which `rt ci` removes
+LOCK = ROOT / "target.lock"
+WAITS = "another run is proving and building here: this one waits for it, and then goes on"
+# what the status of a check that failed says, and how many of its last lines are told
+FAILED = {1: "something is not proved", 2: "the toolchain failed", 3: "the prover could not tell"}
 TOLD = 20
 
 
@@ -121,48 +128,74 @@ def stale(now):
 
 def built(*names):
     """The paths of these programs, each proved from the sources as they stand."""
+    if stale(standing(names)):
+        try:
+            with alone() as lock:
+                build(names, lock)
+        except OSError as fault:
+            raise NotRun("%s cannot be built: %s: %s" % (" and ".join(names), fault.filename, fault.strerror))
+    return [Place(name).program for name in names]
+
+
+@contextlib.contextmanager
+def alone():
+    """Holds the lock, once no other run does. The check is handed it too, so that it is held as long as either runs."""
+    with open(LOCK, "a", encoding="utf-8") as lock:
+        try:
+            fcntl.flock(lock, fcntl.LOCK_EX | fcntl.LOCK_NB)
+        except BlockingIOError:
+            print(WAITS, file=sys.stderr, flush=True)
+            fcntl.flock(lock, fcntl.LOCK_EX)
+        yield lock
+
+
+def build(names, lock):
+    """Builds those of the programs that are stale, and again those whose sources changed meanwhile."""
     while True:
         now = standing(names)
         anew = stale(now)
         if not anew:
-            return [Place(name).program for name in names]
-        build(anew, now)
+            return
+        if now[anew[0]].toolchain is None:
+            raise NotRun("%s to be proved and built first, which wants Rattle's toolchain: `rt` is not in the PATH"
+                         % (anew[0] + " has" if len(anew) == 1 else " and ".join(anew) + " have"))
+        for name in anew:
+            for path in (Place(name).record, Place(name).program, Place(name).stamp):
+                path.unlink(missing_ok=True)
+        check(anew, lock)
+        for name in anew:
+            keep_record(name, now[name])
 
 
-def build(names, before):
-    """Proves and builds programs, and records that they were built from what stood there before."""
-    if not shutil.which("rt"):
-        raise NotRun("%s to be proved and built first, which wants Rattle's toolchain: `rt` is not in the PATH"
-                     % (names[0] + " has" if len(names) == 1 else " and ".join(names) + " have"))
-    for name in names:
-        for path in (Place(name).record, Place(name).program, Place(name).stamp):
-            path.unlink(missing_ok=True)
-    check(names)
-    for name in names:
-        if not os.access(Place(name).program, os.X_OK):
-            raise NotRun("`rt check %s` proved it and left no program" % name)
-        made = before[name]._replace(program=digest_of(Place(name).program))
-        half = Place(name).record.with_suffix(".new")
-        half.write_text("\n".join(made) + "\n", encoding="utf-8")
-        half.replace(Place(name).record)
+def keep_record(name, before):
+    """Records that a program was built from what stood there before."""
+    place = Place(name)
+    if not os.access(place.program, os.X_OK):
+        raise NotRun("`rt check %s` was content, and left no program" % name)
+    place.record.parent.mkdir(parents=True, exist_ok=True)
+    half = place.record.with_suffix(".new")
+    half.write_text("\n".join(before._replace(program=digest_of(place.program))) + "\n", encoding="utf-8")
+    half.replace(place.record)
 
 
-def check(names):
+def check(names, lock):
     """Has programs proved and built. How far that is goes to standard error."""
     log = ROOT / "target" / "built" / "log"
     log.parent.mkdir(parents=True, exist_ok=True)
+    last = collections.deque(maxlen=TOLD)
     with open(log, "w", encoding="utf-8") as kept, subprocess.Popen(
             ["rt", "check", *names], cwd=ROOT, stdin=subprocess.DEVNULL, stdout=subprocess.PIPE,
-            stderr=subprocess.STDOUT, encoding="utf-8", errors="replace") as running:
-        shown = Progress(names)
-        for line in running.stdout:
-            kept.write(line)
-            shown.follow(line)
-        shown.end()
+            stderr=subprocess.STDOUT, encoding="utf-8", errors="replace", pass_fds=[lock.fileno()]) as running:
+        with Progress(names) as shown:
+            for line in running.stdout:
+                kept.write(line)
+                last.append(line.rstrip("\n"))
+                shown.follow(line)
     if running.returncode != 0:
-        last = log.read_text(encoding="utf-8").splitlines()[-TOLD:]
-        raise NotRun("\n".join(last + ["`rt check %s` ended with status %d; all that it said is in %s"
-                                       % (" ".join(names), running.returncode, log)]))
+        last.append("%s not built: %s (`rt check %s` ended with status %d; all that it said is in %s)" % (
+            names[0] + " is" if len(names) == 1 else "they are", FAILED.get(running.returncode, "the check failed"),
+            " ".join(names), running.returncode, log))
+        raise NotRun("\n".join(last))
 
 
 class Progress:
@@ -170,12 +203,18 @@ class Progress:
 
     def __init__(self, names):
         self.what, self.done, self.all = " and ".join(names), 0, len(needed(names, listed()))
-        self.moves = sys.stderr.isatty()
+        self.wide = os.get_terminal_size(sys.stderr.fileno()).columns if sys.stderr.isatty() else None
+
+    def __enter__(self):
         self.show("")
+        return self
 
     def show(self, crate):
         line = "%s: proving and building, %d of %d crates%s" % (self.what, self.done, self.all, crate)
-        print("\r\033[K" + line if self.moves else line, end="" if self.moves else "\n", file=sys.stderr, flush=True)
+        if self.wide is None:
+            print(line, file=sys.stderr, flush=True)
+        else:
+            print("\r\033[K" + line[:self.wide - 1], end="", file=sys.stderr, flush=True)
 
     def follow(self, line):
         """Takes a line of the check."""
@@ -184,7 +223,6 @@ class Progress:
             self.done += 1
             self.show(" (%s)" % words[1])
 
-    def end(self):
-        """Takes the line that moves away."""
-        if self.moves:
+    def __exit__(self, *_):
+        if self.wide is not None:
             print("\r\033[K", end="", file=sys.stderr, flush=True)

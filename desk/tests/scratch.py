@@ -1,6 +1,6 @@
 """A repository for tests, with a toolchain that stands for `rt`: a program is the script that is its main.rt, and its
 last line has the sum of all sources that it was built from. Like `rt`, it leaves a program alone whose stamp has that
-sum. The desk's tools in it are those of this repository."""
+sum, and fails where two checks run at once. The desk's tools in it are those of this repository."""
 import hashlib
 import os
 import pathlib
@@ -14,6 +14,9 @@ from desk import program
 RT = r"""#!/bin/sh
 here=$(dirname "$0")
 if [ "$1" = version ]; then cat "$here/version"; exit; fi
+mkdir "$here/busy" || { echo "two checks at once" | tee -a "$here/calls"; exit 2; }
+trap 'rmdir "$here/busy"' EXIT
+trap 'exit 2' PIPE
 echo "$*" >> "$here/calls"
 [ ! -f "$here/slow" ] || sleep "$(cat "$here/slow")"
 if [ -f "$here/fails" ]; then cat "$here/fails"; exit 1; fi

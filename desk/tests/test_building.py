@@ -105,9 +105,24 @@ class Building(unittest.TestCase):
         for _ in range(2):
             status, out, err = self.scratch.run("tools/built", "foil_job")
             self.assertEqual((status != 0, out, self.scratch.calls()), (True, "", ["check foil_job"]))
-            self.assertIn("rt: laws NOT PROVED\n`rt check foil_job` ended with status 1", err)
+            self.assertIn("rt: laws NOT PROVED\nfoil_job is not built: something is not proved (`rt check ", err)
+            self.assertNotIn("PATH", err)
         self.scratch.tools.joinpath("fails").unlink()
         self.assertEqual(self.built(), ["check foil_job"])
+
+    def test_the_path_is_blamed_where_rt_is_not_in_it(self):
+        self.proofs[0].write_text("-- another law\n")
+        status, out, err = self.scratch.run("tools/built", "foil_job", with_rt=False)
+        self.assertEqual((status != 0, out, err.count("\n")), (True, "", 1))
+        self.assertIn("foil_job has to be proved and built first", err)
+        self.assertIn("`rt` is not in the PATH", err)
+
+    def test_a_toolchain_that_leaves_no_program(self):
+        self.scratch.write("../tools/rt", "#!/bin/sh\necho a kit 3\n")
+        status, out, err = self.scratch.run("tools/built", "foil_job")
+        self.assertEqual((status != 0, out), (True, ""))
+        self.assertIn("`rt check foil_job` was content, and left no program", err)
+        self.assertNotIn("PATH", err)
 
     def test_no_such_program(self):
         status, out, err = self.scratch.run("tools/built", "foil_jop")

@@ -1,0 +1,89 @@
+"""Two runs at once in a repository that is not built: one builds, and the other waits for it and goes on by itself."""
+import shutil
+import time
+import unittest
+
+from desk import building, program
+from desk.tests.scratch import Scratch
+
+
+class TwoRuns(unittest.TestCase):
+    def setUp(self):
+        self.scratch = Scratch()
+        self.addCleanup(self.scratch.remove)
+        self.scratch.write("../tools/slow", "0.8\n")
+
+    def start(self, name):
+        """A run that asks for a program."""
+        return self.scratch.start("tools/built", name)
+
+    def begun(self, name):
+        """A run that asks for a program, and has come to its check."""
+        running = self.start(name)
+        until = time.monotonic() + 60
+        while not self.scratch.tools.joinpath("calls").exists():
+            self.assertLess(time.monotonic(), until)
+            time.sleep(0.01)
+        return running
+
+    def ended(self, running):
+        """Waits for a run: its status, what it prints, and what it says on standard error."""
+        with running:
+            out, err = running.communicate()
+        return running.returncode, out, err
+
+    def path(self, name):
+        """What is printed for a program."""
+        return "%s\n" % (self.scratch.root / "target" / "bin" / name)
+
+    def test_the_second_waits_and_finds_the_program_built(self):
+        first, second = self.begun("foil_job"), self.start("foil_job")
+        self.assertEqual(self.ended(second), (0, self.path("foil_job"), building.WAITS + "\n"))
+        status, out, err = self.ended(first)
+        self.assertEqual((status, out, building.WAITS in err), (0, self.path("foil_job"), False))
+        self.assertEqual(self.scratch.calls(), ["check foil_job"])
+
+    def test_runs_for_two_programs(self):
+        first, second = self.begun("foil_job"), self.start("foil_slip")
+        status, out, err = self.ended(second)
+        self.assertEqual((status, out, err.splitlines()[0]), (0, self.path("foil_slip"), building.WAITS))
+        self.assertEqual(self.ended(first)[:2], (0, self.path("foil_job")))
+        self.assertEqual(self.scratch.calls(), ["check foil_job", "check foil_slip"])
+
+    def test_many_runs_from_the_start(self):
+        runs = [self.start("foil_job") for _ in range(5)]
+        for status, out, err in map(self.ended, runs):
+            self.assertEqual((status, out), (0, self.path("foil_job")), err)
+        self.assertEqual(self.scratch.calls(), ["check foil_job"])
+
+    def test_the_lock_does_not_go_with_target(self):
+        first = self.begun("foil_job")
+        shutil.rmtree(self.scratch.root / "target")
+        second = self.start("foil_job")
+        self.assertEqual(self.ended(second), (0, self.path("foil_job"), building.WAITS + "\n"))
+        self.assertEqual(self.ended(first)[0], 0)
+        self.assertEqual(self.scratch.calls(), ["check foil_job"])
+
+    def test_a_check_outlives_the_run_that_began_it(self):
+        first = self.begun("foil_job")
+        first.kill()
+        second = self.start("foil_job")
+        status, out, err = self.ended(second)
+        self.assertEqual((status, out, err.splitlines()[0]), (0, self.path("foil_job"), building.WAITS))
+        self.ended(first)
+        self.assertNotIn("two checks at once", self.scratch.calls())
+
+    def test_a_check_that_fails_is_told_by_both(self):
+        self.scratch.write("../tools/fails", "rt: laws NOT PROVED\n")
+        first, second = self.begun("foil_job"), self.start("foil_job")
+        for status, out, err in map(self.ended, (first, second)):
+            self.assertEqual((status != 0, out, "rt: laws NOT PROVED" in err, "PATH" in err), (True, "", True, False))
+        self.assertEqual(self.scratch.calls(), ["check foil_job"] * 2)
+
+    def test_git_does_not_see_the_lock(self):
+        ignored = program.ROOT.joinpath(".gitignore").read_text().splitlines()
+        self.assertIn(building.LOCK.relative_to(program.ROOT).as_posix(), ignored)
+
+
+if __name__ == "__main__":
+    unittest.main()
