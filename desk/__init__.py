@@ -1,6 +1,9 @@
 """The desk's tools: they stand around the proved programs, and decide nothing.
 
     command      the command ./foil
+    asking       the commands ./foil-job, ./foil-save, ./foil-slip and ./foil-ohms
+    statuses     the exit statuses of all of them, and what ends one early
+    console      their standard input, output and error
     textform     the text form of a job, to bytes and back
     job          the bytes of a job file: records and steps, and where a file is at fault
     building     the proved programs: whether they are those of the sources, and building them where not

@@ -8,25 +8,32 @@
     ./foil --text FILE.job                prints the text of a job file, and runs nothing
 
 A job file can stand for a text: its lines are then those that --text prints. The exit status is 0 where all was
-accepted, 1 where a step was refused, and 2 where the text or the file cannot be read to its end, or nothing could be
-run."""
+accepted, 1 where a step was refused, and 2 where the text or the file cannot be read to its end, or its board was
+refused; README has those for what goes wrong besides."""
 import argparse
-import os
 import pathlib
 import sys
 
-from desk import building, foils, job, lines, picture, program, refusals, textform, words
+from desk import building, foils, job, lines, picture, program, refusals, statuses, textform, words
+from desk.console import complain, put
 
-ACCEPTED, REFUSED, UNREADABLE = 0, 1, 2
 # how many lines of a text are told that cannot be read
 TOLD = 20
+
+
+class Parser(argparse.ArgumentParser):
+    """A parser whose complaints end the command by its own status."""
+
+    def error(self, message):
+        self.print_usage(sys.stderr)
+        self.exit(statuses.NOT_DONE, "%s: %s\n" % (self.prog, message))
 
 
 def arguments(given):
     """What the command is asked for."""
     usage = __doc__.split("\n\n", 1)[1]
-    parser = argparse.ArgumentParser("./foil", usage="./foil [options] FILE", description=usage,
-                                     formatter_class=argparse.RawDescriptionHelpFormatter)
+    parser = Parser("./foil", usage="./foil [options] FILE", description=usage,
+                    formatter_class=argparse.RawDescriptionHelpFormatter)
     parser.add_argument("--job", metavar="OUT.job", type=pathlib.Path, help="keep the job file")
     parser.add_argument("--picture", metavar="OUT.svg", type=pathlib.Path, help="draw the foil")
     parser.add_argument("--strips", action="store_true", help="draw its free strips too")
@@ -48,41 +55,32 @@ def arguments(given):
     return asked
 
 
-def complain(*what):
-    """Says what is wrong."""
-    print(*what, file=sys.stderr)
-    return UNREADABLE
-
-
 def main(given=None, path=None):
     """Does what the command line asks; `path` is the job program, where it is not to be looked for."""
-    asked = arguments(given)
+    return statuses.ended(lambda: do(arguments(given), path))
+
+
+def do(asked, path):
+    """Does what is asked: the status."""
+    source = asked.file.read_bytes()
+    table = refusals.readme_table()
+    if asked.text:
+        put(textform.show(source, lambda number: refusals.refusal(number, table).says))
+        return statuses.NO_FOIL if job.file_number(source) else statuses.ACCEPTED
     try:
-        source = asked.file.read_bytes()
-        table = refusals.readme_table()
-        if asked.text:
-            print(textform.show(source, lambda number: refusals.refusal(number, table).says), end="", flush=True)
-            return UNREADABLE if job.file_number(source) else ACCEPTED
         text = textform.read(textform.show(source) if asked.file.suffix.lower() == ".job" else source)
-        return run(asked, text, table, path)
     except textform.Unreadable as unreadable:
         for number, message in unreadable.faults[:TOLD]:
             complain("%s, line %d: %s" % (asked.file, number, message))
         more = len(unreadable.faults) - TOLD
-        return complain("and %d more" % more) if more > 0 else UNREADABLE
-    except BrokenPipeError:
-        os.dup2(os.open(os.devnull, os.O_WRONLY), sys.stdout.fileno())
-        return UNREADABLE
-    except OSError as fault:
-        return complain("%s: %s" % (fault.filename or "standard output", fault.strerror))
-    except (program.NotRun, lines.Strange) as fault:
-        return complain(fault)
-    except KeyboardInterrupt:
-        return complain("stopped")
+        if more > 0:
+            complain("and %d more" % more)
+        return statuses.NO_FOIL
+    return run(asked, text, table, path)
 
 
 def run(asked, text, table, path):
-    """Runs the job of a text, and shows what came of it."""
+    """Runs the job of a text, and shows what came of it: the status."""
     if asked.job:
         asked.job.write_bytes(text.job)
     written = program.run(path or building.built("foil_job")[0], text.job)
@@ -90,11 +88,11 @@ def run(asked, text, table, path):
     if asked.picture:
         draw(asked, foils.foil_of(done), table)
     if asked.lines:
-        print(written, end="", flush=True)
+        put(written)
     else:
         rows = words.rows(text, done, table)
-        print(words.page([row for row in rows if row.refused or not asked.quiet]), end="", flush=True)
-    return UNREADABLE if done.fault else REFUSED if done.refused else ACCEPTED
+        put(words.page([row for row in rows if row.refused or not asked.quiet]))
+    return statuses.of_run(done)
 
 
 def draw(asked, foil, table):

@@ -1,6 +1,7 @@
 """The proved programs: running one."""
 import pathlib
 import subprocess
+from typing import NamedTuple
 
 ROOT = pathlib.Path(__file__).resolve().parent.parent
 
@@ -9,9 +10,20 @@ class NotRun(Exception):
     """A program could not be had, or did not come to its end."""
 
 
-def run(program, job):
-    """What the job program writes for a job."""
-    done = subprocess.run([program], input=job, stdout=subprocess.PIPE)
+class Written(NamedTuple):
+    """What a program wrote: to standard output, and to standard error."""
+    out: bytes
+    err: str
+
+
+def written(program, given):
+    """What a program writes for what it is given."""
+    done = subprocess.run([program], input=given, stdout=subprocess.PIPE, stderr=subprocess.PIPE)
     if done.returncode != 0:
-        raise NotRun("the job program ended with status %d" % done.returncode)
-    return done.stdout.decode("ascii", errors="replace")
+        raise NotRun("the program %s ended with status %d" % (pathlib.Path(program).name, done.returncode))
+    return Written(done.stdout, done.stderr.decode("ascii", errors="replace"))
+
+
+def run(program, job):
+    """The lines that the job program writes for a job."""
+    return written(program, job).out.decode("ascii", errors="replace")

@@ -3,10 +3,11 @@ import bisect
 import textwrap
 from typing import NamedTuple
 
-from desk import textform
+from desk import console, textform
 from desk.refusals import refusal
 
-WIDTH = 116
+# the columns that words beside a line have at least; where there are fewer, they stand below it
+BESIDE = 36
 
 
 class Row(NamedTuple):
@@ -92,8 +93,9 @@ def is_refused(outcome):
     return outcome.said is not None and outcome.said.number != 0
 
 
-def page(shown):
-    """The rows as lines: number, what stands there, and the words beside it, broken where they are long."""
+def page(shown, width=console.WIDTH):
+    """The rows as lines: number, what stands there, and the words beside it, broken where they are long; or the words
+    below it, where the lines are to be short."""
     wide = min(28, max((len(row.said) for row in shown), default=0))
     lines, last = [], None
     for row in shown:
@@ -101,8 +103,12 @@ def page(shown):
         last = row.number
         said = row.said if len(row.said) <= wide else row.said[:wide - 2] + ".."
         before = "%5s  %-*s  " % (number, wide, said)
+        if width - len(before) < BESIDE:
+            lines.append(before.rstrip())
+            before = " " * 9
         for words in row.words:
-            for part in textwrap.wrap(words, WIDTH - len(before), break_long_words=False, break_on_hyphens=False):
+            room = max(width - len(before), 1)
+            for part in textwrap.wrap(words, room, break_long_words=False, break_on_hyphens=False):
                 lines.append(before + part)
                 before = " " * len(before)
     return "".join(line + "\n" for line in lines)

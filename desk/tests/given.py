@@ -98,11 +98,13 @@ def seeds(count):
     return [random.Random(seed) for seed in range(count)]
 
 
-def replay(written):
-    """A program that writes these lines whatever it reads: its path, and the folder that it goes away with."""
+def replay(written, said=""):
+    """A program that writes these lines whatever it reads, and says these on standard error: its path, and the folder
+    that it goes away with."""
     folder = tempfile.TemporaryDirectory()
     path = pathlib.Path(folder.name) / "replay"
     path.with_name("lines").write_text(written)
-    path.write_text('#!/bin/sh\ncat > /dev/null\ncat "$(dirname "$0")/lines"\n')
+    path.with_name("said").write_text(said)
+    path.write_text('#!/bin/sh\ncat > /dev/null\ncd "$(dirname "$0")"\ncat lines\ncat said >&2\n')
     path.chmod(0o755)
     return path, folder

@@ -32,8 +32,9 @@ for name; do
     echo "rt: $name proved (0 s)"
 done
 """
-# scripts for the programs, and the libraries below them
-CRATES = {"laws": "", "foil": "laws io", "other": "", "foil_job": "foil laws io libc", "foil_slip": "foil io libc"}
+# libraries, and programs over them
+CRATES = {"laws": "", "foil": "laws io", "other": "", "foil_job": "foil laws io libc", "foil_slip": "foil io libc",
+          "foil_save": "foil io libc", "foil_ohms": "foil io libc"}
 
 
 class Scratch:
@@ -72,12 +73,13 @@ class Scratch:
         path.unlink(missing_ok=True)
         return asked
 
-    def start(self, *words, with_rt=True, **how):
-        """Starts a command of the repository, with or without the toolchain in the PATH."""
+    def start(self, command, *words, with_rt=True, streams="", **how):
+        """Starts a command of the repository, with or without the toolchain in the PATH. `streams` is put behind it as
+        a shell takes it."""
         path = os.pathsep.join([str(self.tools)] * with_rt + ["/usr/bin", "/bin"])
         how = {"stdin": subprocess.DEVNULL, "stdout": subprocess.PIPE, "stderr": subprocess.PIPE, **how}
-        return subprocess.Popen([sys.executable, self.root / words[0], *words[1:]], env={**os.environ, "PATH": path},
-                                text=True, **how)
+        script = ["/bin/sh", "-c", 'exec "$@" ' + streams, "sh", sys.executable, self.root / command, *words]
+        return subprocess.Popen(script, env={**os.environ, "PATH": path}, text=True, **how)
 
     def run(self, *words, **how):
         """Runs a command of the repository: its status, what it prints, and what it says on standard error."""

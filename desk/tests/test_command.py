@@ -34,7 +34,7 @@ class Command(unittest.TestCase):
         return self.run_foil(*options, given.SAMPLES / (name + ".txt"), written=given.written_for(name))
 
     def test_status(self):
-        for name, status in (("document-01", 0), ("less-ink", 1), ("board-size", 1), ("cut-short", 2), ("too-long", 2)):
+        for name, status in (("document-01", 0), ("less-ink", 1), ("board-size", 2), ("cut-short", 2), ("too-long", 2)):
             with self.subTest(name):
                 self.assertEqual(self.run_sample(name)[0], status)
 
@@ -93,39 +93,39 @@ class Command(unittest.TestCase):
         for option in ("--job", "--picture"):
             with self.assertRaises(SystemExit) as raised, contextlib.redirect_stderr(io.StringIO()) as err:
                 command.main([option, str(self.folder / "." / "a.txt"), str(path)])
-            self.assertEqual(raised.exception.code, 2)
+            self.assertEqual(raised.exception.code, 4)
             self.assertIn("a.txt would be written over", err.getvalue())
         self.assertEqual(path.read_text(), "board 5 5 0\nend\n")
 
     def test_without_the_program(self):
         with mock.patch.object(building, "built", side_effect=program.NotRun("no program")), \
                 contextlib.redirect_stderr(io.StringIO()) as err:
-            self.assertEqual(command.main([str(given.SAMPLES / "less-ink.txt")]), 2)
+            self.assertEqual(command.main([str(given.SAMPLES / "less-ink.txt")]), 5)
         self.assertEqual(err.getvalue(), "no program\n")
 
     def test_a_program_that_fails(self):
         path, folder = given.replay("")
         self.addCleanup(folder.cleanup)
         for script, told in (
-                ("exit 3", "the job program ended with status 3"), ("printf '\\377\\n'", "a line that is none")):
+                ("exit 3", "the program replay ended with status 3"), ("printf '\\377\\n'", "a line that is none")):
             path.write_text("#!/bin/sh\ncat > /dev/null\n%s\n" % script)
             with contextlib.redirect_stderr(io.StringIO()) as err:
-                self.assertEqual(command.main([str(given.SAMPLES / "less-ink.txt")], path), 2)
+                self.assertEqual(command.main([str(given.SAMPLES / "less-ink.txt")], path), 5)
             self.assertIn(told, err.getvalue())
 
     def test_a_folder(self):
-        self.assertEqual(self.run_foil(self.folder), (2, "", "%s: Is a directory\n" % self.folder))
+        self.assertEqual(self.run_foil(self.folder), (4, "", "%s: Is a directory\n" % self.folder))
 
     def test_what_is_not_there(self):
         status, out, err = self.run_foil(self.folder / "none.txt")
-        self.assertEqual((status, out), (2, ""))
+        self.assertEqual((status, out), (4, ""))
         self.assertIn("none.txt: No such file", err)
         self.assertEqual(self.run_foil("--picture", self.folder / "no" / "x.svg", given.SAMPLES / "document-01.txt",
-                                       written=given.written_for("document-01"))[0], 2)
+                                       written=given.written_for("document-01"))[0], 4)
 
     def test_lines_that_are_not_those_of_the_job(self):
         status, out, err = self.run_foil(given.SAMPLES / "document-01.txt", written="board 0\nlift 5 0\n")
-        self.assertEqual((status, out), (2, ""))
+        self.assertEqual((status, out), (5, ""))
         self.assertIn("a line `lift` for a step `patch`", err)
 
     def test_picture(self):
@@ -140,7 +140,7 @@ class Command(unittest.TestCase):
     def test_no_picture_without_a_foil(self):
         drawn = self.folder / "x.svg"
         status, _, err = self.run_sample("board-size", "--picture", drawn)
-        self.assertEqual((status, err, drawn.exists()), (1, "no foil was begun, so there is no picture\n", False))
+        self.assertEqual((status, err, drawn.exists()), (2, "no foil was begun, so there is no picture\n", False))
 
     def test_text_of_a_job_runs_nothing(self):
         status, out, _ = self.run_foil("--text", given.SAMPLES / "document-01.job", written="no line at all")
@@ -153,7 +153,7 @@ class Command(unittest.TestCase):
         for words in ("--strips x.txt", "--text --picture x.svg x.job", "--lines --quiet x.txt", "--text x.txt", ""):
             with self.assertRaises(SystemExit) as raised, contextlib.redirect_stderr(io.StringIO()):
                 command.main(words.split())
-            self.assertEqual(raised.exception.code, 2)
+            self.assertEqual(raised.exception.code, 4)
 
     def test_output_that_is_cut_off(self):
         drawn = self.folder / "x.svg"
@@ -165,7 +165,7 @@ class Command(unittest.TestCase):
                               stderr=subprocess.PIPE) as running:
             running.stdout.close()
             complaints = running.stderr.read()
-        self.assertEqual((running.returncode, complaints, drawn.exists()), (2, b"", True))
+        self.assertEqual((running.returncode, complaints, drawn.exists()), (4, b"", True))
 
     def test_the_script(self):
         words = [program.ROOT / "foil", "--text", "samples/document-01.job"]

@@ -1,5 +1,6 @@
 """Two runs at once in a repository that is not built: one builds, and the other waits for it and goes on by itself."""
 import shutil
+import signal
 import time
 import unittest
 
@@ -20,9 +21,8 @@ class TwoRuns(unittest.TestCase):
     def begun(self, name):
         """A run that asks for a program, and has come to its check."""
         running = self.start(name)
-        until = time.monotonic() + 60
         while not self.scratch.tools.joinpath("calls").exists():
-            self.assertLess(time.monotonic(), until)
+            self.assertIsNone(running.poll(), "it ended before its check")
             time.sleep(0.01)
         return running
 
@@ -79,6 +79,15 @@ class TwoRuns(unittest.TestCase):
         for status, out, err in map(self.ended, (first, second)):
             self.assertEqual((status != 0, out, "rt: laws NOT PROVED" in err, "PATH" in err), (True, "", True, False))
         self.assertEqual(self.scratch.calls(), ["check foil_job"] * 2)
+
+    def test_a_run_that_is_stopped(self):
+        first = self.begun("foil_job")
+        second = self.start("foil_job")
+        self.assertEqual(second.stderr.readline(), building.WAITS + "\n")
+        for running in (first, second):
+            running.send_signal(signal.SIGINT)
+            status, out, err = self.ended(running)
+            self.assertEqual((status, out, err.splitlines()[-1]), (130, "", "stopped"))
 
     def test_git_does_not_see_the_lock(self):
         ignored = program.ROOT.joinpath(".gitignore").read_text().splitlines()

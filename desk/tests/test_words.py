@@ -1,7 +1,7 @@
 """The words: README's table, what is said of each refusal, and what README shows."""
 import unittest
 
-from desk import lines, program, refusals, textform, words
+from desk import console, lines, program, refusals, textform, words
 from desk.tests import given
 
 README = refusals.README.read_text(encoding="utf-8")
@@ -106,8 +106,11 @@ class Pages(unittest.TestCase):
     def test_lines_are_not_too_long(self):
         for name in given.NAMES:
             read = textform.read(given.text_of(name))
-            page = words.page(words.rows(read, given.run_of(name), TABLE))
-            self.assertLessEqual(max(map(len, page.splitlines())), words.WIDTH)
+            rows = words.rows(read, given.run_of(name), TABLE)
+            for width in (40, 60, 80, console.WIDTH):
+                page = words.page(rows, width)
+                self.assertLessEqual(max(map(len, page.splitlines())), width)
+                self.assertEqual(words_in(page), words_in(words.page(rows)))
 
     def test_readme_shows_what_is_printed(self):
         shown = printed(given.text_of("less-ink"), given.written_for("less-ink"))
