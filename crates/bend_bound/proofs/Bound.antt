@@ -3,7 +3,7 @@ use Prim.Native.Nat.{ℕ, zero, suc, _-_, _*_, _+_, _≤_}
 use native.Mathlib.Omega.{arith}
 use native.Mathlib.Decide.{ℕ-discrete}
 use mathlib.Core.Path.{_≡_, refl, sym, ap, subst}
-use mathlib.Core.Bool.{true, not}
+use mathlib.Core.Bool.{Bool, true, not}
 use mathlib.Core.List.{List}
 use mathlib.Core.Option.{Option, none, some}
 use mathlib.Core.Logic.{by-cases, _≢_}
@@ -12,17 +12,20 @@ use borrow.Author.Tests.{eq-eqb, ne-eqb}
 use Rattle.foil_spec.specs.Foil.{Point, point, Layout, free}
 use Rattle.foil_spec.specs.Strips.{strips}
 use Rattle.foil_spec.specs.Paths.{at, bends}
-use Rattle.foil_spec.specs.Ledger.{stripsOf, pathOf, Room, Step, laid}
+use Rattle.foil_spec.specs.Ledger.{stripsOf, pathOf, without, freeFor, onNet, joinOf, Room, Step, laid}
 use Rattle.foil_spec.specs.Lent.{Lent, held, sound, stepOn}
 use Rattle.list_laws.proofs.Tests.{not-ff}
 use Rattle.path_laws.proofs.FirstPath.{of-path}
 use Rattle.path_laws.proofs.Laws.{gives-first, gives-none}
+use Rattle.path_laws.proofs.Segments.{same-eq}
+use Rattle.path_laws.proofs.Ends.{path-end, end-path}
 use Rattle.courses.proofs.Corners.{either-path}
 use Rattle.courses.proofs.Bends.{bends-most}
 use Rattle.zones.proofs.Free.{free-inside}
 use Rattle.ledger_laws.proofs.Sound.{of-sound}
 use Rattle.ledger_laws.proofs.Lay.{Seeks, lay-seeks, find-seeks, laid-on, first-laid, laid-unbroken}
 use Rattle.bend_bound.specs.Bound.{bendBound, FewestBends, TrackBends, JoinedBends, LaidBends, FoundBends}
+use Rattle.bend_bound.specs.Bound.{JoinBound}
 use Rattle.bend_bound.proofs.Trails.{segmentsFor, strips-met, target-free, trail-course, path-trail}
 
 -- ---- the numbers
@@ -47,12 +50,12 @@ bound-covers (suc n) K l =
 pub fewest-bends : FewestBends
 fewest-bends f W H inside S T cs path fewest =
     let r = of-path f S (at T) cs path in
-    let k = either-path f T S (r .rest) (r .on) in
+    let k = either-path f (at T) S (r .rest) (r .on) in
     let t = path-trail f W H T inside (k .0) (k .1) (S .x) (S .y) (r .start) (k .2) in
     let t-free = target-free f W H T S (t .0) (t .1) in
     let a =
-    bends-most f S T (r .start)
-    (λ x y e. subst (λ (p : Point). f (p .x) (p .y) ≡ true) (λ i. point (sym (e .0) i) (sym (e .1) i)) t-free)
+    bends-most f S (at T) (r .start)
+    (λ x y e. subst (λ (p : Point). f (p .x) (p .y) ≡ true) (sym (same-eq (point x y) T e)) t-free)
     cs fewest (segmentsFor (length (t .0))) (trail-course f W H T S (t .0) (t .1)) in
     let b = bound-covers (length (t .0)) (length (strips f W H)) (strips-met f W H T S (t .0) (t .1)) in
     omega arith
@@ -90,3 +93,13 @@ laid-bends r m net S T cs n h = sought-bends (lay-seeks net S T) r m cs n h
 
 pub found-bends : FoundBends
 found-bends r m S T cs n h = sought-bends (find-seeks S T) r m cs n h
+
+-- a path to a target has fewest bends of all to the point where it ends
+pub join-bound : JoinBound
+unfolding joinOf freeFor stripsOf
+join-bound l net S cs h =
+    let f : ℕ → ℕ → Bool = free (without net l) in
+    let inside = free-inside (without net l) in
+    let a = gives-first f (l .width) (l .height) inside S (onNet net l) cs h in
+    let (E, on, p) = path-end f (onNet net l) S cs (a .path) in
+    fewest-bends f (l .width) (l .height) inside S E cs p (λ ds q. a .fewest ds (end-path f (onNet net l) S E on ds q))

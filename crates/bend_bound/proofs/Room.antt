@@ -18,7 +18,8 @@ use Rattle.foil_spec.specs.Strips.{stripsFrom}
 use Rattle.foil_spec.specs.Paths.{bends}
 use Rattle.foil_spec.specs.Nets.{inUse, netsOf}
 use Rattle.foil_spec.specs.Slip.{slipOf}
-use Rattle.foil_spec.specs.Ledger.{stripsOf, pathOf, cornersOf, Room, short, cornerRoom, tooFine, Step, Answer, refused}
+use Rattle.foil_spec.specs.Ledger.{stripsOf, pathOf, cornersOf, without, joinOf, joinCorners, Room, short, cornerRoom}
+use Rattle.foil_spec.specs.Ledger.{tooFine, Step, join, Answer, refused}
 use Rattle.foil_spec.specs.Ledger.{next, first, reads, refusals, afterLent, After, refusalOf}
 use Rattle.foil_spec.specs.Lent.{Lent, store, held, layoutOk, sound, stepOn}
 use Rattle.foil_spec.specs.Job.{recordChecks}
@@ -28,8 +29,8 @@ use Rattle.foil_spec.specs.Calls.{Reply, wholeRefusals}
 use Rattle.foil_spec.specs.Sequence.{Lending, roomFor, told, Left, leaves, runLent, runLedger}
 use Rattle.list_laws.proofs.Tests.{clash, both, not-ff, parts}
 use Rattle.list_laws.proofs.Members.{of-all}
-use Rattle.ledger_laws.specs.Line.{but, ownNumbers, Lacks, corners, bytes, page}
-use Rattle.ledger_laws.specs.Numbers.{numbersOf}
+use Rattle.ledger_laws.specs.Line.{but, ownNumbers, Lacks, corners, joint, bytes, page}
+use Rattle.ledger_laws.specs.Numbers.{stepsIn, numbersOf}
 use Rattle.ledger_laws.proofs.Refusals.{first-passes, broken-refused, own-refused, unrefused-own}
 use Rattle.ledger_laws.proofs.Rules.{of-ok}
 use Rattle.ledger_laws.proofs.Line.{line, settled-refused}
@@ -41,8 +42,8 @@ use Rattle.ledger_laws.proofs.FileSize.{file-small}
 use Rattle.ledger_laws.proofs.Numbers.{call-passes, Passes, run-passes, not-among, lent-passes, own-passes}
 use Rattle.slip_laws.proofs.Pages.{slip-small}
 use Rattle.bend_bound.specs.Bound.{bendBound}
-use Rattle.bend_bound.specs.Room.{TrackCorners, EnoughCorners, lentEnough, NeverShort}
-use Rattle.bend_bound.proofs.Bound.{track-bends}
+use Rattle.bend_bound.specs.Room.{TrackCorners, EnoughCorners, noJoin, lentEnough, NeverShort}
+use Rattle.bend_bound.proofs.Bound.{track-bends, join-bound}
 
 -- ---- corners
 
@@ -61,6 +62,24 @@ corners-few l S T h = go (pathOf l S T) refl
     go : (o : Option (List Point)) → pathOf l S T ≡ o → length (Option·getD o []) ≤ cornerPlaces
     go none e = omega arith
     go (some cs) e = omega (arith, track-corners l S T cs e, ltb-false maxStrips (length (stripsOf l)) h)
+
+-- those of a join on a foil that is not too fine without the net
+joints-few : (l : Layout) (net : ℕ) (S : Point) → tooFine (without net l) ≡ false
+    → length (joinCorners net l S) ≤ cornerPlaces
+unfolding joinCorners tooFine bendBound bends
+joints-few l net S h = go (joinOf net l S) refl
+  where
+    K : ℕ
+    K = length (stripsOf (without net l))
+
+    go : (o : Option (List Point)) → joinOf net l S ≡ o → length (Option·getD o []) ≤ cornerPlaces
+    go none e = omega arith
+    go (some cs) e =
+        let b = join-bound l net S cs e in
+        let few = ltb-false maxStrips (length (stripsOf (without net l))) h in
+        by-cases (ℕ-discrete K 1)
+        (λ e. omega (arith, rw (eq-eqb K 1 e) at b))
+        (λ e. omega (arith, rw (ne-eqb K 1 e) at b, few))
 
 -- a foil that keeps the rules, or none that is begun
 pub data Fine (l : Layout) : Type 0 where
@@ -85,46 +104,57 @@ small l (unbegun e) = subst Small (sym e) no-foil-small
 
 -- ---- one step
 
+-- if the step is a join, the foil without its net is not too fine
+abbrev Liftable : Step → Layout → Type 0
+Liftable s l = (net : ℕ) (S : Point) → s ≡ join net S → tooFine (without net l) ≡ false
+
+no-join : (s : Step) (l : Layout) → noJoin s ≡ true → Liftable s l
+unfolding noJoin
+no-join s l h net S e = clash h (ap noJoin e)
+
 module _ (r : Room) (room : cornerPlaces ≤ cornerRoom r) where
   -- on a foil that is fine nothing lacks output
-  none-lacks : (l : Layout) → Fine l → Lacks r l → ⊥
+  none-lacks : (s : Step) (l : Layout) → Fine l → Liftable s l → Lacks s r l → ⊥
   unfolding cornerRoom
-  none-lacks l fine (corners S T more) = omega (arith, more, corners-few l S T (small l fine .strips))
-  none-lacks l fine (bytes more) = omega (arith, room, more, file-small l (small l fine .entries))
-  none-lacks l fine (page more) = omega (arith, room, more, small l fine .page)
+  none-lacks s l fine lift (corners S T more) = omega (arith, more, corners-few l S T (small l fine .strips))
+  none-lacks s l fine lift (joint net S e more) = omega (arith, more, joints-few l net S (lift net S e))
+  none-lacks s l fine lift (bytes more) = omega (arith, room, more, file-small l (small l fine .entries))
+  none-lacks s l fine lift (page more) = omega (arith, room, more, small l fine .page)
 
-  -- a step has a 12 of its own only on a foil that is not fine, which it reads
-  own-12 : (s : Step) (l : Layout) → first (refusals s r l) ≡ some 12 → (reads s ≡ true) × (Fine l → ⊥)
-  own-12 s l e = let (read, lacks) = line s .output r l e in (read, λ fine. none-lacks l fine lacks)
+  -- a step has a 12 of its own only on a foil that is not fine, which it reads, or as a join
+  own-12 : (s : Step) (l : Layout) → first (refusals s r l) ≡ some 12
+      → (reads s ≡ true) × (Fine l → Liftable s l → ⊥)
+  own-12 s l e = let (read, lacks) = line s .output r l e in (read, λ fine lift. none-lacks s l fine lift lacks)
 
   module _ (long : short r ≡ false) where
     -- on lists that hold anything, where those that keep the rules are fine
-    not-12 : (s : Step) (broken : Bool) (l : Layout) → (broken ≡ false → Fine l)
+    not-12 : (s : Step) (broken : Bool) (l : Layout) → (broken ≡ false → Fine l) → Liftable s l
         → refusalOf r broken s l ≡ some 12 → ⊥
-    not-12 s false l fine e = own-12 s l (sym (own-refused r s l false long refl) ∙ e) .1 (fine refl)
-    not-12 s true l fine e =
+    not-12 s false l fine lift e = own-12 s l (sym (own-refused r s l false long refl) ∙ e) .1 (fine refl) lift
+    not-12 s true l fine lift e =
         both (reads s)
         (λ t. let z : _≡_ {A = ℕ} 13 12 = cc (broken-refused r s l long t) in omega arith)
         (λ t. clash (own-12 s l (sym (own-refused r s l true long t) ∙ e) .0) t)
 
     -- on the ledger, a number that the step is refused by passes a test that its own numbers pass
-    pub step-passes : (p : ℕ → Bool) (s : Step) → all p (ownNumbers s) ≡ true → (l : Layout) → Fine l
-        → (n : ℕ) → refusalOf r false s l ≡ some n → p n ≡ true
+    pub step-passes : (p : ℕ → Bool) (s : Step) → noJoin s ≡ true → all p (ownNumbers s) ≡ true → (l : Layout)
+        → Fine l → (n : ℕ) → refusalOf r false s l ≡ some n → p n ≡ true
     unfolding refusalOf
-    step-passes p s h l fine =
+    step-passes p s j h l fine =
         lent-passes p r (refusals s r l) (λ t. clash t long)
-        (own-passes p s r l h (λ e. absurd (own-12 s l e .1 fine)))
+        (own-passes p s r l h (λ e. absurd (own-12 s l e .1 fine (no-join s l j))))
 
-    step-but-12 : (s : Step) (l : Layout) → Fine l → (n : ℕ) → refusalOf r false s l ≡ some n → but 12 n ≡ true
+    step-but-12 : (s : Step) → noJoin s ≡ true → (l : Layout) → Fine l → (n : ℕ) → refusalOf r false s l ≡ some n
+        → but 12 n ≡ true
     unfolding but
-    step-but-12 s l fine n e =
+    step-but-12 s j l fine n e =
         by-cases (ℕ-discrete 12 n)
-        (λ q. absurd (not-12 s false l (λ _. fine) (e ∙ ap {A = ℕ} {B = Option ℕ} some (sym q))))
+        (λ q. absurd (not-12 s false l (λ _. fine) (no-join s l j) (e ∙ ap {A = ℕ} {B = Option ℕ} some (sym q))))
         (λ q. ap not (ne-eqb 12 n q))
 
 pub enough-corners : EnoughCorners
 unfolding stepOn
-enough-corners r s m room = (only-short, λ e. ap (λ (a : After Answer Lent). a .answer) (step-short r s m e))
+enough-corners r s m room lift = (only-short, λ e. ap (λ (a : After Answer Lent). a .answer) (step-short r s m e))
   where
     kept : not (sound m) ≡ false → Fine (held m)
     kept e = begun (of-sound m (not-ff (sound m) e) .kept)
@@ -134,7 +164,7 @@ enough-corners r s m room = (only-short, λ e. ap (λ (a : After Answer Lent). a
         both (short r) (λ e. e)
         (λ e.
         absurd
-        (not-12 r room e s (not (sound m)) (held m) kept (settled-refused _ s (held m) _ m 12 (omega arith) h)))
+        (not-12 r room e s (not (sound m)) (held m) kept lift (settled-refused _ s (held m) _ m 12 (omega arith) h)))
 
 -- ---- a list of calls
 
@@ -169,13 +199,14 @@ fine-passes : (m : Lent) (c : Lending) → lentEnough m c ≡ true → Passes (b
 unfolding lentEnough told but
 fine-passes m c e =
     let r : Room = roomFor c m in
+    let others : all noJoin (stepsIn (c .call)) ≡ true = search parts in
     let long : short r ≡ false = search parts in
     let places : leb cornerPlaces (cornerRoom r) ≡ true = search parts in
     let room : cornerPlaces ≤ cornerRoom r = leb-true cornerPlaces (cornerRoom r) places in
     record {
       answers =
-          call-passes (but 12) refl Fine r (step-but-12 r room long) (fine-kept r) (file-but-12 r long)
-          (ohms-but-12 r long) (c .call);
+          call-passes (but 12) refl noJoin Fine r (step-but-12 r room long) (fine-kept r) (file-but-12 r long)
+          (ohms-but-12 r long) (c .call) others;
       keeps = call-keeps Fine r (fine-kept r) (c .call);
     }
 

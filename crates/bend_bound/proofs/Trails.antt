@@ -11,13 +11,15 @@ use lib.ListN.{length}
 use Rattle.foil_spec.specs.Lists.{any}
 use Rattle.foil_spec.specs.Foil.{Point, point}
 use Rattle.foil_spec.specs.Strips.{Strip, strips, holds}
+use Rattle.foil_spec.specs.Paths.{at}
 use Rattle.list_laws.proofs.Tests.{both, clash, or-cases, or-il, or-ir}
 use Rattle.list_laws.proofs.Members.{In}
 use Rattle.list_laws.proofs.Counting.{count, count-lt, count-length}
+use Rattle.path_laws.proofs.Segments.{same-eq, same-self}
 use Rattle.strip_laws.proofs.Laws.{in-a-strip, in-one-only, only-free}
 use Rattle.strip_laws.proofs.Rectangle.{free-between, same-strip}
 use Rattle.courses.specs.Course.{flip, Span, Course}
-use Rattle.courses.specs.Best.{PathD, At}
+use Rattle.courses.specs.Best.{PathD, On}
 use Rattle.courses.proofs.Course.{span-sym, span-trans, span-end, course-merge}
 use Rattle.bend_bound.specs.Bound.{OnFoil}
 
@@ -94,11 +96,11 @@ module _ (f : ℕ → ℕ → Bool) (W H : ℕ) (T : Point) where
   target-free p (q ∷ qs) (s, a, c, apart, t) = target-free q qs t
 
   -- within the last strip, the first segment upright
-  upright-end : (p : Point) → Trail p [] → Course 2 (flip f) (flip (At T)) (p .y) (p .x)
+  upright-end : (p : Point) → Trail p [] → Course 2 (flip f) (flip (On (at T))) (p .y) (p .x)
   upright-end p (s, (i, h), k) = (
     T .y,
     span-sym (flip f) (p .x) (T .y) (p .y) (along-column f W H s i T p k h),
-    (T .x, span-sym f (T .y) (T .x) (p .x) (along-row f W H s i T p k h), (refl, refl)),
+    (T .x, span-sym f (T .y) (T .x) (p .x) (along-row f W H s i T p k h), same-self T),
   )
 
   -- from p along its row to the column of q, and along that to q
@@ -111,12 +113,12 @@ module _ (f : ℕ → ℕ → Bool) (W H : ℕ) (T : Point) where
 
   -- the segments of a trail
   pub trail-course : (p : Point) (qs : List Point)
-      → Trail p qs → Course (segmentsFor (length qs)) f (At T) (p .x) (p .y)
+      → Trail p qs → Course (segmentsFor (length qs)) f (On (at T)) (p .x) (p .y)
   trail-course p [] (s, (i, h), k) =
-      (T .x, along-row f W H s i p T h k, (T .y, along-column f W H s i p T h k, (refl, refl)))
+      (T .x, along-row f W H s i p T h k, (T .y, along-column f W H s i p T h k, same-self T))
   trail-course p (q ∷ []) (s, a, c, apart, t) =
       let (along, up) = over-column p q s a c in
-      (q .x, along, course-merge 1 (flip f) (flip (At T)) (p .y) (q .x) (q .y) up (upright-end q t))
+      (q .x, along, course-merge 1 (flip f) (flip (On (at T))) (p .y) (q .x) (q .y) up (upright-end q t))
   trail-course p (q ∷ r ∷ rs) (s, a, c, apart, t) =
       let (along, up) = over-column p q s a c in
       (q .x, along, (q .y, up, trail-course q (r ∷ rs) t))
@@ -162,13 +164,13 @@ module _ (f : ℕ → ℕ → Bool) (W H : ℕ) (T : Point) where
         (a .0, (a .1, a .2))
 
     -- the trail at T itself
-    at-end : (x y : ℕ) → f x y ≡ true → At T x y → Trail (point x y) []
-    at-end x y h (ex, ey) =
+    at-end : (x y : ℕ) → f x y ≡ true → On (at T) x y → Trail (point x y) []
+    at-end x y h e =
         let a = home x y h in
-        (a .0, a .1, subst (λ (q : Point). holds q (a .0) ≡ true) (λ i. point (ex i) (ey i)) (a .1 .1))
+        (a .0, a .1, subst (λ (q : Point). holds q (a .0) ≡ true) (same-eq (point x y) T e) (a .1 .1))
 
     -- the trail of a path that is given by its coordinates, the first segment level or, if up, upright
-    pub path-trail : (up : Bool) (cs : List ℕ) (x y : ℕ) → f x y ≡ true → PathD up cs f (At T) x y
+    pub path-trail : (up : Bool) (cs : List ℕ) (x y : ℕ) → f x y ≡ true → PathD up cs f (On (at T)) x y
         → (qs : List Point) × Trail (point x y) qs
     path-trail false [] x y h t = ([], at-end x y h t)
     path-trail true [] x y h t = ([], at-end x y h t)

@@ -9,7 +9,7 @@ use lib.ListN.{length}
 use Rattle.foil_spec.specs.Foil.{Point, Layout, free}
 use Rattle.foil_spec.specs.Strips.{strips}
 use Rattle.foil_spec.specs.Paths.{isPath, bends}
-use Rattle.foil_spec.specs.Ledger.{stripsOf, pathOf, Room, lay, find, laid}
+use Rattle.foil_spec.specs.Ledger.{stripsOf, pathOf, without, joinOf, Room, lay, find, laid}
 use Rattle.foil_spec.specs.Lent.{Lent, stepOn}
 
 -- on a foil with K strips: one bend at most if K is 1, else 2K − 2
@@ -50,3 +50,9 @@ abbrev pub FoundBends : Type 0
 FoundBends =
     (r : Room) (m : Lent) (S T : Point) (cs : List Point) (n : ℕ) → stepOn r (find S T) m .answer ≡ laid cs n
     → n ≤ bendBound (m .board .strips)
+
+-- a join goes over the foil without its net, and has so few bends by the strips of that
+abbrev pub JoinBound : Type 0
+JoinBound =
+    (l : Layout) (net : ℕ) (S : Point) (cs : List Point) → joinOf net l S ≡ some cs
+    → bends cs ≤ bendBound (length (stripsOf (without net l)))

@@ -1,6 +1,6 @@
 -- With 8,192 corner places lent no track lacks room for its corners, as it is stated: K is at most 4,096. So many
 -- places are room for the bytes of any foil's file too.
-use Prim.Native.Nat.{_*_, _≤_, max}
+use Prim.Native.Nat.{ℕ, _*_, _≤_, max}
 use mathlib.Core.Path.{_≡_}
 use mathlib.Core.Bool.{Bool, true, false, not, _&&_}
 use mathlib.Core.Logic.{_↔_}
@@ -11,10 +11,11 @@ use lib.ListN.{length}
 use Rattle.foil_spec.specs.Lists.{all}
 use Rattle.foil_spec.specs.Limits.{cornerPlaces}
 use Rattle.foil_spec.specs.Foil.{Point, Layout}
-use Rattle.foil_spec.specs.Ledger.{Step, stripsOf, pathOf, refused, Room, short, cornerRoom}
-use Rattle.foil_spec.specs.Lent.{Lent, stepOn}
+use Rattle.foil_spec.specs.Ledger.{stripsOf, pathOf, without, Room, short, cornerRoom, tooFine, refused}
+use Rattle.foil_spec.specs.Ledger.{Step, newFoil, draw, lay, lift, lookUp, putLeg, save, find, book, slip, join}
+use Rattle.foil_spec.specs.Lent.{Lent, held, stepOn}
 use Rattle.foil_spec.specs.Sequence.{Lending, Begins, roomFor, runLent, told}
-use Rattle.ledger_laws.specs.Numbers.{numbersOf, among}
+use Rattle.ledger_laws.specs.Numbers.{stepsIn, numbersOf, among}
 
 -- the track found has two corners for each strip at most, and three where there is one strip
 abbrev pub TrackCorners : Type 0
@@ -22,17 +23,34 @@ TrackCorners =
     (l : Layout) (S T : Point) (cs : List Point) → pathOf l S T ≡ some cs → length cs ≤ max 3 (2 * length (stripsOf l))
 
 -- a step that has two corner places for each of 4,096 strips, on lists that hold anything, answers 12 exactly when the
--- table or the strip list is too short
+-- table or the strip list is too short; a join, if the foil without its net has so few strips
 abbrev pub EnoughCorners : Type 0
 EnoughCorners =
     (r : Room) (s : Step) (m : Lent) → cornerPlaces ≤ cornerRoom r
+    → ((net : ℕ) (S : Point) → s ≡ join net S → tooFine (without net (held m)) ≡ false)
     → (stepOn r s m .answer ≡ refused 12) ↔ (short r ≡ true)
 
--- the call is lent a table and strips that are long enough and so many corner places; m is what was lent at first
-unfoldable pub lentEnough : Lent → Lending → Bool
-lentEnough m c = not (short (roomFor c m)) && leb cornerPlaces (cornerRoom (roomFor c m))
+-- the step is no join
+unfoldable pub noJoin : Step → Bool
+noJoin (newFoil W H c) = true
+noJoin (draw x0 y0 x1 y1) = true
+noJoin (lay net S T) = true
+noJoin (lift net) = true
+noJoin (lookUp p) = true
+noJoin (putLeg e) = true
+noJoin save = true
+noJoin (find S T) = true
+noJoin (book net ks) = true
+noJoin slip = true
+noJoin (join net S) = false
 
--- from a call that begins a foil on, calls that are all lent enough never answer 12, by themselves or in a record
+-- the call is no join, and is lent a table and strips that are long enough and so many corner places; m is what was
+-- lent at first
+unfoldable pub lentEnough : Lent → Lending → Bool
+lentEnough m c =
+    all noJoin (stepsIn (c .call)) && not (short (roomFor c m)) && leb cornerPlaces (cornerRoom (roomFor c m))
+
+-- from a call that begins a foil on, calls that are no joins and all lent enough never answer 12, by themselves or in a record
 abbrev pub NeverShort : Type 0
 NeverShort =
     (m : Lent) (l : Layout) (c : Lending) (cs : List Lending) → Begins (c .call) (told m c l .answer)

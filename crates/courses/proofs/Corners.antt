@@ -5,18 +5,16 @@ use mathlib.Core.Path.{_≡_, refl, sym, ap, _∙_, subst}
 use mathlib.Core.Bool.{Bool, true, false}
 use mathlib.Core.Logic.{_⊎_, inl, inr, ⊎-elim}
 use mathlib.Core.List.{List, [], _∷_}
-use lib.Dec.{eqb}
-use borrow.Author.Tests.{eq-eqb, eqb-true}
 use lib.ListN.{length}
-use Rattle.foil_spec.specs.Foil.{Point, point, same}
-use Rattle.foil_spec.specs.Paths.{at, Heading, either, level, upright, between, levelFree, uprightFree, segment}
+use Rattle.foil_spec.specs.Foil.{Point, point}
+use Rattle.foil_spec.specs.Paths.{Heading, either, level, upright, between, levelFree, uprightFree, segment}
 use Rattle.foil_spec.specs.Paths.{after, leads, cornersBefore, stepsFrom}
 use Rattle.list_laws.proofs.Tests.{and-l, and-r, and-i, or-cases}
 use Rattle.path_laws.proofs.Segments.{between-at, between-to, Level, Upright, of-level, of-upright}
 use Rattle.path_laws.proofs.Segments.{to-level, to-upright, after-level, after-upright, before-row, before-rows}
 use Rattle.path_laws.proofs.Goings.{before-head, before-tail}
 use Rattle.courses.specs.Course.{flip, Span, Path, Lex}
-use Rattle.courses.specs.Best.{PathD, inkD, LexD, corners, At}
+use Rattle.courses.specs.Best.{PathD, inkD, LexD, corners, On}
 
 pub corners-length : (up : Bool) (cs : List ℕ) (x y : ℕ) → length (corners up cs x y) ≡ length cs
 corners-length false [] x y = refl
@@ -45,13 +43,13 @@ module _ (f : ℕ → ℕ → Bool) where
   unfolding Span
   between-span y a b h x lo hi = between-at (λ (x : ℕ). f x y) a b x h lo hi
 
-module _ (f : ℕ → ℕ → Bool) (T : Point) where
+module _ (f : ℕ → ℕ → Bool) (T : Point → Bool) where
   -- a path by coordinates, by its corners
-  pub path-leads : (up : Bool) (cs : List ℕ) (x y : ℕ) → PathD up cs f (At T) x y
-      → leads f (at T) (heading up) (point x y) (corners up cs x y) ≡ true
+  pub path-leads : (up : Bool) (cs : List ℕ) (x y : ℕ) → PathD up cs f (On T) x y
+      → leads f T (heading up) (point x y) (corners up cs x y) ≡ true
   unfolding leads segment
-  path-leads false [] x y t = and-i {a = eqb x (T .x)} (eq-eqb x (T .x) (t .0)) (eq-eqb y (T .y) (t .1))
-  path-leads true [] x y t = and-i {a = eqb x (T .x)} (eq-eqb x (T .x) (t .0)) (eq-eqb y (T .y) (t .1))
+  path-leads false [] x y t = t
+  path-leads true [] x y t = t
   path-leads false (c ∷ cs) x y p =
       let s : Level f (point x y) (point c y) =
       record { row = refl; apart = λ e. p .0 (sym e); clear = span-between f y x c (p .1) } in
@@ -65,14 +63,14 @@ module _ (f : ℕ → ℕ → Bool) (T : Point) where
 
   -- the coordinates of a path that is given by its corners
   abbrev Coordinates : Bool → ℕ → ℕ → List Point → Type 0
-  Coordinates up x y ps = (cs : List ℕ) × PathD up cs f (At T) x y × (ps ≡ corners up cs x y)
+  Coordinates up x y ps = (cs : List ℕ) × PathD up cs f (On T) x y × (ps ≡ corners up cs x y)
 
   level-more : (x y : ℕ) (q : Point) (ps : List Point) → Level f (point x y) q → Coordinates true (q .x) (q .y) ps
       → Coordinates false x y (q ∷ ps)
   level-more x y q ps s r =
       let e : q .y ≡ y = sym (s .row) in
-      let p : Path (r .0) (flip f) (flip (At T)) y (q .x) =
-      subst (λ (k : ℕ). Path (r .0) (flip f) (flip (At T)) k (q .x)) e (r .1) in
+      let p : Path (r .0) (flip f) (flip (On T)) y (q .x) =
+      subst (λ (k : ℕ). Path (r .0) (flip f) (flip (On T)) k (q .x)) e (r .1) in
       let c : ps ≡ corners true (r .0) (q .x) y = r .2 ∙ ap (λ (k : ℕ). corners true (r .0) (q .x) k) e in
       (q .x ∷ r .0, (λ n. s .apart (sym n), between-span f y x (q .x) (s .clear), p), λ i. point (q .x) (e i) ∷ c i)
 
@@ -80,46 +78,40 @@ module _ (f : ℕ → ℕ → Bool) (T : Point) where
       → Coordinates true x y (q ∷ ps)
   upright-more x y q ps s r =
       let e : q .x ≡ x = sym (s .column) in
-      let p : Path (r .0) f (At T) x (q .y) = subst (λ (k : ℕ). Path (r .0) f (At T) k (q .y)) e (r .1) in
+      let p : Path (r .0) f (On T) x (q .y) = subst (λ (k : ℕ). Path (r .0) f (On T) k (q .y)) e (r .1) in
       let c : ps ≡ corners false (r .0) x (q .y) = r .2 ∙ ap (λ (k : ℕ). corners false (r .0) k (q .y)) e in (
         q .y ∷ r .0,
         (λ n. s .apart (sym n), between-span (flip f) x y (q .y) (s .clear), p),
         λ i. point (e i) (q .y) ∷ c i,
       )
 
-  ends : (x y : ℕ) → same (point x y) T ≡ true → At T x y
-  ends x y h = (
-    eqb-true x (T .x) (and-l (eqb x (T .x)) (eqb y (T .y)) h),
-    eqb-true y (T .y) (and-r (eqb x (T .x)) (eqb y (T .y)) h),
-  )
-
-  leads-path : (up : Bool) (x y : ℕ) (ps : List Point) → leads f (at T) (heading up) (point x y) ps ≡ true
+  leads-path : (up : Bool) (x y : ℕ) (ps : List Point) → leads f T (heading up) (point x y) ps ≡ true
       → Coordinates up x y ps
   unfolding leads segment
-  leads-path false x y [] h = ([], ends x y h, refl)
-  leads-path true x y [] h = ([], ends x y h, refl)
+  leads-path false x y [] h = ([], h, refl)
+  leads-path true x y [] h = ([], h, refl)
   leads-path false x y (q ∷ ps) h =
       let s =
-      of-level f (point x y) q (and-l (levelFree f (point x y) q) (leads f (at T) (after (point x y) q) q ps) h) in
+      of-level f (point x y) q (and-l (levelFree f (point x y) q) (leads f T (after (point x y) q) q ps) h) in
       level-more x y q ps s
       (leads-path true (q .x) (q .y) ps
       (rw (after-level f (point x y) q s) at
-      (and-r (levelFree f (point x y) q) (leads f (at T) (after (point x y) q) q ps) h)))
+      (and-r (levelFree f (point x y) q) (leads f T (after (point x y) q) q ps) h)))
   leads-path true x y (q ∷ ps) h =
       let s =
-      of-upright f (point x y) q (and-l (uprightFree f (point x y) q) (leads f (at T) (after (point x y) q) q ps) h) in
+      of-upright f (point x y) q (and-l (uprightFree f (point x y) q) (leads f T (after (point x y) q) q ps) h) in
       upright-more x y q ps s
       (leads-path false (q .x) (q .y) ps
       (rw (after-upright f (point x y) q s) at
-      (and-r (uprightFree f (point x y) q) (leads f (at T) (after (point x y) q) q ps) h)))
+      (and-r (uprightFree f (point x y) q) (leads f T (after (point x y) q) q ps) h)))
 
   -- a path by corners goes one way or the other at first
-  pub either-path : (S : Point) (ps : List Point) → leads f (at T) either S ps ≡ true
-      → (up : Bool) × (cs : List ℕ) × PathD up cs f (At T) (S .x) (S .y) × (ps ≡ corners up cs (S .x) (S .y))
+  pub either-path : (S : Point) (ps : List Point) → leads f T either S ps ≡ true
+      → (up : Bool) × (cs : List ℕ) × PathD up cs f (On T) (S .x) (S .y) × (ps ≡ corners up cs (S .x) (S .y))
   unfolding leads segment
   either-path S [] h = let r = leads-path false (S .x) (S .y) [] h in (false, r .0, r .1, r .2)
   either-path S (q ∷ ps) h =
-      let on = and-r (segment f either S q) (leads f (at T) (after S q) q ps) h in
+      let on = and-r (segment f either S q) (leads f T (after S q) q ps) h in
       ⊎-elim
       (λ (k : levelFree f S q ≡ true).
       let r = leads-path false (S .x) (S .y) (q ∷ ps) (and-i {a = levelFree f S q} k on) in
@@ -128,7 +120,7 @@ module _ (f : ℕ → ℕ → Bool) (T : Point) where
       let r = leads-path true (S .x) (S .y) (q ∷ ps) (and-i {a = uprightFree f S q} k on) in
       (true, r .0, r .1, r .2))
       (or-cases (levelFree f S q) (uprightFree f S q)
-      (and-l (segment f either S q) (leads f (at T) (after S q) q ps) h))
+      (and-l (segment f either S q) (leads f T (after S q) q ps) h))
 
 -- the first list of corners comes before the second or is the same
 abbrev NoLater : List Point → List Point → Type 0

@@ -9,7 +9,7 @@ use mathlib.Core.Bool.{Bool, true, false}
 use mathlib.Core.Logic.{_⊎_, inl, inr, by-cases}
 use Rattle.list_laws.proofs.Tests.{both, clash}
 use Rattle.foil_spec.specs.Paths.{gap}
-use Rattle.courses.specs.Course.{flip, Span, Within, Marks}
+use Rattle.courses.specs.Course.{flip, Span, Within, Marks, Steady}
 use Rattle.courses.proofs.Course.{span-refl, span-sym, span-trans, span-start, span-end, span-part}
 
 -- between the columns g and e nothing changes: what is free or a target there is so up to both
@@ -186,33 +186,45 @@ module _ (m : ℕ → Bool) where
             (λ l. subst (λ (k : ℕ). m k ≡ false) (let i : x ≡ z = omega arith in i) e),
       )
 
+-- what goes on from a column without a mark to the columns next to it goes on over all such columns
+module _ (m : ℕ → Bool) (P : ℕ → Type 0) (down : (x : ℕ) → m (suc x) ≡ false → P (suc x) → P x)
+    (up : (x : ℕ) → m x ≡ false → P x → P (suc x)) where
+  go-down : (d x : ℕ) → ((z : ℕ) → x < z → z ≤ x + d → m z ≡ false) → P (x + d) → P x
+  go-down zero x h k = rw add-zero at k
+  go-down (suc d) x h k =
+      let e : x + suc d ≡ suc (x + d) = omega arith in
+      go-down d x (λ z p q. h z p (omega arith))
+      (down (x + d) (h (suc (x + d)) (omega arith) (omega arith)) (rw e at k))
+
+  go-up : (d x : ℕ) → ((z : ℕ) → x ≤ z → z < x + d → m z ≡ false) → P x → P (x + d)
+  go-up zero x h k = rw add-zero k
+  go-up (suc d) x h k =
+      let e : x + suc d ≡ suc (x + d) = omega arith in
+      rw e (up (x + d) (h (x + d) (omega arith) (omega arith)) (go-up d x (λ z p q. h z p (omega arith)) k))
+
+  over-gap : (g e : ℕ) → ((z : ℕ) → g < z → z < e → m z ≡ false) → (x z : ℕ) → g < x → x < e → P x → g ≤ z → z ≤ e
+      → P z
+  over-gap g e h x z p q k lo hi =
+      by-cases (decLe z x)
+      (λ l.
+      let i : x ≡ z + (x - z) = omega arith in
+      go-down (x - z) z (λ a b c. h a (omega arith) (omega arith)) (subst P i k))
+      (λ l.
+      let i : x + (z - x) ≡ z = omega arith in
+      subst P i (go-up (z - x) x (λ a b c. h a (omega arith) (omega arith)) k))
+
+-- targets on marked columns only are steady
+pub marked-steady : (T : ℕ → ℕ → Type 0) (m : ℕ → Bool) → ((x y : ℕ) → T x y → m x ≡ true) → Steady T m
+marked-steady T m h =
+    record { down = λ x y e t. clash (h (suc x) y t) e; up = λ x y e t. clash (h x y t) e }
+
 module _ (f : ℕ → ℕ → Bool) (m : ℕ → Bool) (size : ℕ) (M : Marks f m size) where
-  -- what is free stays free down or up over columns that are not marked
-  free-down : (d x y : ℕ) → ((z : ℕ) → x < z → z ≤ x + d → m z ≡ false) → f (x + d) y ≡ true → f x y ≡ true
-  free-down zero x y h k = rw add-zero at k
-  free-down (suc d) x y h k =
-      let e : x + suc d ≡ suc (x + d) = omega arith in
-      free-down d x y (λ z p q. h z p (omega arith))
-      (M .down (x + d) y (h (suc (x + d)) (omega arith) (omega arith)) (rw e at k))
-
-  free-up : (d x y : ℕ) → ((z : ℕ) → x ≤ z → z < x + d → m z ≡ false) → f x y ≡ true → f (x + d) y ≡ true
-  free-up zero x y h k = rw add-zero k
-  free-up (suc d) x y h k =
-      let e : x + suc d ≡ suc (x + d) = omega arith in
-      rw e (M .up (x + d) y (h (x + d) (omega arith) (omega arith)) (free-up d x y (λ z p q. h z p (omega arith)) k))
-
-  module _ (T : ℕ → ℕ → Type 0) (target : (x y : ℕ) → T x y → m x ≡ true) where
+  module _ (T : ℕ → ℕ → Type 0) (steady : Steady T m) where
     between : (g e : ℕ) → ((z : ℕ) → g < z → z < e → m z ≡ false) → Between f T g e
     between g e h = record {
-      free = λ x y z p q k lo hi.
-          by-cases (decLe z x)
-          (λ l.
-          let i : x ≡ z + (x - z) = omega arith in
-          free-down (x - z) z y (λ a b c. h a (omega arith) (omega arith)) (subst (λ (a : ℕ). f a y ≡ true) i k))
-          (λ l.
-          let i : x + (z - x) ≡ z = omega arith in
-          rw i at (free-up (z - x) x y (λ a b c. h a (omega arith) (omega arith)) k));
-      target = λ x y z p q t. clash (target x y t) (h x p q);
+      free = λ x y z.
+          over-gap m (λ c. f c y ≡ true) (λ c. M .down c y) (λ c. M .up c y) g e h x z;
+      target = λ x y z. over-gap m (λ c. T c y) (λ c. steady .down c y) (λ c. steady .up c y) g e h x z;
     }
 
     -- a column that is not marked, between the marked ones next to it

@@ -41,6 +41,6 @@ corners true [] x y = []
 corners false (c ∷ cs) x y = point c y ∷ corners true cs c y
 corners true (c ∷ cs) x y = point x c ∷ corners false cs x c
 
--- the one target T
-abbrev pub At : Point → ℕ → ℕ → Type 0
-At T x y = (x ≡ T .x) × (y ≡ T .y)
+-- the points that pass the target's test T
+abbrev pub On : (Point → Bool) → ℕ → ℕ → Type 0
+On T x y = T (point x y) ≡ true

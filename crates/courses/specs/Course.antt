@@ -40,6 +40,11 @@ pub record Marks (f : ℕ → ℕ → Bool) (m : ℕ → Bool) (size : ℕ) : Ty
   pub down : (x y : ℕ) → m (suc x) ≡ false → f (suc x) y ≡ true → f x y ≡ true
   pub up : (x y : ℕ) → m x ≡ false → f x y ≡ true → f (suc x) y ≡ true
 
+-- a target that is not on a marked column goes on to the columns on both sides of it
+pub record Steady (T : ℕ → ℕ → Type 0) (m : ℕ → Bool) : Type 0 where
+  pub down : (x y : ℕ) → m (suc x) ≡ false → T (suc x) y → T x y
+  pub up : (x y : ℕ) → m x ≡ false → T x y → T (suc x) y
+
 -- a path from (x, y) to a target, the first segment level, as the coordinate that each segment goes to: of a level
 -- one the x, of an upright one the y
 abbrev pub Path : List ℕ → (ℕ → ℕ → Bool) → (ℕ → ℕ → Type 0) → ℕ → ℕ → Type 0

@@ -8,7 +8,7 @@ use lib.ListN.{length, replicate, length-append, length-map}
 use lib.Seq.{paste}
 use Rattle.foil_spec.specs.Lists.{range, all}
 use Rattle.foil_spec.specs.Limits.{maxEntries, tableSize, stripsSize}
-use Rattle.foil_spec.specs.Foil.{Point, Layout, entryOk, penRule, free}
+use Rattle.foil_spec.specs.Foil.{Point, Layout, entryOk, penRule}
 use Rattle.foil_spec.specs.Paths.{isWay}
 use Rattle.foil_spec.specs.Corners.{cornerAt, cornersIn}
 use Rattle.foil_spec.specs.Ledger.{legs}
@@ -18,9 +18,7 @@ use Rattle.list_laws.proofs.Tests.{clash, all-append}
 use Rattle.list_laws.proofs.Members.{at-place, length-range}
 use Rattle.path_laws.proofs.Ways.{corners-free}
 use Rattle.zones.specs.Table.{Table}
-use Rattle.zones.proofs.Free.{free-inside}
-use Rattle.ledger_laws.proofs.Legs.{length-legs}
-use Rattle.ledger_laws.proofs.Line.{booked-ok}
+use Rattle.ledger_laws.proofs.Legs.{legs-ok, length-legs}
 use Rattle.ledger_laws.proofs.Rules.{of-ok}
 use Rattle.ledger_laws.proofs.Sound.{Sound, of-sound, sound-long, length-read}
 use Rattle.booking.specs.Rows.{rowsOf}
@@ -80,18 +78,18 @@ module _ (b : Board) (t s : List ℕ) (net : ℕ) (path : List ℕ) (k : ℕ) (y
 
   pub sums : (1 ≤ k) × (b .entries + k ≤ suc maxEntries) × (b .entries < maxEntries)
   sums =
-      let one = some-corner (free l) path k (y .way) in
+      let one = some-corner (y .clear) path k (y .way) in
       (one, omega (arith, y .room, one), omega (arith, y .room))
 
   -- each corner is small enough for the sums
   pub small : Corners path k
   unfolding cornersIn held layoutOf
   small =
-      let at = at-place (λ (q : Point). free l (q .x) (q .y)) (cornerAt path) k (corners-free (free l) cs (y .way)) in
+      let at = at-place (λ (q : Point). y .clear (q .x) (q .y)) (cornerAt path) k (corners-free (y .clear) cs (y .way)) in
       record {
         long = y .long;
-        small-x = λ i u. omega (arith, free-inside l _ _ (at i u) .0, limits .sized .width);
-        small-y = λ i u. omega (arith, free-inside l _ _ (at i u) .1, limits .sized .height);
+        small-x = λ i u. omega (arith, y .inside _ _ (at i u) .0, limits .sized .width);
+        small-y = λ i u. omega (arith, y .inside _ _ (at i u) .1, limits .sized .height);
       }
 
   module _ (old rows : List ℕ) (all-rows : ℕ) (copied : old ≡ paste (replicate tableSize 0) 0 t tableSize)
@@ -110,7 +108,7 @@ module _ (b : Board) (t s : List ℕ) (net : ℕ) (path : List ℕ) (k : ℕ) (y
     unfolding held layoutOf
     all-ok =
         all-append (entryOk (b .width) (b .height)) (l .entries) (legs net cs)
-        (of-ok l (facts .kept) .entries) (booked-ok l net cs (y .allowed) (y .way))
+        (of-ok l (facts .kept) .entries) (legs-ok (b .width) (b .height) net (y .allowed) (y .clear) (y .inside) cs (y .way))
 
     pub booked-table : Table rows all-rows (penRule (penIn b)) (b .width) (b .height)
     booked-table =

@@ -19,6 +19,7 @@ use Rattle.foil_spec.specs.Lent.{Lent, lent, store, entryAt, layoutOf, penIn, h
 use Rattle.foil_spec.specs.declared.Board.{Board}
 use Rattle.list_laws.proofs.Tests.{both, clash}
 use Rattle.zones.specs.Boxes.{boxFree, Zoned}
+use Rattle.zones.proofs.Free.{free-inside}
 use Rattle.ledger_laws.proofs.CornerLists.{drawn-whole, drawn-half}
 use Rattle.ledger_laws.proofs.Drawn.{book-from-19}
 use Rattle.booking.specs.Booked.{Stored, Unchanged}
@@ -127,6 +128,8 @@ module _ (b : Board) (t s ks : List ℕ) (net limit : ℕ) (limited : limit ≤ 
                     fine = y;
                     allowed = sym o-is ∙ not-false o ok;
                     long = omega arith;
+                    clear = free l;
+                    inside = free-inside l;
                     way = ap (isWay (free l)) (sym drawn-is) ∙ way;
                     room = omega (arith, limited);
                   }

@@ -18,7 +18,7 @@ use foil_spec::Board;
 use foil_spec::MAX_ENTRIES;
 use foil_spec::TABLE_SIZE;
 use state::net_ok;
-use way::is_way;
+pub use way::is_way;
 use zones::BOXES_SIZE;
 use zones::pen_zones;
 ghost use mathlib.Core.Path.{_≡_};

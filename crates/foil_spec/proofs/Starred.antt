@@ -1,5 +1,5 @@
 -- The starred test foils of document 01, the ohms of its track, legs as booked with the file of their foil, drawn ways,
--- the slip of two tracks, pens, and foils that the edge blocks: one list of cases, and one fact over it.
+-- the slip of two tracks, pens, foils that the edge blocks, and joins: one list of cases, and one fact over it.
 use Prim.Native.Nat.{ℕ}
 use mathlib.Core.Path.{_≡_, refl}
 use mathlib.Core.Bool.{true, false, xor}
@@ -24,7 +24,8 @@ use Rattle.foil_spec.specs.Ledger.{stripsOf, pathOf, noPath, cornersOf, 
 use Rattle.foil_spec.specs.Ledger.{offFoil, blocked, short, cornerRoom, tooLong, tooFine, beginningTooFine}
 use Rattle.foil_spec.specs.Ledger.{next, says, first, reads, refusals, afterLent, settle, refusalOf, ledgerStep}
 use Rattle.foil_spec.specs.Ledger.{byPen, penOf, clearanceRefusal, Step, newFoil, draw, lay, lift, lookUp}
-use Rattle.foil_spec.specs.Ledger.{putLeg, save, find, book, slip}
+use Rattle.foil_spec.specs.Ledger.{putLeg, save, find, book, slip, join}
+use Rattle.foil_spec.specs.Ledger.{freeFor, onLegs, onNet, joinOf, joinCorners}
 use Rattle.foil_spec.specs.Ledger.{refused, accepted, laid, found, wrote, booked}
 use Rattle.foil_spec.specs.Job.{number, fieldCount, mapByte, has, fieldsAt, recordEnd, field, stepAt}
 use Rattle.foil_spec.specs.Job.{jobRoom, stepsAt, steps, isEnd, recordChecks}
@@ -422,6 +423,74 @@ cases =
       calls = step (begin 4 5 2) ∷ step (lookUp (point 2 2)) ∷ [];
       outcome = record { replies = answered accepted ∷ answered (refused 8) ∷ []; entries = []; strips = [] };
     }
+    -- joins: to a leg; from a point on a leg, which is one corner and one entry; the ohms have a bend more for each;
+    -- 4, then 6, then 7; a point of another net is 8, and one of the net itself is free for it
+    ∷ record {
+      calls =
+          step (begin 9 7 0) ∷ step (lay 5 (point 1 1) (point 7 1)) ∷ step (join 5 (point 4 5))
+          ∷ step (join 5 (point 4 3)) ∷ asked 5 (whole 1) (whole 1) (whole 0) ∷ asked 5 (whole 1) (whole 1) (whole 1)
+          ∷ step (join 0 (point 9 0)) ∷ step (join 6 (point 9 0)) ∷ step (join 5 (point 9 0))
+          ∷ step (lay 8 (point 0 6) (point 8 6)) ∷ step (join 5 (point 0 6)) ∷ step (join 8 (point 0 0))
+          ∷ step (join 5 (point 8 5)) ∷ [];
+      outcome =
+          record {
+            replies =
+                answered accepted ∷ answered (laid (point 1 1 ∷ point 7 1 ∷ []) 0)
+                ∷ answered (laid (point 4 5 ∷ point 4 1 ∷ []) 0) ∷ answered (laid (point 4 3 ∷ []) 0)
+                ∷ measured (whole 10) ∷ measured (whole 12)
+                ∷ answered (refused 4) ∷ answered (refused 6) ∷ answered (refused 7)
+                ∷ answered (laid (point 0 6 ∷ point 8 6 ∷ []) 0) ∷ answered (refused 8)
+                ∷ answered (laid (point 0 0 ∷ point 0 6 ∷ []) 0) ∷ answered (laid (point 8 5 ∷ point 4 5 ∷ []) 0) ∷ [];
+            entries =
+                entry 5 1 1 8 2 ∷ entry 5 4 1 5 6 ∷ entry 5 4 3 5 4 ∷ entry 8 0 6 9 7 ∷ entry 8 0 0 1 7
+                ∷ entry 5 4 5 9 6 ∷ [];
+            strips = strip 1 0 9 1 ∷ strip 8 1 9 2 ∷ strip 1 2 4 6 ∷ strip 5 2 9 5 ∷ [];
+          };
+    }
+    -- the net's own legs do not block, a patch does; lift takes the net whole
+    ∷ record {
+      calls =
+          step (begin 9 7 1) ∷ step (lay 5 (point 2 2) (point 6 2)) ∷ step (draw 4 4 5 5)
+          ∷ step (join 5 (point 4 5)) ∷ step (join 5 (point 1 5)) ∷ step (join 5 (point 6 5)) ∷ step (lift 5) ∷ [];
+      outcome =
+          record {
+            replies =
+                answered accepted ∷ answered (laid (point 2 2 ∷ point 6 2 ∷ []) 0) ∷ answered accepted
+                ∷ answered (refused 8) ∷ answered (laid (point 1 5 ∷ point 1 2 ∷ point 2 2 ∷ []) 1)
+                ∷ answered (laid (point 6 5 ∷ point 6 2 ∷ []) 0) ∷ answered accepted ∷ [];
+            entries = entry 0 4 4 5 5 ∷ [];
+            strips = strip 1 1 8 3 ∷ strip 1 3 3 6 ∷ strip 6 3 8 6 ∷ [];
+          };
+    }
+    -- of the points on two legs the nearest; a leg's point that a patch blocks is no end, though nearer
+    ∷ record {
+      calls =
+          step (begin 8 3 0) ∷ step (putLeg (entry 5 0 0 1 3)) ∷ step (putLeg (entry 5 7 0 8 3))
+          ∷ step (join 5 (point 3 1)) ∷ step (join 5 (point 4 0)) ∷ step (begin 3 3 0)
+          ∷ step (putLeg (entry 5 0 0 3 1)) ∷ step (draw 0 0 2 1) ∷ step (join 5 (point 0 0))
+          ∷ step (join 5 (point 0 2)) ∷ [];
+      outcome =
+          record {
+            replies =
+                answered accepted ∷ answered accepted ∷ answered accepted
+                ∷ answered (laid (point 3 1 ∷ point 0 1 ∷ []) 0) ∷ answered (laid (point 4 0 ∷ point 7 0 ∷ []) 0)
+                ∷ answered accepted ∷ answered accepted ∷ answered accepted ∷ answered (refused 8)
+                ∷ answered (laid (point 0 2 ∷ point 2 2 ∷ point 2 0 ∷ []) 1) ∷ [];
+            entries = entry 5 0 0 3 1 ∷ entry 0 0 0 2 1 ∷ entry 5 0 2 3 3 ∷ entry 5 2 0 3 3 ∷ [];
+            strips = strip 0 1 2 2 ∷ [];
+          };
+    }
+    -- where all of the net's points are blocked there is no way
+    ∷ record {
+      calls =
+          step (begin 2 2 0) ∷ step (putLeg (entry 5 0 0 2 1)) ∷ step (draw 0 0 2 1) ∷ step (join 5 (point 0 1)) ∷ [];
+      outcome =
+          record {
+            replies = answered accepted ∷ answered accepted ∷ answered accepted ∷ answered (refused 9) ∷ [];
+            entries = entry 5 0 0 2 1 ∷ entry 0 0 0 2 1 ∷ [];
+            strips = strip 0 1 2 2 ∷ [];
+          };
+    }
     ∷ []
 
 -- every case comes out as document 01 says
@@ -433,6 +502,7 @@ unfolding outcomeFrom cases jobBytes legJob savedBytes jobSlip penJob widePenJob
     after between levelFree uprightFree segment leads isPathTo isWay bends points goings stepsFrom shortest firstFrom
     firstPathTo cornerAt cornersIn drawn
     stripsOf pathOf noPath cornersOf leg legsFrom legs ofNet inUse offFoil blocked
+    freeFor onLegs onNet joinOf joinCorners
     twoBytes boardBytes patchBytes legBytes entryBytes jobOf
     netsOf firstPoint digitsIn decimal setRight column slipLine netLine slipOf
     short cornerRoom tooLong tooFine beginningTooFine

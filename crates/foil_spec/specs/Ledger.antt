@@ -8,11 +8,11 @@ use lib.ListN.{length, take}
 use Rattle.foil_spec.specs.Lists.{range, keep, any}
 use Rattle.foil_spec.specs.Limits.{maxEntries, maxStrips}
 use Rattle.foil_spec.specs.Foil.{Point, Entry, entry, Pen, pen, Layout}
-use Rattle.foil_spec.specs.Foil.{sizeOk, reachOk, penOk, netOk, boxOk, entryOk, free}
+use Rattle.foil_spec.specs.Foil.{sizeOk, reachOk, penOk, netOk, boxOk, entryOk, blocks, free}
 use Rattle.foil_spec.specs.Strips.{Strip, strips, placeOf}
-use Rattle.foil_spec.specs.Paths.{firstPath, isWay, bends}
+use Rattle.foil_spec.specs.Paths.{firstPath, firstPathTo, isWay, bends}
 use Rattle.foil_spec.specs.Corners.{drawn}
-use Rattle.foil_spec.specs.Nets.{ofNet, inUse}
+use Rattle.foil_spec.specs.Nets.{ofNet, inUse, legsOf}
 use Rattle.foil_spec.specs.Saving.{jobOf}
 use Rattle.foil_spec.specs.Slip.{slipOf}
 
@@ -52,6 +52,30 @@ legs net (p ∷ q ∷ cs) = legsFrom net p (q ∷ cs)
 -- the layout with another row of entries
 abbrev pub withEntries : Layout → List Entry → Layout
 withEntries l es = record { width = l .width; height = l .height; pen = l .pen; entries = es }
+
+-- the layout without the net's entries
+abbrev pub without : ℕ → Layout → Layout
+without net l = withEntries l (keep (λ (e : Entry). not (ofNet net e)) (l .entries))
+
+-- neither the edge nor an entry of another net blocks the point (x, y)
+unfoldable pub freeFor : ℕ → Layout → ℕ → ℕ → Bool
+freeFor net l = free (without net l)
+
+-- one of the net's legs has the point
+unfoldable pub onLegs : ℕ → Layout → Point → Bool
+onLegs net l p = any (λ (e : Entry). blocks 0 e (p .x) (p .y)) (legsOf net (l .entries))
+
+-- where a join may end: on one of the net's legs, at a point that is free for the net
+unfoldable pub onNet : ℕ → Layout → Point → Bool
+onNet net l p = onLegs net l p && freeFor net l (p .x) (p .y)
+
+-- the first path of fewest bends from S to the net, over points that are free for it, if there is a path
+unfoldable pub joinOf : ℕ → Layout → Point → Option (List Point)
+joinOf net l S = firstPathTo (freeFor net l) (l .width) (l .height) S (onNet net l)
+
+-- its corners
+unfoldable pub joinCorners : ℕ → Layout → Point → List Point
+joinCorners net l S = Option·getD (joinOf net l S) []
 
 -- the point is not on the foil
 unfoldable pub offFoil : Layout → Point → Bool
@@ -112,9 +136,11 @@ pub data Step : Type 0 where
   find : Point → Point → Step
   book : ℕ → List ℕ → Step
   slip : Step
+  join : ℕ → Point → Step
 
--- a refusal number; or accepted, with corners and bends after a lay or a find, with a strip's place after a look up,
--- with the bytes that were written after a save or a slip, with the numbers of corners and bends after a booking
+-- a refusal number; or accepted, with corners and bends after a lay, a find or a join, with a strip's place after a
+-- look up, with the bytes that were written after a save or a slip, with the numbers of corners and bends after a
+-- booking
 pub data Answer : Type 0 where
   refused : ℕ → Answer
   accepted : Answer
@@ -137,13 +163,14 @@ unfoldable pub next : Step → Layout → Layout
 next (newFoil W H c) l = record { width = W; height = H; pen = penOf c; entries = [] }
 next (draw x0 y0 x1 y1) l = withEntries l (l .entries ++ entry 0 x0 y0 x1 y1 ∷ [])
 next (lay net S T) l = withEntries l (l .entries ++ legs net (cornersOf l S T))
-next (lift net) l = withEntries l (keep (λ (e : Entry). not (ofNet net e)) (l .entries))
+next (lift net) l = without net l
 next (lookUp p) l = l
 next (putLeg e) l = withEntries l (l .entries ++ e ∷ [])
 next save l = l
 next (find S T) l = l
 next (book net ks) l = withEntries l (l .entries ++ legs net (drawn ks))
 next slip l = l
+next (join net S) l = withEntries l (l .entries ++ legs net (joinCorners net l S))
 
 -- what an accepted step answers
 unfoldable pub says : Step → Layout → Answer
@@ -157,6 +184,7 @@ says save l = wrote (jobOf l)
 says (find S T) l = laid (cornersOf l S T) (bends (cornersOf l S T))
 says (book net ks) l = booked (length (drawn ks)) (bends (drawn ks))
 says slip l = wrote (slipOf l)
+says (join net S) l = laid (joinCorners net l S) (bends (joinCorners net l S))
 
 -- a refusal: when it applies, and its number
 pub record Refusal : Type 0 where
@@ -190,6 +218,7 @@ reads save = true
 reads (find S T) = true
 reads (book net ks) = true
 reads slip = true
+reads (join net S) = true
 
 -- a step's own refusals in their order
 unfoldable pub refusals : Step → Room → Layout → List Refusal
@@ -236,6 +265,16 @@ refusals (book net ks) r l =
     ∷ (tooFine (next (book net ks) l) ⇒ 11)
     ∷ []
 refusals slip r l = (ltb (r .output) (length (slipOf l)) ⇒ 12) ∷ []
+refusals (join net S) r l =
+    (not (netOk net) ⇒ 4)
+    ∷ (not (inUse net (l .entries)) ⇒ 6)
+    ∷ (offFoil l S ⇒ 7)
+    ∷ (not (freeFor net l (S .x) (S .y)) ⇒ 8)
+    ∷ (noPath (joinOf net l S) ⇒ 9)
+    ∷ (ltb (cornerRoom r) (length (joinCorners net l S)) ⇒ 12)
+    ∷ (tooLong r (next (join net S) l) ⇒ 10)
+    ∷ (tooFine (next (join net S) l) ⇒ 11)
+    ∷ []
 
 -- a call's own refusals after those for what is lent, which every call begins with; `broken` says that the call reads a
 -- state that breaks a rule

@@ -3,3 +3,4 @@ pub mod Size
 pub mod Extent
 pub mod Lines
 pub mod Links
+pub mod Targets

@@ -7,7 +7,7 @@ use mathlib.Core.List.{List, [], _∷_}
 use mathlib.Core.Option.{Option, none, some}
 use Rattle.foil_spec.specs.Lists.{range, all, any}
 use Rattle.foil_spec.specs.Foil.{Layout}
-use Rattle.foil_spec.specs.Ledger.{Step, newFoil, draw, lay, lift, lookUp, putLeg, save, find, book, slip}
+use Rattle.foil_spec.specs.Ledger.{Step, newFoil, draw, lay, lift, lookUp, putLeg, save, find, book, slip, join}
 use Rattle.foil_spec.specs.Ledger.{Answer, refused, says, Refusal, Room, short, reads, refusals, afterLent, After}
 use Rattle.foil_spec.specs.Ledger.{settle, refusalOf}
 use Rattle.foil_spec.specs.Lent.{Lent, held, stepOn}
@@ -49,6 +49,7 @@ own-mild save r l h = simp or-true
 own-mild (find S T) r l h = simp or-true
 own-mild (book net ks) r l h = simp or-true
 own-mild slip r l h = simp or-true
+own-mild (join net S) r l h = simp or-true
 
 says-on : (s : Step) (l : Layout) → endsJob (says s l) ≡ false
 unfolding says endsJob
@@ -62,6 +63,7 @@ says-on save l = refl
 says-on (find S T) l = refl
 says-on (book net ks) l = refl
 says-on slip l = refl
+says-on (join net S) l = refl
 
 settled-on : (o : Option ℕ) (a : After Answer Lent) (m : Lent) → endsJob (a .answer) ≡ false
     → ((n : ℕ) → o ≡ some n → goesOn n ≡ true) → endsJob (settle o a m .answer) ≡ false

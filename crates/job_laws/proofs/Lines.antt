@@ -13,7 +13,7 @@ use Rattle.foil_spec.specs.Foil.{Point, Layout, noFoil, free}
 use Rattle.foil_spec.specs.Strips.{Strip}
 use Rattle.foil_spec.specs.Paths.{at, bends}
 use Rattle.foil_spec.specs.Ledger.{stripsOf, cornersOf, short, cornerRoom, next, says, first}
-use Rattle.foil_spec.specs.Ledger.{Step, newFoil, draw, lay, lift, lookUp, putLeg, save, find, book, slip}
+use Rattle.foil_spec.specs.Ledger.{Step, newFoil, draw, lay, lift, lookUp, putLeg, save, find, book, slip, join}
 use Rattle.foil_spec.specs.Ledger.{Answer, numberOf}
 use Rattle.foil_spec.specs.Ledger.{refusals, afterLent, After, settle, refusalOf, ledgerStep}
 use Rattle.foil_spec.specs.Job.{jobRoom, steps, isEnd, recordEnd, recordChecks}
@@ -28,6 +28,7 @@ use Rattle.ledger_laws.proofs.Kept.{step-keeps, call-keeps}
 use Rattle.ledger_laws.proofs.Lay.{Laid, lay-seeks, first-laid}
 use Rattle.ledger_laws.proofs.Line.{clearance-number}
 use Rattle.ledger_laws.proofs.Numbers.{answer-passes}
+use Rattle.bend_bound.specs.Room.{noJoin}
 use Rattle.bend_bound.proofs.Room.{corners-few, step-passes, Fine, small, fine-kept, no-foil-fine}
 use Rattle.lines.specs.Lines.{stripLine}
 use Rattle.lines.specs.Output.{trackLine, stepLine, stepLines, replyLines, outputFrom, output}
@@ -62,9 +63,10 @@ unfolding cornerRoom jobRoom
 job-room = omega arith
 
 -- what a step answers passes a test that 0 and its own numbers pass
-number-passes : (p : ℕ → Bool) (s : Step) (l : Layout) → Fine l → p 0 ≡ true → all p (ownNumbers s) ≡ true
+number-passes : (p : ℕ → Bool) (s : Step) → noJoin s ≡ true → (l : Layout) → Fine l → p 0 ≡ true
+    → all p (ownNumbers s) ≡ true
     → p (numberOf (ledgerStep jobRoom s l .answer)) ≡ true
-number-passes p s l fine z h = answer-passes p z jobRoom s l (step-passes jobRoom job-room job-long p s h l fine)
+number-passes p s j l fine z h = answer-passes p z jobRoom s l (step-passes jobRoom job-room job-long p s j h l fine)
 
 -- a track that is laid is a path, which has a corner, and has room for its corners
 laid-possible : (l : Layout) (net : ℕ) (S T : Point) → Fine l
@@ -87,30 +89,31 @@ module _ (l : Layout) (fine : Fine l) where
   lay-line : (net : ℕ) (S T : Point) (o : Option ℕ) → refusalOf jobRoom false (lay net S T) l ≡ o
       → InLines (trackLine net
       (settle o (record { answer = says (lay net S T) l; state = next (lay net S T) l }) l .answer))
-  unfolding settle says trackLine bytesOf possible among ownNumbers numbersFrom but refusals
+  unfolding settle says trackLine bytesOf possible among ownNumbers numbersFrom but refusals noJoin
   lay-line net S T none e = one-line (laidTrack net _ _) (laid-possible l net S T fine e)
   lay-line net S T (some n) e =
       one-line (refusedTrack net n)
-      (step-passes jobRoom job-room job-long (λ k. possible (refusedTrack net k)) (lay net S T) refl l fine n e)
+      (step-passes jobRoom job-room job-long (λ k. possible (refusedTrack net k)) (lay net S T) refl refl l fine n e)
 
   step-line : (s : Step) → InLines (stepLine s (ledgerStep jobRoom s l .answer))
-  unfolding stepLine bytesOf possible among ownNumbers numbersFrom but refusals
+  unfolding stepLine bytesOf possible among ownNumbers numbersFrom but refusals noJoin
   step-line (newFoil W H c) =
       one-line (board _)
-      (number-passes (λ n. possible (board n)) (newFoil W H c) l fine refl
+      (number-passes (λ n. possible (board n)) (newFoil W H c) refl l fine refl
       (clearance-number (λ n. all (λ k. possible (board k)) (keep (but 12) (1 ∷ n ∷ []))) c refl refl))
   step-line (draw x0 y0 x1 y1) =
-      one-line (patch _) (number-passes (λ n. possible (patch n)) (draw x0 y0 x1 y1) l fine refl refl)
+      one-line (patch _) (number-passes (λ n. possible (patch n)) (draw x0 y0 x1 y1) refl l fine refl refl)
   step-line (lay net S T) = unfold ledgerStep in lay-line net S T (refusalOf jobRoom false (lay net S T) l) refl
   step-line (lift net) =
-      one-line (lifted net _) (number-passes (λ n. possible (lifted net n)) (lift net) l fine refl refl)
+      one-line (lifted net _) (number-passes (λ n. possible (lifted net n)) (lift net) refl l fine refl refl)
   step-line (lookUp p) = no-line
   step-line (putLeg e) =
-      one-line (leg (e .net) _) (number-passes (λ n. possible (leg (e .net) n)) (putLeg e) l fine refl refl)
+      one-line (leg (e .net) _) (number-passes (λ n. possible (leg (e .net) n)) (putLeg e) refl l fine refl refl)
   step-line save = no-line
   step-line (find S T) = no-line
   step-line (book net ks) = no-line
   step-line slip = no-line
+  step-line (join net S) = no-line
 
 -- ---- a record's lines
 

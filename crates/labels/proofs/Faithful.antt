@@ -10,7 +10,7 @@ use mathlib.Core.List.{List}
 use lib.ListN.{getD}
 use borrow.Author.Tests.{eq-eqb, eqb-true}
 use Rattle.foil_spec.specs.Paths.{gap}
-use Rattle.courses.specs.Course.{flip, Span, Within, Marks}
+use Rattle.courses.specs.Course.{flip, Span, Within, Marks, Steady}
 use Rattle.courses.proofs.Course.{span-refl, span-sym, span-trans, span-start, span-end, span-part}
 use Rattle.courses.proofs.Slide.{near}
 use Rattle.grid.specs.Lines.{hasMark, Collected}
@@ -99,9 +99,9 @@ collected-up {lines = lines} C a b l lb = pick (decLt a b)
     pick (yes p) = let s = C .rising .up a b p lb in omega arith
     pick (no p) = let e : a ≡ b = omega arith in rw e (omega arith)
 
--- The grid made from marks, where targets are on marked columns.
+-- The grid made from marks, where the targets are steady.
 module _ {f : ℕ → ℕ → Bool} {T : ℕ → ℕ → Type 0} {mx : List ℕ} {w : ℕ} {cross : List ℕ} {n : ℕ} {lines : List ℕ}
-    {m : ℕ} (M : Marks f (hasMark mx) w) (target : (x y : ℕ) → T x y → hasMark mx x ≡ true)
+    {m : ℕ} (M : Marks f (hasMark mx) w) (steady : Steady T (hasMark mx))
     (C : Collected mx w cross n) {edge : List ℕ} (E : Links f cross n lines m edge) where
   near-any : (r s i j c : ℕ) → i < n → j < m → Span f (getD lines j 0) (getD cross i 0) c →
       Within r s (flip f) (flip T) (getD lines j 0) c →
@@ -111,7 +111,7 @@ module _ {f : ℕ → ℕ → Bool} {T : ℕ → ℕ → Type 0} {mx : List ℕ}
   near-any r s i j c li lj sp wc =
       let x : ℕ = getD cross i 0 in
       let y : ℕ = getD lines j 0 in
-      let N = near f (hasMark mx) w M T target r s x y c (eq-eqb _ _ (C .sound i li)) sp wc in
+      let N = near f (hasMark mx) w M T steady r s x y c (eq-eqb _ _ (C .sound i li)) sp wc in
       let b = M .below (N .0) y (span-end f y x (N .0) (N .3)) in
       let q = C .whole (N .0) b (eqb-true _ _ (N .2)) in
       let to = links-any E j lj (collected-up C) i (q .0) li (q .1) (rw (q .2) (N .3)) in

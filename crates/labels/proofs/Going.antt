@@ -127,8 +127,8 @@ full-start edge B = record {
   joined = λ i li. record { on = λ k q lk lq r z. let b = B .le i li k lk in absurd (omega arith) };
 }
 
-pub going-start : (el eu cols rows : List ℕ) {nc nr : ℕ} {l u wl wu ql qu : List ℕ} → Begun l u wl wu ql qu nc nr →
-    Going el eu cols rows nc nr l u wl wu 1 l u wl wu ql qu 0 1 0 1
+pub going-start : (el eu cols rows : List ℕ) {nc nr a b : ℕ} {l u wl wu ql qu : List ℕ} →
+    Begun l u wl wu ql qu nc nr a b → Going el eu cols rows nc nr l u wl wu 1 l u wl wu ql qu 0 a 0 b
 going-start el eu cols rows B = record {
   pos = omega arith;
   rounds = start;

@@ -36,7 +36,7 @@ pub record RunEnd (edge : List ℕ) (line n at r : ℕ) : Type 0 where
 
 -- no label is larger: a round that is not the last one gives a label to a crossing, in one direction or the other
 abbrev pub labelTop : ℕ
-labelTop = 143650
+labelTop = 144724
 
 -- crossing k is a stop for the label v, over which s steps lead from x: it has that label in the other direction, and
 -- its ink there and the steps from x to it make s

@@ -1,5 +1,5 @@
 -- The rounds of the search on a grid with nc columns and nr rows: a level label of column i and row j stands at
--- j * stride + i, an upright one at i * stride + j; 0 is no label, and the target has the label 1 in both lists.
+-- j * stride + i, an upright one at i * stride + j; 0 is no label, and targets have the label 1 in both lists.
 use Prim.Native.Nat.{ℕ, _+_, _-_, _*_, _≤_, _<_}
 use mathlib.Core.Path.{_≡_}
 use mathlib.Core.Logic.{_≢_, _⊎_}
@@ -28,17 +28,17 @@ pub record Twin (l u : List ℕ) (nc nr : ℕ) : Type 0 where
   pub level : (i : ℕ) → i < nr → (k : ℕ) → k < nc → along l i k ≡ 1 → along u k i ≡ 1
   pub upright : (i : ℕ) → i < nc → (k : ℕ) → k < nr → along u i k ≡ 1 → along l k i ≡ 1
 
--- before the first round: the queues begin with the target, which alone has a label
-pub record Begun (l u wl wu ql qu : List ℕ) (nc nr : ℕ) : Type 0 where
-  pub level : Queued ql 0 1 nr nc l 1
-  pub upright : Queued qu 0 1 nc nr u 1
+-- before the first round: the queues, which end at a and b, have the targets, which alone have labels
+pub record Begun (l u wl wu ql qu : List ℕ) (nc nr a b : ℕ) : Type 0 where
+  pub level : Queued ql 0 a nr nc l 1
+  pub upright : Queued qu 0 b nc nr u 1
   pub twin : Twin l u nc nr
   pub level-low : Below nr nc l 1
   pub upright-low : Below nc nr u 1
   pub level-lean : Lean nr nc l wl
   pub upright-lean : Lean nc nr u wu
-  pub level-room : Room (nr - 1) l ql 1
-  pub upright-room : Room (nc - 1) u qu 1
+  pub level-room : Room (nr - 1) l ql a
+  pub upright-room : Room (nc - 1) u qu b
 
 -- after some rounds, the next of which looks for the label v: labels l and u, inks wl and wu
 pub data Rounds (el eu cols rows : List ℕ) (nc nr : ℕ) (l₀ u₀ wl₀ wu₀ : List ℕ)

@@ -41,7 +41,7 @@ fn put_cell(labels: &mut [u32], queue: &mut [u16], line: usize, k: usize, v: u32
 }
 
 // The same, if it has no label.
-fn push_cell(
+pub fn push_cell(
     labels: &mut [u32],
     queue: &mut [u16],
     line: usize,
@@ -248,7 +248,7 @@ fn label_queue(
 }
 
 // Rounds of a level and an upright pass until the crossing of column i and row j has a label, or a round labels
-// nothing. Returns whether it has one. The queues begin with the target.
+// nothing. Returns whether it has one. The queues have the targets, and end at a and b.
 pub fn rounds(
     level: &mut [u32],
     upright: &mut [u32],
@@ -264,10 +264,12 @@ pub fn rounds(
     nr: usize,
     i: usize,
     j: usize,
+    a: usize,
+    b: usize,
 ) -> bool
     requires { ⌜ Sized (now level) (now upright) (now il) (now iu) (now el) (now eu) (now cols) (now rows) nc nr
         × (i < nc) × (j < nr) ⌝ }
-    requires { ⌜ Begun (now level) (now upright) (now il) (now iu) (now ql) (now qu) nc nr ⌝ }
+    requires { ⌜ Begun (now level) (now upright) (now il) (now iu) (now ql) (now qu) nc nr a b ⌝ }
     ensures { λ r. ⌜ Ended (now (el .entry)) (now (eu .entry)) (now (cols .entry)) (now (rows .entry)) nc nr i j
         (now (level .entry)) (now (upright .entry)) (now (il .entry)) (now (iu .entry))
         (now (level .exit)) (now (upright .exit)) (now (il .exit)) (now (iu .exit)) r ⌝ }
@@ -276,9 +278,9 @@ pub fn rounds(
     let mut behind = [0u32; STRIDE];
     let mut v = 1u32;
     let mut la = 0;
-    let mut lb = 1;
+    let mut lb = a;
     let mut ua = 0;
-    let mut ub = 1;
+    let mut ub = b;
     loop {
         if level[j * STRIDE + i] != 0 {
             return true;

@@ -154,6 +154,8 @@ module _ (b : Board) (t s ks : List ℕ) (net : ℕ) (S T : Point) (limit : ℕ)
                 fine = y .fine;
                 allowed = y .may .allowed;
                 long = path-long;
+                clear = free l;
+                inside = free-inside l;
                 way =
                     ap (isWay (free l)) read-path
                     ∙ path-drawn l S T (pathOf l S T) refl (found .none ∙ ne-eqb k 0 some-path);

@@ -132,7 +132,7 @@ module _ (l : Layout) where
 
 -- what a step that is accepted leaves
 module _ (r : Room) (s : Step) (l : Layout) where
-  unrefused-state : refusalOf r false s l ≡ none → ledgerStep r s l .state ≡ next s l
+  pub unrefused-state : refusalOf r false s l ≡ none → ledgerStep r s l .state ≡ next s l
   unfolding ledgerStep settle
   unrefused-state e = rw e refl
 

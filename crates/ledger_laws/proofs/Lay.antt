@@ -113,18 +113,17 @@ pub record Laid (s : Step) (S T : Point) (r : Room) (broken : Bool) (l : Layout)
   pub corners : cs ≡ cornersOf l S T
   pub bent : n ≡ bends (cornersOf l S T)
 
-settled-laid : {A : Type 0} (o : Option ℕ) (ds cs : List Point) (k n : ℕ) (new old : A)
+pub settled-laid : {A : Type 0} (o : Option ℕ) (ds cs : List Point) (k n : ℕ) (new old : A)
     → settle o (record { answer = laid ds k; state = new }) old .answer ≡ laid cs n
     → (o ≡ none) × (cs ≡ ds) × (n ≡ k)
 unfolding settle
 settled-laid none ds cs k n new old h = (refl, cc, cc)
 settled-laid (some j) ds cs k n new old h = absurd (let z : _≡_ {A = ℕ} 0 1 = cc in omega arith)
 
-path-is : (l : Layout) (S T : Point) (o : Option (List Point)) → pathOf l S T ≡ o → noPath o ≡ false
-    → pathOf l S T ≡ some (Option·getD (pathOf l S T) [])
+pub path-is : (o : Option (List Point)) → noPath o ≡ false → o ≡ some (Option·getD o [])
 unfolding noPath
-path-is l S T none e h = clash refl h
-path-is l S T (some cs) e h = rw e refl
+path-is none h = clash refl h
+path-is (some cs) h = refl
 
 module _ {s : Step} {S T : Point} (k : Seeks s S T) where
   pub of-laid : (r : Room) (l : Layout) (cs : List Point) (n : ℕ) → ledgerStep r s l .answer ≡ laid cs n
@@ -149,7 +148,7 @@ module _ {s : Step} {S T : Point} (k : Seeks s S T) where
   unfolding pathOf cornersOf
   first-laid r b l cs n a =
       let has-path = k .looks r l (unrefused-own r s l b (a .unrefused)) in
-      let e = path-is l S T (pathOf l S T) refl has-path in (
+      let e = path-is (pathOf l S T) has-path in (
         subst (λ (ds : List Point). IsFirst (free l) S (at T) ds) (sym (a .corners))
             (gives-first (free l) (l .width) (l .height) (free-inside l) S (at T) (cornersOf l S T) e),
         a .bent ∙ ap bends (sym (a .corners)),
@@ -175,7 +174,7 @@ keep-others net (e ∷ es) ds h =
     let a : ofNet net e ≡ false = or-l (ofNet net e) (any (ofNet net) es) h in
     rw a (ap (λ (xs : List Entry). e ∷ xs) (keep-others net es ds (or-r (ofNet net e) (any (ofNet net) es) h)))
 
-leg-net : (net : ℕ) (p q : Point) → ofNet net (leg net p q) ≡ true
+pub leg-net : (net : ℕ) (p q : Point) → ofNet net (leg net p q) ≡ true
 unfolding ofNet leg
 leg-net net p q = eq-eqb net net refl
 
@@ -184,7 +183,7 @@ unfolding legsFrom
 drop-legs net p [] = refl
 drop-legs net p (q ∷ cs) = rw (leg-net net p q) (drop-legs net q cs)
 
-keep-none : (net : ℕ) (cs : List Point) → keep (λ (e : Entry). not (ofNet net e)) (legs net cs) ≡ []
+pub keep-none : (net : ℕ) (cs : List Point) → keep (λ (e : Entry). not (ofNet net e)) (legs net cs) ≡ []
 unfolding legs
 keep-none net [] = refl
 keep-none net (p ∷ []) = rw (leg-net net p p) refl

@@ -17,6 +17,8 @@ pub mod Demand2
 pub mod Demand3
 pub mod Drawn
 pub mod Apart
+pub mod Join
+pub mod Joins
 pub mod OldJobs
 pub mod Opening
 pub mod Numbers

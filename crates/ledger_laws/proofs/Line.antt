@@ -13,14 +13,15 @@ use Rattle.foil_spec.specs.Limits.{maxEntries}
 use Rattle.foil_spec.specs.Foil.{Point, Entry, entry, Pen, pen, Layout, noFoil, sizeOk, reachOk, penOk, netOk}
 use Rattle.foil_spec.specs.Foil.{boxOk, shapeOk, entryOk, free}
 use Rattle.foil_spec.specs.Strips.{Strip}
-use Rattle.foil_spec.specs.Paths.{at, anywhere, either, leads, isWay}
+use Rattle.foil_spec.specs.Paths.{at, anywhere, either, leads, isWay, firstPathTo}
 use Rattle.foil_spec.specs.Corners.{drawn}
 use Rattle.foil_spec.specs.Saving.{jobOf}
 use Rattle.foil_spec.specs.Slip.{slipOf}
-use Rattle.foil_spec.specs.Nets.{ofNet}
+use Rattle.foil_spec.specs.Nets.{ofNet, inUse}
 use Rattle.foil_spec.specs.Ledger.{stripsOf, pathOf, cornersOf, legs, withEntries, offFoil, Room, cornerRoom, tooLong}
 use Rattle.foil_spec.specs.Ledger.{tooFine, Clearance, byPen, byReach, penOf, clearanceRefusal, Step, newFoil, draw}
-use Rattle.foil_spec.specs.Ledger.{lay, lift, lookUp, putLeg, save, find, book, slip}
+use Rattle.foil_spec.specs.Ledger.{lay, lift, lookUp, putLeg, save, find, book, slip, join}
+use Rattle.foil_spec.specs.Ledger.{without, freeFor, joinOf, joinCorners}
 use Rattle.foil_spec.specs.Ledger.{numberOf, next, says, refused, Refusal, first, reads, refusals, settle}
 use Rattle.foil_spec.specs.Lent.{layoutOk}
 use Rattle.list_laws.proofs.Tests.{clash, and-l, and-r, and-i, or-l, not-ff, both, parts, all-append, all-keep}
@@ -29,7 +30,7 @@ use Rattle.path_laws.proofs.Laws.{gives-first}
 use Rattle.path_laws.proofs.Ways.{path-way, way-is}
 use Rattle.strip_laws.proofs.Strips.{Held}
 use Rattle.strip_laws.proofs.Laws.{one-strip, no-strip}
-use Rattle.ledger_laws.specs.Line.{Line, Lacks, corners, bytes, page, but, numbersFrom, ownNumbers}
+use Rattle.ledger_laws.specs.Line.{Line, Lacks, corners, joint, bytes, page, but, numbersFrom, ownNumbers}
 use Rattle.ledger_laws.proofs.Refusals.{no-rule, no-more, none-applies, first-passes}
 use Rattle.zones.proofs.Free.{free-inside, free-far, bare-free}
 use Rattle.ledger_laws.proofs.Legs.{legs-ok}
@@ -92,13 +93,24 @@ pub booked-ok : (l : Layout) (net : ℕ) (cs : List Point) → netOk net ≡ tru
     → all (entryOk (l .width) (l .height)) (legs net cs) ≡ true
 booked-ok l net cs h w = legs-ok (l .width) (l .height) net h (free l) (free-inside l) cs w
 
-laid-ok : (l : Layout) (net : ℕ) (S T : Point) (o : Option (List Point)) → pathOf l S T ≡ o → netOk net ≡ true
+-- so are the legs of the first path to any target
+first-ok : (l : Layout) (net : ℕ) (S : Point) (T : Point → Bool) (o : Option (List Point))
+    → firstPathTo (free l) (l .width) (l .height) S T ≡ o → netOk net ≡ true
     → all (entryOk (l .width) (l .height)) (legs net (Option·getD o [])) ≡ true
-unfolding pathOf
-laid-ok l net S T none e h = unfold legs in refl
-laid-ok l net S T (some cs) e h =
-    let p = gives-first (free l) (l .width) (l .height) (free-inside l) S (at T) cs e .path in
-    booked-ok l net cs h (path-way (free l) S (at T) cs p)
+first-ok l net S T none e h = unfold legs in refl
+first-ok l net S T (some cs) e h =
+    let p = gives-first (free l) (l .width) (l .height) (free-inside l) S T cs e .path in
+    booked-ok l net cs h (path-way (free l) S T cs p)
+
+laid-ok : (l : Layout) (net : ℕ) (S T : Point) → netOk net ≡ true
+    → all (entryOk (l .width) (l .height)) (legs net (cornersOf l S T)) ≡ true
+unfolding cornersOf pathOf
+laid-ok l net S T h = first-ok l net S (at T) (pathOf l S T) refl h
+
+joined-ok : (l : Layout) (net : ℕ) (S : Point) → netOk net ≡ true
+    → all (entryOk (l .width) (l .height)) (legs net (joinCorners net l S)) ≡ true
+unfolding joinCorners joinOf freeFor
+joined-ok l net S h = first-ok (without net l) net S _ (joinOf net l S) refl h
 
 -- no more entries than a foil may have are no more than a table has places
 few-after : (r : Room) (l : Layout) → tooLong r l ≡ false → length (l .entries) ≤ maxEntries
@@ -145,18 +157,19 @@ no-12 : (rs : List Refusal) → all (λ (c : Refusal). not (c .applies) || but 1
 unfolding but
 no-12 rs h e = true≢false (sym (first-passes (but 12) rs h 12 e))
 
--- a step that is refused by 12, but not where the corners of the path have room, has more corners than places
-corners-12 : (S T : Point) (r : Room) (l : Layout) (rs : List Refusal)
-    → (ltb (cornerRoom r) (length (cornersOf l S T)) ≡ false
+-- a step that is refused by 12, but not where its corners have room, has more corners than places
+corners-12 : (cs : List Point) (s : Step) (r : Room) (l : Layout) (rs : List Refusal)
+    → (cornerRoom r < length cs → Lacks s r l)
+    → (ltb (cornerRoom r) (length cs) ≡ false
     → all (λ (c : Refusal). not (c .applies) || but 12 (c .number)) rs ≡ true)
-    → first rs ≡ some 12 → Lacks r l
-corners-12 S T r l rs h e =
-    both (ltb (cornerRoom r) (length (cornersOf l S T)))
-    (λ t. corners S T (ltb-true (cornerRoom r) (length (cornersOf l S T)) t))
+    → first rs ≡ some 12 → Lacks s r l
+corners-12 cs s r l rs lacks h e =
+    both (ltb (cornerRoom r) (length cs))
+    (λ t. lacks (ltb-true (cornerRoom r) (length cs) t))
     (λ t. absurd (no-12 rs (h t) e))
 
 -- a save that is refused by 12 has more bytes than are lent
-save-12 : (r : Room) (l : Layout) → first (refusals save r l) ≡ some 12 → Lacks r l
+save-12 : (r : Room) (l : Layout) → first (refusals save r l) ≡ some 12 → Lacks save r l
 unfolding refusals but
 save-12 r l e =
     both (ltb (r .output) (length (jobOf l)))
@@ -164,7 +177,7 @@ save-12 r l e =
     (λ t. absurd (no-12 _ (simp (t, or-true)) e))
 
 -- so has a slip
-slip-12 : (r : Room) (l : Layout) → first (refusals slip r l) ≡ some 12 → Lacks r l
+slip-12 : (r : Room) (l : Layout) → first (refusals slip r l) ≡ some 12 → Lacks slip r l
 unfolding refusals but
 slip-12 r l e =
     both (ltb (r .output) (length (slipOf l)))
@@ -271,7 +284,7 @@ unfolding next says numberOf numbersFrom ownNumbers but refusals reads cornersOf
 lay-line net S T = record {
   kept = λ r l g h.
       appended r l (legs net (cornersOf l S T)) (g refl)
-      (laid-ok l net S T (pathOf l S T) refl (not-ff (netOk net) (search none-applies)))
+      (laid-ok l net S T (not-ff (netOk net) (search none-applies)))
       (search none-applies depth 12) (search none-applies depth 12);
   unbegun = λ t r h. clash (all-off S) (or-l (offFoil noFoil S) (offFoil noFoil T) (search none-applies));
   accepts = λ l. refl;
@@ -279,7 +292,7 @@ lay-line net S T = record {
   unbroken = refl;
   of-room = λ r r′ l e f. rw (same-long r r′ _ f, same-corners r r′ e) refl;
   blind = λ z. absurd (true≢false z);
-  output = λ r l h. (refl, corners-12 S T r l _ (λ t. simp (t, or-true)) h);
+  output = λ r l h. (refl, corners-12 (cornersOf l S T) (lay net S T) r l _ (corners S T) (λ t. simp (t, or-true)) h);
 }
 
 lift-line : (net : ℕ) → Line (lift net)
@@ -347,7 +360,7 @@ find-line S T = record {
   unbroken = refl;
   of-room = λ r r′ l e f. rw (same-corners r r′ e) refl;
   blind = λ z. absurd (true≢false z);
-  output = λ r l h. (refl, corners-12 S T r l _ (λ t. simp (t, or-true)) h);
+  output = λ r l h. (refl, corners-12 (cornersOf l S T) (find S T) r l _ (corners S T) (λ t. simp (t, or-true)) h);
 }
 
 book-line : (net : ℕ) (ks : List ℕ) → Line (book net ks)
@@ -379,6 +392,23 @@ slip-line = record {
   output = λ r l h. (refl, slip-12 r l h);
 }
 
+join-line : (net : ℕ) (S : Point) → Line (join net S)
+unfolding next says numberOf numbersFrom ownNumbers but refusals reads
+join-line net S = record {
+  kept = λ r l g h.
+      appended r l (legs net (joinCorners net l S)) (g refl)
+      (joined-ok l net S (not-ff (netOk net) (search none-applies)))
+      (search none-applies depth 12) (search none-applies depth 12);
+  unbegun = λ t r h. unfold inUse in clash (not-ff (inUse net []) (search none-applies)) refl;
+  accepts = λ l. refl;
+  numbers = λ r l. refl;
+  unbroken = refl;
+  of-room = λ r r′ l e f. rw (same-long r r′ _ f, same-corners r r′ e) refl;
+  blind = λ z. absurd (true≢false z);
+  output = λ r l h.
+      (refl, corners-12 (joinCorners net l S) (join net S) r l _ (joint net S refl) (λ t. simp (t, or-true)) h);
+}
+
 -- what every step keeps
 pub line : (s : Step) → Line s
 line (newFoil W H c) = new-line W H c
@@ -391,6 +421,7 @@ line save = save-line
 line (find S T) = find-line S T
 line (book net ks) = book-line net ks
 line slip = slip-line
+line (join net S) = join-line net S
 
 -- a step that answers a refusal was refused by its number
 pub settled-refused : {A : Type 0} (o : Option ℕ) (s : Step) (l : Layout) (new old : A) (n : ℕ) → 0 < n

@@ -20,10 +20,10 @@ use Rattle.foil_spec.specs.Calls.{wholeRefusals, ohmsReply, reply, ledgerCall, 
 use Rattle.foil_spec.specs.Ohms.{ohmsRefusals}
 use Rattle.foil_spec.specs.declared.Ink.{Ink}
 use Rattle.foil_spec.specs.Sequence.{Lending, roomFor, told, Left, leaves, runLedger}
-use Rattle.list_laws.proofs.Tests.{both, and-i, not-t, all-append}
-use Rattle.list_laws.proofs.Members.{In, of-all, none-of, in-keep}
+use Rattle.list_laws.proofs.Tests.{both, and-l, and-r, and-i, not-t, all-append}
+use Rattle.list_laws.proofs.Members.{In, of-all, to-all, none-of, in-keep}
 use Rattle.ledger_laws.specs.Line.{but, numbersFrom, ownNumbers}
-use Rattle.ledger_laws.specs.Numbers.{numbersIn, numbersOf, among, NeverBroken}
+use Rattle.ledger_laws.specs.Numbers.{stepsIn, numbersIn, numbersOf, among, NeverBroken}
 use Rattle.ledger_laws.proofs.Refusals.{first-passes, first-in}
 use Rattle.ledger_laws.proofs.Line.{line}
 use Rattle.ledger_laws.proofs.Kept.{step-keeps}
@@ -42,9 +42,11 @@ module _ (p : ℕ → Bool) (zero-passes : p 0 ≡ true) where
   unfolding ledgerStep
   answer-passes r s l h = settled-passes (refusalOf r false s l) s l h
 
--- a test p that 0 passes, and each number that a step on a layout with Q, a record or the ohms are refused by
-module _ (p : ℕ → Bool) (zero-passes : p 0 ≡ true) (Q : Layout → Type 0) (r : Room)
-    (step-passes : (s : Step) (l : Layout) → Q l → (n : ℕ) → refusalOf r false s l ≡ some n → p n ≡ true)
+-- a test p that 0 passes, and each number that a step of some kind on a layout with Q, a record or the ohms are refused
+-- by
+module _ (p : ℕ → Bool) (zero-passes : p 0 ≡ true) (kind : Step → Bool) (Q : Layout → Type 0) (r : Room)
+    (step-passes : (s : Step) → kind s ≡ true → (l : Layout) → Q l → (n : ℕ) → refusalOf r false s l ≡ some n
+    → p n ≡ true)
     (next-keeps : (s : Step) (l : Layout) → Q l → refusalOf r false s l ≡ none → Q (next s l)) where
   then-pass : (a : After Answer Layout) (b : After (List Answer) Layout) → p (numberOf (a .answer)) ≡ true
       → all p (map numberOf (b .answer)) ≡ true → all p (map numberOf (andThen a b .answer)) ≡ true
@@ -59,21 +61,21 @@ module _ (p : ℕ → Bool) (zero-passes : p 0 ≡ true) (Q : Layout → Type 0)
       go true = and-i {a = p (numberOf (a .answer))} h refl
       go false = and-i {a = p (numberOf (a .answer))} h k
 
-  steps-pass : (ss : List Step) (l : Layout) → Q l
+  steps-pass : (ss : List Step) → all kind ss ≡ true → (l : Layout) → Q l
       → all p (map numberOf (actAll (ledgerStep r) ss l .answer)) ≡ true
   unfolding actAll
-  steps-pass [] l g = refl
-  steps-pass (s ∷ ss) l g =
-      then-pass (ledgerStep r s l) _ (answer-passes p zero-passes r s l (step-passes s l g))
-      (steps-pass ss (ledgerStep r s l .state) (step-keeps Q r next-keeps s l g))
+  steps-pass [] k l g = refl
+  steps-pass (s ∷ ss) k l g =
+      then-pass (ledgerStep r s l) _ (answer-passes p zero-passes r s l (step-passes s (and-l (kind s) _ k) l g))
+      (steps-pass ss (and-r (kind s) _ k) (ledgerStep r s l .state) (step-keeps Q r next-keeps s l g))
 
-  record-passes : (o : Option ℕ) (e : Bool) (ss : List Step) (place : ℕ) (l : Layout) → Q l
+  record-passes : (o : Option ℕ) (e : Bool) (ss : List Step) (place : ℕ) → all kind ss ≡ true → (l : Layout) → Q l
       → ((n : ℕ) → o ≡ some n → p n ≡ true)
       → all p (numbersIn (actRecord (ledgerStep r) o e ss place l .answer)) ≡ true
   unfolding actRecord numbersIn answersIn numberOf
-  record-passes (some n) e ss place l g h = and-i {a = p n} (h n refl) refl
-  record-passes none true ss place l g h = refl
-  record-passes none false ss place l g h = steps-pass ss l g
+  record-passes (some n) e ss place k l g h = and-i {a = p n} (h n refl) refl
+  record-passes none true ss place k l g h = refl
+  record-passes none false ss place k l g h = steps-pass ss k l g
 
   ohms-pass : (o : Option ℕ) (x : Float) → ((n : ℕ) → o ≡ some n → p n ≡ true)
       → all p (numbersIn (ohmsReply o x)) ≡ true
@@ -84,13 +86,16 @@ module _ (p : ℕ → Bool) (zero-passes : p 0 ≡ true) (Q : Layout → Type 0)
   pub call-passes : ((bs : List ℕ) (at n : ℕ) → first (wholeRefusals r false bs at) ≡ some n → p n ≡ true)
       → ((net : ℕ) (i : Ink) (l : Layout) (n : ℕ) → first (afterLent r false (ohmsRefusals net i l)) ≡ some n
       → p n ≡ true)
-      → (c : Call) (l : Layout) → Q l → all p (numbersIn (ledgerCall r c l .answer)) ≡ true
-  unfolding ledgerCall reply
-  call-passes h k (step s) l g =
+      → (c : Call) → all kind (stepsIn c) ≡ true → (l : Layout) → Q l
+      → all p (numbersIn (ledgerCall r c l .answer)) ≡ true
+  unfolding ledgerCall reply stepsIn
+  call-passes h k (step s) a l g =
       unfold numbersIn answersIn in
-      and-i {a = p (numberOf (ledgerStep r s l .answer))} (answer-passes p zero-passes r s l (step-passes s l g)) refl
-  call-passes h k (runRecord bs at) l g = record-passes _ (isEnd bs at) (steps bs at) (recordEnd bs at) l g (h bs at)
-  call-passes h k (ohms net i) l g = ohms-pass _ _ (k net i l)
+      and-i {a = p (numberOf (ledgerStep r s l .answer))}
+      (answer-passes p zero-passes r s l (step-passes s (and-l (kind s) _ a) l g)) refl
+  call-passes h k (runRecord bs at) a l g =
+      record-passes _ (isEnd bs at) (steps bs at) (recordEnd bs at) a l g (h bs at)
+  call-passes h k (ohms net i) a l g = ohms-pass _ _ (k net i l)
 
 -- the numbers of a list of calls each of which passes the test and keeps Q
 module _ (p : ℕ → Bool) (Q : Layout → Type 0) (m : Lent) where
@@ -162,7 +167,7 @@ never-broken m l c cs h =
     let r : Room = roomFor d m in
     record {
       answers =
-          call-passes (but 13) refl any r (λ s k g. step-but-13 r s k) (λ s k g e. tt) (file-but-13 r) (ohms-but-13 r)
-          (d .call);
+          call-passes (but 13) refl (λ s. true) any r (λ s a k g. step-but-13 r s k) (λ s k g e. tt) (file-but-13 r)
+          (ohms-but-13 r) (d .call) (to-all (λ s. true) (stepsIn (d .call)) (λ s i. refl));
       keeps = λ k g. tt;
     }))

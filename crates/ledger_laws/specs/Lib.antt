@@ -5,6 +5,7 @@ pub mod Demand2
 pub mod Demand3
 pub mod Drawn
 pub mod Apart
+pub mod Joins
 pub mod OldJobs
 pub mod Numbers
 pub mod Saved

@@ -10,8 +10,8 @@ use Rattle.foil_spec.specs.Lists.{all, keep}
 use Rattle.foil_spec.specs.Foil.{Point, Layout, noFoil}
 use Rattle.foil_spec.specs.Saving.{jobOf}
 use Rattle.foil_spec.specs.Slip.{slipOf}
-use Rattle.foil_spec.specs.Ledger.{cornersOf, Room, cornerRoom, Step, numberOf, next, says, Refusal, first}
-use Rattle.foil_spec.specs.Ledger.{reads, refusals}
+use Rattle.foil_spec.specs.Ledger.{cornersOf, joinCorners, Room, cornerRoom, Step, join, numberOf, next, says}
+use Rattle.foil_spec.specs.Ledger.{Refusal, first, reads, refusals}
 use Rattle.foil_spec.specs.Lent.{layoutOk}
 
 -- every number but n
@@ -27,11 +27,13 @@ unfoldable pub ownNumbers : Step → List ℕ
 ownNumbers s =
     keep (but 12) (numbersFrom (refusals s (record { table = 0; strips = 0; output = 0; limit = 0 }) noFoil))
 
--- what an output list is too short for: the corners of a path, the bytes of the foil's file, or those of its slip
-pub data Lacks (r : Room) (l : Layout) : Type 0 where
-  corners : (S T : Point) → cornerRoom r < length (cornersOf l S T) → Lacks r l
-  bytes : r .output < length (jobOf l) → Lacks r l
-  page : r .output < length (slipOf l) → Lacks r l
+-- what an output list is too short for: the corners of a path, those of the join that the step is, the bytes of the
+-- foil's file, or those of its slip
+pub data Lacks (s : Step) (r : Room) (l : Layout) : Type 0 where
+  corners : (S T : Point) → cornerRoom r < length (cornersOf l S T) → Lacks s r l
+  joint : (net : ℕ) (S : Point) → s ≡ join net S → cornerRoom r < length (joinCorners net l S) → Lacks s r l
+  bytes : r .output < length (jobOf l) → Lacks s r l
+  page : r .output < length (slipOf l) → Lacks s r l
 
 -- the step s on the ledger
 pub record Line (s : Step) : Type 0 where
@@ -52,4 +54,4 @@ pub record Line (s : Step) : Type 0 where
   pub blind : reads s ≡ false → (r : Room) (l l′ : Layout)
       → (refusals s r l ≡ refusals s r l′) × (says s l ≡ says s l′) × (next s l ≡ next s l′)
   -- its own 12 is for want of output, on a foil that it reads
-  pub output : (r : Room) (l : Layout) → first (refusals s r l) ≡ some 12 → (reads s ≡ true) × Lacks r l
+  pub output : (r : Room) (l : Layout) → first (refusals s r l) ≡ some 12 → (reads s ≡ true) × Lacks s r l

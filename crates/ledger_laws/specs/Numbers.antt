@@ -2,14 +2,21 @@
 use Prim.Native.Nat.{ℕ}
 use mathlib.Core.Path.{_≡_}
 use mathlib.Core.Bool.{Bool, false}
-use mathlib.Core.List.{List, _∷_, map}
+use mathlib.Core.List.{List, [], _∷_, map}
 use lib.Dec.{eqb}
 use Rattle.foil_spec.specs.Lists.{any, each}
 use Rattle.foil_spec.specs.Foil.{Layout}
-use Rattle.foil_spec.specs.Ledger.{numberOf}
+use Rattle.foil_spec.specs.Ledger.{Step, numberOf}
 use Rattle.foil_spec.specs.Lent.{Lent}
-use Rattle.foil_spec.specs.Calls.{Reply, answersIn}
+use Rattle.foil_spec.specs.Job.{steps}
+use Rattle.foil_spec.specs.Calls.{Call, step, runRecord, ohms, Reply, answersIn}
 use Rattle.foil_spec.specs.Sequence.{Lending, Begins, Left, runLent, told}
+
+-- the steps that a call may run
+unfoldable pub stepsIn : Call → List Step
+stepsIn (step s) = s ∷ []
+stepsIn (runRecord bs at) = steps bs at
+stepsIn (ohms net i) = []
 
 -- the numbers in a reply: that of each answer, 0 if accepted; ohms have none
 unfoldable pub numbersIn : Reply → List ℕ

@@ -57,46 +57,13 @@ module _ (f : ℕ → ℕ → Bool) (S : Point) (T : Point → Bool) where
       (of-segment f either S q (and-l (segment f either S q) (T q) h))
 
   -- of two ways to go on from S with equal bends, of which the first has fewer segments, the first is shorter
-  fewer-shorter : (cs ds : List Point) → leads f T either S ds ≡ true → length cs < length ds
+  pub fewer-shorter : (cs ds : List Point) → leads f T either S ds ≡ true → length cs < length ds
       → bends (S ∷ ds) ≡ bends (S ∷ cs) → pathLength (S ∷ cs) < pathLength (S ∷ ds)
   unfolding bends
   fewer-shorter [] [] h l e = absurd (omega arith)
   fewer-shorter [] (q ∷ []) h l e = one-step q h
   fewer-shorter [] (q ∷ r ∷ ds) h l e = absurd (omega arith)
   fewer-shorter (c ∷ cs) ds h l e = absurd (omega arith)
-
-is-nil : (cs : List Point) → length cs ≡ 0 → cs ≡ []
-is-nil [] e = refl
-is-nil (c ∷ cs) e = absurd (omega arith)
-
--- where the target is one point
-module _ (f : ℕ → ℕ → Bool) (S T : Point) where
-  -- no path leaves S and is back by one segment
-  no-loop : (cs : List Point) → leads f (at T) either S [] ≡ true → leads f (at T) either S cs ≡ true
-      → length cs ≡ 1 → ⊥
-  unfolding leads
-  no-loop [] h k e = omega arith
-  no-loop (q ∷ r ∷ cs) h k e = omega arith
-  no-loop (q ∷ []) h k e =
-      let s : segment f either S q ≡ true = and-l (segment f either S q) (same q T) k in
-      let back : q ≡ S = same-eq q T (and-r (segment f either S q) (same q T) k) ∙ sym (same-eq S T h) in
-      still (subst (λ (z : Point). segment f either S z ≡ true) back s)
-    where
-      still : segment f either S S ≡ true → ⊥
-      still s =
-          ⊎-elim (λ (a : Level f S S). a .apart refl) (λ (a : Upright f S S). a .apart refl)
-          (of-segment f either S S s)
-
-  -- of two ways to go on from S with equal bends, one no shorter than the other, both have as many segments
-  pub same-bends : (cs ds : List Point) → leads f (at T) either S cs ≡ true → leads f (at T) either S ds ≡ true
-      → length cs ≤ length ds → bends (S ∷ ds) ≡ bends (S ∷ cs) → length ds ≡ length cs
-  unfolding bends
-  same-bends cs ds h k l e =
-      by-cases (ℕ-discrete (length ds) (length cs)) (λ q. q)
-      (λ q.
-      let one : length ds ≡ 1 = omega arith in
-      let nil : length cs ≡ 0 = omega arith in
-      absurd (no-loop ds (subst (λ (l : List Point). leads f (at T) either S l ≡ true) (is-nil cs nil) h) k one))
 
 module _ (f : ℕ → ℕ → Bool) (W H : ℕ) (S : Point) (T : Point → Bool) where
   -- the ways to go on from S by n segments

@@ -5,4 +5,5 @@ pub mod Bound
 pub mod Order
 pub mod FirstPath
 pub mod Ways
+pub mod Ends
 pub mod Laws

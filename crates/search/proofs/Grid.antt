@@ -1,31 +1,45 @@
--- The grid is faithful to the foil, and both points are on it.
-use Prim.Native.Nat.{ℕ, _≤_, _<_}
+-- The grid is faithful to the foil, its first point is on it, and so are the targets that are needed.
+use Prim.Native.Nat.{ℕ, _+_, _≤_, _<_}
 use native.Mathlib.Omega.{arith}
-use mathlib.Core.Path.{_≡_}
-use mathlib.Core.Bool.{Bool, true, false}
-use mathlib.Core.List.{List}
-use borrow.Author.Tests.{eq-eqb}
-use Rattle.foil_spec.specs.Foil.{Point}
-use Rattle.zones.specs.Boxes.{boxFree}
+use mathlib.Core.Path.{_≡_, refl, sym, ap, _∙_}
+use mathlib.Core.Bool.{Bool, true, false, not, _&&_}
+use mathlib.Core.List.{List, [], _∷_, map}
+use lib.Dec.{ltb}
+use lib.ListN.{getD}
+use borrow.Author.Tests.{lt-ltb}
+use Rattle.foil_spec.specs.Lists.{range, any, all}
+use Rattle.foil_spec.specs.Foil.{Point, point, Entry}
+use Rattle.foil_spec.specs.Lent.{entryAt}
+use Rattle.list_laws.proofs.Tests.{both}
+use Rattle.zones.specs.Boxes.{covers, boxFree}
 use Rattle.zones.proofs.Free.{not-covered}
 use Rattle.courses.specs.Course.{flip}
-use Rattle.courses.specs.Best.{At}
-use Rattle.grid.specs.Lines.{hasMark}
-use Rattle.grid.proofs.Board.{grid-marks, grid-links}
+use Rattle.courses.specs.Best.{On}
+use Rattle.grid.specs.Targets.{inBoxes, target}
+use Rattle.grid.proofs.Board.{grid-marks, grid-steady, grid-links}
 use Rattle.labels.proofs.Faithful.{Faithful, faithful}
-use Rattle.search.specs.Grid.{mostLines, Posed, Axis, Grid}
-use Rattle.search.specs.Seeds.{Has}
+use Rattle.search.specs.Grid.{mostLines, Aimed, Axis, Grid}
+use Rattle.search.specs.Seeds.{Has, boxed, clearAt, aimedAt}
 use Rattle.search.specs.Search.{LabelRoom}
 
--- the target's number is marked
-target-marked : {z : List ℕ} {n : ℕ} {upright : Bool} {size p q : ℕ} {lines : List ℕ} {k : ℕ} (x : ℕ)
-    → (A : Axis z n upright size p q lines k) → x ≡ q → hasMark (A .marks) x ≡ true
-target-marked x A e = rw e (eq-eqb _ _ (A .marked .q-on))
-
 -- an axis has few lines
-pub axis-few : {z : List ℕ} {n : ℕ} {upright : Bool} {size p q : ℕ} {lines : List ℕ} {k : ℕ}
-    → Axis z n upright size p q lines k → k ≤ mostLines n
+pub axis-few : {z : List ℕ} {n : ℕ} {t : List ℕ} {k : ℕ} {upright : Bool} {size p : ℕ} {lines : List ℕ} {m : ℕ}
+    → Axis z n t k upright size p lines m → m ≤ mostLines (n + k)
 axis-few A = omega (arith, A .marked .few, A .collected .count)
+
+-- a point of the foil is free just if no box has it
+aimed-is : (b : Bool) (es : List Entry) (w h x y : ℕ) → x < w → y < h
+    → (b && not (any (λ (e : Entry). covers e x y) es))
+    ≡ (b && (ltb x w && ltb y h && all (λ (e : Entry). not (covers e x y)) es))
+aimed-is b es w h x y lx ly =
+    ap (λ (t : Bool). b && t)
+    (none-all es ∙ sym (rw (lt-ltb x w lx, lt-ltb y h ly) refl))
+  where
+    none-all : (es : List Entry)
+        → not (any (λ (e : Entry). covers e x y) es) ≡ all (λ (e : Entry). not (covers e x y)) es
+    none-all [] = refl
+    none-all (e ∷ es) =
+        both (covers e x y) (λ t. rw t refl) (λ t. rw t (none-all es))
 
 -- lists for the lines that there may be have room for those that there are
 pub label-room : {m nc nr : ℕ} {l u wl wu ql qu : List ℕ} → nc ≤ m → nr ≤ m → LabelRoom m m l u wl wu ql qu
@@ -44,34 +58,47 @@ label-room c r M =
       upright-queue = M .upright-queue;
     }
 
-module _ {z : List ℕ} {n w h : ℕ} {S T : Point} where
-  -- both points are on the foil
-  pub posed-on : Posed z n w h S T → (S .x < w) × (S .y < h) × (T .x < w) × (T .y < h)
-  posed-on P =
-      let s = not-covered w h n z (S .x) (S .y) (P .s-free) in
-      let e = not-covered w h n z (T .x) (T .y) (P .t-free) in
-      (s .0, s .1, e .0, e .1)
+module _ {z : List ℕ} {n : ℕ} {t : List ℕ} {k w h : ℕ} {S : Point} where
+  -- the point is on the foil
+  pub aimed-on : Aimed z n t k w h S → (S .x < w) × (S .y < h)
+  aimed-on P = let s = not-covered w h n z (S .x) (S .y) (P .s-free) in (s .0, s .1)
 
-  module _ {cols rows kl ku : List ℕ} {nc nr : ℕ} (G : Grid z n w h S T cols rows kl ku nc nr) where
+  module _ {cols rows kl ku : List ℕ} {nc nr : ℕ} (G : Grid z n t k w h S cols rows kl ku nc nr) where
     -- and on lines of the grid
-    pub points-on : Posed z n w h S T
-        → Has cols nc (S .x) × Has rows nr (S .y) × Has cols nc (T .x) × Has rows nr (T .y)
-    points-on P =
-        let on = posed-on P in (
+    pub point-on : Aimed z n t k w h S → Has cols nc (S .x) × Has rows nr (S .y)
+    point-on P =
+        let on = aimed-on P in (
           G .column-axis .collected .whole (S .x) (on .0) (G .column-axis .marked .p-on),
           G .row-axis .collected .whole (S .y) (on .1) (G .row-axis .marked .p-on),
-          G .column-axis .collected .whole (T .x) (on .2) (G .column-axis .marked .q-on),
-          G .row-axis .collected .whole (T .y) (on .3) (G .row-axis .marked .q-on),
         )
 
-    pub level-faithful : Faithful (boxFree w h n z) (At T) cols nc rows nr kl
+    pub level-faithful : Faithful (boxFree w h n z) (On (target w h n z k t)) cols nc rows nr kl
     level-faithful =
-        faithful (grid-marks w h n z false (S .x) (T .x) (G .column-axis .marks) (G .column-axis .marked))
-        (λ x y e. target-marked x (G .column-axis) (e .0)) (G .column-axis .collected)
+        faithful (grid-marks w h n z k t false (S .x) (G .column-axis .marks) (G .column-axis .marked))
+        (grid-steady w h n z k t false (S .x) (G .column-axis .marks) (G .column-axis .marked))
+        (G .column-axis .collected)
         (grid-links w h false (G .row-axis .collected) (G .column-axis .collected) (G .level))
 
-    pub upright-faithful : Faithful (flip (boxFree w h n z)) (flip (At T)) rows nr cols nc ku
+    pub upright-faithful : Faithful (flip (boxFree w h n z)) (flip (On (target w h n z k t))) rows nr cols nc ku
     upright-faithful =
-        faithful (grid-marks w h n z true (S .y) (T .y) (G .row-axis .marks) (G .row-axis .marked))
-        (λ y x e. target-marked y (G .row-axis) (e .1)) (G .row-axis .collected)
+        faithful (grid-marks w h n z k t true (S .y) (G .row-axis .marks) (G .row-axis .marked))
+        (grid-steady w h n z k t true (S .y) (G .row-axis .marks) (G .row-axis .marked))
+        (G .row-axis .collected)
         (grid-links w h true (G .column-axis .collected) (G .row-axis .collected) (G .upright))
+
+    -- the crossings that are aimed at are the targets
+    pub level-aimed : (j : ℕ) → j < nr → (i : ℕ) → i < nc
+        → aimedAt n z k t false rows cols j i ≡ target w h n z k t (point (getD cols i 0) (getD rows j 0))
+    unfolding aimedAt clearAt boxed target inBoxes boxFree
+    level-aimed j lj i li =
+        aimed-is (any (λ (e : Entry). covers e (getD cols i 0) (getD rows j 0)) (map (entryAt t) (range 0 k)))
+        (map (entryAt z) (range 0 n)) w h (getD cols i 0) (getD rows j 0)
+        (G .column-axis .collected .below i li) (G .row-axis .collected .below j lj)
+
+    pub upright-aimed : (i : ℕ) → i < nc → (j : ℕ) → j < nr
+        → aimedAt n z k t true cols rows i j ≡ target w h n z k t (point (getD cols i 0) (getD rows j 0))
+    unfolding aimedAt clearAt boxed target inBoxes boxFree
+    upright-aimed i li j lj =
+        aimed-is (any (λ (e : Entry). covers e (getD cols i 0) (getD rows j 0)) (map (entryAt t) (range 0 k)))
+        (map (entryAt z) (range 0 n)) w h (getD cols i 0) (getD rows j 0)
+        (G .column-axis .collected .below i li) (G .row-axis .collected .below j lj)

@@ -1,7 +1,9 @@
 -- Laws of the search.
 pub mod Grid
 pub mod Seeds
+pub mod Boxed
 pub mod Choice
 pub mod Written
 pub mod Search
 pub mod Finding
+pub mod OneTarget

@@ -7,17 +7,18 @@ use mathlib.Core.List.{List, [], _∷_}
 use mathlib.Core.Option.{Option, none, some}
 use lib.ListN.{getD, length}
 use Rattle.foil_spec.specs.Foil.{Point, point}
-use Rattle.foil_spec.specs.Paths.{firstPath}
+use Rattle.foil_spec.specs.Paths.{firstPathTo}
 use Rattle.zones.specs.Boxes.{boxFree}
 use Rattle.zones.proofs.Free.{not-covered}
-use Rattle.list_laws.proofs.Tests.{clash}
+use Rattle.list_laws.proofs.Tests.{clash, and-r}
 use Rattle.courses.specs.Course.{Course, flip, TargetFree}
-use Rattle.courses.specs.Best.{PathD, Best, corners, At}
+use Rattle.courses.specs.Best.{PathD, Best, corners, On}
 use Rattle.courses.proofs.Greedy.{path-course}
 use Rattle.courses.proofs.Best.{Fewest}
 use Rattle.courses.proofs.FirstPath.{best-first, none-first, fewest-first}
 use Rattle.grid.specs.Size.{stride}
 use Rattle.grid.specs.Lines.{Lines}
+use Rattle.grid.specs.Targets.{inBoxes, target}
 use Rattle.labels.specs.Line.{along, labelTop}
 use Rattle.labels.specs.Ink.{Lean}
 use Rattle.labels.specs.Pass.{Pass, Below}
@@ -29,12 +30,13 @@ use Rattle.labels.proofs.Faithful.{Faithful}
 use Rattle.labels.proofs.Meaning.{Labelled, Measured, rounds-pos, rounds-labels, rounds-inks, rounds-below}
 use Rattle.labels.proofs.Meaning.{rounds-grounded, rounds-stuck}
 use Rattle.labels.proofs.First.{coords}
-use Rattle.search.specs.Grid.{Posed, Grid}
+use Rattle.search.specs.Grid.{Aimed, Grid}
+use Rattle.search.specs.Seeds.{Sown}
 use Rattle.search.specs.Choice.{Choosing, Choice, labelAt}
 use Rattle.search.specs.Search.{Labelling, Starts, nowhere, goes, Trails, turns, pathCorners, Searched}
 use Rattle.search.specs.declared.Start.{Start}
-use Rattle.search.proofs.Grid.{level-faithful, upright-faithful}
-use Rattle.search.proofs.Seeds.{seeded-labels, seeded-inks, seeded-below, seeded-lean}
+use Rattle.search.proofs.Grid.{level-faithful, upright-faithful, level-aimed, upright-aimed}
+use Rattle.search.proofs.Seeds.{sown-same, sown-labels, sown-inks, sown-below, sown-lean}
 use Rattle.search.proofs.Choice.{choice-some, fewest-level, fewest-upright, walk-level, walk-upright}
 
 -- the coordinates of a walk's crossings
@@ -52,17 +54,22 @@ turns-are false cols rows i j (q ∷ qs) =
 turns-are true cols rows i j (q ∷ qs) =
     ap (λ (ps : List Point). point (getD cols i 0) (getD rows q 0) ∷ ps) (turns-are false cols rows i q qs)
 
-module _ {z : List ℕ} {n w h : ℕ} {S T : Point} (P : Posed z n w h S T) {cols rows kl ku : List ℕ} {nc nr : ℕ}
-    (G : Grid z n w h S T cols rows kl ku nc nr) {i j : ℕ} {b : Bool} {l u wl wu : List ℕ}
-    (B : Labelling cols rows kl ku nc nr S T i j b l u wl wu) where
+module _ {z : List ℕ} {n : ℕ} {t : List ℕ} {k w h : ℕ} {S : Point} (P : Aimed z n t k w h S) {cols rows kl ku : List ℕ}
+    {nc nr : ℕ} (G : Grid z n t k w h S cols rows kl ku nc nr) {i j : ℕ} {b : Bool} {l u wl wu : List ℕ}
+    (B : Labelling cols rows kl ku nc nr z n t k S i j b l u wl wu) where
   abbrev f : ℕ → ℕ → Bool
   f = boxFree w h n z
 
   inside : (x y : ℕ) → f x y ≡ true → (x < w) × (y < h)
   inside x y e = let r = not-covered w h n z x y e in (r .0, r .1)
 
-  target-free : TargetFree f (At T)
-  target-free x y e = rw (e .0, e .1) (P .t-free)
+  -- the targets
+  abbrev T : Point → Bool
+  T = target w h n z k t
+
+  target-free : TargetFree f (On T)
+  unfolding target
+  target-free x y e = and-r (inBoxes k t x y) (f x y) e
 
   -- the start's crossing is S
   abbrev start : Point
@@ -74,14 +81,14 @@ module _ {z : List ℕ} {n w h : ℕ} {S T : Point} (P : Posed z n w h S T) {col
   start-free : f (start .x) (start .y) ≡ true
   start-free = rw (B .i-at, B .j-at) (P .s-free)
 
-  -- the first path from S to T
+  -- the first path from S to a target
   abbrev path : Option (List Point)
-  path = firstPath f w h S T
+  path = firstPathTo f w h S T
 
-  path-is : (o : Option (List Point)) → firstPath f w h start T ≡ o → path ≡ o
-  path-is o e = subst (λ (p : Point). firstPath f w h p T ≡ o) start-is e
+  path-is : (o : Option (List Point)) → firstPathTo f w h start T ≡ o → path ≡ o
+  path-is o e = subst (λ (p : Point). firstPathTo f w h p T ≡ o) start-is e
 
-  corners-are : (cs : List Point) → firstPath f w h start T ≡ some cs → pathCorners path ≡ cs
+  corners-are : (cs : List Point) → firstPathTo f w h start T ≡ some cs → pathCorners path ≡ cs
   corners-are cs e = ap pathCorners (path-is (some cs) e)
 
   -- the lines of both axes, and the grid's faithfulness in both directions
@@ -91,60 +98,62 @@ module _ {z : List ℕ} {n w h : ℕ} {S T : Point} (P : Posed z n w h S T) {col
   R : Lines rows nr
   R = G .row-axis .fits
 
-  L : Faithful f (At T) cols nc rows nr kl
+  L : Faithful f (On T) cols nc rows nr kl
   L = level-faithful G
 
-  U : Faithful (flip f) (flip (At T)) rows nr cols nc ku
+  U : Faithful (flip f) (flip (On T)) rows nr cols nc ku
   U = upright-faithful G
 
   -- the labels before the first round
-  seeds : Labelled f (At T) cols nc rows nr 0 (B .l₀) × Labelled (flip f) (flip (At T)) rows nr cols nc 0 (B .u₀)
+  level-sown : Sown (λ j i. T (point (getD cols i 0) (getD rows j 0))) nr nc (B .l₀) (B .wl₀) (B .ql) (B .a)
+  level-sown = sown-same (λ j lj i li. sym (level-aimed G j lj i li)) (B .level-sown)
+
+  upright-sown : Sown (λ i j. T (point (getD cols i 0) (getD rows j 0))) nc nr (B .u₀) (B .wu₀) (B .qu) (B .b)
+  upright-sown = sown-same (λ i li j lj. sym (upright-aimed G i li j lj)) (B .upright-sown)
+
+  seeds : Labelled f (On T) cols nc rows nr 0 (B .l₀) × Labelled (flip f) (flip (On T)) rows nr cols nc 0 (B .u₀)
   seeds = (
-    seeded-labels C R (B .tj-in) (B .ti-in) (λ x y e. (e .0 ∙ sym (B .ti-at), e .1 ∙ sym (B .tj-at)))
-        (B .ti-at, B .tj-at) (B .level-seed),
-    seeded-labels R C (B .ti-in) (B .tj-in) (λ y x e. (e .1 ∙ sym (B .tj-at), e .0 ∙ sym (B .ti-at)))
-        (B .ti-at, B .tj-at) (B .upright-seed),
+    sown-labels (λ j lj i li e. e) (λ j lj i li e. e) level-sown,
+    sown-labels (λ i li j lj e. e) (λ i li j lj e. e) upright-sown,
   )
 
-  seed-inks : Measured f (At T) cols nc rows nr (B .l₀) (B .wl₀)
-      × Measured (flip f) (flip (At T)) rows nr cols nc (B .u₀) (B .wu₀)
+  seed-inks : Measured f (On T) cols nc rows nr (B .l₀) (B .wl₀)
+      × Measured (flip f) (flip (On T)) rows nr cols nc (B .u₀) (B .wu₀)
   seed-inks = (
-    seeded-inks C R (B .tj-in) (B .ti-in) (λ x y e. (e .0 ∙ sym (B .ti-at), e .1 ∙ sym (B .tj-at)))
-        (B .ti-at, B .tj-at) (B .level-seed),
-    seeded-inks R C (B .ti-in) (B .tj-in) (λ y x e. (e .1 ∙ sym (B .tj-at), e .0 ∙ sym (B .ti-at)))
-        (B .ti-at, B .tj-at) (B .upright-seed),
+    sown-inks (λ j lj i li e. e) (λ j lj i li e. e) level-sown,
+    sown-inks (λ i li j lj e. e) (λ i li j lj e. e) upright-sown,
   )
 
   level-low : Below nr nc (B .l₀) 1
-  level-low = seeded-below (B .l₀) (B .wl₀) (B .ql) (B .tj) (B .ti) nr nc (B .level-seed) (R .few) (C .few)
+  level-low = sown-below level-sown
 
   upright-low : Below nc nr (B .u₀) 1
-  upright-low = seeded-below (B .u₀) (B .wu₀) (B .qu) (B .ti) (B .tj) nc nr (B .upright-seed) (C .few) (R .few)
+  upright-low = sown-below upright-sown
 
   -- a round that changes nothing: there is no path
   no-path : {v : ℕ} {wl₁ wu₁ : List ℕ} → Rounds kl ku cols rows nc nr (B .l₀) (B .u₀) (B .wl₀) (B .wu₀) v l u wl₁ wu₁
       → along l j i ≡ 0 → along u i j ≡ 0
       → Pass u kl nr nc v l l → Pass l ku nc nr v u u
-      → (e : Bool) (ks : List ℕ) → PathD e ks f (At T) (start .x) (start .y) → ⊥
+      → (e : Bool) (ks : List ℕ) → PathD e ks f (On T) (start .x) (start .y) → ⊥
   no-path r zl zu p q e ks on =
       go e on (rounds-stuck target-free L U seeds level-low upright-low r p q (length ks))
     where
-      go : (e : Bool) → PathD e ks f (At T) (start .x) (start .y)
+      go : (e : Bool) → PathD e ks f (On T) (start .x) (start .y)
           → ((b : ℕ) → b < nr → (a : ℕ) → a < nc → along l b a ≡ 0
-          → Course (length ks) f (At T) (getD cols a 0) (getD rows b 0) → ⊥)
+          → Course (length ks) f (On T) (getD cols a 0) (getD rows b 0) → ⊥)
           × ((a : ℕ) → a < nc → (b : ℕ) → b < nr → along u a b ≡ 0
-          → Course (length ks) (flip f) (flip (At T)) (getD rows b 0) (getD cols a 0) → ⊥) → ⊥
+          → Course (length ks) (flip f) (flip (On T)) (getD rows b 0) (getD cols a 0) → ⊥) → ⊥
       go false on out =
-          out .0 j (B .j-in) i (B .i-in) zl (path-course ks f (At T) (start .x) (start .y) on)
+          out .0 j (B .j-in) i (B .i-in) zl (path-course ks f (On T) (start .x) (start .y) on)
       go true on out =
-          out .1 i (B .i-in) j (B .j-in) zu (path-course ks (flip f) (flip (At T)) (start .y) (start .x) on)
+          out .1 i (B .i-in) j (B .j-in) zu (path-course ks (flip f) (flip (On T)) (start .y) (start .x) on)
 
   -- the start has a label, after rounds up to v
   module _ {v : ℕ} (r : Rounds kl ku cols rows nc nr (B .l₀) (B .u₀) (B .wl₀) (B .wu₀) v l u wl wu) where
-    labelled : Labelled f (At T) cols nc rows nr (v - 1) l × Labelled (flip f) (flip (At T)) rows nr cols nc (v - 1) u
+    labelled : Labelled f (On T) cols nc rows nr (v - 1) l × Labelled (flip f) (flip (On T)) rows nr cols nc (v - 1) u
     labelled = rounds-labels target-free L U seeds r
 
-    measured : Measured f (At T) cols nc rows nr l wl × Measured (flip f) (flip (At T)) rows nr cols nc u wu
+    measured : Measured f (On T) cols nc rows nr l wl × Measured (flip f) (flip (On T)) rows nr cols nc u wu
     measured = rounds-inks target-free L U seeds seed-inks r
 
     grounded : Grounded l u wl wu kl cols nr nc × Grounded u l wu wl ku rows nc nr
@@ -152,8 +161,7 @@ module _ {z : List ℕ} {n w h : ℕ} {S T : Point} (P : Posed z n w h S T) {col
 
     lean : (1 ≤ v) × Lean nr nc l wl × Lean nc nr u wu
     lean =
-        rounds-lean C R (seeded-lean (B .l₀) (B .wl₀) (B .ql) (B .tj) (B .ti) nr nc (B .level-seed) (R .few) (C .few))
-        (seeded-lean (B .u₀) (B .wu₀) (B .qu) (B .ti) (B .tj) nc nr (B .upright-seed) (C .few) (R .few)) r
+        rounds-lean C R (sown-lean level-sown) (sown-lean upright-sown) r
 
     below : Below nr nc l v × Below nc nr u v
     below = rounds-below level-low upright-low r
@@ -166,7 +174,7 @@ module _ {z : List ℕ} {n w h : ℕ} {S T : Point} (P : Posed z n w h S T) {col
         (omega arith, omega arith)
 
     fewest : (k : ℕ) (up : Bool) → Choice l u wl wu ku rows nr i j up → labelAt up l u i j ≡ k + 1
-        → Fewest f (At T) (start .x) (start .y) k
+        → Fewest f (On T) (start .x) (start .y) k
     unfolding labelAt
     fewest k false c e =
         fewest-level target-free L U (R .rising) (labelled .0) (labelled .1) (measured .0) (measured .1)
@@ -177,7 +185,7 @@ module _ {z : List ℕ} {n w h : ℕ} {S T : Point} (P : Posed z n w h S T) {col
 
     best : (k : ℕ) (qs : List ℕ) (up : Bool) → Choice l u wl wu ku rows nr i j up → labelAt up l u i j ≡ k + 1
         → Trails up l u wl wu kl ku cols rows nc nr i j (k + 1) qs
-        → Best up (coordinates up cols rows qs) f (At T) (start .x) (start .y)
+        → Best up (coordinates up cols rows qs) f (On T) (start .x) (start .y)
     unfolding labelAt Trails
     best k qs false c e tr =
         walk-level target-free L U (R .rising) (labelled .0) (labelled .1) (measured .0) (measured .1)
@@ -199,9 +207,9 @@ below-top : {m n v : ℕ} {lab : List ℕ} → v < labelTop → Below m n lab v 
 below-top l B = record { le = λ i li k lk. let b = B .le i li k lk in omega arith }
 
 -- What the choice is asked of, and what `labels` answers.
-module _ {z : List ℕ} {n w h : ℕ} {S T : Point} (P : Posed z n w h S T) {cols rows kl ku : List ℕ} {nc nr : ℕ}
-    (G : Grid z n w h S T cols rows kl ku nc nr) {i j : ℕ} {l u wl wu : List ℕ} where
-  pub found-some : {b : Bool} → Labelling cols rows kl ku nc nr S T i j b l u wl wu → b ≡ true
+module _ {z : List ℕ} {n : ℕ} {t : List ℕ} {k w h : ℕ} {S : Point} (P : Aimed z n t k w h S) {cols rows kl ku : List ℕ}
+    {nc nr : ℕ} (G : Grid z n t k w h S cols rows kl ku nc nr) {i j : ℕ} {l u wl wu : List ℕ} where
+  pub found-some : {b : Bool} → Labelling cols rows kl ku nc nr z n t k S i j b l u wl wu → b ≡ true
       → Choosing l u wl nr i j
   found-some {b} B e = go b (B .ended) e
     where
@@ -216,41 +224,41 @@ module _ {z : List ℕ} {n w h : ℕ} {S T : Point} (P : Posed z n w h S T) {col
           }
       go false (stuck r zl zu p q) e = clash e refl
 
-module _ {z : List ℕ} {n w h : ℕ} {S T : Point} (P : Posed z n w h S T) {cols rows kl ku : List ℕ} {nc nr : ℕ}
-    (G : Grid z n w h S T cols rows kl ku nc nr) {i j : ℕ} {l u wl wu : List ℕ} (ll : nr * stride ≤ length l)
+module _ {z : List ℕ} {n : ℕ} {t : List ℕ} {k w h : ℕ} {S : Point} (P : Aimed z n t k w h S) {cols rows kl ku : List ℕ}
+    {nc nr : ℕ} (G : Grid z n t k w h S cols rows kl ku nc nr) {i j : ℕ} {l u wl wu : List ℕ} (ll : nr * stride ≤ length l)
     (lu : nc * stride ≤ length u) (li : nr * stride ≤ length wl) (ui : nc * stride ≤ length wu)
     (le : nr * stride ≤ length kl) (ue : nc * stride ≤ length ku) where
-  searched-none : Labelling cols rows kl ku nc nr S T i j false l u wl wu
-      → Searched (firstPath (boxFree w h n z) w h S T) cols rows kl ku l u wl wu
+  searched-none : Labelling cols rows kl ku nc nr z n t k S i j false l u wl wu
+      → Searched (firstPathTo (boxFree w h n z) w h S (target w h n z k t)) cols rows kl ku l u wl wu
       (record { columns = nc; rows = nr; i = i; j = j; upright = false; corners = 0 })
   searched-none B = go (B .ended)
     where
       go : Ended kl ku cols rows nc nr i j (B .l₀) (B .u₀) (B .wl₀) (B .wu₀) l u wl wu false
-          → Searched (firstPath (boxFree w h n z) w h S T) cols rows kl ku l u wl wu
+          → Searched (firstPathTo (boxFree w h n z) w h S (target w h n z k t)) cols rows kl ku l u wl wu
           (record { columns = nc; rows = nr; i = i; j = j; upright = false; corners = 0 })
       go (stuck r zl zu p q) =
           let e = path-is P G B none
-          (none-first (f P G B) w h (inside P G B) (start P G B) T (no-path P G B r zl zu p q)) in
+          (none-first (f P G B) w h (inside P G B) (start P G B) (T P G B) (no-path P G B r zl zu p q)) in
           record {
             nowhere = λ zero. e;
             count = rw e refl;
             ready = λ one. absurd (omega arith);
           }
 
-  searched-some : Labelling cols rows kl ku nc nr S T i j true l u wl wu → (up : Bool)
+  searched-some : Labelling cols rows kl ku nc nr z n t k S i j true l u wl wu → (up : Bool)
       → Choice l u wl wu ku rows nr i j up
-      → Searched (firstPath (boxFree w h n z) w h S T) cols rows kl ku l u wl wu
+      → Searched (firstPathTo (boxFree w h n z) w h S (target w h n z k t)) cols rows kl ku l u wl wu
       (record { columns = nc; rows = nr; i = i; j = j; upright = up; corners = labelAt up l u i j })
   searched-some B up c = go (B .ended)
     where
       go : Ended kl ku cols rows nc nr i j (B .l₀) (B .u₀) (B .wl₀) (B .wu₀) l u wl wu true
-          → Searched (firstPath (boxFree w h n z) w h S T) cols rows kl ku l u wl wu
+          → Searched (firstPathTo (boxFree w h n z) w h S (target w h n z k t)) cols rows kl ku l u wl wu
           (record { columns = nc; rows = nr; i = i; j = j; upright = up; corners = labelAt up l u i j })
       go (found m r p) =
           let one = choice-some up c in
           let e : labelAt up l u i j ≡ (labelAt up l u i j - 1) + 1 = omega arith in
           let F = fewest P G B r (labelAt up l u i j - 1) up c e in
-          let q = fewest-first (f P G B) w h (inside P G B) (start P G B) T (start-free P G B)
+          let q = fewest-first (f P G B) w h (inside P G B) (start P G B) (T P G B) (start-free P G B)
           (labelAt up l u i j - 1) F in
           record {
             nowhere = λ zero. absurd (omega arith);
@@ -284,8 +292,8 @@ module _ {z : List ℕ} {n w h : ℕ} {S T : Point} (P : Posed z n w h S T) {col
             };
           }
 
-  pub searched : {b : Bool} {s : Start} → Labelling cols rows kl ku nc nr S T i j b l u wl wu
+  pub searched : {b : Bool} {s : Start} → Labelling cols rows kl ku nc nr z n t k S i j b l u wl wu
       → Starts l u wl wu ku rows nc nr i j b s
-      → Searched (firstPath (boxFree w h n z) w h S T) cols rows kl ku l u wl wu s
+      → Searched (firstPathTo (boxFree w h n z) w h S (target w h n z k t)) cols rows kl ku l u wl wu s
   searched B nowhere = searched-none B
   searched B (goes up c) = searched-some B up c

@@ -5,7 +5,7 @@ use mathlib.Core.Bool.{Bool, true, false}
 use mathlib.Core.List.{List}
 use lib.ListN.{length}
 use Rattle.foil_spec.specs.Foil.{Point}
-use Rattle.zones.specs.Boxes.{boxFree, Boxes}
+use Rattle.zones.specs.Boxes.{boxFree, maxBoxes, Boxes}
 use Rattle.grid.specs.Size.{stride}
 use Rattle.grid.specs.Lines.{Marked, Collected, Lines}
 use Rattle.grid.specs.Links.{Painted}
@@ -16,11 +16,19 @@ pub record Posed (z : List ℕ) (n w h : ℕ) (S T : Point) : Type 0 where
   pub s-free : boxFree w h n z (S .x) (S .y) ≡ true
   pub t-free : boxFree w h n z (T .x) (T .y) ≡ true
 
--- n boxes make at most so many lines of an axis: two for each, the first, the last, and those of S and T
-abbrev pub mostLines : ℕ → ℕ
-mostLines n = 2 * n + 4
+-- the first n boxes of a table on a foil of w by h, a point that they leave free, and the first k target boxes of
+-- another table, in which the targets are
+pub record Aimed (z : List ℕ) (n : ℕ) (t : List ℕ) (k w h : ℕ) (S : Point) : Type 0 where
+  pub boxes : Boxes z n w h
+  pub targets : Boxes t k w h
+  pub few : n + k ≤ maxBoxes + 1
+  pub s-free : boxFree w h n z (S .x) (S .y) ≡ true
 
--- the lists for the grid of n boxes have room
+-- n boxes and target boxes make at most so many lines of an axis: two for each, the first, the last, and that of S
+abbrev pub mostLines : ℕ → ℕ
+mostLines n = 2 * n + 3
+
+-- the lists for the grid of n boxes and target boxes have room
 pub record GridRoom (n : ℕ) (cols rows kl ku mark : List ℕ) : Type 0 where
   pub column-lines : stride ≤ length cols
   pub row-lines : stride ≤ length rows
@@ -28,16 +36,18 @@ pub record GridRoom (n : ℕ) (cols rows kl ku mark : List ℕ) : Type 0 where
   pub upright-links : mostLines n * stride ≤ length ku
   pub marks : 4096 ≤ length mark
 
--- the first k numbers of a list are the lines of the grid that cross an axis, with lines at p and q
-pub record Axis (z : List ℕ) (n : ℕ) (upright : Bool) (size p q : ℕ) (lines : List ℕ) (k : ℕ) : Type 0 where
+-- the first m numbers of a list are the lines of the grid that cross an axis, with a line at p
+pub record Axis (z : List ℕ) (n : ℕ) (t : List ℕ) (k : ℕ) (upright : Bool) (size p : ℕ) (lines : List ℕ) (m : ℕ)
+    : Type 0 where
   pub marks : List ℕ
-  pub marked : Marked n z upright size p q marks
-  pub collected : Collected marks size lines k
-  pub fits : Lines lines k
+  pub marked : Marked n z k t upright size p marks
+  pub collected : Collected marks size lines m
+  pub fits : Lines lines m
 
--- the grid: its nc columns and nr rows, with lines through S and T, and the links of both
-pub record Grid (z : List ℕ) (n w h : ℕ) (S T : Point) (cols rows kl ku : List ℕ) (nc nr : ℕ) : Type 0 where
-  pub column-axis : Axis z n false w (S .x) (T .x) cols nc
-  pub row-axis : Axis z n true h (S .y) (T .y) rows nr
+-- the grid: its nc columns and nr rows, with lines through S, and the links of both
+pub record Grid (z : List ℕ) (n : ℕ) (t : List ℕ) (k w h : ℕ) (S : Point) (cols rows kl ku : List ℕ) (nc nr : ℕ)
+    : Type 0 where
+  pub column-axis : Axis z n t k false w (S .x) cols nc
+  pub row-axis : Axis z n t k true h (S .y) rows nr
   pub level : Painted z false rows nr cols nc n kl
   pub upright : Painted z true cols nc rows nr n ku

@@ -11,7 +11,7 @@ use Rattle.foil_spec.specs.Corners.{pointNumbers}
 use Rattle.grid.specs.Size.{stride, area}
 use Rattle.labels.specs.Rounds.{Ended}
 use Rattle.labels.specs.Walk.{Trail, Walkable}
-use Rattle.search.specs.Seeds.{Blank, Seeded}
+use Rattle.search.specs.Seeds.{Blank, Sown, aimedAt}
 use Rattle.search.specs.Choice.{Choice, labelAt}
 use Rattle.search.specs.declared.Start.{Start}
 
@@ -28,28 +28,24 @@ pub record LabelRoom (nc nr : ℕ) (l u wl wu ql qu : List ℕ) : Type 0 where
   pub level-queue : 2 * length l ≤ length ql
   pub upright-queue : 2 * length u ≤ length qu
 
--- the crossing (i, j) of S and (ti, tj) of T, the labels l₀ and u₀ and inks wl₀ and wu₀ before the first round, and
--- the rounds
-pub record Labelling (cols rows kl ku : List ℕ) (nc nr : ℕ) (S T : Point) (i j : ℕ) (found : Bool)
-    (l u wl wu : List ℕ) : Type 0 where
-  pub ti : ℕ
-  pub tj : ℕ
+-- the crossing (i, j) of S, the labels l₀ and u₀ and inks wl₀ and wu₀ of the targets before the first round, with the
+-- queues, and the rounds
+pub record Labelling (cols rows kl ku : List ℕ) (nc nr : ℕ) (z : List ℕ) (n : ℕ) (t : List ℕ) (k : ℕ) (S : Point)
+    (i j : ℕ) (found : Bool) (l u wl wu : List ℕ) : Type 0 where
   pub l₀ : List ℕ
   pub u₀ : List ℕ
   pub wl₀ : List ℕ
   pub wu₀ : List ℕ
   pub ql : List ℕ
   pub qu : List ℕ
+  pub a : ℕ
+  pub b : ℕ
   pub i-in : i < nc
   pub j-in : j < nr
   pub i-at : getD cols i 0 ≡ S .x
   pub j-at : getD rows j 0 ≡ S .y
-  pub ti-in : ti < nc
-  pub tj-in : tj < nr
-  pub ti-at : getD cols ti 0 ≡ T .x
-  pub tj-at : getD rows tj 0 ≡ T .y
-  pub level-seed : Seeded l₀ wl₀ ql tj ti
-  pub upright-seed : Seeded u₀ wu₀ qu ti tj
+  pub level-sown : Sown (aimedAt n z k t false rows cols) nr nc l₀ wl₀ ql a
+  pub upright-sown : Sown (aimedAt n z k t true cols rows) nc nr u₀ wu₀ qu b
   pub ended : Ended kl ku cols rows nc nr i j l₀ u₀ wl₀ wu₀ l u wl wu found
 
 -- where a walk starts, if the crossing (i, j) was found to have a label

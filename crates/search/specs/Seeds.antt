@@ -1,12 +1,17 @@
--- Where points stand on the lines of the grid, and the labels before the first round.
-use Prim.Native.Nat.{ℕ, _+_, _*_, _≤_, _<_}
+-- Where points stand on the lines of the grid, and the labels before the first round: those of the targets.
+use Prim.Native.Nat.{ℕ, _+_, _-_, _*_, _≤_, _<_}
 use mathlib.Core.Path.{_≡_}
-use mathlib.Core.Logic.{_≢_}
-use mathlib.Core.List.{List}
+use mathlib.Core.Bool.{Bool, true, false, not, _&&_, _||_}
+use mathlib.Core.List.{List, map}
 use lib.ListN.{getD, length}
+use Rattle.foil_spec.specs.Lists.{range, any}
+use Rattle.foil_spec.specs.Foil.{Entry}
+use Rattle.foil_spec.specs.Lent.{entryAt}
+use Rattle.zones.specs.Boxes.{inside, covers}
 use Rattle.grid.specs.Size.{stride}
+use Rattle.grid.specs.Extent.{turned}
 use Rattle.labels.specs.Line.{along}
-use Rattle.labels.specs.Pass.{zeros}
+use Rattle.labels.specs.Pass.{Queued, Room}
 
 -- x is among the first n lines
 abbrev pub Has : List ℕ → ℕ → ℕ → Type 0
@@ -21,11 +26,58 @@ pub record Placed (lines : List ℕ) (n x r : ℕ) : Type 0 where
   pub below : r < n
   pub at : getD lines r 0 ≡ x
 
--- crossing k of a line has the label 1 and the ink 0, all others the label 0, and the queue begins with that crossing
-pub record Seeded (lab inks queue : List ℕ) (line k : ℕ) : Type 0 where
-  pub one : along lab line k ≡ 1
-  pub ink : along inks line k ≡ 0
-  pub rest : (p : ℕ) → p ≢ line * stride + k → getD lab p 0 ≡ 0
-  pub queue-line : getD queue 0 0 ≡ line
-  pub queue-crossing : getD queue 1 0 ≡ k
-  pub room : 1 + zeros lab ≤ length lab
+-- one of the first k boxes of the table t has the point (x, y), or (y, x) if upright
+unfoldable pub boxed : ℕ → List ℕ → Bool → ℕ → ℕ → Bool
+boxed k t upright x y = any (λ (e : Entry). turned upright (covers e) x y) (map (entryAt t) (range 0 k))
+
+-- a test of crossings, line first: on m lines with n crossings each, those that pass it have the label 1 and the ink 0
+-- and stand in the queue, which ends at q, and all others have no label
+pub record Sown (on : ℕ → ℕ → Bool) (m n : ℕ) (lab inks queue : List ℕ) (q : ℕ) : Type 0 where
+  pub one : (i : ℕ) → i < m → (c : ℕ) → c < n → on i c ≡ true → (along lab i c ≡ 1) × (along inks i c ≡ 0)
+  pub rest : (i : ℕ) → i < m → (c : ℕ) → c < n → on i c ≡ false → along lab i c ≡ 0
+  pub queued : Queued queue 0 q m n lab 1
+  pub room : Room (m - 1) lab queue q
+  pub inks-fit : m * stride ≤ length inks
+  pub lines-few : m ≤ stride
+  pub crossings-few : n ≤ stride
+
+-- one test or the other
+abbrev pub orElse : (ℕ → ℕ → Bool) → (ℕ → ℕ → Bool) → ℕ → ℕ → Bool
+orElse f g i c = f i c || g i c
+
+-- labels, inks, queue and its end before and after the crossings that pass the test are sown
+pub record Sows (new : ℕ → ℕ → Bool) (m n : ℕ) (l₀ w₀ t₀ : List ℕ) (q₀ : ℕ) (l w t : List ℕ) (q : ℕ) : Type 0 where
+  pub sown : (on : ℕ → ℕ → Bool) → Sown on m n l₀ w₀ t₀ q₀ → Sown (orElse on new) m n l w t q
+
+-- the crossing is on one of the lines a to b, b excluded, from lo to hi, hi excluded, and passes the test
+unfoldable pub inBlock : (a b lo hi : ℕ) → (ℕ → ℕ → Bool) → ℕ → ℕ → Bool
+inBlock a b lo hi test i c = inside a b i && inside lo hi c && test i c
+
+-- these are sown, on all lines that there are
+pub record BlockSown (a b lo hi : ℕ) (test : ℕ → ℕ → Bool) (l₀ w₀ t₀ : List ℕ) (q₀ : ℕ) (l w t : List ℕ) (q : ℕ)
+    : Type 0 where
+  pub sows : (m n : ℕ) → b ≤ m → hi ≤ n → Sows (inBlock a b lo hi test) m n l₀ w₀ t₀ q₀ l w t q
+
+-- there are lines and crossings for them, and the labels are sown
+pub record Sowable (b hi : ℕ) (l w t : List ℕ) (q : ℕ) : Type 0 where
+  pub m : ℕ
+  pub n : ℕ
+  pub on : ℕ → ℕ → Bool
+  pub sown : Sown on m n l w t q
+  pub lines-in : b ≤ m
+  pub crossings-in : hi ≤ n
+
+-- the first n boxes of the table z leave crossing c of line i free
+unfoldable pub clearAt : (n : ℕ) (z : List ℕ) (upright : Bool) (lines cross : List ℕ) → ℕ → ℕ → Bool
+clearAt n z upright lines cross i c = not (boxed n z upright (getD cross c 0) (getD lines i 0))
+
+-- and one of the first k boxes of the table t has it
+unfoldable pub aimedAt : (n : ℕ) (z : List ℕ) (k : ℕ) (t : List ℕ) (upright : Bool) (lines cross : List ℕ) → ℕ → ℕ
+    → Bool
+aimedAt n z k t upright lines cross i c =
+    boxed k t upright (getD cross c 0) (getD lines i 0) && clearAt n z upright lines cross i c
+
+-- the box e has it
+unfoldable pub aimedOne : (n : ℕ) (z : List ℕ) (e : Entry) (upright : Bool) (lines cross : List ℕ) → ℕ → ℕ → Bool
+aimedOne n z e upright lines cross i c =
+    turned upright (covers e) (getD cross c 0) (getD lines i 0) && clearAt n z upright lines cross i c

@@ -5,6 +5,8 @@
 // directions, `il` and `iu` for their inks, `kl` and `ku` for the level and the upright links between crossings (STRIDE
 // places for each line that there may be), `ql` and `qu` for queues of crossings (two numbers for each label), `cols`
 // and `rows` for the lines of the grid (STRIDE places), and `mark` for marks on an axis (4,096 places).
+mod sowing;
+
 use grid::AREA;
 use grid::STRIDE;
 use grid::collect;
@@ -15,31 +17,33 @@ use labels::put_corner;
 use labels::rounds;
 use labels::run::next_stop;
 use labels::upright_step;
+use sowing::sow_targets;
 ghost use mathlib.Core.Path.{_≡_};
 ghost use mathlib.Core.Bool.{true};
 ghost use mathlib.Core.List.{List};
-ghost use Prim.Native.Nat.{_+_, _*_, _≤_, _<_};
+ghost use Prim.Native.Nat.{ℕ, _+_, _*_, _≤_, _<_};
 ghost use lib.ListN.{length};
 ghost use Rattle.foil_spec.specs.Foil.{Point, point};
-ghost use Rattle.foil_spec.specs.Paths.{firstPath};
-ghost use Rattle.zones.specs.Boxes.{boxFree, maxBoxes};
+ghost use Rattle.foil_spec.specs.Paths.{firstPath, firstPathTo};
+ghost use Rattle.zones.specs.Boxes.{boxFree, maxBoxes, Boxes};
 ghost use Rattle.grid.specs.Size.{stride};
 ghost use Rattle.grid.specs.Lines.{Lines};
-ghost use Rattle.search.specs.Grid.{mostLines, Posed, GridRoom, Axis, Grid};
-ghost use Rattle.search.specs.Seeds.{Has, Placed, Blank, Seeded};
+ghost use Rattle.grid.specs.Targets.{target};
+ghost use Rattle.search.specs.Grid.{mostLines, Posed, Aimed, GridRoom, Axis, Grid};
+ghost use Rattle.search.specs.Seeds.{Has, Placed};
 ghost use Rattle.search.specs.Choice.{Choosing, Choice};
 ghost use Rattle.search.specs.Search.{LabelRoom, Labelling, Starts, Ready, Searched, Walked, Found};
 
 // A queue of crossings has two numbers for each.
-const QUEUE: usize = 143648;
+const QUEUE: usize = 144722;
 
-// Up to so many boxes make few lines: 68 an axis. What is kept of their crossings is a quarter of AREA, which takes a
+// Up to so many boxes and target boxes make few lines: 69 an axis. What is kept of their crossings is a quarter of AREA, which takes a
 // quarter of the time to fill.
-const FEW: usize = 32;
+const FEW: usize = 33;
 
-const FEW_AREA: usize = 18224;
+const FEW_AREA: usize = 18561;
 
-const FEW_QUEUE: usize = 36448;
+const FEW_QUEUE: usize = 37122;
 
 // How many columns and rows the grid has.
 struct Size {
@@ -58,26 +62,27 @@ struct Start {
     corners: usize,
 }
 
-// Collects the lines of the grid that cross one axis, with lines at p and q, and returns how many there are.
+// Collects the lines of the grid that cross one axis, with a line at p, and returns how many there are.
 fn axis(
     lines: &mut [u16],
     mark: &mut [u8],
     boxes: &[u16],
     n: usize,
+    targets: &[u16],
+    k: usize,
     upright: bool,
     size: usize,
     p: usize,
-    q: usize,
 ) -> usize
-    requires { ⌜ (n * 5 ≤ length (now boxes)) × (n ≤ maxBoxes) × (p < size) × (q < size) ⌝ }
+    requires { ⌜ (n * 5 ≤ length (now boxes)) × (k * 5 ≤ length (now targets)) × (n + k ≤ maxBoxes + 1) × (p < size) ⌝ }
     requires { ⌜ (size ≤ 4096) × (4096 ≤ length (now mark)) × (stride ≤ length (now lines)) ⌝ }
-    ensures { λ r. ⌜ Axis (now (boxes .entry)) n upright size p q (now (lines .exit)) r ⌝ }
+    ensures { λ r. ⌜ Axis (now (boxes .entry)) n (now (targets .entry)) k upright size p (now (lines .exit)) r ⌝ }
 {
-    mark_lines(mark, boxes, n, upright, size, p, q);
+    mark_lines(mark, boxes, n, targets, k, upright, size, p);
     collect(lines, mark, size)
 }
 
-// Makes the escape grid of a foil, with lines through both points: its columns, its rows, and the links of both.
+// Makes the escape grid of a foil, with lines through S and at the ends of the target boxes: its columns, its rows, and the links of both.
 fn build(
     cols: &mut [u16],
     rows: &mut [u16],
@@ -86,16 +91,16 @@ fn build(
     mark: &mut [u8],
     boxes: &[u16],
     n: usize,
+    targets: &[u16],
+    k: usize,
     w: u16,
     h: u16,
     sx: u16,
     sy: u16,
-    tx: u16,
-    ty: u16,
 ) -> Size
-    requires { ⌜ Posed (now boxes) n w h (point sx sy) (point tx ty) ⌝ }
-    requires { ⌜ GridRoom n (now cols) (now rows) (now kl) (now ku) (now mark) ⌝ }
-    ensures { λ r. ⌜ Grid (now (boxes .entry)) n w h (point sx sy) (point tx ty)
+    requires { ⌜ Aimed (now boxes) n (now targets) k w h (point sx sy) ⌝ }
+    requires { ⌜ GridRoom (n + k) (now cols) (now rows) (now kl) (now ku) (now mark) ⌝ }
+    ensures { λ r. ⌜ Grid (now (boxes .entry)) n (now (targets .entry)) k w h (point sx sy)
         (now (cols .exit)) (now (rows .exit)) (now (kl .exit)) (now (ku .exit)) (r .columns) (r .rows) ⌝ }
 {
     let nc = axis(
@@ -103,20 +108,22 @@ fn build(
         mark,
         boxes,
         n,
+        targets,
+        k,
         false,
         w as usize,
         sx as usize,
-        tx as usize,
     );
     let nr = axis(
         rows,
         mark,
         boxes,
         n,
+        targets,
+        k,
         true,
         h as usize,
         sy as usize,
-        ty as usize,
     );
     links(kl, boxes, n, false, rows, nr, cols, nc);
     links(ku, boxes, n, true, cols, nc, rows, nr);
@@ -141,18 +148,6 @@ fn index_of(lines: &[u16], n: usize, x: u16) -> usize
     n
 }
 
-// Labels crossing k of a line 1, with the ink 0, where there is no label yet; the queue begins with that crossing.
-fn seed(labels: &mut [u32], inks: &mut [u32], queue: &mut [u16], line: usize, k: usize)
-    requires { ⌜ (line < stride) × (k < stride) × (line * stride + stride ≤ length (now labels))
-        × (line * stride + stride ≤ length (now inks)) × (2 ≤ length (now queue)) × Blank (now labels) ⌝ }
-    ensures { λ _. ⌜ Seeded (now (labels .exit)) (now (inks .exit)) (now (queue .exit)) line k ⌝ }
-{
-    labels[line * STRIDE + k] = 1;
-    inks[line * STRIDE + k] = 0;
-    queue[0] = line as u16;
-    queue[1] = k as u16;
-}
-
 // Where the first point is on the grid, and whether its crossing has a label.
 struct Arrived {
     i: usize,
@@ -160,7 +155,7 @@ struct Arrived {
     found: bool,
 }
 
-// Labels the crossings of the grid from T on until S has a label or there is nothing more to label.
+// Labels the crossings of the grid from the targets on until S has a label or there is nothing more to label.
 fn label(
     level: &mut [u32],
     upright: &mut [u32],
@@ -174,25 +169,52 @@ fn label(
     rows: &[u16],
     nc: usize,
     nr: usize,
+    boxes: &[u16],
+    n: usize,
+    targets: &[u16],
+    k: usize,
     sx: u16,
     sy: u16,
-    tx: u16,
-    ty: u16,
 ) -> Arrived
     requires { ⌜ (nr * stride ≤ length (now kl)) × (nc * stride ≤ length (now ku)) × Lines (now cols) nc
         × Lines (now rows) nr ⌝ }
     requires { ⌜ LabelRoom nc nr (now level) (now upright) (now il) (now iu) (now ql) (now qu) ⌝ }
-    requires { ⌜ Has (now cols) nc sx × Has (now rows) nr sy × Has (now cols) nc tx × Has (now rows) nr ty ⌝ }
+    requires { ⌜ Has (now cols) nc sx × Has (now rows) nr sy × (n * 5 ≤ length (now boxes))
+        × ((w : ℕ) × (h : ℕ) × Boxes (now targets) k w h) ⌝ }
     ensures { λ r. ⌜ Labelling (now (cols .entry)) (now (rows .entry)) (now (kl .entry)) (now (ku .entry)) nc nr
-        (point sx sy) (point tx ty) (r .i) (r .j) (r .found) (now (level .exit)) (now (upright .exit))
-        (now (il .exit)) (now (iu .exit)) ⌝ }
+        (now (boxes .entry)) n (now (targets .entry)) k (point sx sy) (r .i) (r .j) (r .found)
+        (now (level .exit)) (now (upright .exit)) (now (il .exit)) (now (iu .exit)) ⌝ }
 {
     let i = index_of(cols, nc, sx);
     let j = index_of(rows, nr, sy);
-    let ti = index_of(cols, nc, tx);
-    let tj = index_of(rows, nr, ty);
-    seed(level, il, ql, tj, ti);
-    seed(upright, iu, qu, ti, tj);
+    let a = sow_targets(
+        level,
+        il,
+        ql,
+        boxes,
+        n,
+        targets,
+        k,
+        false,
+        rows,
+        nr,
+        cols,
+        nc,
+    );
+    let b = sow_targets(
+        upright,
+        iu,
+        qu,
+        boxes,
+        n,
+        targets,
+        k,
+        true,
+        cols,
+        nc,
+        rows,
+        nr,
+    );
     let found = rounds(
         level,
         upright,
@@ -208,6 +230,8 @@ fn label(
         nr,
         i,
         j,
+        a,
+        b,
     );
     Arrived { i, j, found }
 }
@@ -314,8 +338,8 @@ fn start_at(
     }
 }
 
-// Searches the first path of fewest bends between two free points of a foil, and says how many corners it has: 0 where
-// there is no path. What it leaves in the lists is for `walk`; before, the lists of labels hold zeros.
+// Searches the first path of fewest bends from a free point of a foil to a target, and says how many corners it has: 0
+// where there is no path. What it leaves in the lists is for `walk`; before, the lists of labels hold zeros.
 fn labels(
     level: &mut [u32],
     upright: &mut [u32],
@@ -330,21 +354,22 @@ fn labels(
     mark: &mut [u8],
     boxes: &[u16],
     n: usize,
+    targets: &[u16],
+    k: usize,
     w: u16,
     h: u16,
     sx: u16,
     sy: u16,
-    tx: u16,
-    ty: u16,
 ) -> Start
-    requires { ⌜ Posed (now boxes) n w h (point sx sy) (point tx ty) ⌝ }
-    requires { ⌜ GridRoom n (now cols) (now rows) (now kl) (now ku) (now mark) ⌝ }
-    requires { ⌜ LabelRoom (mostLines n) (mostLines n) (now level) (now upright) (now il) (now iu) (now ql) (now qu) ⌝ }
-    ensures { λ r. ⌜ Searched (firstPath (boxFree w h n (now (boxes .entry))) w h (point sx sy) (point tx ty))
+    requires { ⌜ Aimed (now boxes) n (now targets) k w h (point sx sy) ⌝ }
+    requires { ⌜ GridRoom (n + k) (now cols) (now rows) (now kl) (now ku) (now mark) ⌝ }
+    requires { ⌜ LabelRoom (mostLines (n + k)) (mostLines (n + k)) (now level) (now upright) (now il) (now iu) (now ql) (now qu) ⌝ }
+    ensures { λ r. ⌜ Searched (firstPathTo (boxFree w h n (now (boxes .entry))) w h (point sx sy)
+        (target w h n (now (boxes .entry)) k (now (targets .entry))))
         (now (cols .exit)) (now (rows .exit)) (now (kl .exit)) (now (ku .exit))
         (now (level .exit)) (now (upright .exit)) (now (il .exit)) (now (iu .exit)) r ⌝ }
 {
-    let size = build(cols, rows, kl, ku, mark, boxes, n, w, h, sx, sy, tx, ty);
+    let size = build(cols, rows, kl, ku, mark, boxes, n, targets, k, w, h, sx, sy);
     let nc = size.columns;
     let nr = size.rows;
     let s = label(
@@ -360,10 +385,12 @@ fn labels(
         rows,
         nc,
         nr,
+        boxes,
+        n,
+        targets,
+        k,
         sx,
         sy,
-        tx,
-        ty,
     );
     start_at(level, upright, il, iu, ku, rows, nc, nr, s.i, s.j, s.found)
 }
@@ -448,17 +475,18 @@ fn path_in(
     mark: &mut [u8],
     boxes: &[u16],
     n: usize,
+    targets: &[u16],
+    k: usize,
     w: u16,
     h: u16,
     sx: u16,
     sy: u16,
-    tx: u16,
-    ty: u16,
 ) -> usize
-    requires { ⌜ Posed (now boxes) n w h (point sx sy) (point tx ty) ⌝ }
-    requires { ⌜ GridRoom n (now cols) (now rows) (now kl) (now ku) (now mark) ⌝ }
-    requires { ⌜ LabelRoom (mostLines n) (mostLines n) (now level) (now upright) (now il) (now iu) (now ql) (now qu) ⌝ }
-    ensures { λ r. ⌜ Found (firstPath (boxFree w h n (now (boxes .entry))) w h (point sx sy) (point tx ty))
+    requires { ⌜ Aimed (now boxes) n (now targets) k w h (point sx sy) ⌝ }
+    requires { ⌜ GridRoom (n + k) (now cols) (now rows) (now kl) (now ku) (now mark) ⌝ }
+    requires { ⌜ LabelRoom (mostLines (n + k)) (mostLines (n + k)) (now level) (now upright) (now il) (now iu) (now ql) (now qu) ⌝ }
+    ensures { λ r. ⌜ Found (firstPathTo (boxFree w h n (now (boxes .entry))) w h (point sx sy)
+        (target w h n (now (boxes .entry)) k (now (targets .entry))))
         (now (out .entry)) (now (out .exit)) r ⌝ }
 {
     let start = labels(
@@ -475,22 +503,22 @@ fn path_in(
         mark,
         boxes,
         n,
+        targets,
+        k,
         w,
         h,
         sx,
         sy,
-        tx,
-        ty,
     );
-    let k = start.corners;
-    if k == 0 {
+    let count = start.corners;
+    if count == 0 {
         return 0;
     }
-    if out.len() / 2 < k {
-        return k;
+    if out.len() / 2 < count {
+        return count;
     }
     walk(out, level, upright, il, iu, kl, ku, cols, rows, start);
-    k
+    count
 }
 
 // The same, with lists for the lines of few boxes.
@@ -498,15 +526,16 @@ fn path_among_few(
     out: &mut [u16],
     boxes: &[u16],
     n: usize,
+    targets: &[u16],
+    k: usize,
     w: u16,
     h: u16,
     sx: u16,
     sy: u16,
-    tx: u16,
-    ty: u16,
 ) -> usize
-    requires { ⌜ Posed (now boxes) n w h (point sx sy) (point tx ty) × (n ≤ 32) ⌝ }
-    ensures { λ r. ⌜ Found (firstPath (boxFree w h n (now (boxes .entry))) w h (point sx sy) (point tx ty))
+    requires { ⌜ Aimed (now boxes) n (now targets) k w h (point sx sy) × (n + k ≤ 33) ⌝ }
+    ensures { λ r. ⌜ Found (firstPathTo (boxFree w h n (now (boxes .entry))) w h (point sx sy)
+        (target w h n (now (boxes .entry)) k (now (targets .entry))))
         (now (out .entry)) (now (out .exit)) r ⌝ }
 {
     let mut level = [0u32; FEW_AREA];
@@ -535,12 +564,12 @@ fn path_among_few(
         &mut mark,
         boxes,
         n,
+        targets,
+        k,
         w,
         h,
         sx,
         sy,
-        tx,
-        ty,
     )
 }
 
@@ -549,15 +578,16 @@ fn path_among_many(
     out: &mut [u16],
     boxes: &[u16],
     n: usize,
+    targets: &[u16],
+    k: usize,
     w: u16,
     h: u16,
     sx: u16,
     sy: u16,
-    tx: u16,
-    ty: u16,
 ) -> usize
-    requires { ⌜ Posed (now boxes) n w h (point sx sy) (point tx ty) ⌝ }
-    ensures { λ r. ⌜ Found (firstPath (boxFree w h n (now (boxes .entry))) w h (point sx sy) (point tx ty))
+    requires { ⌜ Aimed (now boxes) n (now targets) k w h (point sx sy) ⌝ }
+    ensures { λ r. ⌜ Found (firstPathTo (boxFree w h n (now (boxes .entry))) w h (point sx sy)
+        (target w h n (now (boxes .entry)) k (now (targets .entry))))
         (now (out .entry)) (now (out .exit)) r ⌝ }
 {
     let mut level = [0u32; AREA];
@@ -586,18 +616,40 @@ fn path_among_many(
         &mut mark,
         boxes,
         n,
+        targets,
+        k,
         w,
         h,
         sx,
         sy,
-        tx,
-        ty,
     )
 }
 
-// Searches the first path of fewest bends and least length between two points that the first n boxes leave free.
-// Answers how many corners it has, 0 where there is no path. Where they fit, they are written to the front of `out`,
-// and else nothing is.
+// Searches the first path of fewest bends and least length from a point that the first n boxes leave free to a target,
+// which is a point in one of the first k target boxes that they leave free. Answers how many corners it has, 0 where
+// there is no path. Where they fit, they are written to the front of `out`, and else nothing is.
+pub fn first_path_to(
+    out: &mut [u16],
+    boxes: &[u16],
+    n: usize,
+    targets: &[u16],
+    k: usize,
+    w: u16,
+    h: u16,
+    sx: u16,
+    sy: u16,
+) -> usize
+    requires { ⌜ Aimed (now boxes) n (now targets) k w h (point sx sy) ⌝ }
+    ensures { λ r. ⌜ Found (firstPathTo (boxFree w h n (now (boxes .entry))) w h (point sx sy)
+        (target w h n (now (boxes .entry)) k (now (targets .entry)))) (now (out .entry)) (now (out .exit)) r ⌝ }
+{
+    if n + k <= FEW {
+        return path_among_few(out, boxes, n, targets, k, w, h, sx, sy);
+    }
+    path_among_many(out, boxes, n, targets, k, w, h, sx, sy)
+}
+
+// The same to the point (tx, ty), which they leave free.
 pub fn first_path(
     out: &mut [u16],
     boxes: &[u16],
@@ -613,8 +665,6 @@ pub fn first_path(
     ensures { λ r. ⌜ Found (firstPath (boxFree w h n (now (boxes .entry))) w h (point sx sy) (point tx ty))
         (now (out .entry)) (now (out .exit)) r ⌝ }
 {
-    if n <= FEW {
-        return path_among_few(out, boxes, n, w, h, sx, sy, tx, ty);
-    }
-    path_among_many(out, boxes, n, w, h, sx, sy, tx, ty)
+    let point = [0u16, tx, ty, tx + 1, ty + 1];
+    first_path_to(out, boxes, n, &point, 1, w, h, sx, sy)
 }

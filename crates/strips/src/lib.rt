@@ -1,6 +1,6 @@
 // The strips of a foil: built from the boxes that are blocked, and looked up.
-mod joining;
 mod order;
+mod row_joining;
 mod rows;
 mod sweep;
 
@@ -37,7 +37,7 @@ pub fn rebuild(out: &mut [u16], boxes: &[u16], n: usize, w: u16, h: u16) -> Buil
     let mut ord = [0usize; MAX_BOXES];
     let mut last = [0usize; 4096];
     order::order(&mut ord, boxes, n);
-    let count = joining::join_rows(out, &mut last, boxes, &ord, n, w, h);
+    let count = row_joining::join_rows(out, &mut last, boxes, &ord, n, w, h);
     if MAX_STRIPS < count {
         return Built::TooMany;
     }

@@ -31,12 +31,12 @@ pub fn pen_zones(out: &mut [u16], table: &[u16], n: usize, board: Board) -> usiz
     zones(out, table, n, rule, board.width, board.height)
 }
 
-// Writes what they block by any rule, and answers how many boxes there are.
+// Writes what they block by any rule, and answers how many boxes there are: four more than entries at most.
 pub fn zones(out: &mut [u16], table: &[u16], n: usize, rule: Rule, w: u16, h: u16) -> usize
     requires { ⌜ Table (now table) n rule w h ⌝ }
     requires { ⌜ maxBoxes * 5 ≤ length (now out) ⌝ }
     ensures { λ r. ⌜ Zoned (freeBy rule w h (map (entryAt (now (table .entry))) (range 0 n)))
-        w h (now (out .exit)) r ⌝ }
+        w h (now (out .exit)) r × (r ≤ n + 4) ⌝ }
 {
     put_zones(out, table, n, rule, w, h);
     let m = rule.edge;
@@ -122,7 +122,7 @@ fn margin_of(rule: Rule, e: Entry) -> u16
 }
 
 // The rule of a pen of half width `half` with a gap.
-fn pen_rule(half: u16, gap: u16) -> Rule
+pub fn pen_rule(half: u16, gap: u16) -> Rule
     requires { ⌜ Small (penRule (pen half gap)) ⌝ }
     ensures { λ r. ⌜ r ≡ penRule (pen half gap) ⌝ }
 {

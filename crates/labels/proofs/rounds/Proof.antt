@@ -14,7 +14,7 @@ use Rattle.labels.proofs.rounds.Statement.{statement}
 use Rattle.labels.proofs.rounds.Tie as tie
 
 abbrev Inv-loop : tie.InvT-loop
-Inv-loop level₀ upright₀ il₀ iu₀ ql₀ qu₀ el eu cols rows nc nr i j ahead₀ behind₀ v₀ la₀ lb₀ ua₀ ub₀
+Inv-loop level₀ upright₀ il₀ iu₀ ql₀ qu₀ el eu cols rows nc nr i j a b ahead₀ behind₀ v₀ la₀ lb₀ ua₀ ub₀
     level upright il iu ql qu ahead behind v la lb ua ub =
     (length level ≡ length level₀) × (length upright ≡ length upright₀) × (length il ≡ length il₀)
     × (length iu ≡ length iu₀) × (length ql ≡ length ql₀) × (length qu ≡ length qu₀) × (length ahead ≡ stride)
@@ -22,7 +22,7 @@ Inv-loop level₀ upright₀ il₀ iu₀ ql₀ qu₀ el eu cols rows nc nr i j a
     × Going el eu cols rows nc nr level₀ upright₀ il₀ iu₀ v level upright il iu ql qu la lb ua ub
 
 abbrev μ-loop : tie.MeasureT-loop
-μ-loop level₀ upright₀ il₀ iu₀ ql₀ qu₀ el eu cols rows nc nr i j ahead₀ behind₀ v₀ la₀ lb₀ ua₀ ub₀
+μ-loop level₀ upright₀ il₀ iu₀ ql₀ qu₀ el eu cols rows nc nr i j a b ahead₀ behind₀ v₀ la₀ lb₀ ua₀ ub₀
     level upright il iu ql qu ahead behind v la lb ua ub =
     zeros level + zeros upright
 

@@ -10,7 +10,7 @@ abbrev atMark : tie.After-slice-known4 → tie.After-mark-lines
 atMark c = c .before .before .before .before .before .before .before
 
 abbrev atStart : tie.After-slice-known4 → tie.Start
-atStart c = atMark c .before .before .before .before .before
+atStart c = atMark c .before .before .before .before .before .before
 
 mark-lines-requires : tie.Need-mark-lines-requires
 mark-lines-requires c κs = search needs
@@ -32,7 +32,7 @@ returns c =
       marked = atMark c .mark-lines .ensures;
       collected = at-collect .collect .ensures;
       fits =
-          lines-of (atStart c .pre .0 .1) (atStart c .pre .1 .0)
+          lines-of (atStart c .pre .0 .2) (atStart c .pre .1 .0)
           (omega (arith, atStart c .pre .1 .2, at-collect .collect .kept .0))
           (atMark c .mark-lines .ensures) (at-collect .collect .ensures);
     }

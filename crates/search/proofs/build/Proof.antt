@@ -1,13 +1,13 @@
 -- Columns and rows, and then their links.
 use native.Mathlib.Omega.{arith}
 use borrow.Author.Needs.{needs}
-use Rattle.search.proofs.Grid.{axis-few, posed-on}
+use Rattle.search.proofs.Grid.{axis-few, aimed-on}
 use Rattle.search.proofs.build.Statement.{statement}
 use Rattle.search.proofs.build.Tie as tie
 
 -- back to the start, to the columns, and to the rows
 abbrev atStart : tie.After-axis-arg2 → tie.Start
-atStart c = c .before .before .before .before .before .before .before .before
+atStart c = c .before .before .before .before .before .before .before .before .before
 
 abbrev atColumns : tie.After-axis-arg4 → tie.After-axis
 atColumns c = c .before .before .before .before .before .before
@@ -20,19 +20,17 @@ afterRows c = c .before .before .before .before .before .before .before .before 
 
 axis-requires : tie.Need-axis-requires
 axis-requires c κs =
-    let boxes = atStart c .pre .0 .boxes in
-    let on = posed-on (atStart c .pre .0) in (
-      (boxes .len, boxes .few, on .0, on .2),
-      (boxes .width, atStart c .pre .1 .marks, atStart c .pre .1 .column-lines),
+    let asked = atStart c .pre .0 in (
+      (asked .boxes .len, asked .targets .len, asked .few, aimed-on asked .0),
+      (asked .boxes .width, atStart c .pre .1 .marks, atStart c .pre .1 .column-lines),
     )
 
 axis-requires-2 : tie.Need-axis-requires-2
 axis-requires-2 c κs =
     let start = atStart (atColumns c .before) in
-    let boxes = start .pre .0 .boxes in
-    let on = posed-on (start .pre .0) in (
-      (boxes .len, boxes .few, on .1, on .3),
-      (boxes .height, omega (arith, atColumns c .axis .kept .1 .0), start .pre .1 .row-lines),
+    let asked = start .pre .0 in (
+      (asked .boxes .len, asked .targets .len, asked .few, aimed-on asked .1),
+      (asked .boxes .height, omega (arith, atColumns c .axis .kept .1 .0), start .pre .1 .row-lines),
     )
 
 links-requires : tie.Need-links-requires

@@ -1,7 +1,7 @@
 -- The grid, the labels, and where the walk starts.
 use native.Mathlib.Omega.{arith}
 use borrow.Author.Needs.{needs}
-use Rattle.search.proofs.Grid.{axis-few, label-room, points-on}
+use Rattle.search.proofs.Grid.{axis-few, label-room, point-on}
 use Rattle.search.proofs.Search.{found-some, searched}
 use Rattle.search.proofs.labels.Statement.{statement}
 use Rattle.search.proofs.labels.Tie as tie
@@ -16,8 +16,8 @@ atLabel c = c .before .before .before .before .before .before .before .before .b
     .before .before .before .before .before
 
 abbrev atStart : tie.After-label-arg10 → tie.Start
-atStart c = afterCols c .before .before .before .before .before .before .before .before .before .before .before
-    .before .before .before .before .before .before .before .before
+atStart c = afterCols c .before .before .before .before .before .before .before .before .before .before
+    .before .before .before .before .before .before .before .before .before .before
 
 abbrev atBuild : tie.After-start-at → tie.After-build
 atBuild c = afterCols (atLabel (c .before) .before) .before
@@ -30,14 +30,19 @@ label-requires c κs =
     let grid = afterCols c .before .build in
     let room = atStart c .pre .1 .0 in
     let columns = axis-few (grid .ensures .column-axis) in
-    let rows = axis-few (grid .ensures .row-axis) in (
+    let rows = axis-few (grid .ensures .row-axis) in
+    let asked = atStart c .pre .0 in
+    let on = point-on (grid .ensures) asked in (
       (
         omega (arith, rows, room .level-links, grid .kept .1 .1 .0),
         omega (arith, columns, room .upright-links, grid .kept .1 .1 .1 .0),
         grid .ensures .column-axis .fits,
         grid .ensures .row-axis .fits,
       ),
-      (label-room columns rows (atStart c .pre .1 .1), points-on (grid .ensures) (atStart c .pre .0)),
+      (
+        label-room columns rows (atStart c .pre .1 .1),
+        (on .0, on .1, asked .boxes .len, (_, _, asked .targets)),
+      ),
     )
 
 start-at-requires : tie.Need-start-at-requires

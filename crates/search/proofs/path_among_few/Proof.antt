@@ -8,7 +8,7 @@ use Rattle.search.proofs.path_among_few.Tie as tie
 -- back to the start
 abbrev atStart : tie.After-mark → tie.Start
 atStart c = c .before .before .before .before .before .before .before .before .before .before .before .before .before
-    .before
+    .before .before
 
 slice-aggregate-path-in : tie.Need-slice-aggregate-path-in
 slice-aggregate-path-in c = search needs
@@ -61,8 +61,8 @@ path-in-requires c κs =
           upright = omega (arith, few);
           level-few = omega arith;
           upright-few = omega arith;
-          level-blank = blank 18224;
-          upright-blank = blank 18224;
+          level-blank = blank 18561;
+          upright-blank = blank 18561;
           level-inks = omega (arith, few);
           upright-inks = omega (arith, few);
           level-queue = omega arith;

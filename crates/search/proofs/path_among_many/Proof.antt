@@ -9,7 +9,7 @@ use Rattle.search.proofs.path_among_many.Tie as tie
 -- back to the start
 abbrev atStart : tie.After-mark → tie.Start
 atStart c = c .before .before .before .before .before .before .before .before .before .before .before .before .before
-    .before
+    .before .before
 
 slice-aggregate-path-in : tie.Need-slice-aggregate-path-in
 slice-aggregate-path-in c = search needs
@@ -47,7 +47,7 @@ slice-aggregate-path-in-11 c = search needs
 path-in-requires : tie.Need-path-in-requires
 path-in-requires c κs =
     let start = atStart c in
-    let few = start .pre .boxes .few in (
+    let few = start .pre .few in (
       start .pre,
       (
         record {

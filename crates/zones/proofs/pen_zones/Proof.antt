@@ -23,7 +23,7 @@ same-length c = search needs
 returns : tie.Need-returns
 returns c =
     let made = c .before .before in
-    zoned-free _ _ _ _ _ _ _ _ (atRule (made .before) .pen-rule .ensures) (made .zones .ensures)
+    zoned-free _ _ _ _ _ _ _ _ (atRule (made .before) .pen-rule .ensures) (made .zones .ensures .0)
 
 pub pen-zones-spec : {M : Type 1} → statement M
 pen-zones-spec = tie.close (tie.spec pen-rule-requires zones-requires same-length returns)

@@ -24,9 +24,11 @@ same-length c = search needs
 returns : tie.Need-returns
 returns c =
     let zoned = atZones (c .before) in
-    let pre = atStart zoned .pre in
-    zones-alone _ _ _ _ _ (pre .0) _ (zoned .put-zones .ensures) (omega (arith, pre .1, zoned .put-zones .kept .0))
-    (c .if1 .taken)
+    let pre = atStart zoned .pre in (
+      zones-alone _ _ _ _ _ (pre .0) _ (zoned .put-zones .ensures) (omega (arith, pre .1, zoned .put-zones .kept .0))
+          (c .if1 .taken),
+      omega arith,
+    )
 
 put-edge-requires : tie.Need-put-edge-requires
 put-edge-requires c κs =
@@ -44,9 +46,11 @@ returns-2 : tie.Need-returns-2
 returns-2 c =
     let edge = c .before .before .put-edge in
     let zoned = atZones (atEdge c .before) in
-    let pre = atStart zoned .pre in
-    zones-edged _ _ _ _ _ (pre .0) _ _ (omega (arith, atEdge c .if1 .left)) (edge .ensures) (zoned .put-zones .ensures)
-    (omega (arith, pre .1, zoned .put-zones .kept .0, edge .kept .0))
+    let pre = atStart zoned .pre in (
+      zones-edged _ _ _ _ _ (pre .0) _ _ (omega (arith, atEdge c .if1 .left)) (edge .ensures)
+          (zoned .put-zones .ensures) (omega (arith, pre .1, zoned .put-zones .kept .0, edge .kept .0)),
+      omega arith,
+    )
 
 pub zones-spec : {M : Type 1} → statement M
 zones-spec =

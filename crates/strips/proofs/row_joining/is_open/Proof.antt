@@ -1,11 +1,11 @@
--- `strips::joining::is_open` meets its contract: the strip at place k is compared number by number.
+-- `strips::row_joining::is_open` meets its contract: the strip at place k is compared number by number.
 use mathlib.Core.Path.{ap}
 use native.Mathlib.Omega.{arith}
 use borrow.Author.Needs.{needs}
 use Rattle.foil_spec.specs.Strips.{Strip}
 use Rattle.foil_spec.specs.Lent.{listedStrip}
-use Rattle.strips.proofs.joining.is_open.Statement.{statement}
-use Rattle.strips.proofs.joining.is_open.Tie as tie
+use Rattle.strips.proofs.row_joining.is_open.Statement.{statement}
+use Rattle.strips.proofs.row_joining.is_open.Tie as tie
 
 -- back to where the strip is read, from the tests of x0, of x1 and of y1
 abbrev atX0 : tie.After-struct-known → tie.After-strip-at

@@ -1,4 +1,4 @@
--- `strips::joining::join_row` meets its contract: the row is joined up to column x.
+-- `strips::row_joining::join_row` meets its contract: the row is joined up to column x.
 use Prim.Native.Nat.{ℕ, _-_, _<_}
 use mathlib.Core.Path.{refl, ap, subst}
 use native.Mathlib.Omega.{arith}
@@ -10,8 +10,8 @@ use Rattle.strips.specs.declared.sweep.Swept.{Swept}
 use Rattle.strips.specs.declared.sweep.Swept.the-variants.{Run as found}
 use Rattle.strips.specs.Joining.{Opened}
 use Rattle.strips.proofs.JoiningRow.{JoiningRow, row-start, row-old, row-new, row-full, row-none, row-end}
-use Rattle.strips.proofs.joining.join_row.Statement.{statement}
-use Rattle.strips.proofs.joining.join_row.Tie as tie
+use Rattle.strips.proofs.row_joining.join_row.Statement.{statement}
+use Rattle.strips.proofs.row_joining.join_row.Tie as tie
 
 abbrev Inv-loop : tie.InvT-loop
 Inv-loop out₀ last₀ boxes ord n w h y z c x₀ j₀ count₀ out last x j count =

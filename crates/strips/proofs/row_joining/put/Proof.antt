@@ -1,10 +1,10 @@
--- `strips::joining::put` meets its contract.
+-- `strips::row_joining::put` meets its contract.
 use Prim.Native.Nat.{_*_}
 use Rattle.strips.proofs.Listing.{four-sets}
 use native.Mathlib.Omega.{arith}
 use lib.ListN.{length-set}
-use Rattle.strips.proofs.joining.put.Statement.{statement}
-use Rattle.strips.proofs.joining.put.Tie as tie
+use Rattle.strips.proofs.row_joining.put.Statement.{statement}
+use Rattle.strips.proofs.row_joining.put.Tie as tie
 
 mul-out : tie.Need-mul-out
 mul-out c = omega arith

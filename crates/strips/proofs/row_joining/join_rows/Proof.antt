@@ -1,4 +1,4 @@
--- `strips::joining::join_rows` meets its contract: the strips that begin before row y are joined up to that row.
+-- `strips::row_joining::join_rows` meets its contract: the strips that begin before row y are joined up to that row.
 use Prim.Native.Nat.{ℕ, _-_, _≤_}
 use native.Mathlib.Omega.{arith}
 use mathlib.Core.Path.{_≡_, refl, _∙_}
@@ -9,8 +9,8 @@ use Rattle.zones.specs.Boxes.{boxFree}
 use Rattle.strips.specs.Rows.{Change}
 use Rattle.strips.specs.Joining.{Joined}
 use Rattle.strips.proofs.RowToRow.{joined-start, joined-toward, joined-next, joined-over, joined-end}
-use Rattle.strips.proofs.joining.join_rows.Statement.{statement}
-use Rattle.strips.proofs.joining.join_rows.Tie as tie
+use Rattle.strips.proofs.row_joining.join_rows.Statement.{statement}
+use Rattle.strips.proofs.row_joining.join_rows.Tie as tie
 
 abbrev Inv-loop : tie.InvT-loop
 Inv-loop out₀ last₀ boxes ord n w h y₀ count₀ out last y count =

@@ -1,0 +1,6 @@
+-- What is proved of join.
+pub mod Seeking
+pub mod Own
+pub mod Aiming
+pub mod Checking
+pub mod Tracking

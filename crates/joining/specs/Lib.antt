@@ -1,0 +1,3 @@
+-- What the contracts of join cite.
+pub mod Sought
+pub mod Ready

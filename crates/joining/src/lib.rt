@@ -1,0 +1,208 @@
+// The call join: finds the first path of fewest bends from a point to a net, over points that are free for the net, and
+// books it under the same net. Like the other calls it has no `requires`: it is its refusals by 12 and 13, and then a
+// body (`join_in`).
+use booking::Booked;
+use booking::append;
+use booking::bend_count;
+use booking::copy_front;
+use booking::in_use;
+use booking::leg_count;
+use booking::without;
+use drawn::book_path;
+use drawn::is_way;
+use foil::Answer;
+use foil::Checked;
+use foil::Done;
+use foil::lent_refusal;
+use foil::refuse;
+use foil_spec::Board;
+use foil_spec::MAX_ENTRIES;
+use foil_spec::TABLE_SIZE;
+use foil_spec::entry_at;
+use search::first_path_to;
+use state::net_ok;
+use zones::BOXES_SIZE;
+use zones::pen_rule;
+use zones::pen_zones;
+use zones::zones;
+ghost use mathlib.Core.Path.{_≡_};
+ghost use Prim.Native.Nat.{_+_, _*_, _≤_, _<_};
+ghost use mathlib.Core.Bool.{true};
+ghost use mathlib.Core.List.{[]};
+ghost use lib.ListN.{length};
+ghost use Rattle.foil_spec.specs.Limits.{maxEntries};
+ghost use Rattle.foil_spec.specs.Foil.{point};
+ghost use Rattle.foil_spec.specs.Ledger.{join as joins, freeFor, joinOf};
+ghost use Rattle.foil_spec.specs.Lent.{lent, layoutOf, penIn, sound};
+ghost use Rattle.foil.specs.Contract.{OutputDone, OutputIn};
+ghost use Rattle.booking.specs.Rows.{rowsOf};
+ghost use Rattle.search.specs.Search.{Found};
+ghost use Rattle.joining.specs.Sought.{Own, Known, Asked};
+ghost use Rattle.joining.specs.Ready.{ReadyToJoin};
+
+// The corners of a path whose legs fit an empty table, and their numbers.
+const PATH_SIZE: usize = 258;
+
+// Joins the point (sx, sy) to the net: writes the corners of the way to the front of the corner list, and appends an
+// entry of the same net for each leg.
+pub fn join(
+    table: &mut [u16],
+    strips: &mut [u16],
+    corners: &mut [u16],
+    board: Board,
+    net: u16,
+    sx: u16,
+    sy: u16,
+) -> Done
+    ensures { λ r. ⌜ OutputDone (joins net (point sx sy))
+        (lent board (now (table .entry)) (now (strips .entry))) (now (corners .entry))
+        r (now (table .exit)) (now (strips .exit)) (now (corners .exit)) ⌝ }
+{
+    let checked = lent_refusal(table, strips, board);
+    if let Checked::Refused(number) = checked {
+        return refuse(number, board);
+    }
+    join_in(table, strips, corners, board, MAX_ENTRIES, net, sx, sy)
+}
+
+// Joins a point on a foil that keeps the rules and may have so many entries.
+pub fn join_in(
+    table: &mut [u16],
+    strips: &mut [u16],
+    corners: &mut [u16],
+    board: Board,
+    limit: usize,
+    net: u16,
+    sx: u16,
+    sy: u16,
+) -> Done
+    requires { ⌜ sound (lent board (now table) (now strips)) ≡ true ⌝ }
+    requires { ⌜ limit ≤ maxEntries ⌝ }
+    ensures { λ r. ⌜ OutputIn (joins net (point sx sy)) limit
+        (lent board (now (table .entry)) (now (strips .entry))) (now (corners .entry))
+        r (now (table .exit)) (now (strips .exit)) (now (corners .exit)) ⌝ }
+{
+    if !net_ok(net) {
+        return refuse(4, board);
+    }
+    if !in_use(table, board.entries, net) {
+        return refuse(6, board);
+    }
+    if board.width <= sx {
+        return refuse(7, board);
+    }
+    if board.height <= sy {
+        return refuse(7, board);
+    }
+    if !clear_for(table, board, net, sx, sy) {
+        return refuse(8, board);
+    }
+    join_from(table, strips, corners, board, limit, net, sx, sy)
+}
+
+// Puts entry k of the table at place j if it is of the net, and answers the next unused place.
+fn keep_own(rows: &mut [u16], j: usize, table: &[u16], k: usize, net: u16) -> usize
+    requires { ⌜ (k < maxEntries) × (k * 5 + 5 ≤ length (now table)) × Own (now rows) (now table) net k j ⌝ }
+    ensures { λ r. ⌜ Own (now (rows .exit)) (now (table .entry)) net (k + 1) r ⌝ }
+{
+    let e = entry_at(table, k);
+    if e.net != net {
+        return j;
+    }
+    append(rows, j, e.net, e.x0, e.y0, e.x1, e.y1);
+    j + 1
+}
+
+// Puts the net's legs, of the first n entries of the table, into rows that are empty, in their order, and answers how
+// many they are.
+fn own_legs(rows: &mut [u16], table: &[u16], n: usize, net: u16) -> usize
+    requires { ⌜ (n ≤ maxEntries) × (n * 5 ≤ length (now table)) × (now rows ≡ rowsOf []) ⌝ }
+    ensures { λ r. ⌜ Own (now (rows .exit)) (now (table .entry)) net n r ⌝ }
+{
+    let mut j = 0;
+    let mut k = 0;
+    while k < n {
+        j = keep_own(rows, j, table, k, net);
+        k += 1;
+    }
+    j
+}
+
+// Searches the first path of fewest bends and least length from (sx, sy), which is free for the net, to one of the net's
+// legs. Answers how many corners it has, 0 where there is no path. Where they fit, they are written to the front of out.
+pub fn path_to_net(
+    out: &mut [u16],
+    table: &[u16],
+    board: Board,
+    net: u16,
+    sx: u16,
+    sy: u16,
+) -> usize
+    requires { ⌜ Asked (now table) (board .entries) (penIn board) (board .width) (board .height) net (point sx sy) ⌝ }
+    ensures { λ r. ⌜ Found (joinOf net (layoutOf (board .width) (board .height) (penIn board) (board .entries)
+        (now (table .entry))) (point sx sy)) (now (out .entry)) (now (out .exit)) r ⌝ }
+{
+    let mut others = [0u16; TABLE_SIZE];
+    let j = without(&mut others, table, board.entries, net);
+    let mut legs = [0u16; TABLE_SIZE];
+    let k = own_legs(&mut legs, table, board.entries, net);
+    let mut boxes = [0u16; BOXES_SIZE];
+    let rule = pen_rule(board.half, board.gap);
+    let n = zones(&mut boxes, &others, j, rule, board.width, board.height);
+    first_path_to(out, &boxes, n, &legs, k, board.width, board.height, sx, sy)
+}
+
+// Whether the point is free for the net: neither the edge nor an entry of another net blocks it.
+fn clear_for(table: &[u16], board: Board, net: u16, x: u16, y: u16) -> bool
+    requires { ⌜ Known (now table) (board .entries) (penIn board) (board .width) (board .height) ⌝ }
+    ensures { λ r. ⌜ r ≡ freeFor net (layoutOf (board .width) (board .height) (penIn board) (board .entries)
+        (now (table .entry))) x y ⌝ }
+{
+    let mut others = [0u16; TABLE_SIZE];
+    let j = without(&mut others, table, board.entries, net);
+    let mut boxes = [0u16; BOXES_SIZE];
+    let n = pen_zones(&mut boxes, &others, j, board);
+    let spot = [x, y];
+    is_way(&boxes, n, board.width, board.height, &spot)
+}
+
+// Joins a point that is free for the net, which is allowed and in use, to it: writes the corners of the way to the front
+// of the corner list, and appends an entry for each leg.
+fn join_from(
+    table: &mut [u16],
+    strips: &mut [u16],
+    corners: &mut [u16],
+    board: Board,
+    limit: usize,
+    net: u16,
+    sx: u16,
+    sy: u16,
+) -> Done
+    requires { ⌜ ReadyToJoin (lent board (now table) (now strips)) net (point sx sy) ⌝ }
+    requires { ⌜ limit ≤ maxEntries ⌝ }
+    ensures { λ r. ⌜ OutputIn (joins net (point sx sy)) limit
+        (lent board (now (table .entry)) (now (strips .entry))) (now (corners .entry))
+        r (now (table .exit)) (now (strips .exit)) (now (corners .exit)) ⌝ }
+{
+    let mut path = [0u16; PATH_SIZE];
+    let k = path_to_net(&mut path, table, board, net, sx, sy);
+    if k == 0 {
+        return refuse(9, board);
+    }
+    if corners.len() / 2 < k {
+        return refuse(12, board);
+    }
+    let n = board.entries;
+    if limit < n + leg_count(k) {
+        return refuse(10, board);
+    }
+    let booked = book_path(table, strips, board, net, &path, k);
+    let Booked::Taken(after) = booked else {
+        return refuse(11, board);
+    };
+    copy_front(corners, &path, k * 2);
+    Done {
+        answer: Answer::Laid(k, bend_count(k)),
+        board: after,
+    }
+}

@@ -1,0 +1,39 @@
+-- The point is a target box.
+use native.Mathlib.Omega.{arith}
+use borrow.Author.Needs.{needs}
+use Rattle.zones.proofs.Free.{not-covered}
+use Rattle.search.proofs.OneTarget.{one-aimed, one-found}
+use Rattle.search.proofs.first_path.Statement.{statement}
+use Rattle.search.proofs.first_path.Tie as tie
+
+-- back to the start
+abbrev atStart : tie.After-shared-slice-known → tie.Start
+atStart c = c .before .before
+
+add-t11 : tie.Need-add-t11
+add-t11 c =
+    let asked = atStart c .pre in
+    omega (arith, not-covered _ _ _ _ _ _ (asked .t-free), asked .boxes .width, asked .boxes .height)
+
+add-t12 : tie.Need-add-t12
+add-t12 c =
+    let asked = atStart c .pre in
+    omega (arith, not-covered _ _ _ _ _ _ (asked .t-free), asked .boxes .width, asked .boxes .height)
+
+slice-aggregate-first-path-to : tie.Need-slice-aggregate-first-path-to
+slice-aggregate-first-path-to c = search needs
+
+first-path-to-requires : tie.Need-first-path-to-requires
+first-path-to-requires c κs = one-aimed (atStart (c .before .before) .pre)
+
+same-length : tie.Need-same-length
+same-length c = search needs
+
+returns : tie.Need-returns
+returns c =
+    let found = c .before .before in
+    one-found (atStart (found .before .before .before) .pre) (found .first-path-to .ensures)
+
+pub first-path-spec : {M : Type 1} → statement M
+first-path-spec =
+    tie.close (tie.spec add-t11 add-t12 slice-aggregate-first-path-to first-path-to-requires same-length returns)

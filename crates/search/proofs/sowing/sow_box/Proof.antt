@@ -1,0 +1,91 @@
+-- The lines and crossings in the box are a block.
+use native.Mathlib.Omega.{arith}
+use mathlib.Core.Path.{_≡_, ap}
+use borrow.Author.Needs.{needs}
+use Rattle.search.proofs.Boxed.{block-ordered, box-sown}
+use Rattle.search.proofs.sowing.sow_box.Statement.{statement}
+use Rattle.search.proofs.sowing.sow_box.Tie as tie
+
+-- back to the start, and to the four ends of the block
+abbrev atStart : tie.After-extent-of → tie.Start
+atStart c = c .before .before .before .before .before .before .before .before
+
+abbrev atHi : tie.After-sow-block-arg3 → tie.After-first-from4
+atHi c = c .before .before .before
+
+abbrev atAlong : tie.After-first-from4 → tie.After-extent-of2
+atAlong c = c .before .before
+
+abbrev atB : tie.After-extent-of2 → tie.After-first-from2
+atB c = c .before
+
+abbrev atBeside : tie.After-first-from2 → tie.After-extent-of
+atBeside c = c .before .before
+
+extent-of-requires : tie.Need-extent-of-requires
+extent-of-requires c κs = search needs
+
+first-from-requires : tie.Need-first-from-requires
+first-from-requires c κs = atStart c .pre .1 .0 .0
+
+first-from-requires-2 : tie.Need-first-from-requires-2
+first-from-requires-2 c κs = atStart (c .before) .pre .1 .0 .0
+
+extent-of-requires-2 : tie.Need-extent-of-requires-2
+extent-of-requires-2 c κs = atStart (atBeside c) .pre .0 .1
+
+first-from-requires-3 : tie.Need-first-from-requires-3
+first-from-requires-3 c κs = atStart (atBeside (atB c)) .pre .1 .0 .1
+
+first-from-requires-4 : tie.Need-first-from-requires-4
+first-from-requires-4 c κs = atStart (atBeside (atB (c .before))) .pre .1 .0 .1
+
+sow-block-requires : tie.Need-sow-block-requires
+sow-block-requires c κs =
+    let hi = atHi c in
+    let along = atAlong hi in
+    let b = atB along in
+    let beside = atBeside b in
+    let pre = atStart beside .pre in (
+      (
+        pre .0 .0,
+        omega (arith, pre .1 .0 .0 .fit, b .first-from2 .ensures .le),
+        omega (arith, pre .1 .0 .1 .fit, hi .first-from4 .ensures .le),
+        block-ordered _ _ (beside .extent-of .ensures) (pre .0 .2) (b .before .first-from .ensures)
+            (b .first-from2 .ensures),
+        block-ordered _ _ (along .extent-of2 .ensures) (pre .0 .2) (hi .before .first-from3 .ensures)
+            (hi .first-from4 .ensures),
+      ),
+      record {
+        m = _;
+        n = _;
+        on = pre .1 .1 .0;
+        sown = pre .1 .1 .1;
+        lines-in = b .first-from2 .ensures .le;
+        crossings-in = hi .first-from4 .ensures .le;
+      },
+    )
+
+same-length : tie.Need-same-length
+same-length c = search needs
+
+same-length-2 : tie.Need-same-length-2
+same-length-2 c = search needs
+
+same-length-3 : tie.Need-same-length-3
+same-length-3 c = search needs
+
+returns : tie.Need-returns
+returns c =
+    let sow = c .before .before .before .before .before .before in
+    let hi = atHi (sow .before) in
+    let along = atAlong hi in
+    let b = atB along in
+    let beside = atBeside b in
+    box-sown _ _ _ _ (beside .extent-of .ensures) (along .extent-of2 .ensures) (b .before .first-from .ensures)
+    (b .first-from2 .ensures) (hi .before .first-from3 .ensures) (hi .first-from4 .ensures) (sow .sow-block .ensures)
+
+pub sow-box-spec : {M : Type 1} → statement M
+sow-box-spec =
+    tie.close (tie.spec extent-of-requires first-from-requires first-from-requires-2 extent-of-requires-2
+    first-from-requires-3 first-from-requires-4 sow-block-requires same-length same-length-2 same-length-3 returns)

@@ -1,0 +1,273 @@
+// The labels before the first round: each crossing of the grid that is a target gets the label 1 and the ink 0, and
+// stands in the queue. A target is a point in one of the first k target boxes that the first n boxes leave free. Each
+// function serves both directions, as in `grid` and `labels`.
+use grid::STRIDE;
+use grid::extent_of;
+use grid::first_from;
+use labels::push_cell;
+ghost use mathlib.Core.Path.{_≡_};
+ghost use mathlib.Core.Bool.{Bool, true, false};
+ghost use Prim.Native.Nat.{ℕ, _+_, _*_, _≤_, _<_};
+ghost use lib.ListN.{length};
+ghost use Rattle.foil_spec.specs.Lent.{entryAt};
+ghost use Rattle.zones.specs.Boxes.{covers, Boxes};
+ghost use Rattle.grid.specs.Extent.{turned, Solid};
+ghost use Rattle.grid.specs.Lines.{Lines};
+ghost use Rattle.search.specs.Seeds.{Blank, boxed, BlockSown, Sowable, Sown, Sows, clearAt, aimedAt, aimedOne};
+
+// Whether box k of a table has the point (x, y), or (y, x) if upright.
+fn box_has(boxes: &[u16], k: usize, upright: bool, x: u16, y: u16) -> bool
+    requires { ⌜ k * 5 + 5 ≤ length (now boxes) ⌝ }
+    ensures { λ r. ⌜ r ≡ turned upright (covers (entryAt (now (boxes .entry)) k)) x y ⌝ }
+{
+    let along = extent_of(boxes, k, upright);
+    if x < along.from {
+        return false;
+    }
+    if along.to <= x {
+        return false;
+    }
+    let beside = extent_of(boxes, k, !upright);
+    if y < beside.from {
+        return false;
+    }
+    y < beside.to
+}
+
+// Whether one of the first n boxes of a table has it.
+fn is_boxed(boxes: &[u16], n: usize, upright: bool, x: u16, y: u16) -> bool
+    requires { ⌜ n * 5 ≤ length (now boxes) ⌝ }
+    ensures { λ r. ⌜ r ≡ boxed n (now (boxes .entry)) upright x y ⌝ }
+{
+    let mut k = 0;
+    while k < n {
+        if box_has(boxes, k, upright, x, y) {
+            return true;
+        }
+        k += 1;
+    }
+    false
+}
+
+// Sows crossing k of a line, unless it has a label, and answers where the queue ends then.
+fn sow(
+    labels: &mut [u32],
+    inks: &mut [u32],
+    queue: &mut [u16],
+    line: usize,
+    k: usize,
+    q: usize,
+) -> usize
+    requires { ⌜ Sowable (line + 1) (k + 1) (now labels) (now inks) (now queue) q ⌝ }
+    ensures { λ r. ⌜ BlockSown line (line + 1) k (k + 1) (λ i c. true) (now (labels .entry)) (now (inks .entry))
+        (now (queue .entry)) q (now (labels .exit)) (now (inks .exit)) (now (queue .exit)) r ⌝ }
+{
+    inks[line * STRIDE + k] = 0;
+    push_cell(labels, queue, line, k, 0, q)
+}
+
+// The same, if the first n boxes leave it free.
+fn sow_clear(
+    labels: &mut [u32],
+    inks: &mut [u32],
+    queue: &mut [u16],
+    boxes: &[u16],
+    n: usize,
+    upright: bool,
+    lines: &[u16],
+    cross: &[u16],
+    line: usize,
+    k: usize,
+    q: usize,
+) -> usize
+    requires { ⌜ (n * 5 ≤ length (now boxes)) × (line < length (now lines)) × (k < length (now cross)) ⌝ }
+    requires { ⌜ Sowable (line + 1) (k + 1) (now labels) (now inks) (now queue) q ⌝ }
+    ensures { λ r. ⌜ BlockSown line (line + 1) k (k + 1)
+        (clearAt n (now (boxes .entry)) upright (now (lines .entry)) (now (cross .entry)))
+        (now (labels .entry)) (now (inks .entry)) (now (queue .entry)) q
+        (now (labels .exit)) (now (inks .exit)) (now (queue .exit)) r ⌝ }
+{
+    if is_boxed(boxes, n, upright, cross[k], lines[line]) {
+        return q;
+    }
+    sow(labels, inks, queue, line, k, q)
+}
+
+// The same for the crossings lo to hi, hi excluded.
+fn sow_run(
+    labels: &mut [u32],
+    inks: &mut [u32],
+    queue: &mut [u16],
+    boxes: &[u16],
+    n: usize,
+    upright: bool,
+    lines: &[u16],
+    cross: &[u16],
+    line: usize,
+    lo: usize,
+    hi: usize,
+    q: usize,
+) -> usize
+    requires { ⌜ (n * 5 ≤ length (now boxes)) × (line < length (now lines)) × (hi ≤ length (now cross)) × (lo ≤ hi) ⌝ }
+    requires { ⌜ Sowable (line + 1) hi (now labels) (now inks) (now queue) q ⌝ }
+    ensures { λ r. ⌜ BlockSown line (line + 1) lo hi
+        (clearAt n (now (boxes .entry)) upright (now (lines .entry)) (now (cross .entry)))
+        (now (labels .entry)) (now (inks .entry)) (now (queue .entry)) q
+        (now (labels .exit)) (now (inks .exit)) (now (queue .exit)) r ⌝ }
+{
+    let mut end = q;
+    let mut k = lo;
+    while k < hi {
+        end = sow_clear(
+            labels,
+            inks,
+            queue,
+            boxes,
+            n,
+            upright,
+            lines,
+            cross,
+            line,
+            k,
+            end,
+        );
+        k += 1;
+    }
+    end
+}
+
+// The same for the lines a to b, b excluded.
+fn sow_block(
+    labels: &mut [u32],
+    inks: &mut [u32],
+    queue: &mut [u16],
+    boxes: &[u16],
+    n: usize,
+    upright: bool,
+    lines: &[u16],
+    cross: &[u16],
+    a: usize,
+    b: usize,
+    lo: usize,
+    hi: usize,
+    q: usize,
+) -> usize
+    requires { ⌜ (n * 5 ≤ length (now boxes)) × (b ≤ length (now lines)) × (hi ≤ length (now cross)) × (a ≤ b)
+        × (lo ≤ hi) ⌝ }
+    requires { ⌜ Sowable b hi (now labels) (now inks) (now queue) q ⌝ }
+    ensures { λ r. ⌜ BlockSown a b lo hi
+        (clearAt n (now (boxes .entry)) upright (now (lines .entry)) (now (cross .entry)))
+        (now (labels .entry)) (now (inks .entry)) (now (queue .entry)) q
+        (now (labels .exit)) (now (inks .exit)) (now (queue .exit)) r ⌝ }
+{
+    let mut end = q;
+    let mut line = a;
+    while line < b {
+        end = sow_run(
+            labels,
+            inks,
+            queue,
+            boxes,
+            n,
+            upright,
+            lines,
+            cross,
+            line,
+            lo,
+            hi,
+            end,
+        );
+        line += 1;
+    }
+    end
+}
+
+// The same for the crossings in target box e, of m lines with c crossings each.
+fn sow_box(
+    labels: &mut [u32],
+    inks: &mut [u32],
+    queue: &mut [u16],
+    boxes: &[u16],
+    n: usize,
+    targets: &[u16],
+    e: usize,
+    upright: bool,
+    lines: &[u16],
+    m: usize,
+    cross: &[u16],
+    c: usize,
+    q: usize,
+) -> usize
+    requires { ⌜ (n * 5 ≤ length (now boxes)) × (e * 5 + 5 ≤ length (now targets)) × Solid (entryAt (now targets) e) ⌝ }
+    requires { ⌜ Lines (now lines) m × Lines (now cross) c ⌝ }
+    requires { ⌜ ((on : ℕ → ℕ → Bool) × Sown on m c (now labels) (now inks) (now queue) q) ⌝ }
+    ensures { λ r. ⌜ Sows (aimedOne n (now (boxes .entry)) (entryAt (now (targets .entry)) e) upright
+        (now (lines .entry)) (now (cross .entry))) m c (now (labels .entry)) (now (inks .entry)) (now (queue .entry)) q
+        (now (labels .exit)) (now (inks .exit)) (now (queue .exit)) r ⌝ }
+{
+    let beside = extent_of(targets, e, !upright);
+    let a = first_from(lines, m, beside.from);
+    let b = first_from(lines, m, beside.to);
+    let along = extent_of(targets, e, upright);
+    let lo = first_from(cross, c, along.from);
+    let hi = first_from(cross, c, along.to);
+    sow_block(
+        labels,
+        inks,
+        queue,
+        boxes,
+        n,
+        upright,
+        lines,
+        cross,
+        a,
+        b,
+        lo,
+        hi,
+        q,
+    )
+}
+
+// The same for all targets, where there is no label yet.
+pub fn sow_targets(
+    labels: &mut [u32],
+    inks: &mut [u32],
+    queue: &mut [u16],
+    boxes: &[u16],
+    n: usize,
+    targets: &[u16],
+    k: usize,
+    upright: bool,
+    lines: &[u16],
+    m: usize,
+    cross: &[u16],
+    c: usize,
+) -> usize
+    requires { ⌜ (n * 5 ≤ length (now boxes)) × ((w : ℕ) × (h : ℕ) × Boxes (now targets) k w h) ⌝ }
+    requires { ⌜ Lines (now lines) m × Lines (now cross) c
+        × Sown (λ i c. false) m c (now labels) (now inks) (now queue) 0 ⌝ }
+    ensures { λ r. ⌜ Sown (aimedAt n (now (boxes .entry)) k (now (targets .entry)) upright
+        (now (lines .entry)) (now (cross .entry))) m c (now (labels .exit)) (now (inks .exit)) (now (queue .exit)) r ⌝ }
+{
+    let mut end = 0;
+    let mut e = 0;
+    while e < k {
+        end = sow_box(
+            labels,
+            inks,
+            queue,
+            boxes,
+            n,
+            targets,
+            e,
+            upright,
+            lines,
+            m,
+            cross,
+            c,
+            end,
+        );
+        e += 1;
+    }
+    end
+}
