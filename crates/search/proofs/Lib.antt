@@ -2,6 +2,7 @@
 pub mod Grid
 pub mod Seeds
 pub mod Boxed
+pub mod Near
 pub mod Choice
 pub mod Written
 pub mod Search

@@ -3,6 +3,7 @@ use Prim.Native.Nat.{ℕ, _+_, _-_, _*_, _≤_, _<_}
 use mathlib.Core.Path.{_≡_}
 use mathlib.Core.Bool.{Bool, true, false, not, _&&_, _||_}
 use mathlib.Core.List.{List, map}
+use lib.Dec.{ltb}
 use lib.ListN.{getD, length}
 use Rattle.foil_spec.specs.Lists.{range, any}
 use Rattle.foil_spec.specs.Foil.{Entry}
@@ -29,6 +30,16 @@ pub record Placed (lines : List ℕ) (n x r : ℕ) : Type 0 where
 -- one of the first k boxes of the table t has the point (x, y), or (y, x) if upright
 unfoldable pub boxed : ℕ → List ℕ → Bool → ℕ → ℕ → Bool
 boxed k t upright x y = any (λ (e : Entry). turned upright (covers e) x y) (map (entryAt t) (range 0 k))
+
+-- two boxes that are not empty have a point in common
+unfoldable pub overlap : Entry → Entry → Bool
+overlap a b = ltb (a .x0) (b .x1) && ltb (b .x0) (a .x1) && ltb (a .y0) (b .y1) && ltb (b .y0) (a .y1)
+
+-- of the first n boxes of the table z the first r tell which points of the box e are in one of them
+pub record Enough (n : ℕ) (z : List ℕ) (e : Entry) (r : ℕ) : Type 0 where
+  pub le : r ≤ n
+  pub same : (upright : Bool) (x y : ℕ) → turned upright (covers e) x y ≡ true
+      → boxed r z upright x y ≡ boxed n z upright x y
 
 -- a test of crossings, line first: on m lines with n crossings each, those that pass it have the label 1 and the ink 0
 -- and stand in the queue, which ends at q, and all others have no label

@@ -1,6 +1,8 @@
 // The labels before the first round: each crossing of the grid that is a target gets the label 1 and the ink 0, and
 // stands in the queue. A target is a point in one of the first k target boxes that the first n boxes leave free. Each
 // function serves both directions, as in `grid` and `labels`.
+use foil_spec::Entry;
+use foil_spec::entry_at;
 use grid::STRIDE;
 use grid::extent_of;
 use grid::first_from;
@@ -13,7 +15,8 @@ ghost use Rattle.foil_spec.specs.Lent.{entryAt};
 ghost use Rattle.zones.specs.Boxes.{covers, Boxes};
 ghost use Rattle.grid.specs.Extent.{turned, Solid};
 ghost use Rattle.grid.specs.Lines.{Lines};
-ghost use Rattle.search.specs.Seeds.{Blank, boxed, BlockSown, Sowable, Sown, Sows, clearAt, aimedAt, aimedOne};
+ghost use Rattle.search.specs.Seeds.{boxed, overlap, Enough, BlockSown, Sowable, Sown, Sows, clearAt};
+ghost use Rattle.search.specs.Seeds.{aimedAt, aimedOne};
 
 // Whether box k of a table has the point (x, y), or (y, x) if upright.
 fn box_has(boxes: &[u16], k: usize, upright: bool, x: u16, y: u16) -> bool
@@ -47,6 +50,38 @@ fn is_boxed(boxes: &[u16], n: usize, upright: bool, x: u16, y: u16) -> bool
         k += 1;
     }
     false
+}
+
+// Whether two boxes that are not empty have a point in common.
+fn overlap(a: Entry, b: Entry) -> bool
+    ensures { λ r. ⌜ r ≡ overlap a b ⌝ }
+{
+    if b.x1 <= a.x0 {
+        return false;
+    }
+    if a.x1 <= b.x0 {
+        return false;
+    }
+    if b.y1 <= a.y0 {
+        return false;
+    }
+    b.y0 < a.y1
+}
+
+// How many of the first n boxes are to be tried for the points of a target box: those behind the last that has one of
+// them need not be. For a leg that no box meets that is none.
+fn boxes_near(boxes: &[u16], n: usize, target: Entry) -> usize
+    requires { ⌜ n * 5 ≤ length (now boxes) ⌝ }
+    ensures { λ r. ⌜ Enough n (now (boxes .entry)) target r ⌝ }
+{
+    let mut k = n;
+    while 0 < k {
+        if overlap(entry_at(boxes, k - 1), target) {
+            return k;
+        }
+        k -= 1;
+    }
+    0
 }
 
 // Sows crossing k of a line, unless it has a label, and answers where the queue ends then.
@@ -205,6 +240,7 @@ fn sow_box(
         (now (lines .entry)) (now (cross .entry))) m c (now (labels .entry)) (now (inks .entry)) (now (queue .entry)) q
         (now (labels .exit)) (now (inks .exit)) (now (queue .exit)) r ⌝ }
 {
+    let near = boxes_near(boxes, n, entry_at(targets, e));
     let beside = extent_of(targets, e, !upright);
     let a = first_from(lines, m, beside.from);
     let b = first_from(lines, m, beside.to);
@@ -216,7 +252,7 @@ fn sow_box(
         inks,
         queue,
         boxes,
-        n,
+        near,
         upright,
         lines,
         cross,
