@@ -3,4 +3,5 @@ pub mod Clear
 pub mod Segments
 pub mod Walking
 pub mod Booking
+pub mod Tracking
 pub mod Checking

@@ -2,3 +2,4 @@
 pub mod Clear
 pub mod Segments
 pub mod Booking
+pub mod Tracks

@@ -1,16 +1,12 @@
 // The call join: finds the first path of fewest bends from a point to a net, over points that are free for the net, and
 // books it under the same net. Like the other calls it has no `requires`: it is its refusals by 12 and 13, and then a
 // body (`join_in`).
-use booking::Booked;
 use booking::append;
-use booking::bend_count;
-use booking::copy_front;
 use booking::in_use;
-use booking::leg_count;
 use booking::without;
-use drawn::book_path;
+use drawn::PATH_SIZE;
+use drawn::book_found;
 use drawn::is_way;
-use foil::Answer;
 use foil::Checked;
 use foil::Done;
 use foil::lent_refusal;
@@ -39,9 +35,6 @@ ghost use Rattle.booking.specs.Rows.{rowsOf};
 ghost use Rattle.search.specs.Search.{Found};
 ghost use Rattle.joining.specs.Sought.{Own, Known, Asked};
 ghost use Rattle.joining.specs.Ready.{ReadyToJoin};
-
-// The corners of a path whose legs fit an empty table, and their numbers.
-const PATH_SIZE: usize = 258;
 
 // Joins the point (sx, sy) to the net: writes the corners of the way to the front of the corner list, and appends an
 // entry of the same net for each leg.
@@ -186,23 +179,5 @@ fn join_from(
 {
     let mut path = [0u16; PATH_SIZE];
     let k = path_to_net(&mut path, table, board, net, sx, sy);
-    if k == 0 {
-        return refuse(9, board);
-    }
-    if corners.len() / 2 < k {
-        return refuse(12, board);
-    }
-    let n = board.entries;
-    if limit < n + leg_count(k) {
-        return refuse(10, board);
-    }
-    let booked = book_path(table, strips, board, net, &path, k);
-    let Booked::Taken(after) = booked else {
-        return refuse(11, board);
-    };
-    copy_front(corners, &path, k * 2);
-    Done {
-        answer: Answer::Laid(k, bend_count(k)),
-        board: after,
-    }
+    book_found(table, strips, corners, board, limit, net, &path, k)
 }

@@ -1,14 +1,10 @@
 // The call lay: finds the first path of fewest bends as `finding` does, and books it as `drawn` does. Like the other
 // calls it has no `requires`: it is its refusals by 12 and 13, and then a body (`lay_in`).
-use booking::Booked;
-use booking::bend_count;
-use booking::copy_front;
 use booking::in_use;
-use booking::leg_count;
-use drawn::book_path;
+use drawn::PATH_SIZE;
+use drawn::book_found;
 use finding::path_between;
 use finding::points_refusal;
-use foil::Answer;
 use foil::Checked;
 use foil::Done;
 use foil::lent_refusal;
@@ -25,9 +21,6 @@ ghost use Rattle.foil_spec.specs.Ledger.{lay as lays};
 ghost use Rattle.foil_spec.specs.Lent.{lent, sound};
 ghost use Rattle.foil.specs.Contract.{OutputDone, OutputIn};
 ghost use Rattle.laying.specs.Ready.{ReadyToLay};
-
-// The corners of a path whose legs fit an empty table, and their numbers.
-const PATH_SIZE: usize = 258;
 
 // Lays a track of the net from (sx, sy) to (tx, ty): writes its corners to the front of the corner
 // list, and appends an entry for each leg.
@@ -117,23 +110,5 @@ fn lay_between(
 {
     let mut path = [0u16; PATH_SIZE];
     let k = path_between(&mut path, table, board, sx, sy, tx, ty);
-    if k == 0 {
-        return refuse(9, board);
-    }
-    if corners.len() / 2 < k {
-        return refuse(12, board);
-    }
-    let n = board.entries;
-    if limit < n + leg_count(k) {
-        return refuse(10, board);
-    }
-    let booked = book_path(table, strips, board, net, &path, k);
-    let Booked::Taken(after) = booked else {
-        return refuse(11, board);
-    };
-    copy_front(corners, &path, k * 2);
-    Done {
-        answer: Answer::Laid(k, bend_count(k)),
-        board: after,
-    }
+    book_found(table, strips, corners, board, limit, net, &path, k)
 }
