@@ -9,11 +9,12 @@ use mathlib.Core.List.{List}
 use lib.ListN.{getD}
 use borrow.Author.Count.{below-more}
 use Rattle.grid.specs.Size.{stride}
-use Rattle.labels.specs.Line.{along, across, Linked, RunStart, RunEnd}
+use Rattle.labels.specs.Line.{along, across, Linked, RunStart, RunEnd, Left}
 use Rattle.labels.specs.Ink.{Blank, RunInked, LeastInk, Inked}
 use Rattle.labels.specs.Pass.{zeros, Cell, kept, none, new, Pass, floor, Joined, Full, Queued, Room}
 use Rattle.labels.specs.Pass.{Fill, held, fresh}
-use Rattle.labels.specs.Pass.{RunFilled, RunPushed, Visit, passed, ran, Part, stood, got, Visited, Added}
+use Rattle.labels.specs.Pass.{RunFilled, RunPushed, Visit, passed, left, ran, Part, stood, got}
+use Rattle.labels.specs.Pass.{Done, labelled, waits, Visited, Added}
 use Rattle.labels.specs.Pass.{PassTo}
 use Rattle.labels.proofs.Line.{linked-sym, linked-trans, in-run, run-joined}
 
@@ -71,6 +72,10 @@ module _ {line lo hi v n : ℕ} {l₀ l : List ℕ} {c : ℕ} (R : RunFilled lin
   run-grown : (i k : ℕ) → k < n → along l₀ i k ≢ 0 → along l i k ≢ 0
   run-grown i k lk ne = rw (run-held i k lk ne) ne
 
+  done-grown : {other edge : List ℕ} {i k : ℕ} → Done other edge i n v l₀ k → Done other edge i n v l k
+  done-grown {i = i} (labelled h) = labelled (λ q lq z. run-grown i q lq (h q lq z))
+  done-grown (waits x) = waits x
+
 -- A part of a pass.
 part-fresh : {other edge : List ℕ} {line n v k a b : ℕ} (h : ℕ) → h < n → Linked edge line k h →
     across other line h ≡ v → Part other edge line n v k a b → b ≡ 0 → Part other edge line n v k a (v + 1)
@@ -97,19 +102,22 @@ visited-none other edge from m n v a l F = record {
 module _ {other edge from : List ℕ} {m n v a p : ℕ} {l₀ l : List ℕ} {c line h : ℕ} (ll : line < m) (lh : h < n)
     (el : getD from (2 * p + 1) 0 ≡ line) (eh : getD from (2 * p) 0 ≡ h)
     (G : Visited other edge from m n v a p l₀ l c) where
-  -- its run was filled before
-  visited-skip : floor v < along l line h → Visited other edge from m n v a (p + 1) l₀ l c
-  visited-skip t = record {
+  -- nothing is to be filled
+  visited-as-is : Done other edge line n v l h → Visited other edge from m n v a (p + 1) l₀ l c
+  visited-as-is d = record {
     size = G .size;
     part = G .part;
     did = below-more
-        (λ r. a ≤ r → (q : ℕ) → q < n → Linked edge (getD from (2 * r + 1) 0) (getD from (2 * r) 0) q →
-        along l (getD from (2 * r + 1) 0) q ≢ 0) p
-        (G .did) (λ at q lq z. rw el (G .full .joined line ll .on h q lh lq (rw (el, eh) at z) t));
+        (λ r. a ≤ r → Done other edge (getD from (2 * r + 1) 0) n v l (getD from (2 * r) 0)) p (G .did)
+        (λ at. rw (el, eh) d);
     count = G .count;
     same = G .same;
     full = G .full;
   }
+
+  -- its run was filled before
+  visited-skip : floor v < along l line h → Visited other edge from m n v a (p + 1) l₀ l c
+  visited-skip t = visited-as-is (labelled (λ q lq z. G .full .joined line ll .on h q lh lq z t))
 
   -- its run is filled now
   module _ {l′ : List ℕ} {r lo hi : ℕ} (few : n ≤ stride) (ev : across other line h ≡ v) (s : RunStart edge line h lo)
@@ -128,10 +136,9 @@ module _ {other edge from : List ℕ} {m n v a p : ℕ} {l₀ l : List ℕ} {c l
           (λ x y z. rw x (part-fill h lh (in-line k y z) ev (G .part line ll k lk) (R .fill k z y)))
           (λ x. rw x (G .part i li k lk));
       did = below-more
-          (λ t. a ≤ t → (q : ℕ) → q < n → Linked edge (getD from (2 * t + 1) 0) (getD from (2 * t) 0) q →
-          along l′ (getD from (2 * t + 1) 0) q ≢ 0) p
-          (λ t lt at q lq z. run-grown R few (e .le) (getD from (2 * t + 1) 0) q lq (G .did t lt at q lq z))
-          (λ at q lq z. rw el (run-on q lq (rw (el, eh) at z)));
+          (λ t. a ≤ t → Done other edge (getD from (2 * t + 1) 0) n v l′ (getD from (2 * t) 0)) p
+          (λ t lt at. done-grown R few (e .le) (G .did t lt at))
+          (λ at. rw (el, eh) (labelled run-on));
       count = omega (arith, G .count, R .count);
       same = λ z. R .same (omega arith) ∙ G .same (omega arith);
       full = record {
@@ -145,6 +152,30 @@ module _ {other edge from : List ℕ} {m n v a p : ℕ} {l₀ l : List ℕ} {c l
         };
       };
     }
+
+-- When the whole queue is visited, all that is joined with a label v of the other direction has a label: a visit that was
+-- left to a crossing before it came to one that was not.
+module _ {other edge from : List ℕ} {m n v a b : ℕ} {l₀ l : List ℕ} {c : ℕ} (Q : Queued from a b n m other v)
+    (G : Visited other edge from m n v a b l₀ l c) (i : ℕ) (li : i < m) where
+  by-done : (k : ℕ) → k < n → ((j : ℕ) → j < k → across other i j ≡ v → (q : ℕ) → q < n → Linked edge i j q
+      → along l i q ≢ 0) → Done other edge i n v l k → (q : ℕ) → q < n → Linked edge i k q → along l i q ≢ 0
+  by-done k lk before (labelled h) q lq z = h q lq z
+  by-done k lk before (waits x) q lq z =
+      before (x .j) (x .before) (x .stop) q lq
+      (linked-trans edge i (x .j) k q (linked-sym edge i k (x .j) (x .linked)) z)
+
+  up-to : (most k : ℕ) → k < most → k < n → across other i k ≡ v → (q : ℕ) → q < n → Linked edge i k q
+      → along l i q ≢ 0
+  up-to zero k lt lk e q lq z = absurd (omega arith)
+  up-to (suc most) k lt lk e q lq z =
+      let t = Q .whole k lk i li e in
+      by-done k lk (λ j lj. up-to most j (omega arith) (omega arith))
+      (subst (λ (x : ℕ). Done other edge i n v l x) (t .3)
+      (subst (λ (x : ℕ). Done other edge x n v l (getD from (2 * t .0) 0)) (t .4) (G .did (t .0) (t .2) (t .1))))
+      q lq z
+
+  all-labelled : (k : ℕ) → k < n → across other i k ≡ v → (q : ℕ) → q < n → Linked edge i k q → along l i q ≢ 0
+  all-labelled k = up-to (suc k) k (omega arith)
 
 suc-on : (x : ℕ) → suc x ≢ 0
 suc-on x e = omega (arith, e)
@@ -160,9 +191,7 @@ visited-all {other} {edge} {from} {m} {n} {v} {a} {b} {l₀} {l} Q G = record {
         Cell other edge i n v k x y
     cell i li k lk x y (got q lq z e) w = new q lq z e
     cell i li k lk zero y stood w =
-        none (λ q lq z e.
-        let t = Q .whole q lq i li e in
-        G .did (t .0) (t .2) (t .1) k lk (rw (t .3, t .4) (linked-sym edge i k q z)) (rw (t .4) (sym w)))
+        none (λ q lq z e. all-labelled Q G i li q lq e k lk (linked-sym edge i k q z) (sym w))
     cell i li k lk (suc x) y stood w = kept (suc-on x)
 
 -- and what is joined with any label has one
@@ -178,8 +207,7 @@ visited-full {other} {edge} {from} {m} {n} {v} {a} {b} {l₀} {l} pos Q G twin =
     pick i li k q lk lq z t (yes x) = G .full .joined i li .on k q lk lq z x
     pick i li k q lk lq z t (no x) =
         let one = twin i li k lk (omega arith) in
-        let w = Q .whole k lk i li (omega arith) in
-        rw (← w .4) (G .did (w .0) (w .2) (w .1) q lq (rw (w .3, w .4) z))
+        all-labelled Q G i li k lk (omega arith) q lq z
 
 -- What the runs add to the queue.
 added-none : (m n v : ℕ) (l t : List ℕ) (q : ℕ) → Added m n v l l t t q q
@@ -318,6 +346,11 @@ module _ {other inks edge cross from : List ℕ} {m n v a b p : ℕ} {l₀ l w�
       PassTo other inks edge cross from m n v a (p + 1) l₀ l′ w₀ w′ t₀ t′ q₀ q′
   passing-more (passed x) = record {
     visited = visited-skip ll lh (sym el) (sym eh) (G .visited) x;
+    inked = G .inked;
+    added = G .added;
+  }
+  passing-more (left x) = record {
+    visited = visited-as-is ll lh (sym el) (sym eh) (G .visited) (waits x);
     inked = G .inked;
     added = G .added;
   }

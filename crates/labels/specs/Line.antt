@@ -34,6 +34,13 @@ pub record RunEnd (edge : List ℕ) (line n at r : ℕ) : Type 0 where
   pub linked : Linked edge line at (r - 1)
   pub stop : r < n → getD edge (line * stride + (r - 1)) 0 ≢ 1
 
+-- a crossing before the crossing `at` is joined with it, and has the label v in the other direction
+pub record Left (other edge : List ℕ) (line at v : ℕ) : Type 0 where
+  pub j : ℕ
+  pub before : j < at
+  pub linked : Linked edge line at j
+  pub stop : across other line j ≡ v
+
 -- no label is larger: a round that is not the last one gives a label to a crossing, in one direction or the other
 abbrev pub labelTop : ℕ
 labelTop = 144724

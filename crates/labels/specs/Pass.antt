@@ -5,7 +5,7 @@ use mathlib.Core.Logic.{_≢_}
 use mathlib.Core.List.{List, [], _∷_}
 use lib.ListN.{getD, set, length}
 use Rattle.grid.specs.Size.{stride, area}
-use Rattle.labels.specs.Line.{along, across, Linked, RunStart, RunEnd}
+use Rattle.labels.specs.Line.{along, across, Linked, RunStart, RunEnd, Left}
 use Rattle.labels.specs.Ink.{RunInked, Inked}
 
 -- how many places have no label
@@ -87,10 +87,12 @@ pub record RunPushed (line lo k v : ℕ) (l₀ l t₀ t : List ℕ) (q₀ q : �
   pub whole : (j : ℕ) → j < k → lo ≤ j → along l₀ line j ≡ 0 →
       (p : ℕ) × (q₀ ≤ p) × (p < q) × (getD t (2 * p + 1) 0 ≡ j)
 
--- a visit of crossing k of a line: its run gets inks and is pushed, or its label says that this was done
+-- a visit of crossing k of a line: its run gets inks and is pushed, or its label says that this was done, or it is left
+-- to the visit of a crossing before it
 pub data Visit (other inks edge cross : List ℕ) (line n k v : ℕ)
     : List ℕ → List ℕ → List ℕ → List ℕ → List ℕ → List ℕ → ℕ → ℕ → Type 0 where
   passed : {l w t : List ℕ} {q : ℕ} → floor v < along l line k → Visit other inks edge cross line n k v l l w w t t q q
+  left : {l w t : List ℕ} {q : ℕ} → Left other edge line k v → Visit other inks edge cross line n k v l l w w t t q q
   ran : {l₀ l w₀ w t₀ t : List ℕ} {q₀ q : ℕ} (lo hi : ℕ) → RunStart edge line k lo → RunEnd edge line n k hi →
       RunInked other inks cross line v lo hi hi l₀ w₀ w → RunPushed line lo hi v l₀ l t₀ t q₀ q →
       Visit other inks edge cross line n k v l₀ l w₀ w t₀ t q₀ q
@@ -100,12 +102,16 @@ pub data Part (other edge : List ℕ) (line n v k : ℕ) : ℕ → ℕ → Type 
   stood : {a : ℕ} → Part other edge line n v k a a
   got : (q : ℕ) → q < n → Linked edge line k q → across other line q ≡ v → Part other edge line n v k 0 (v + 1)
 
+-- all that is joined with crossing k of a line has a label, or that is left to the visit of a crossing before it
+pub data Done (other edge : List ℕ) (line n v : ℕ) (l : List ℕ) (k : ℕ) : Type 0 where
+  labelled : ((q : ℕ) → q < n → Linked edge line k q → along l line q ≢ 0) → Done other edge line n v l k
+  waits : Left other edge line k v → Done other edge line n v l k
+
 -- the places a to p of the other direction's queue are visited: what that did to the labels, c of which are new
 pub record Visited (other edge from : List ℕ) (m n v a p : ℕ) (l₀ l : List ℕ) (c : ℕ) : Type 0 where
   pub size : length l ≡ length l₀
   pub part : (i : ℕ) → i < m → (k : ℕ) → k < n → Part other edge i n v k (along l₀ i k) (along l i k)
-  pub did : (r : ℕ) → r < p → a ≤ r → (q : ℕ) → q < n →
-      Linked edge (getD from (2 * r + 1) 0) (getD from (2 * r) 0) q → along l (getD from (2 * r + 1) 0) q ≢ 0
+  pub did : (r : ℕ) → r < p → a ≤ r → Done other edge (getD from (2 * r + 1) 0) n v l (getD from (2 * r) 0)
   pub count : zeros l + c ≡ zeros l₀
   pub same : c ≡ 0 → l ≡ l₀
   pub full : Full edge l m n (floor v)

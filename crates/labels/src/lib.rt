@@ -13,6 +13,7 @@ use run::ahead_of;
 use run::behind_of;
 use run::ink_blank;
 use run::ink_run;
+use run::is_left;
 use run::next_stop;
 use run::run_end;
 use run::run_start;
@@ -117,7 +118,7 @@ fn floor_of(v: u32) -> u32
 }
 
 // Gives the run of crossing k inks and labels and puts it into the queue, unless a label above `low` says that this is
-// done; the end of the queue then.
+// done, or it is left to the visit of a crossing before k; the end of the queue then.
 fn visit(
     labels: &mut [u32],
     own: &mut [u32],
@@ -148,6 +149,9 @@ fn visit(
         (now (queue .entry)) (now (queue .exit)) q r ⌝ }
 {
     if low < labels[line * STRIDE + k] {
+        return q;
+    }
+    if is_left(other, edge, line, k, v) {
         return q;
     }
     let lo = run_start(edge, line, k);

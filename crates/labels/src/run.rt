@@ -3,11 +3,12 @@
 use grid::STRIDE;
 ghost use Prim.Native.Nat.{_+_, _-_, _*_, _≤_, _<_, min};
 ghost use mathlib.Core.Path.{_≡_};
+ghost use mathlib.Core.Bool.{true};
 ghost use lib.ListN.{length};
 ghost use Rattle.foil_spec.specs.Paths.{gap};
 ghost use Rattle.grid.specs.Size.{stride};
 ghost use Rattle.grid.specs.Lines.{Lines};
-ghost use Rattle.labels.specs.Line.{across, RunStart, RunEnd, isStop, Scanned, Stop, labelTop};
+ghost use Rattle.labels.specs.Line.{across, RunStart, RunEnd, Left, isStop, Scanned, Stop, labelTop};
 ghost use Rattle.labels.specs.Ink.{Low, Carried, Ahead, Behind, InkPut, Blank, RunInked};
 
 // How many steps two numbers are apart.
@@ -77,6 +78,29 @@ pub fn run_end(edge: &[u8], line: usize, n: usize, at: usize) -> usize
         hi += 1;
     }
     hi
+}
+
+// Whether the visit of crossing `at` can be left to one before it: in the first round, where a crossing before it that is
+// joined with it has the label v in the other direction as well. So the run of many targets is visited once.
+pub fn is_left(other: &[u32], edge: &[u8], line: usize, at: usize, v: u32) -> bool
+    requires { ⌜ (line < stride) × (at ≤ stride) × (at * stride ≤ length (now other))
+        × (line * stride + stride ≤ length (now edge)) ⌝ }
+    ensures { λ r. ⌜ (r ≡ true → Left (now (other .entry)) (now (edge .entry)) line at v) ⌝ }
+{
+    if v != 1 {
+        return false;
+    }
+    let mut j = at;
+    while 0 < j {
+        if edge[line * STRIDE + (j - 1)] != 1 {
+            return false;
+        }
+        j -= 1;
+        if other[j * STRIDE + line] == v {
+            return true;
+        }
+    }
+    false
 }
 
 // Whether crossing k of a line is a stop for the label v, over which s steps lead from x.

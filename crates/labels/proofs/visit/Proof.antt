@@ -6,12 +6,15 @@ use Rattle.labels.proofs.Pass.{visit-passed, blank-run}
 use Rattle.labels.proofs.visit.Statement.{statement}
 use Rattle.labels.proofs.visit.Tie as tie
 
--- back to the start, to the run's end, to the two sweeps, and in each branch to the inks and to what was pushed
+-- back to the start, to the first test, to the run's end, to the two sweeps, and in each branch to the inks and to what was pushed
 abbrev atStart : tie.After-slice-known6 → tie.Start
 atStart c = c .before .before .before .before .before .before .before .before .before .before
 
+abbrev atTried : tie.After-is-left → tie.After-slice-known6
+atTried c = c .before .before
+
 abbrev atTest : tie.After-run-end → tie.After-slice-known6
-atTest c = c .before .before .before
+atTest c = atTried (c .before .before .before)
 
 abbrev atEnd : tie.After-behind-of-arg → tie.After-run-end
 atEnd c = c .before .before .before .before .before
@@ -31,7 +34,7 @@ runInked c = c .before .before .before .before
 abbrev runPushed : tie.After-slice-known11 → tie.After-push-run
 runPushed c = c .before .before .before .before
 
-abbrev atLow : tie.After-ink-blank-arg4 → tie.Else2
+abbrev atLow : tie.After-ink-blank-arg4 → tie.Else3
 atLow c = c .before .before .before .before
 
 abbrev blankInked : tie.After-push-blank-arg2 → tie.After-ink-blank
@@ -55,14 +58,22 @@ slice-read-if1 c = omega arith
 returns : tie.Need-returns
 returns c = visit-passed (atStart (c .before) .pre .1 .1 .1 .1 .0) (c .if1 .taken)
 
+is-left-requires : tie.Need-is-left-requires
+is-left-requires c κs =
+    let pre = atStart (c .before) .pre in
+    (pre .0 .0, omega (arith, pre .0 .2, pre .0 .1 .few), omega (arith, pre .0 .2, pre .1 .0 .0), pre .0 .4)
+
+returns-2 : tie.Need-returns-2
+returns-2 c = Visit.left (c .before .is-left .ensures (c .if2 .taken))
+
 run-start-requires : tie.Need-run-start-requires
 run-start-requires c κs =
-    let pre = atStart (c .before) .pre in
+    let pre = atStart (atTried (c .before)) .pre in
     (pre .0 .0, omega (arith, pre .0 .2, pre .0 .1 .few), pre .0 .4)
 
 run-end-requires : tie.Need-run-end-requires
 run-end-requires c κs =
-    let pre = atStart (c .before .before) .pre in
+    let pre = atStart (atTried (c .before .before)) .pre in
     (pre .0 .0, pre .0 .1 .few, pre .0 .2, pre .0 .4)
 
 ahead-of-requires : tie.Need-ahead-of-requires
@@ -124,8 +135,8 @@ same-length-4 c = search needs
 same-length-5 : tie.Need-same-length-5
 same-length-5 c = search needs
 
-returns-2 : tie.Need-returns-2
-returns-2 c =
+returns-3 : tie.Need-returns-3
+returns-3 c =
     let at-end = atEnd (runSwept (runInked (runPushed c .before) .before) .before) in
     Visit.ran _ _ (at-end .before .run-start .ensures) (at-end .run-end .ensures)
     (runInked (runPushed c .before) .ink-run .ensures) (runPushed c .push-run .ensures)
@@ -147,8 +158,8 @@ ink-blank-requires c κs =
         (
           (
             pre .1 .0 .2,
-            blank-run (omega (arith, atLow c .if2 .left, pre .1 .1 .1 .1 .0))
-                (omega (arith, at-start .before .if1 .left, pre .1 .1 .1 .1 .0)) (pre .0 .2)
+            blank-run (omega (arith, atLow c .if3 .left, pre .1 .1 .1 .1 .0))
+                (omega (arith, at-start .before .before .before .if1 .left, pre .1 .1 .1 .1 .0)) (pre .0 .2)
                 (pre .1 .1 .1 .1 .1) start end,
           ),
           (at-ahead .ahead-of .ensures, blankSwept c .behind-of .ensures),
@@ -168,8 +179,8 @@ push-blank-requires c κs =
       omega (arith, end .after, start .le),
       pre .0 .3,
       pre .1 .1 .1 .0 .0,
-      blank-run (omega (arith, atLow (blankInked c .before) .if2 .left, pre .1 .1 .1 .1 .0))
-          (omega (arith, at-start .before .if1 .left, pre .1 .1 .1 .1 .0)) (pre .0 .2)
+      blank-run (omega (arith, atLow (blankInked c .before) .if3 .left, pre .1 .1 .1 .1 .0))
+          (omega (arith, at-start .before .before .before .if1 .left, pre .1 .1 .1 .1 .0)) (pre .0 .2)
           (pre .1 .1 .1 .1 .1) start end,
     )
 
@@ -188,15 +199,15 @@ same-length-9 c = search needs
 same-length-10 : tie.Need-same-length-10
 same-length-10 c = search needs
 
-returns-3 : tie.Need-returns-3
-returns-3 c =
+returns-4 : tie.Need-returns-4
+returns-4 c =
     let at-end = atEnd (blankSwept (blankInked (blankPushed c .before) .before) .before) in
     Visit.ran _ _ (at-end .before .run-start .ensures) (at-end .run-end .ensures)
     (blankInked (blankPushed c .before) .ink-blank .ensures) (blankPushed c .push-blank .ensures)
 
 pub visit-spec : {M : Type 1} → statement M
 visit-spec =
-    tie.close (tie.spec mul-if1 add-if1 mul-if1-2 slice-read-if1 returns run-start-requires run-end-requires
-    ahead-of-requires behind-of-requires ink-run-requires push-run-requires same-length same-length-2 same-length-3
-    same-length-4 same-length-5 returns-2 ink-blank-requires push-blank-requires same-length-6 same-length-7
-    same-length-8 same-length-9 same-length-10 returns-3)
+    tie.close (tie.spec mul-if1 add-if1 mul-if1-2 slice-read-if1 returns is-left-requires returns-2 run-start-requires
+    run-end-requires ahead-of-requires behind-of-requires ink-run-requires push-run-requires same-length same-length-2
+    same-length-3 same-length-4 same-length-5 returns-3 ink-blank-requires push-blank-requires same-length-6
+    same-length-7 same-length-8 same-length-9 same-length-10 returns-4)
