@@ -1,6 +1,6 @@
-/* One call by its name, `times` times, on a foil that is made first: calls NAME TIMES. The difference of the
-   instructions of two runs, with one call and with two, is the cost of a call: what is made first, and the first touch
-   of the stack, is in both. */
+/* One call by its name, `times` times, on a foil that is made first: calls NAME TIMES, and then a point for a look up,
+   or a foil by its name for a lay and a join. The difference of the instructions of two runs, with one call and with
+   two, is the cost of a call: what is made first, and the first touch of the stack, is in both. */
 #include <stdio.h>
 #include <stdlib.h>
 #include <string.h>
@@ -46,6 +46,92 @@ static void bars(unsigned n)
         foil_draw(LENT, 30 * k % 2600, 32 * k, 30 * k % 2600 + 1400, 32 * k + 9);
 }
 
+/* so many patches here and there, as bench/jobs.rs scatters them */
+static void scattered(unsigned n)
+{
+    uint64_t seed = 3;
+    unsigned k, i, size[4];
+    foil_new_foil(LENT, 4096, 4096, 0, 0);
+    for (k = 0; k < n; k++) {
+        for (i = 0; i < 4; i++) {
+            seed = seed * 6364136223846793005u + 1442695040888963407u;
+            size[i] = (seed >> 33) % (i < 2 ? 60 : 4096 - size[i - 2]) + (i < 2);
+        }
+        foil_draw(LENT, size[2], size[3], size[2] + size[0], size[3] + size[1]);
+    }
+}
+
+/* so many upright bars, as bench/jobs.rs staggers them */
+static void staggered(unsigned n)
+{
+    unsigned k, step = 4096 / (n + 1), less = 4096 / (4 * n);
+    foil_new_foil(LENT, 4096, 4096, 0, 0);
+    for (k = 1; k <= n; k++)
+        foil_draw(LENT, k * step, k * less, k * step + 1, 4096 - k * less);
+}
+
+/* so many long legs of net 7, and a patch below each; no two ends are on one line */
+static void long_legs(unsigned n)
+{
+    unsigned k;
+    foil_new_foil(LENT, 4096, 4096, 0, 0);
+    for (k = 0; k < n; k++) {
+        struct foil_entry leg = {7, 30 + 7 * k, 60 + 66 * k, 4060 - 9 * k, 61 + 66 * k};
+        foil_put_leg(LENT, leg);
+        foil_draw(LENT, 101 + 61 * k, 80 + 66 * k, 121 + 61 * k, 90 + 66 * k);
+    }
+}
+
+/* from where to where a lay goes; a join goes the same way, to a net that has a leg there */
+struct pair {
+    uint16_t sx, sy, tx, ty;
+};
+
+/* makes the foil of this name */
+static struct pair made(const char *foil)
+{
+    static const struct pair on_scattered = {165, 3959, 1253, 3576}, on_staggered = {0, 0, 2600, 4090},
+                             on_legs = {5, 5, 4090, 4000}, on_bars = {0, 20, 4000, 4090};
+    if (strcmp(foil, "scattered") == 0) {
+        scattered(120);
+        return on_scattered;
+    }
+    if (strcmp(foil, "staggered") == 0) {
+        staggered(124);
+        return on_staggered;
+    }
+    if (strcmp(foil, "legs") == 0) {
+        long_legs(60);
+        return on_legs;
+    }
+    bars(120);
+    return on_bars;
+}
+
+/* lays net 8, or joins a point to net 7, so many times, each time on the foil as it was made; putting it back takes
+   33 thousand instructions, in both */
+static struct foil_said led(int joins, const char *foil, int times)
+{
+    static struct foil_entry made_table[FOIL_ENTRIES];
+    static uint16_t made_strips[4 * FOIL_STRIPS];
+    struct foil_said said = {0, 0, 0, 0, 0};
+    struct pair p = made(foil);
+    struct foil_entry end = {7, p.tx, p.ty, p.tx + 1, p.ty + 1};
+    struct foil_board made_board;
+    if (joins)
+        foil_put_leg(LENT, end);
+    made_board = board;
+    memcpy(made_table, table, sizeof table);
+    memcpy(made_strips, strips, sizeof strips);
+    for (; times > 0; times--) {
+        said = joins ? foil_join(LENT, CORNERS, 7, p.sx, p.sy) : foil_lay(LENT, CORNERS, 8, p.sx, p.sy, p.tx, p.ty);
+        board = made_board;
+        memcpy(table, made_table, sizeof table);
+        memcpy(strips, made_strips, sizeof strips);
+    }
+    return said;
+}
+
 /* stairs of n corners from (0, 0) */
 static size_t stairs(unsigned n)
 {
@@ -76,11 +162,8 @@ int main(int argc, char **argv)
     } else if (strcmp(name, "slip") == 0) {
         for (points(128); times > 0; times--)
             said = foil_slip(LENT, bytes, sizeof bytes);
-    } else if (strcmp(name, "lay") == 0) {
-        for (bars(120); times > 0; times--) {
-            said = foil_lay(LENT, CORNERS, 7, 0, 20, 4000, 4090);
-            foil_lift(LENT, 7);
-        }
+    } else if (strcmp(name, "lay") == 0 || strcmp(name, "join") == 0) {
+        said = led(*name == 'j', argc > 3 ? argv[3] : "", times);
     } else if (strcmp(name, "find") == 0) {
         for (bars(120); times > 0; times--)
             said = foil_find(LENT, CORNERS, 0, 20, 4000, 4090);

@@ -521,6 +521,7 @@ STRIPS, CORNERS = '&mut [u16]', '&mut [u16]'
 changing('new_foil', 'table.clear', 'flat.new_foil', 'Left', 'Answer', [STRIPS] + ['u16'] * 4, STEP)
 changing('draw', 'table.append', 'flat.draw', 'Left', 'Answer', [STRIPS] + ['u16'] * 4, STEP)
 changing('lay', 'table.append_track', 'flat.lay', 'Left', 'Answer', [STRIPS, CORNERS] + ['u16'] * 5, WRITE)
+changing('join', 'table.append_join', 'flat.join', 'Left', 'Answer', [STRIPS, CORNERS] + ['u16'] * 3, WRITE)
 changing('lift', 'table.lift', 'flat.lift', 'Left', 'Answer', [STRIPS, 'u16'], STEP)
 changing('put_leg', 'table.append_leg', 'flat.put_leg', 'Left', 'Answer', [STRIPS, 'Entry'], STEP)
 changing('book', 'table.append_way', 'flat.book', 'Left', 'Answer', [STRIPS, '&[u16]', 'u16'], STEP)

@@ -2,8 +2,8 @@
    A list is lent by its address and its length. The table has 5 numbers an entry; a strip is 4 numbers (x0, y0, x1,
    y1), a corner 2 (x, y). A call may be lent any lists: one that is too short is refused by 12, and of a longer one the
    places past the first FOIL_ENTRIES or FOIL_STRIPS are neither read nor written. Lists must not overlap each other nor
-   the record. A refused call writes to no list, and to the record what it held. A lay, a find, or a record with
-   a lay, needs up to 1.9 MB of stack. */
+   the record. A refused call writes to no list, and to the record what it held. A lay, a join, a find, or a record
+   with a lay, needs up to 1.9 MB of stack. */
 #ifndef FOIL_H
 #define FOIL_H
 
@@ -29,7 +29,7 @@ struct foil_entry {
     uint16_t net, x0, y0, x1, y1;
 };
 
-/* an answer: the number of a refusal, 0 for none; the numbers of corners and bends after a lay, a find or a
+/* an answer: the number of a refusal, 0 for none; the numbers of corners and bends after a lay, a join, a find or a
    booking; the strip's place after a look up; the number of bytes after a save or a slip */
 struct foil_said {
     uint8_t number;
@@ -77,6 +77,14 @@ struct foil_said foil_draw(struct foil_board *board, struct foil_entry *table, s
 struct foil_said foil_lay(struct foil_board *board, struct foil_entry *table, size_t entries, uint16_t *strips,
                           size_t strip_numbers, uint16_t *corners, size_t corner_numbers, uint16_t net, uint16_t sx,
                           uint16_t sy, uint16_t tx, uint16_t ty);
+
+/* joins the point (sx, sy) to the net: finds a way from it to any point of the net's legs, writes its corners, and adds
+   its legs under the same net, one of a single point if the point is on a leg already. Points that only the net's own
+   legs block are free for it. Refused by 6 if the net is not on the foil, by 8 if the point is blocked for that net.
+   foil_lift takes the net whole: it is not the undoing of a join */
+struct foil_said foil_join(struct foil_board *board, struct foil_entry *table, size_t entries, uint16_t *strips,
+                           size_t strip_numbers, uint16_t *corners, size_t corner_numbers, uint16_t net, uint16_t sx,
+                           uint16_t sy);
 
 /* finds the track from (sx, sy) to (tx, ty), and writes its corners; the foil is not changed */
 struct foil_said foil_find(const struct foil_board *board, const struct foil_entry *table, size_t entries,

@@ -1,7 +1,7 @@
 /* A host program: the foil of document 01's job, by calls and then as the job's bytes, as a customer's program would
    make it; a track found and a drawing booked, with the slip of both; the foil saved, and read on other lists; tracks
-   of a wider pen; and lists in protected pages, which show what a call does not touch: if it did, the program would
-   die. */
+   of a wider pen; points joined to nets; and lists in protected pages, which show what a call does not touch: if it
+   did, the program would die. */
 #define _DEFAULT_SOURCE
 #include <stdio.h>
 #include <stdlib.h>
@@ -35,16 +35,29 @@ static void show_foil(void)
         printf("strip %u %u %u %u\n", strips[4 * k], strips[4 * k + 1], strips[4 * k + 2], strips[4 * k + 3]);
 }
 
-static void show_lay(unsigned net, struct foil_said said)
+/* the number of a refusal, or the bends and corners of a way */
+static void show_way(struct foil_said said)
 {
     size_t k;
-    printf("track %u %u", net, said.number);
+    printf(" %u", said.number);
     if (said.number == 0) {
         printf(" %zu", said.bends);
         for (k = 0; k < said.corners; k++)
             printf(" %u,%u", corners[2 * k], corners[2 * k + 1]);
     }
     printf("\n");
+}
+
+static void show_lay(unsigned net, struct foil_said said)
+{
+    printf("track %u", net);
+    show_way(said);
+}
+
+static void show_join(uint16_t net, uint16_t sx, uint16_t sy, size_t places)
+{
+    printf("join %u", net);
+    show_way(foil_join(LENT, corners, places, net, sx, sy));
 }
 
 static void show_leg(uint16_t net, uint16_t x0, uint16_t y0, uint16_t x1, uint16_t y1)
@@ -78,15 +91,8 @@ static void show_place(uint16_t x, uint16_t y)
 
 static void show_find(uint16_t sx, uint16_t sy, uint16_t tx, uint16_t ty, size_t places)
 {
-    struct foil_said said = foil_find(LENT, corners, places, sx, sy, tx, ty);
-    size_t k;
-    printf("find %u", said.number);
-    if (said.number == 0) {
-        printf(" %zu", said.bends);
-        for (k = 0; k < said.corners; k++)
-            printf(" %u,%u", corners[2 * k], corners[2 * k + 1]);
-    }
-    printf("\n");
+    printf("find");
+    show_way(foil_find(LENT, corners, places, sx, sy, tx, ty));
 }
 
 static void show_book(uint16_t net, const uint16_t *drawn, size_t numbers)
@@ -256,6 +262,71 @@ static void wider_pen(void)
     run_job(bytes, show_file(bytes, sizeof bytes));
 }
 
+/* points joined to a track, to a point of it and to a join of it, between joins that are refused; then the ohms and the
+   slip of the net, which count the joins, and the net lifted whole */
+static void joined(void)
+{
+    static uint8_t slip[FOIL_SLIP_LINE];
+    printf("board %u\n", foil_new_foil(LENT, 9, 7, 0, 0).number);
+    show_lay(5, foil_lay(LENT, CORNERS, 5, 1, 1, 7, 1));
+    show_join(5, 4, 5, corner_numbers);
+    show_foil();
+    /* on a leg already */
+    show_join(5, 4, 3, corner_numbers);
+    show_ohms(5, 1, 1, 0);
+    show_ohms(5, 1, 1, 1);
+    show_slip(slip, sizeof slip);
+    show_join(5, 0, 9, corner_numbers);
+    show_join(6, 0, 0, corner_numbers);
+    show_join(0, 0, 0, corner_numbers);
+    show_lay(8, foil_lay(LENT, CORNERS, 8, 0, 6, 8, 6));
+    /* a point of the other net, and one of its own */
+    show_join(5, 0, 6, corner_numbers);
+    show_join(8, 0, 0, corner_numbers);
+    /* 3 numbers are a place for one corner, 4 for two; on a leg one is enough */
+    show_join(5, 8, 5, 3);
+    show_join(5, 8, 5, 4);
+    show_join(5, 8, 5, 2);
+    show_foil();
+    printf("lift 5 %u\n", foil_lift(LENT, 5).number);
+    show_foil();
+    show_join(5, 4, 5, corner_numbers);
+}
+
+/* what a join keeps apart from: patches and the tracks of other nets, by their gaps, and not its own net */
+static void joined_apart(void)
+{
+    printf("board %u\n", foil_new_foil(LENT, 9, 7, 0, 1).number);
+    show_lay(5, foil_lay(LENT, CORNERS, 5, 2, 2, 6, 2));
+    printf("patch %u\n", foil_draw(LENT, 4, 4, 5, 5).number);
+    show_join(5, 4, 6, corner_numbers);
+    show_join(5, 1, 5, corner_numbers);
+    show_join(5, 6, 5, corner_numbers);
+    show_foil();
+    printf("board %u\n", foil_new_foil(LENT, 12, 9, 0, 1).number);
+    show_lay(5, foil_lay(LENT, CORNERS, 5, 2, 2, 9, 2));
+    show_lay(6, foil_lay(LENT, CORNERS, 6, 2, 6, 9, 6));
+    show_join(5, 5, 4, corner_numbers);
+    show_join(6, 10, 4, corner_numbers);
+    show_foil();
+    /* fewest bends come before length, and then the nearer leg */
+    printf("board %u\n", foil_new_foil(LENT, 9, 9, 0, 0).number);
+    show_lay(5, foil_lay(LENT, CORNERS, 5, 4, 0, 4, 3));
+    show_leg(5, 0, 8, 9, 9);
+    show_join(5, 2, 5, corner_numbers);
+    show_join(5, 6, 4, corner_numbers);
+    show_join(5, 6, 6, corner_numbers);
+    show_foil();
+    printf("board %u\n", foil_new_foil(LENT, 8, 3, 0, 0).number);
+    show_leg(5, 0, 0, 1, 3);
+    show_leg(5, 7, 0, 8, 3);
+    show_join(5, 3, 1, corner_numbers);
+    show_join(5, 4, 0, corner_numbers);
+    show_foil();
+    /* two ways of one step: the end with the smaller y comes first */
+    show_join(5, 1, 2, corner_numbers);
+}
+
 /* pages with a border among them: the first part of a list ends there, and its other places lie behind it */
 struct pages {
     unsigned char *first, *border;
@@ -322,6 +393,7 @@ static void longer_lists(struct pages t, struct pages s, struct pages b)
     printf("patch %u\n", foil_draw(LENT, 3, 0, 2, 3).number);
     show_lay(5, foil_lay(LENT, CORNERS, 5, 0, 0, 4, 0));
     show_place(5, 3);
+    show_join(5, 1, 1, corner_numbers);
     printf("lift 5 %u\n", foil_lift(LENT, 5).number);
     show_leg(5, 0, 0, 1, 4);
     show_save(b.border - 32, 32 + b.behind);
@@ -399,6 +471,54 @@ static void refused_calls(struct pages t, struct pages s, struct pages c, struct
     show_save(b.border - 1166, 1166);
 }
 
+/* the same of joins: the lists of a foil with a patch across it, then of one of 4,096 strips */
+static void refused_joins(struct pages t, struct pages s, struct pages c)
+{
+    unsigned k;
+    writable(t);
+    writable(s);
+    writable(c);
+    printf("board %u\n", foil_new_foil(LENT, 6, 4, 0, 0).number);
+    printf("patch %u\n", foil_draw(LENT, 2, 0, 3, 4).number);
+    show_lay(5, foil_lay(LENT, CORNERS, 5, 0, 0, 1, 0));
+    read_only(t);
+    read_only(s);
+    read_only(c);
+    show_join(0, 6, 0, corner_numbers);
+    show_join(6, 6, 0, corner_numbers);
+    show_join(5, 6, 0, corner_numbers);
+    show_join(5, 2, 0, corner_numbers);
+    /* behind the patch: without a way no corner is wanted */
+    show_join(5, 3, 0, 0);
+    show_join(5, 1, 3, 3);
+    printf("join 5 %u\n", foil_join(&board, table, 127, strips, strip_numbers, CORNERS, 5, 1, 3).number);
+    printf("join 5 %u\n", foil_join(&board, table, entries, strips, 4 * FOIL_STRIPS - 1, CORNERS, 5, 1, 3).number);
+    /* a record that is not this foil's */
+    board.entries = 1;
+    show_join(5, 1, 3, corner_numbers);
+    /* 63 lines each way, and a leg of the net along the last of its fields, of 3 by 3 points: a join from the middle of
+       that field parts it */
+    writable(t);
+    writable(s);
+    printf("board %u\n", foil_new_foil(LENT, 129, 129, 0, 0).number);
+    for (k = 1; k < 126; k += 2)
+        foil_draw(LENT, k, 0, k + 1, 129);
+    for (k = 1; k < 126; k += 2)
+        foil_draw(LENT, 0, k, 129, k + 1);
+    show_leg(5, 126, 128, 129, 129);
+    printf("entries %zu, strips %zu\n", board.entries, board.strips);
+    read_only(t);
+    read_only(s);
+    show_join(5, 127, 127, corner_numbers);
+    /* a line drawn once more fills the table */
+    writable(t);
+    writable(s);
+    printf("patch %u\n", foil_draw(LENT, 0, 1, 129, 2).number);
+    read_only(t);
+    read_only(s);
+    show_join(5, 127, 127, corner_numbers);
+}
+
 int main(void)
 {
     struct pages t = parted(FOIL_ENTRIES * sizeof(struct foil_entry), 72 * sizeof(struct foil_entry));
@@ -409,7 +529,10 @@ int main(void)
     drawn();
     saved();
     wider_pen();
+    joined();
+    joined_apart();
     longer_lists(t, s, b);
     refused_calls(t, s, c, b);
+    refused_joins(t, s, c);
     return 0;
 }

@@ -7,6 +7,7 @@ use crate::flat::OhmsSaid;
 use crate::flat::Said;
 use crate::flat::ohms_said;
 use crate::flat::said_of;
+use crate::join;
 use crate::lay;
 use crate::lift;
 use crate::look_up;
@@ -23,7 +24,7 @@ use foil_spec::Entry;
 use foil_spec::Ink;
 ghost use Rattle.foil_spec.specs.Foil.{point, pen};
 ghost use Rattle.foil_spec.specs.Ledger.{byPen, newFoil, draw as draws, lay as lays, lift as lifts, putLeg};
-ghost use Rattle.foil_spec.specs.Ledger.{save as saves, find as finds, book as books, slip as slips};
+ghost use Rattle.foil_spec.specs.Ledger.{join as joins, save as saves, find as finds, book as books, slip as slips};
 ghost use Rattle.host.specs.Calls.{ToldBy, saidOf, ohmsSaid, HostDone, HostWrote, HostLooked, HostRead, HostOhms};
 ghost use Rattle.host.specs.Records.{recordSaidOf, HostRan};
 
@@ -85,6 +86,26 @@ pub extern "C" fn foil_lay(
         a (now (board .exit)) (now (table .exit)) (now (strips .exit)) (now (corners .exit))) r ⌝ }
 {
     let answer = lay(board, table, strips, corners, net, sx, sy, tx, ty);
+    said_of(answer)
+}
+
+// Joins the point (sx, sy) to the net, which has legs: writes the corners of the way to them to the
+// front of the corner list, and appends an entry of the same net for each leg of the way.
+#[no_mangle]
+pub extern "C" fn foil_join(
+    board: &mut Board,
+    table: &mut [Entry],
+    strips: &mut [u16],
+    corners: &mut [u16],
+    net: u16,
+    sx: u16,
+    sy: u16,
+) -> Said
+    ensures { λ r. ⌜ ToldBy saidOf (λ a. HostWrote (joins net (point sx sy))
+        (now (board .entry)) (now (table .entry)) (now (strips .entry)) (now (corners .entry))
+        a (now (board .exit)) (now (table .exit)) (now (strips .exit)) (now (corners .exit))) r ⌝ }
+{
+    let answer = join(board, table, strips, corners, net, sx, sy);
     said_of(answer)
 }
 

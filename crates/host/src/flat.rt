@@ -10,7 +10,7 @@ use ohms::Resistance;
 ghost use mathlib.Core.Path.{_≡_};
 ghost use Rattle.foil_spec.specs.Foil.{point, pen};
 ghost use Rattle.foil_spec.specs.Ledger.{byPen, newFoil, draw as draws, lay as lays, lift as lifts, putLeg};
-ghost use Rattle.foil_spec.specs.Ledger.{save as saves, find as finds, book as books, slip as slips};
+ghost use Rattle.foil_spec.specs.Ledger.{join as joins, save as saves, find as finds, book as books, slip as slips};
 ghost use Rattle.foil_spec.specs.Lent.{entryAt};
 ghost use Rattle.strips.specs.Told.{Told};
 ghost use Rattle.host.specs.Flats.{zeros, withEntry, placesLent, numbersLent, entriesOf};
@@ -23,7 +23,8 @@ pub struct Flat {
 }
 
 // An answer as numbers: the number of a refusal, 0 for none; the numbers of corners and bends after a
-// lay; the strip's place after a look up; the number of bytes after a save or a slip.
+// lay, a join, a find or a booking; the strip's place after a look up; the number of bytes after a save
+// or a slip.
 #[repr(C)]
 pub struct Said {
     pub number: u8,
@@ -214,6 +215,25 @@ pub fn lay(
     let mut a = t.at;
     let n = numbers_lent(t.len);
     let done = laying::lay(&mut a[..n], strips, corners, b, net, sx, sy, tx, ty);
+    leave(done, a, t.len)
+}
+
+// Joins a point to a net.
+pub fn join(
+    b: Board,
+    t: Flat,
+    strips: &mut [u16],
+    corners: &mut [u16],
+    net: u16,
+    sx: u16,
+    sy: u16,
+) -> Left
+    ensures { λ r. ⌜ FlatWrote (joins net (point sx sy)) b t
+        (now (strips .entry)) (now (corners .entry)) r (now (strips .exit)) (now (corners .exit)) ⌝ }
+{
+    let mut a = t.at;
+    let n = numbers_lent(t.len);
+    let done = joining::join(&mut a[..n], strips, corners, b, net, sx, sy);
     leave(done, a, t.len)
 }
 

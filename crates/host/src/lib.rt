@@ -15,7 +15,7 @@ use ohms::Resistance;
 use table::load;
 ghost use Rattle.foil_spec.specs.Foil.{point, pen};
 ghost use Rattle.foil_spec.specs.Ledger.{byPen, newFoil, draw as draws, lay as lays, lift as lifts, putLeg};
-ghost use Rattle.foil_spec.specs.Ledger.{save as saves, find as finds, book as books, slip as slips};
+ghost use Rattle.foil_spec.specs.Ledger.{join as joins, save as saves, find as finds, book as books, slip as slips};
 ghost use Rattle.host.specs.Calls.{HostDone, HostWrote, HostLooked, HostRead, HostOhms};
 ghost use Rattle.host.specs.Records.{HostRan};
 
@@ -79,6 +79,27 @@ pub fn lay(
 {
     let b = *board;
     let out = table::append_track(b, table, strips, corners, net, sx, sy, tx, ty);
+    *board = out.board;
+    out.answer
+}
+
+// Joins the point (sx, sy) to the net, which has legs: writes the corners of the way to them to the
+// front of the corner list, and appends an entry of the same net for each leg of the way.
+pub fn join(
+    board: &mut Board,
+    table: &mut [Entry],
+    strips: &mut [u16],
+    corners: &mut [u16],
+    net: u16,
+    sx: u16,
+    sy: u16,
+) -> Answer
+    ensures { λ r. ⌜ HostWrote (joins net (point sx sy))
+        (now (board .entry)) (now (table .entry)) (now (strips .entry)) (now (corners .entry))
+        r (now (board .exit)) (now (table .exit)) (now (strips .exit)) (now (corners .exit)) ⌝ }
+{
+    let b = *board;
+    let out = table::append_join(b, table, strips, corners, net, sx, sy);
     *board = out.board;
     out.answer
 }

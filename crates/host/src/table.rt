@@ -15,7 +15,7 @@ use foil_spec::Entry;
 ghost use mathlib.Core.Path.{_≡_};
 ghost use Rattle.foil_spec.specs.Foil.{point, pen};
 ghost use Rattle.foil_spec.specs.Ledger.{byPen, newFoil, draw as draws, lay as lays, lift as lifts, putLeg};
-ghost use Rattle.foil_spec.specs.Ledger.{book as books};
+ghost use Rattle.foil_spec.specs.Ledger.{join as joins, book as books};
 ghost use Rattle.host.specs.Flats.{frontOf, overFront};
 ghost use Rattle.host.specs.Calls.{HostDone, HostWrote};
 ghost use Rattle.host.specs.Records.{HostRan};
@@ -112,6 +112,27 @@ pub fn append_track(
 {
     let t = load(table);
     let out = flat::lay(b, t, strips, corners, net, sx, sy, tx, ty);
+    let u = out.table;
+    store(table, u);
+    out
+}
+
+// Appends the way of a join: an entry of the same net for each leg.
+pub fn append_join(
+    b: Board,
+    table: &mut [Entry],
+    strips: &mut [u16],
+    corners: &mut [u16],
+    net: u16,
+    sx: u16,
+    sy: u16,
+) -> Left
+    ensures { λ r. ⌜ HostWrote (joins net (point sx sy)) b
+        (now (table .entry)) (now (strips .entry)) (now (corners .entry))
+        (r .answer) (r .board) (now (table .exit)) (now (strips .exit)) (now (corners .exit)) ⌝ }
+{
+    let t = load(table);
+    let out = flat::join(b, t, strips, corners, net, sx, sy);
     let u = out.table;
     store(table, u);
     out
