@@ -1,5 +1,6 @@
 // The call book: takes a way over as a track, whoever drew it. Like the other calls it has no `requires`: it is its
 // refusals by 12 and 13, and then a body (`book_in`). What it books by is open to calls that search a path first.
+mod tracks;
 mod way;
 
 use booking::Booked;
@@ -18,16 +19,16 @@ use foil_spec::Board;
 use foil_spec::MAX_ENTRIES;
 use foil_spec::TABLE_SIZE;
 use state::net_ok;
+pub use tracks::PATH_SIZE;
+pub use tracks::book_found;
 pub use way::is_way;
 use zones::BOXES_SIZE;
 use zones::pen_zones;
 ghost use mathlib.Core.Path.{_≡_};
 ghost use Prim.Native.Nat.{_≤_};
-ghost use mathlib.Core.List.{List};
-ghost use mathlib.Core.Option.{Option};
 ghost use mathlib.Core.Bool.{true};
 ghost use Rattle.foil_spec.specs.Limits.{maxEntries};
-ghost use Rattle.foil_spec.specs.Foil.{Point, penRule, free};
+ghost use Rattle.foil_spec.specs.Foil.{penRule, free};
 ghost use Rattle.foil_spec.specs.Paths.{isWay};
 ghost use Rattle.foil_spec.specs.Corners.{cornersIn, drawn as drawnBy};
 ghost use Rattle.foil_spec.specs.Ledger.{book as books};
@@ -36,10 +37,6 @@ ghost use Rattle.zones.specs.Table.{Table};
 ghost use Rattle.booking.specs.Booked.{Booking};
 ghost use Rattle.foil.specs.Contract.{StepDone, StepIn};
 ghost use Rattle.drawn.specs.Booking.{withLegs, MayBook};
-ghost use Rattle.drawn.specs.Tracks.{MayTrack, Searched, Tracked};
-
-// The numbers of the corners of a path whose legs fit an empty table: what a search writes a path to before it is booked.
-pub const PATH_SIZE: usize = 258;
 
 // Books the way that the lent list draws, all of it, as a track of the net: appends an entry for each leg. The list is
 // only read.
@@ -100,45 +97,6 @@ fn draws_way(table: &[u16], board: Board, list: &[u16]) -> bool
     let mut boxes = [0u16; BOXES_SIZE];
     let n = pen_zones(&mut boxes, table, board.entries, board);
     is_way(&boxes, n, board.width, board.height, list)
-}
-
-// Books the path of k corners that a search has put at the front of a list, or refuses it: by 9 where k is 0, by 12 where
-// the corner list is too short for it, by 10 and 11. Where it is booked its corners stand at the front of the corner list.
-pub fn book_found(
-    table: &mut [u16],
-    strips: &mut [u16],
-    corners: &mut [u16],
-    board: Board,
-    limit: usize,
-    net: u16,
-    path: &[u16],
-    k: usize,
-) -> Done
-    requires { ⌜ MayTrack (lent board (now table) (now strips)) net (now path) k ⌝ }
-    requires { ⌜ limit ≤ maxEntries ⌝ }
-    ensures { λ r. ⌜ ((o : Option (List Point)) → Searched o (now (path .entry)) k
-        → Tracked net limit o (lent board (now (table .entry)) (now (strips .entry))) (now (corners .entry))
-        r (now (table .exit)) (now (strips .exit)) (now (corners .exit))) ⌝ }
-{
-    if k == 0 {
-        return refuse(9, board);
-    }
-    if corners.len() / 2 < k {
-        return refuse(12, board);
-    }
-    let n = board.entries;
-    if limit < n + leg_count(k) {
-        return refuse(10, board);
-    }
-    let booked = book_path(table, strips, board, net, path, k);
-    let Booked::Taken(after) = booked else {
-        return refuse(11, board);
-    };
-    copy_front(corners, path, k * 2);
-    Done {
-        answer: Answer::Laid(k, bend_count(k)),
-        board: after,
-    }
 }
 
 // Appends the legs of the way of k corners at the front of a list, for which there is room, and takes the table over

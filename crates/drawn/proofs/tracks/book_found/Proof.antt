@@ -1,12 +1,12 @@
--- `drawn::book_found` tries the refusals in their order, books the path, and then writes its corners.
+-- `drawn::tracks::book_found` tries the refusals in their order, books the path, and then writes its corners.
 use native.Mathlib.Omega.{arith}
 use Rattle.ledger_laws.proofs.Sound.{of-sound}
 use Rattle.foil.proofs.Limits.{held-limits}
 use Rattle.drawn.proofs.Booking.{taken-by, not-taken}
 use Rattle.drawn.proofs.Tracking.{path-long, may-book, no-path, few-corners, table-full, too-fine, laid-done}
 use borrow.Author.Needs.{needs}
-use Rattle.drawn.proofs.book_found.Statement.{statement}
-use Rattle.drawn.proofs.book_found.Tie as tie
+use Rattle.drawn.proofs.tracks.book_found.Statement.{statement}
+use Rattle.drawn.proofs.tracks.book_found.Tie as tie
 
 -- from where there is a path back to the start, from the booking to where the legs have room and from there to where the
 -- corners have, and from what follows to the booking and to the copy of the corners
