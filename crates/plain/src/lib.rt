@@ -106,8 +106,35 @@ fn within(lo: u16, hi: u16, d: u32, v: u16) -> bool
     (v as u32) < (hi as u32) + d
 }
 
-// Writes the corners of the first path of fewest bends from (sx, sy) to (tx, ty), and of those of
-// least length, to the front of `out`, x before y, and answers how many they are: 0 where there is no path.
+// Writes the corners of the first path of fewest bends from (sx, sy) to a target, and of those of least
+// length, to the front of `out`, x before y, and answers how many they are: 0 where there is no path. A
+// target is a free point whose place in `targets` says so.
+pub fn first_path_to(
+    out: &mut [u16; 8192],
+    map: &[bool; 4096],
+    targets: &[bool; 4096],
+    sx: u16,
+    sy: u16,
+) -> usize {
+    let s = place(map, sx, sy);
+    if s == POINTS {
+        return 0;
+    }
+    if targets[s] {
+        walk::put(out, 0, s);
+        return 1;
+    }
+    let mut level = [0u32; 4096];
+    let mut upright = [0u32; 4096];
+    rounds::label(&mut level, &mut upright, map, targets);
+    let cost = least(level[s], upright[s]);
+    if cost == 0 {
+        return 0;
+    }
+    walk::walk(out, &level, &upright, map, targets, s, cost)
+}
+
+// The same to the point (tx, ty).
 pub fn first_path(
     out: &mut [u16; 8192],
     map: &[bool; 4096],
@@ -116,26 +143,13 @@ pub fn first_path(
     tx: u16,
     ty: u16,
 ) -> usize {
-    let s = place(map, sx, sy);
     let t = place(map, tx, ty);
-    if s == POINTS {
-        return 0;
-    }
     if t == POINTS {
         return 0;
     }
-    if s == t {
-        walk::put(out, 0, s);
-        return 1;
-    }
-    let mut level = [0u32; 4096];
-    let mut upright = [0u32; 4096];
-    rounds::label(&mut level, &mut upright, map, t);
-    let cost = least(level[s], upright[s]);
-    if cost == 0 {
-        return 0;
-    }
-    walk::walk(out, &level, &upright, map, s, t, cost)
+    let mut targets = [false; 4096];
+    targets[t] = true;
+    first_path_to(out, map, &targets, sx, sy)
 }
 
 // The place of the point (x, y), or 4,096 where it is not free.

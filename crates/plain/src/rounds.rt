@@ -1,5 +1,5 @@
-// What the paths from all points to one end cost, by rounds: round k sees to the points from which the
-// end is k segments away.
+// What the paths from all points to a target cost, by rounds: round k sees to the points from which a
+// target is k segments away.
 ghost use Prim.Native.Nat.{_<_, _≤_};
 use crate::POINTS;
 use crate::SEGMENT;
@@ -57,6 +57,22 @@ fn spread(costs: &mut [u32; 4096], map: &[bool; 4096], from: usize, toward: Dire
     }
 }
 
+// Notes what paths of one segment cost: from each target a segment in two directions.
+fn first_round(
+    costs: &mut [u32; 4096],
+    map: &[bool; 4096],
+    targets: &[bool; 4096],
+    back: Direction,
+    on: Direction,
+) {
+    for p in 0..POINTS {
+        if map[p] && targets[p] {
+            spread(costs, map, p, back, SEGMENT);
+            spread(costs, map, p, on, SEGMENT);
+        }
+    }
+}
+
 // Notes what paths of k + 1 segments cost: from each point whose cost in `rest` is that of k segments, a
 // segment more in two directions.
 fn round(
@@ -88,20 +104,16 @@ fn has(costs: &[u32; 4096], k: u32) -> bool {
     false
 }
 
-// Sets the costs of all points, which are 0 before: the least of the paths to t that begin with a level
-// segment, and of those that begin with an upright one. Where there are none it stays 0.
+// Sets the costs of all points, which are 0 before: the least of the paths to a target that begin with a
+// level segment, and of those that begin with an upright one. Where there are none it stays 0.
 pub(crate) fn label(
     level: &mut [u32; 4096],
     upright: &mut [u32; 4096],
     map: &[bool; 4096],
-    t: usize,
-)
-    requires { ⌜ t < 4096 ⌝ }
-{
-    spread(level, map, t, Direction::Left, SEGMENT);
-    spread(level, map, t, Direction::Right, SEGMENT);
-    spread(upright, map, t, Direction::Up, SEGMENT);
-    spread(upright, map, t, Direction::Down, SEGMENT);
+    targets: &[bool; 4096],
+) {
+    first_round(level, map, targets, Direction::Left, Direction::Right);
+    first_round(upright, map, targets, Direction::Up, Direction::Down);
     for k in 1..8191 {
         round(level, upright, map, Direction::Left, Direction::Right, k);
         round(upright, level, map, Direction::Up, Direction::Down, k);

@@ -130,19 +130,19 @@ fn rest(cost: u32, p: usize, q: usize) -> u32
     cost - segment
 }
 
-// Whether the path from q to t costs `left`, the first segment as the heading says.
+// Whether the path from q to a target costs `left`, the first segment as the heading says.
 fn leads(
     level: &[u32; 4096],
     upright: &[u32; 4096],
+    targets: &[bool; 4096],
     heading: Heading,
     q: usize,
-    t: usize,
     left: u32,
 ) -> bool
     requires { ⌜ q < 4096 ⌝ }
 {
     if left == 0 {
-        return q == t;
+        return targets[q];
     }
     match heading {
         Heading::Either => level[q] == left || upright[q] == left,
@@ -157,9 +157,9 @@ fn next_corner(
     level: &[u32; 4096],
     upright: &[u32; 4096],
     map: &[bool; 4096],
+    targets: &[bool; 4096],
     heading: Heading,
     p: usize,
-    t: usize,
     cost: u32,
 ) -> usize
     requires { ⌜ p < 4096 ⌝ }
@@ -167,7 +167,7 @@ fn next_corner(
 {
     for q in 0..POINTS {
         if segment(map, heading, p, q)
-            && leads(level, upright, after(p, q), q, t, rest(cost, p, q))
+            && leads(level, upright, targets, after(p, q), q, rest(cost, p, q))
         {
             return q;
         }
@@ -185,14 +185,14 @@ pub(crate) fn put(out: &mut [u16; 8192], i: usize, p: usize)
     }
 }
 
-// Writes the corners of the path from s to t that costs as much, and answers how many they are.
+// Writes the corners of the path from s to a target that costs as much, and answers how many they are.
 pub(crate) fn walk(
     out: &mut [u16; 8192],
     level: &[u32; 4096],
     upright: &[u32; 4096],
     map: &[bool; 4096],
+    targets: &[bool; 4096],
     s: usize,
-    t: usize,
     cost: u32,
 ) -> usize
     requires { ⌜ s < 4096 ⌝ }
@@ -205,7 +205,7 @@ pub(crate) fn walk(
     let mut count = 0u32;
     while count < segments {
         count += 1;
-        let q = next_corner(level, upright, map, heading, p, t, left);
+        let q = next_corner(level, upright, map, targets, heading, p, left);
         if q == POINTS {
             return 0;
         }

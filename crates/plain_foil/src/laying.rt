@@ -32,14 +32,28 @@ pub fn lay(
     }
     let mut path = [0u16; 8192];
     let found = find(&mut path, row, foil, room, sx, sy, tx, ty);
+    append_found(row, corners, net, &path, found)
+}
+
+// Appends the legs of a path, if one was found, and puts its corners at the front of the list.
+pub(crate) fn append_found(
+    row: &mut [u16; 640],
+    corners: &mut [u16; 8192],
+    net: u16,
+    path: &[u16; 8192],
+    found: Done,
+) -> Done
+    requires { ⌜ found .foil .entries ≤ 128 ⌝ }
+    ensures { λ r. ⌜ r .foil .entries ≤ 128 ⌝ }
+{
     if found.number != 0 {
         return found;
     }
-    let done = append(row, foil, net, &path, found.corners);
+    let done = append(row, found.foil, net, path, found.corners);
     if done.number != 0 {
         return done;
     }
-    copy(corners, &path, done.corners);
+    copy(corners, path, done.corners);
     done
 }
 
@@ -62,12 +76,12 @@ pub fn book(row: &mut [u16; 640], foil: Foil, net: u16, list: &[u16; 8192], n: u
 }
 
 // Whether a point is off the foil.
-fn off(foil: Foil, x: u16, y: u16) -> bool {
+pub(crate) fn off(foil: Foil, x: u16, y: u16) -> bool {
     foil.width <= x || foil.height <= y
 }
 
 // Whether a point is not free.
-fn blocked(row: &[u16; 640], foil: Foil, x: u16, y: u16) -> bool
+pub(crate) fn blocked(row: &[u16; 640], foil: Foil, x: u16, y: u16) -> bool
     requires { ⌜ foil .entries ≤ 128 ⌝ }
 {
     !plain::is_free(row, foil.entries, pen(foil), foil.width, foil.height, x, y)
@@ -97,13 +111,22 @@ pub fn find(
     let mut path = [0u16; 8192];
     free_points(&mut map, row, foil);
     let k = plain::first_path(&mut path, &map, sx, sy, tx, ty);
+    let found = searched(foil, room, k);
+    copy(corners, &path, found.corners);
+    found
+}
+
+// What comes of a search that finds a path of k corners, or none where k is 0, with room for so many.
+pub(crate) fn searched(foil: Foil, room: usize, k: usize) -> Done
+    requires { ⌜ foil .entries ≤ 128 ⌝ }
+    ensures { λ r. ⌜ (r .foil .entries ≤ 128) × (r .corners ≤ room) ⌝ }
+{
     if k == 0 {
         return refuse(9, foil);
     }
     if room < k {
         return refuse(12, foil);
     }
-    copy(corners, &path, k);
     Done {
         number: 0,
         corners: k,

@@ -1,10 +1,12 @@
 // Document 01's foil, kept plainly, for the calls to be compared with: a row of entries, from which free points, paths
 // and strips are worked out anew each time. A foil is at most 64 by 64, so that 4,096 strips are never passed.
+mod joins;
 mod laying;
 mod records;
 mod runs;
 
 use foil_spec::Pen;
+pub use joins::join;
 pub use laying::book;
 pub use laying::find;
 pub use laying::lay;

@@ -5,22 +5,16 @@ use Rattle.plain.proofs.rounds.label.Statement.{statement}
 use Rattle.plain.proofs.rounds.label.Tie as tie
 
 abbrev Inv-loop : tie.InvT-loop
-Inv-loop level₀ upright₀ map t k₀ level upright k = k ≤ 8191
+Inv-loop level₀ upright₀ map targets k₀ level upright k = k ≤ 8191
 
 abbrev μ-loop : tie.MeasureT-loop
-μ-loop level₀ upright₀ map t k₀ level upright k = 8191 - k
+μ-loop level₀ upright₀ map targets k₀ level upright k = 8191 - k
 
-spread-requires : tie.Need-spread-requires Inv-loop μ-loop
-spread-requires c κs = search needs
+first-round-requires : tie.Need-first-round-requires Inv-loop μ-loop
+first-round-requires c κs = search needs
 
-spread-requires-2 : tie.Need-spread-requires-2 Inv-loop μ-loop
-spread-requires-2 c κs = search needs
-
-spread-requires-3 : tie.Need-spread-requires-3 Inv-loop μ-loop
-spread-requires-3 c κs = search needs
-
-spread-requires-4 : tie.Need-spread-requires-4 Inv-loop μ-loop
-spread-requires-4 c κs = search needs
+first-round-requires-2 : tie.Need-first-round-requires-2 Inv-loop μ-loop
+first-round-requires-2 c κs = search needs
 
 loop-holds : tie.Need-loop-holds Inv-loop μ-loop
 loop-holds c = search needs
@@ -60,6 +54,5 @@ returns-2 c = search needs
 
 pub label-spec : {M : Type 1} → statement M
 label-spec =
-    tie.close (tie.spec Inv-loop μ-loop spread-requires spread-requires-2 spread-requires-3 spread-requires-4
-    loop-holds round-requires round-requires-2 add-has has-requires add-has-2 has-requires-2 returns add-k loop-less
-    loop-again returns-2)
+    tie.close (tie.spec Inv-loop μ-loop first-round-requires first-round-requires-2 loop-holds round-requires
+    round-requires-2 add-has has-requires add-has-2 has-requires-2 returns add-k loop-less loop-again returns-2)

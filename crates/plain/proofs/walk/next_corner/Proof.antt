@@ -5,10 +5,10 @@ use Rattle.plain.proofs.walk.next_corner.Statement.{statement}
 use Rattle.plain.proofs.walk.next_corner.Tie as tie
 
 abbrev Inv-loop : tie.InvT-loop
-Inv-loop level upright map heading p t cost q₀ q = q ≤ 4096
+Inv-loop level upright map targets heading p cost q₀ q = q ≤ 4096
 
 abbrev μ-loop : tie.MeasureT-loop
-μ-loop level upright map heading p t cost q₀ q = 4096 - q
+μ-loop level upright map targets heading p cost q₀ q = 4096 - q
 
 loop-holds : tie.Need-loop-holds Inv-loop μ-loop
 loop-holds c = search needs

@@ -5,11 +5,12 @@ use Rattle.plain.proofs.walk.walk.Statement.{statement}
 use Rattle.plain.proofs.walk.walk.Tie as tie
 
 abbrev Inv-loop : tie.InvT-loop
-Inv-loop out₀ level upright map s t cost segments heading₀ p₀ left₀ count₀ out heading p left count =
+Inv-loop out₀ level upright map targets s cost segments heading₀ p₀ left₀ count₀ out heading p left count =
     (p < 4096) × (count ≤ segments)
 
 abbrev μ-loop : tie.MeasureT-loop
-μ-loop out₀ level upright map s t cost segments heading₀ p₀ left₀ count₀ out heading p left count = segments - count
+μ-loop out₀ level upright map targets s cost segments heading₀ p₀ left₀ count₀ out heading p left count =
+    segments - count
 
 put-requires : tie.Need-put-requires Inv-loop μ-loop
 put-requires c κs = search needs
