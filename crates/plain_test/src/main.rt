@@ -1,5 +1,5 @@
-// Runs the plain search on the starred boards of document 01 that have a track, and round a patch and a leg by a wide
-// pen, and writes what it finds: a line for each pair of points, with the corners of the path.
+// Runs the plain search on the starred boards of document 01 that have a track, round a patch and a leg by a wide pen,
+// and to two columns of targets, and writes what it finds: a line for each search, with the corners of the path.
 use foil_spec::Pen;
 ghost use Prim.Native.Nat.{_≤_, _<_};
 
@@ -66,6 +66,43 @@ fn patch(table: &mut [u16; 640], i: usize, x0: u16, y0: u16, x1: u16, y1: u16)
     table[i * 5 + 4] = y1;
 }
 
+// Makes the points of a column of three targets.
+fn column(targets: &mut [bool; 4096], x: usize)
+    requires { ⌜ x < 64 ⌝ }
+{
+    targets[x] = true;
+    targets[64 + x] = true;
+    targets[128 + x] = true;
+}
+
+// Writes the path from a point of a board of 9 by 3 to its first or its last column.
+fn show_to_columns(table: &[u16; 640], n: usize, sx: u16, sy: u16)
+    requires { ⌜ n ≤ 128 ⌝ }
+{
+    let mut map = [false; 4096];
+    let mut targets = [false; 4096];
+    let mut corners = [0u16; 8192];
+    plain::free_points(&mut map, table, n, Pen { half: 0, gap: 0 }, 9, 3);
+    column(&mut targets, 0);
+    column(&mut targets, 8);
+    let found = plain::first_path_to(&mut corners, &map, &targets, sx, sy);
+    print_point(sx, sy);
+    io::write_all(1, b" to a column:");
+    if found <= 4096 {
+        print_corners(&corners, found);
+    }
+}
+
+// Searches to two columns: as far from both, nearer to one, which a patch blocks there, and on one.
+fn show_targets() {
+    let mut table = [0u16; 640];
+    patch(&mut table, 0, 8, 0, 9, 1);
+    show_to_columns(&table, 0, 4, 1);
+    show_to_columns(&table, 0, 5, 0);
+    show_to_columns(&table, 1, 5, 0);
+    show_to_columns(&table, 1, 8, 2);
+}
+
 fn main() {
     let mut table = [0u16; 640];
     // Boards without a patch.
@@ -96,4 +133,5 @@ fn main() {
     show_by(&table, 1, wide, 12, 6, 1, 1, 10, 1);
     table[0] = 9;
     show_by(&table, 1, wide, 12, 6, 1, 1, 10, 1);
+    show_targets();
 }
