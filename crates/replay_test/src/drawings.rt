@@ -3,7 +3,6 @@ use crate::BOOKED;
 use crate::COUNTS;
 use crate::DIFFERENT;
 use crate::FOUND;
-use crate::RUN;
 use crate::Stood;
 use crate::compare::same_laid;
 use crate::count;
@@ -19,15 +18,15 @@ ghost use Prim.Native.Nat.{_<_, _≤_};
 ghost use lib.ListN.{length};
 
 // Where a strip at random begins in the list; or the place after the last one, which holds zeros.
-fn strip(board: Board, seed: u32) -> usize
+pub(crate) fn strip(board: Board, seed: u32) -> usize
     ensures { λ r. ⌜ r < 16384 ⌝ }
 {
     let last = (board.strips % 4095) as u16;
     below(seed, last * 3 + 1) as usize / 3 * 4
 }
 
-// After every 16th record of a job that goes on: finds a path from a strip's first point to another's last, and books
-// its corners, spoilt or not. The answers are compared here, the lists with the next record.
+// Finds a path from a strip's first point to another's last, and books its corners, spoilt or not. The answers are
+// compared here, the lists with the next record.
 pub(crate) fn draw(
     counts: &mut [u64; COUNTS],
     table: &mut [u16; 645],
@@ -40,9 +39,6 @@ pub(crate) fn draw(
     requires { ⌜ stood .foil .entries ≤ 128 ⌝ }
     ensures { λ r. ⌜ r .foil .entries ≤ 128 ⌝ }
 {
-    if counts[RUN] % 16 != 0 || 60000 < stood.at {
-        return stood;
-    }
     let k = find_both(counts, table, strips, corners, row, path, stood);
     if k == 0 {
         return stood;

@@ -26,7 +26,7 @@ fn put(bytes: &mut [u8; 12000], at: usize, n: u16)
 }
 
 // A coordinate, mostly below `size`, now and then just off the foil.
-fn coordinate(size: u16, seed: u32) -> u16
+pub(crate) fn coordinate(size: u16, seed: u32) -> u16
     requires { ⌜ 0 < size ⌝ }
 {
     if seed / 64 % 24 == 0 {
@@ -36,7 +36,7 @@ fn coordinate(size: u16, seed: u32) -> u16
 }
 
 // A net, mostly from 1 to 9, now and then one that no track can have.
-fn net(seed: u32) -> u16 {
+pub(crate) fn net(seed: u32) -> u16 {
     if seed / 64 % 40 == 0 {
         return 1000;
     }
@@ -341,7 +341,7 @@ fn last(bytes: &mut [u8; 12000], length: usize, b: u8) -> usize
 }
 
 // How many corner places are lent.
-fn room(seed: u32) -> usize
+pub(crate) fn room(seed: u32) -> usize
     ensures { λ r. ⌜ r ≤ 150 ⌝ }
 {
     match below(seed, 4) {

@@ -1,10 +1,11 @@
-// Replays random job files beside a plain foil, with a find and a book now and then, and writes how many records there
-// were, how many steps were accepted and refused by each number, and how often the two differ: in an answer, in the
-// record, in the table, the strips or the corner list, or in the strip of a point that is looked up.
+// Replays random job files beside a plain foil, with a find and a book or a join now and then, and writes how many
+// records there were, how many steps were accepted and refused by each number, and how often the two differ: in an
+// answer, in the record, in the table, the strips or the corner list, or in the strip of a point that is looked up.
 mod compare;
 mod drawings;
 mod holds;
 mod jobs;
+mod joins;
 
 use boards::next;
 use foil_spec::Board;
@@ -22,8 +23,8 @@ const JOBS: usize = 300;
 // More records than any of these files has.
 const RECORDS: usize = 3000;
 
-// Where the counts of records, end marks, tracks, paths found, lists booked and differences are; those of the numbers
-// come first.
+// Where the counts of records, end marks, tracks, paths found, lists booked, joins by their numbers and differences
+// are; those of all numbers come first.
 const RUN: usize = 23;
 
 const ENDS: usize = 24;
@@ -34,13 +35,15 @@ const FOUND: usize = 26;
 
 const BOOKED: usize = 27;
 
-const DIFFERENT: usize = 28;
+const JOINS: usize = 28;
 
-const COUNTS: usize = 29;
+const DIFFERENT: usize = 51;
+
+const COUNTS: usize = 52;
 
 // Adds one to a count.
 fn count(counts: &mut [u64; COUNTS], k: usize)
-    requires { ⌜ k < 29 ⌝ }
+    requires { ⌜ k < 52 ⌝ }
 {
     counts[k] = std::num::wrapping_add_u64(counts[k], 1);
 }
@@ -196,7 +199,31 @@ fn replay_one(
         at: compare::next_place(reply),
         point,
     };
-    drawings::draw(counts, table, strips, corners, row, path, after)
+    between(counts, table, strips, corners, row, path, after)
+}
+
+// What comes between the records of a job that goes on: after every 16th a find and a book, and four times as often a
+// join.
+fn between(
+    counts: &mut [u64; COUNTS],
+    table: &mut [u16; 645],
+    strips: &mut [u16; 16388],
+    corners: &mut [u16; 300],
+    row: &mut [u16; 640],
+    path: &mut [u16; 8192],
+    stood: Stood,
+) -> Stood
+    requires { ⌜ stood .foil .entries ≤ 128 ⌝ }
+    ensures { λ r. ⌜ r .foil .entries ≤ 128 ⌝ }
+{
+    if 60000 < stood.at {
+        return stood;
+    }
+    match counts[RUN] % 16 {
+        0 => drawings::draw(counts, table, strips, corners, row, path, stood),
+        2 | 6 | 10 | 14 => joins::join_point(counts, table, strips, corners, row, path, stood),
+        _ => stood,
+    }
 }
 
 // Replays a job file, with so many corner places lent, up to its end or a difference.
@@ -259,13 +286,15 @@ fn print_line(words: &[u8], n: u64) {
     io::write_all(1, b"\n");
 }
 
-// Writes a line for each number that refused something.
-fn print_numbers(counts: &[u64; COUNTS]) {
+// Writes a line for each number that refused something: words, the number, and its count from a place on.
+fn print_numbers(words: &[u8], counts: &[u64; COUNTS], from: usize)
+    requires { ⌜ from ≤ 28 ⌝ }
+{
     for k in 1..RUN {
-        if counts[k] != 0 {
-            io::write_all(1, b"refused by ");
+        if counts[from + k] != 0 {
+            io::write_all(1, words);
             io::print_decimal(1, k as u64);
-            print_line(b": ", counts[k]);
+            print_line(b": ", counts[from + k]);
         }
     }
 }
@@ -280,6 +309,8 @@ fn main() {
     print_line(b"tracks among them: ", counts[LAID]);
     print_line(b"paths found among them: ", counts[FOUND]);
     print_line(b"lists booked among them: ", counts[BOOKED]);
-    print_numbers(&counts);
+    print_line(b"joins among them: ", counts[JOINS]);
+    print_numbers(b"refused by ", &counts, 0);
+    print_numbers(b"joins refused by ", &counts, JOINS);
     print_line(b"different: ", counts[DIFFERENT]);
 }

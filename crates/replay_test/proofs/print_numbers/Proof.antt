@@ -5,22 +5,22 @@ use Rattle.replay_test.proofs.print_numbers.Statement.{statement}
 use Rattle.replay_test.proofs.print_numbers.Tie as tie
 
 abbrev Inv-loop : tie.InvT-loop
-Inv-loop counts k₀ t3 t4 k = (1 ≤ k) × (k ≤ 23)
+Inv-loop words counts from k₀ t5 k = (1 ≤ k) × (k ≤ 23)
 
 abbrev μ-loop : tie.MeasureT-loop
-μ-loop counts k₀ t3 t4 k = 23 - k
+μ-loop words counts from k₀ t5 k = 23 - k
 
 loop-holds : tie.Need-loop-holds Inv-loop μ-loop
 loop-holds c = search needs
+
+add-if1 : tie.Need-add-if1 Inv-loop μ-loop
+add-if1 c = search needs
 
 mul-if1 : tie.Need-mul-if1 Inv-loop μ-loop
 mul-if1 c = search needs
 
 element-copy-out-if1 : tie.Need-element-copy-out-if1 Inv-loop μ-loop
 element-copy-out-if1 c = search needs
-
-slice-aggregate-write-all : tie.Need-slice-aggregate-write-all Inv-loop μ-loop
-slice-aggregate-write-all c = search needs
 
 write-all-requires : tie.Need-write-all-requires Inv-loop μ-loop
 write-all-requires c κs = search needs
@@ -30,6 +30,9 @@ print-decimal-requires c κs = search needs
 
 slice-aggregate-print-line : tie.Need-slice-aggregate-print-line Inv-loop μ-loop
 slice-aggregate-print-line c = search needs
+
+add-print-line : tie.Need-add-print-line Inv-loop μ-loop
+add-print-line c = search needs
 
 mul-print-line : tie.Need-mul-print-line Inv-loop μ-loop
 mul-print-line c = search needs
@@ -54,21 +57,6 @@ returns c = search needs
 
 pub print-numbers-spec : {M : Type 1} → statement M
 print-numbers-spec =
-    tie.close
-    (tie.spec
-    Inv-loop
-    μ-loop
-    loop-holds
-    mul-if1
-    element-copy-out-if1
-    slice-aggregate-write-all
-    write-all-requires
-    print-decimal-requires
-    slice-aggregate-print-line
-    mul-print-line
-    element-copy-out-print-line
-    print-line-requires
-    add-k
-    loop-less
-    loop-again
-    returns)
+    tie.close (tie.spec Inv-loop μ-loop loop-holds add-if1 mul-if1 element-copy-out-if1 write-all-requires
+    print-decimal-requires slice-aggregate-print-line add-print-line mul-print-line element-copy-out-print-line
+    print-line-requires add-k loop-less loop-again returns)
