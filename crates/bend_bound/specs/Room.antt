@@ -50,7 +50,8 @@ unfoldable pub lentEnough : Lent → Lending → Bool
 lentEnough m c =
     all noJoin (stepsIn (c .call)) && not (short (roomFor c m)) && leb cornerPlaces (cornerRoom (roomFor c m))
 
--- from a call that begins a foil on, calls that are no joins and all lent enough never answer 12, by themselves or in a record
+-- from a call that begins a foil on, calls that are no joins and all lent enough never answer 12, by themselves or in a
+-- record
 abbrev pub NeverShort : Type 0
 NeverShort =
     (m : Lent) (l : Layout) (c : Lending) (cs : List Lending) → Begins (c .call) (told m c l .answer)

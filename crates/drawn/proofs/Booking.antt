@@ -85,7 +85,8 @@ module _ (b : Board) (t s : List ℕ) (net : ℕ) (path : List ℕ) (k : ℕ) (y
   pub small : Corners path k
   unfolding cornersIn held layoutOf
   small =
-      let at = at-place (λ (q : Point). y .clear (q .x) (q .y)) (cornerAt path) k (corners-free (y .clear) cs (y .way)) in
+      let at =
+      at-place (λ (q : Point). y .clear (q .x) (q .y)) (cornerAt path) k (corners-free (y .clear) cs (y .way)) in
       record {
         long = y .long;
         small-x = λ i u. omega (arith, y .inside _ _ (at i u) .0, limits .sized .width);
@@ -108,7 +109,8 @@ module _ (b : Board) (t s : List ℕ) (net : ℕ) (path : List ℕ) (k : ℕ) (y
     unfolding held layoutOf
     all-ok =
         all-append (entryOk (b .width) (b .height)) (l .entries) (legs net cs)
-        (of-ok l (facts .kept) .entries) (legs-ok (b .width) (b .height) net (y .allowed) (y .clear) (y .inside) cs (y .way))
+        (of-ok l (facts .kept) .entries)
+        (legs-ok (b .width) (b .height) net (y .allowed) (y .clear) (y .inside) cs (y .way))
 
     pub booked-table : Table rows all-rows (penRule (penIn b)) (b .width) (b .height)
     booked-table =

@@ -154,7 +154,8 @@ module _ (b : Board) (t s ks : List ℕ) (net limit : ℕ) (limited : limit ≤ 
             (λ room is out. rw (
               p .none ∙ ne-eqb k 0 some-path,
               le-ltb (room .output / 2) (length cs) (omega (arith, p .count, out)),
-              lt-ltb (min maxEntries (room .limit)) (length (withLegs l net cs .entries)) (omega (arith, entries-after)),
+              lt-ltb (min maxEntries (room .limit)) (length (withLegs l net cs .entries))
+                  (omega (arith, entries-after)),
             ) refl)
 
         module _ (n : ℕ) (n-is : n ≡ max 1 (k - 1)) (fits : b .entries + n ≤ limit) where

@@ -16,11 +16,13 @@ ghost use Rattle.foil_spec.specs.Foil.{Point};
 ghost use Rattle.foil_spec.specs.Lent.{lent};
 ghost use Rattle.drawn.specs.Tracks.{MayTrack, Searched, Tracked};
 
-// The numbers of the corners of a path whose legs fit an empty table: what a search writes a path to before it is booked.
+// The numbers of the corners of a path whose legs fit an empty table: what a search writes a path to before it is
+// booked.
 pub const PATH_SIZE: usize = 258;
 
-// Books the path of k corners that a search has put at the front of a list, or refuses it: by 9 where k is 0, by 12 where
-// the corner list is too short for it, by 10 and 11. Where it is booked its corners stand at the front of the corner list.
+// Books the path of k corners that a search has put at the front of a list, or refuses it: by 9 where k is 0, by 12
+// where the corner list is too short for it, by 10 and 11. Where it is booked its corners stand at the front of the
+// corner list.
 pub fn book_found(
     table: &mut [u16],
     strips: &mut [u16],

@@ -30,7 +30,8 @@ module _ (t : List ℕ) (net k : ℕ) where
       ap (λ (n : ℕ). keep (ofNet net) (map (entryAt t) (range 0 n))) (add-one k)
       ∙ ap (keep (ofNet net)) (map-last (entryAt t) 0 k)
       ∙ keep-append (ofNet net) (map (entryAt t) (range 0 k)) (entryAt t (0 + k) ∷ [])
-      ∙ ap (λ (n : ℕ). keep (ofNet net) (map (entryAt t) (range 0 k)) ++ keep (ofNet net) (entryAt t n ∷ [])) (zero-add k)
+      ∙ ap (λ (n : ℕ). keep (ofNet net) (map (entryAt t) (range 0 k)) ++ keep (ofNet net) (entryAt t n ∷ []))
+      (zero-add k)
 
   other : (entryAt t k .net ≡ net → ⊥) → legsIn net t (k + 1) ≡ legsIn net t k
   unfolding ofNet legsOf

@@ -29,8 +29,8 @@ pub record Asked (t : List ℕ) (n : ℕ) (p : Pen) (w h net : ℕ) (S : Point) 
   pub known : Known t n p w h
   pub s-free : freeFor net (layoutOf w h p n t) (S .x) (S .y) ≡ true
 
--- the first n boxes of the table z are what the other nets and the edge block, and the first k entries of the table t are
--- the net's legs
+-- the first n boxes of the table z are what the other nets and the edge block, and the first k entries of the table t
+-- are the net's legs
 pub record Sought (l : Layout) (net : ℕ) (z : List ℕ) (n : ℕ) (t : List ℕ) (k : ℕ) : Type 0 where
   pub zones : Zoned (freeFor net l) (l .width) (l .height) z n
   pub legs : map (entryAt t) (range 0 k) ≡ legsOf net (l .entries)

@@ -121,8 +121,9 @@ fn own_legs(rows: &mut [u16], table: &[u16], n: usize, net: u16) -> usize
     j
 }
 
-// Searches the first path of fewest bends and least length from (sx, sy), which is free for the net, to one of the net's
-// legs. Answers how many corners it has, 0 where there is no path. Where they fit, they are written to the front of out.
+// Searches the first path of fewest bends and least length from (sx, sy), which is free for the net, to one of the
+// net's legs. Answers how many corners it has, 0 where there is no path. Where they fit, they are written to the front
+// of out.
 pub fn path_to_net(
     out: &mut [u16],
     table: &[u16],
@@ -159,8 +160,8 @@ fn clear_for(table: &[u16], board: Board, net: u16, x: u16, y: u16) -> bool
     is_way(&boxes, n, board.width, board.height, &spot)
 }
 
-// Joins a point that is free for the net, which is allowed and in use, to it: writes the corners of the way to the front
-// of the corner list, and appends an entry for each leg.
+// Joins a point that is free for the net, which is allowed and in use, to it: writes the corners of the way to the
+// front of the corner list, and appends an entry for each leg.
 fn join_from(
     table: &mut [u16],
     strips: &mut [u16],

@@ -153,8 +153,8 @@ module _ {other edge from : List ℕ} {m n v a p : ℕ} {l₀ l : List ℕ} {c l
       };
     }
 
--- When the whole queue is visited, all that is joined with a label v of the other direction has a label: a visit that was
--- left to a crossing before it came to one that was not.
+-- When the whole queue is visited, all that is joined with a label v of the other direction has a label: a visit that
+-- was left to a crossing before it came to one that was not.
 module _ {other edge from : List ℕ} {m n v a b : ℕ} {l₀ l : List ℕ} {c : ℕ} (Q : Queued from a b n m other v)
     (G : Visited other edge from m n v a b l₀ l c) (i : ℕ) (li : i < m) where
   by-done : (k : ℕ) → k < n → ((j : ℕ) → j < k → across other i j ≡ v → (q : ℕ) → q < n → Linked edge i j q

@@ -80,8 +80,8 @@ pub fn run_end(edge: &[u8], line: usize, n: usize, at: usize) -> usize
     hi
 }
 
-// Whether the visit of crossing `at` can be left to one before it: in the first round, where a crossing before it that is
-// joined with it has the label v in the other direction as well. So the run of many targets is visited once.
+// Whether the visit of crossing `at` can be left to one before it: in the first round, where a crossing before it that
+// is joined with it has the label v in the other direction as well. So the run of many targets is visited once.
 pub fn is_left(other: &[u32], edge: &[u8], line: usize, at: usize, v: u32) -> bool
     requires { ⌜ (line < stride) × (at ≤ stride) × (at * stride ≤ length (now other))
         × (line * stride + stride ≤ length (now edge)) ⌝ }

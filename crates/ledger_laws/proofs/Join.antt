@@ -1,5 +1,5 @@
--- On the ledger join answers 9 exactly where no path leads to the net, and appends the legs of the first one; lift takes
--- the net whole.
+-- On the ledger join answers 9 exactly where no path leads to the net, and appends the legs of the first one; lift
+-- takes the net whole.
 use Prim.Native.Nat.{ℕ, suc, _+_, _-_, _≤_, _<_, min, max}
 use native.Mathlib.Omega.{arith}
 use mathlib.Core.Path.{_≡_, refl, sym, ap, ap₂, _∙_, subst}

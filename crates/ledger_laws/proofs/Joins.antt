@@ -92,7 +92,8 @@ lifts-whole-after m l c cs b earlier k later e net S ds n s h next rest q u long
     ap₂ (λ (x : Step) (y : Layout). ledgerStep (next .room) x y) u (w .0 ∙ left-is m k (p .0) net S ds n s h) in
     record {
       lifts = λ fine.
-          let whole = line ∙ lifts-whole (k .ledgerBefore) net ds (next .room) (j .own .allowed) (j .own .used) long fine in (
+          let whole =
+          line ∙ lifts-whole (k .ledgerBefore) net ds (next .room) (j .own .allowed) (j .own .used) long fine in (
             w .1 .answer ∙ ap (λ (a : After Answer Layout). a .answer) whole,
             w .1 .left ∙ ap (λ (a : After Answer Layout). a .state) whole,
           );

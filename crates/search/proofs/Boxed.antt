@@ -31,7 +31,8 @@ unfolding inside
 last-side upright e x y a b c =
     sym
     (turned-covers upright e x y
-    ∙ ap (λ (t : Bool). t && coversOn (not upright) e y) (inside-yes (extent upright e .from) (extent upright e .to) x a b)
+    ∙ ap (λ (t : Bool). t && coversOn (not upright) e y)
+    (inside-yes (extent upright e .from) (extent upright e .to) x a b)
     ∙ ap (λ (t : Bool). t && ltb y (extent (not upright) e .to)) (le-leb (extent (not upright) e .from) y c))
 
 -- the same by extents that are known
@@ -167,28 +168,31 @@ split-and true false true = refl
 split-and true false false = refl
 split-and false y t = refl
 
-module _ (n : ℕ) (z : List ℕ) (targets : List ℕ) (upright : Bool) (lines cross : List ℕ) {m c : ℕ} {l w t : List ℕ} where
-  pub targets-none : {q : ℕ} → Sown (λ i c. false) m c l w t q
-      → Sown (aimedAt n z 0 targets upright lines cross) m c l w t q
-  unfolding aimedAt boxed
-  targets-none S = sown-same (λ i li k lk. refl) S
+module _ (n : ℕ) (z : List ℕ) (targets : List ℕ) (upright : Bool) (lines cross : List ℕ) {m c : ℕ} {l w t : List ℕ}
+  where
+    pub targets-none : {q : ℕ} → Sown (λ i c. false) m c l w t q
+        → Sown (aimedAt n z 0 targets upright lines cross) m c l w t q
+    unfolding aimedAt boxed
+    targets-none S = sown-same (λ i li k lk. refl) S
 
-  pub targets-more : (e : ℕ) {l′ w′ t′ : List ℕ} {q q′ : ℕ} → Sown (aimedAt n z e targets upright lines cross) m c l w t q
-      → Sows (aimedOne n z (entryAt targets e) upright lines cross) m c l w t q l′ w′ t′ q′
-      → Sown (aimedAt n z (e + 1) targets upright lines cross) m c l′ w′ t′ q′
-  unfolding aimedAt aimedOne
-  targets-more e S A =
-      sown-same
-      (λ i li k lk.
-      ap (λ (b : Bool). b && clearAt n z upright lines cross i k)
-      (boxed-more targets upright (getD cross k 0) (getD lines i 0) e)
-      ∙ split-and (boxed e targets upright (getD cross k 0) (getD lines i 0))
-      (turned upright (covers (entryAt targets e)) (getD cross k 0) (getD lines i 0)) (clearAt n z upright lines cross i k))
-      (A .sown _ S)
+    pub targets-more : (e : ℕ) {l′ w′ t′ : List ℕ} {q q′ : ℕ}
+        → Sown (aimedAt n z e targets upright lines cross) m c l w t q
+        → Sows (aimedOne n z (entryAt targets e) upright lines cross) m c l w t q l′ w′ t′ q′
+        → Sown (aimedAt n z (e + 1) targets upright lines cross) m c l′ w′ t′ q′
+    unfolding aimedAt aimedOne
+    targets-more e S A =
+        sown-same
+        (λ i li k lk.
+        ap (λ (b : Bool). b && clearAt n z upright lines cross i k)
+        (boxed-more targets upright (getD cross k 0) (getD lines i 0) e)
+        ∙ split-and (boxed e targets upright (getD cross k 0) (getD lines i 0))
+        (turned upright (covers (entryAt targets e)) (getD cross k 0) (getD lines i 0))
+        (clearAt n z upright lines cross i k))
+        (A .sown _ S)
 
-  pub targets-done : (e k : ℕ) {q : ℕ} → e ≡ k → Sown (aimedAt n z e targets upright lines cross) m c l w t q
-      → Sown (aimedAt n z k targets upright lines cross) m c l w t q
-  targets-done e k i S = rw (← i) S
+    pub targets-done : (e k : ℕ) {q : ℕ} → e ≡ k → Sown (aimedAt n z e targets upright lines cross) m c l w t q
+        → Sown (aimedAt n z k targets upright lines cross) m c l w t q
+    targets-done e k i S = rw (← i) S
 
 -- the test is the same for both directions
 pub aimed-twin : (n : ℕ) (z : List ℕ) (k : ℕ) (t cols rows : List ℕ) (j i : ℕ)

@@ -225,7 +225,8 @@ module _ {z : List ℕ} {n : ℕ} {t : List ℕ} {k w h : ℕ} {S : Point} (P : 
       go false (stuck r zl zu p q) e = clash e refl
 
 module _ {z : List ℕ} {n : ℕ} {t : List ℕ} {k w h : ℕ} {S : Point} (P : Aimed z n t k w h S) {cols rows kl ku : List ℕ}
-    {nc nr : ℕ} (G : Grid z n t k w h S cols rows kl ku nc nr) {i j : ℕ} {l u wl wu : List ℕ} (ll : nr * stride ≤ length l)
+    {nc nr : ℕ} (G : Grid z n t k w h S cols rows kl ku nc nr) {i j : ℕ} {l u wl wu : List ℕ}
+    (ll : nr * stride ≤ length l)
     (lu : nc * stride ≤ length u) (li : nr * stride ≤ length wl) (ui : nc * stride ≤ length wu)
     (le : nr * stride ≤ length kl) (ue : nc * stride ≤ length ku) where
   searched-none : Labelling cols rows kl ku nc nr z n t k S i j false l u wl wu

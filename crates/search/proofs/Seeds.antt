@@ -116,7 +116,8 @@ module _ {m n : ℕ} {l t : List ℕ} {q : ℕ} (line k : ℕ) (ll : line < m) (
   queued-more =
       record {
         line-in = λ p a b. below-more (λ p. getD t′ (2 * p) 0 < m) q
-            (λ p b. omega (arith, keep (2 * p) (omega arith), Q .line-in p (omega arith) b)) (omega (arith, line-is)) p b;
+            (λ p b. omega (arith, keep (2 * p) (omega arith), Q .line-in p (omega arith) b))
+            (omega (arith, line-is)) p b;
         cross-in = λ p a b. below-more (λ p. getD t′ (2 * p + 1) 0 < n) q
             (λ p b. omega (arith, keep (2 * p + 1) (omega arith), Q .cross-in p (omega arith) b))
             (omega (arith, crossing-is)) p b;
@@ -184,7 +185,8 @@ sown-more {on} {m} {n} {l} {w} {t} {q} line k ll lk S (stays x) =
       one = λ i li c lc e.
           let o = was i li c lc e in
           let one = S .one i li c lc o in
-          (one .0, ink-set w (line * stride + k) (i * stride + c) (omega (arith, S .inks-fit, S .crossings-few)) (one .1));
+          let fits : line * stride + k < length w = omega (arith, S .inks-fit, S .crossings-few) in
+          (one .0, ink-set w (line * stride + k) (i * stride + c) fits (one .1));
       rest = λ i li c lc e. S .rest i li c lc (or-l (on i c) _ e);
       queued = S .queued;
       room = S .room;
@@ -350,7 +352,8 @@ module _ {a lo : ℕ} {test : ℕ → ℕ → Bool} {l₀ w₀ t₀ : List ℕ} 
       }
 
   -- one crossing more
-  pub run-more : {b : ℕ} {l w t l′ w′ t′ : List ℕ} {q q′ : ℕ} (k : ℕ) → lo ≤ k → BlockSown a b lo k test l₀ w₀ t₀ q₀ l w t q
+  pub run-more : {b : ℕ} {l w t l′ w′ t′ : List ℕ} {q q′ : ℕ} (k : ℕ) → lo ≤ k
+      → BlockSown a b lo k test l₀ w₀ t₀ q₀ l w t q
       → BlockSown a b k (k + 1) test l w t q l′ w′ t′ q′ → BlockSown a b lo (k + 1) test l₀ w₀ t₀ q₀ l′ w′ t′ q′
   unfolding inBlock
   run-more {b} k le A B =
@@ -364,7 +367,8 @@ module _ {a lo : ℕ} {test : ℕ → ℕ → Bool} {l₀ w₀ t₀ : List ℕ} 
       }
 
   -- one line more
-  pub block-more : {hi : ℕ} {l w t l′ w′ t′ : List ℕ} {q q′ : ℕ} (j : ℕ) → a ≤ j → BlockSown a j lo hi test l₀ w₀ t₀ q₀ l w t q
+  pub block-more : {hi : ℕ} {l w t l′ w′ t′ : List ℕ} {q q′ : ℕ} (j : ℕ) → a ≤ j
+      → BlockSown a j lo hi test l₀ w₀ t₀ q₀ l w t q
       → BlockSown j (j + 1) lo hi test l w t q l′ w′ t′ q′ → BlockSown a (j + 1) lo hi test l₀ w₀ t₀ q₀ l′ w′ t′ q′
   unfolding inBlock
   block-more {hi} j le A B =
@@ -390,7 +394,8 @@ sowable-after lb lh lb′ lh′ S B =
       m = S .m;
       n = S .n;
       on = _;
-      sown = B .sows (S .m) (S .n) (omega (arith, S .lines-in)) (omega (arith, S .crossings-in)) .sown (S .on) (S .sown);
+      sown =
+          B .sows (S .m) (S .n) (omega (arith, S .lines-in)) (omega (arith, S .crossings-in)) .sown (S .on) (S .sown);
       lines-in = omega (arith, S .lines-in);
       crossings-in = omega (arith, S .crossings-in);
     }
@@ -536,7 +541,8 @@ module _ {f : ℕ → ℕ → Bool} {T : ℕ → ℕ → Type 0} {cross lines : 
           record {
             within = λ r e.
                 let z : 0 ≡ r = omega arith in
-                subst (λ (r : ℕ). Within r (along inks b a) f T (getD cross a 0) (getD lines b 0)) z (aimed b lb a la t);
+                subst (λ (r : ℕ). Within r (along inks b a) f T (getD cross a 0) (getD lines b 0)) z
+                (aimed b lb a la t);
             least = λ r e t w. omega arith;
           }
 

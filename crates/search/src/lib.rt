@@ -37,8 +37,8 @@ ghost use Rattle.search.specs.Search.{LabelRoom, Labelling, Starts, Read
 // A queue of crossings has two numbers for each.
 const QUEUE: usize = 144722;
 
-// Up to so many boxes and target boxes make few lines: 69 an axis. What is kept of their crossings is a quarter of AREA, which takes a
-// quarter of the time to fill.
+// Up to so many boxes and target boxes make few lines: 69 an axis. What is kept of their crossings is a quarter of
+// AREA, which takes a quarter of the time to fill.
 const FEW: usize = 33;
 
 const FEW_AREA: usize = 18561;
@@ -82,7 +82,8 @@ fn axis(
     collect(lines, mark, size)
 }
 
-// Makes the escape grid of a foil, with lines through S and at the ends of the target boxes: its columns, its rows, and the links of both.
+// Makes the escape grid of a foil, with lines through S and at the ends of the target boxes: its columns, its rows, and
+// the links of both.
 fn build(
     cols: &mut [u16],
     rows: &mut [u16],
@@ -363,7 +364,8 @@ fn labels(
 ) -> Start
     requires { ⌜ Aimed (now boxes) n (now targets) k w h (point sx sy) ⌝ }
     requires { ⌜ GridRoom (n + k) (now cols) (now rows) (now kl) (now ku) (now mark) ⌝ }
-    requires { ⌜ LabelRoom (mostLines (n + k)) (mostLines (n + k)) (now level) (now upright) (now il) (now iu) (now ql) (now qu) ⌝ }
+    requires { ⌜ LabelRoom (mostLines (n + k)) (mostLines (n + k)) (now level) (now upright) (now il) (now iu)
+        (now ql) (now qu) ⌝ }
     ensures { λ r. ⌜ Searched (firstPathTo (boxFree w h n (now (boxes .entry))) w h (point sx sy)
         (target w h n (now (boxes .entry)) k (now (targets .entry))))
         (now (cols .exit)) (now (rows .exit)) (now (kl .exit)) (now (ku .exit))
@@ -484,7 +486,8 @@ fn path_in(
 ) -> usize
     requires { ⌜ Aimed (now boxes) n (now targets) k w h (point sx sy) ⌝ }
     requires { ⌜ GridRoom (n + k) (now cols) (now rows) (now kl) (now ku) (now mark) ⌝ }
-    requires { ⌜ LabelRoom (mostLines (n + k)) (mostLines (n + k)) (now level) (now upright) (now il) (now iu) (now ql) (now qu) ⌝ }
+    requires { ⌜ LabelRoom (mostLines (n + k)) (mostLines (n + k)) (now level) (now upright) (now il) (now iu)
+        (now ql) (now qu) ⌝ }
     ensures { λ r. ⌜ Found (firstPathTo (boxFree w h n (now (boxes .entry))) w h (point sx sy)
         (target w h n (now (boxes .entry)) k (now (targets .entry))))
         (now (out .entry)) (now (out .exit)) r ⌝ }

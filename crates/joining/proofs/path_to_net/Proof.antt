@@ -50,8 +50,10 @@ slice-aggregate-zones-2 c = search needs
 zones-requires : tie.Need-zones-requires
 zones-requires c κs =
     let rule = atRule c in
-    let others = atOthers (atLegs (rule .before) .before) in
-    (rw (rule .pen-rule .ensures) (others-table (atStart (others .before) .pre .known) (others .without .ensures)), omega arith)
+    let others = atOthers (atLegs (rule .before) .before) in (
+      rw (rule .pen-rule .ensures) (others-table (atStart (others .before) .pre .known) (others .without .ensures)),
+      omega arith,
+    )
 
 slice-aggregate-first-path-to : tie.Need-slice-aggregate-first-path-to
 slice-aggregate-first-path-to c = search needs

@@ -6,7 +6,8 @@ use Rattle.labels.proofs.Pass.{visit-passed, blank-run}
 use Rattle.labels.proofs.visit.Statement.{statement}
 use Rattle.labels.proofs.visit.Tie as tie
 
--- back to the start, to the first test, to the run's end, to the two sweeps, and in each branch to the inks and to what was pushed
+-- back to the start, to the first test, to the run's end, to the two sweeps, and in each branch to the inks and to what
+-- was pushed
 abbrev atStart : tie.After-slice-known6 → tie.Start
 atStart c = c .before .before .before .before .before .before .before .before .before .before
 

@@ -104,7 +104,8 @@ same-length-5 : tie.Need-same-length-5
 same-length-5 c = atRounds c .rounds .kept .1 .1 .1 .1 .0 ∙ atLevel (atRounds c .before) .sow-targets .kept .1 .1 .0
 
 same-length-6 : tie.Need-same-length-6
-same-length-6 c = atRounds c .rounds .kept .1 .1 .1 .1 .1 .0 ∙ atUpright (atRounds c .before) .sow-targets2 .kept .1 .1 .0
+same-length-6 c =
+    atRounds c .rounds .kept .1 .1 .1 .1 .1 .0 ∙ atUpright (atRounds c .before) .sow-targets2 .kept .1 .1 .0
 
 returns : tie.Need-returns
 returns c =

@@ -8,8 +8,8 @@ use borrow.Author.Needs.{needs}
 use Rattle.drawn.proofs.tracks.book_found.Statement.{statement}
 use Rattle.drawn.proofs.tracks.book_found.Tie as tie
 
--- from where there is a path back to the start, from the booking to where the legs have room and from there to where the
--- corners have, and from what follows to the booking and to the copy of the corners
+-- from where there is a path back to the start, from the booking to where the legs have room and from there to where
+-- the corners have, and from what follows to the booking and to the copy of the corners
 abbrev atStart : tie.After-shared-slice-known → tie.Start
 atStart c = c .before .before .before .before
 

@@ -100,5 +100,6 @@ returns c =
 
 pub sow-box-spec : {M : Type 1} → statement M
 sow-box-spec =
-    tie.close (tie.spec entry-at-requires boxes-near-requires extent-of-requires first-from-requires first-from-requires-2 extent-of-requires-2
-    first-from-requires-3 first-from-requires-4 sow-block-requires same-length same-length-2 same-length-3 returns)
+    tie.close (tie.spec entry-at-requires boxes-near-requires extent-of-requires first-from-requires
+    first-from-requires-2 extent-of-requires-2 first-from-requires-3 first-from-requires-4 sow-block-requires
+    same-length same-length-2 same-length-3 returns)
