@@ -2,3 +2,4 @@
 pub mod Starred
 pub mod LessInk
 pub mod Written
+pub mod Sheets

@@ -115,21 +115,21 @@ placeAfter (ran given place) = place
 placeAfter atEnd = none
 placeAfter (measured x) = none
 
--- the replies to the records of a job file from a place on, at most n of them, each on what the last one left
-unfoldable pub readFrom : Room → List ℕ → ℕ → Option ℕ → Lent → After (List Reply) Lent
-readFrom r bs zero place m = record { answer = []; state = m }
-readFrom r bs (suc n) none m = record { answer = []; state = m }
-readFrom r bs (suc n) (some at) m =
-    record {
-      answer =
-          callOn r (runRecord bs at) m .answer
-          ∷ readFrom r bs n (placeAfter (callOn r (runRecord bs at) m .answer)) (callOn r (runRecord bs at) m .state)
-          .answer;
-      state =
-          readFrom r bs n (placeAfter (callOn r (runRecord bs at) m .answer)) (callOn r (runRecord bs at) m .state)
-          .state;
-    }
+-- a job file on any state, where `call` does a call
+module _ {S : Type 0} (call : Call → S → After Reply S) where
+  -- the replies to its records from a place on, at most n of them, each on what the last one left
+  unfoldable pub readFrom : List ℕ → ℕ → Option ℕ → S → After (List Reply) S
+  readFrom bs zero place s = record { answer = []; state = s }
+  readFrom bs (suc n) none s = record { answer = []; state = s }
+  readFrom bs (suc n) (some at) s =
+      record {
+        answer =
+            call (runRecord bs at) s .answer
+            ∷ readFrom bs n (placeAfter (call (runRecord bs at) s .answer)) (call (runRecord bs at) s .state) .answer;
+        state =
+            readFrom bs n (placeAfter (call (runRecord bs at) s .answer)) (call (runRecord bs at) s .state) .state;
+      }
 
--- those of a whole job file, which has no more records than bytes
-unfoldable pub readJob : Room → List ℕ → Lent → After (List Reply) Lent
-readJob r bs m = readFrom r bs (length bs) (some 0) m
+  -- those of the whole file, which has no more records than bytes
+  unfoldable pub readJob : List ℕ → S → After (List Reply) S
+  readJob bs s = readFrom bs (length bs) (some 0) s

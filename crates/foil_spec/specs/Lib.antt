@@ -15,3 +15,4 @@ pub mod Job
 pub mod Ohms
 pub mod Calls
 pub mod Sequence
+pub mod Sheet

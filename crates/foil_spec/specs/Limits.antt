@@ -22,3 +22,16 @@ maxBytes = 60000
 -- the job program lends so many corner places, of two numbers each
 abbrev pub cornerPlaces : ℕ
 cornerPlaces = 8192
+
+-- a sheet has so many foils, and holds so many entries, of five numbers each; each foil is sure of so many
+abbrev pub sheetFoils : ℕ
+sheetFoils = 8
+
+abbrev pub sheetEntries : ℕ
+sheetEntries = 512
+
+abbrev pub sheetSize : ℕ
+sheetSize = 2560
+
+abbrev pub sureEntries : ℕ
+sureEntries = 32

@@ -7,15 +7,17 @@ use mathlib.Core.Option.{Option}
 use lib.ListN.{length, take, drop}
 use Rattle.foil_spec.specs.Foil.{Pen, Layout}
 use Rattle.foil_spec.specs.Ledger.{byPen, newFoil, Answer, accepted, Room, After}
-use Rattle.foil_spec.specs.Lent.{Lent, store, roomOf}
+use Rattle.foil_spec.specs.Lent.{Lent, store, roomIn}
 use Rattle.foil_spec.specs.Calls.{Call, step, runRecord, Reply, answered, ran, ledgerCall, callOn, outputBy}
 
--- a call, how many numbers of the table and of the strip list it is lent, and its own output list
+-- a call, how many numbers of the table and of the strip list it is lent, its own output list, and how many entries the
+-- foil may have then: fewer than a table holds only on a sheet
 pub record Lending : Type 0 where
   pub call : Call
   pub tableFront : ℕ
   pub stripFront : ℕ
   pub output : List ℕ
+  pub limit : ℕ
 
 -- what the call is lent of m: the lists whole or a front part of each
 unfoldable pub front : Lending → Lent → Lent
@@ -28,7 +30,7 @@ front c m =
 
 -- the room that it has
 unfoldable pub roomFor : Lending → Lent → Room
-roomFor c m = roomOf (front c m) (length (c .output))
+roomFor c m = roomIn (c .limit) (front c m) (length (c .output))
 
 -- m after the call has left `out` of what it was lent
 unfoldable pub back : Lending → Lent → Lent → Lent

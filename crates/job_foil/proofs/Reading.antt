@@ -27,7 +27,7 @@ before a x = record { answer = a ∷ x .answer; state = x .state }
 module _ (bs : List ℕ) where
   -- from a place on, at most n
   abbrev pub from : ℕ → Option ℕ → Lent → After (List Reply) Lent
-  from n o m = readFrom jobRoom bs n o m
+  from n o m = readFrom (callOn jobRoom) bs n o m
 
   no-more : (n : ℕ) (m : Lent) → from n none m ≡ record { answer = []; state = m }
   unfolding readFrom

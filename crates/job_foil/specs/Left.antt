@@ -5,7 +5,7 @@ use mathlib.Core.List.{List, [], _∷_}
 use Rattle.foil_spec.specs.Ledger.{Answer, refused, numberOf, After}
 use Rattle.foil_spec.specs.Lent.{Lent}
 use Rattle.foil_spec.specs.Job.{jobRoom}
-use Rattle.foil_spec.specs.Calls.{Reply, answered, ran, atEnd, measured, readJob}
+use Rattle.foil_spec.specs.Calls.{Reply, answered, ran, atEnd, measured, callOn, readJob}
 use Rattle.foil_spec.specs.declared.Board.{Board}
 use Rattle.job_foil.specs.declared.Ended.{Ended}
 use Rattle.job_foil.specs.declared.Ended.the-variants.{AtMark, ByBoard, ByFile}
@@ -35,8 +35,8 @@ lastReply a (b ∷ given) = lastReply b given
 abbrev pub jobEnd : List ℕ → Lent → After Reply Lent
 jobEnd bs m =
     record {
-      answer = lastReply (answered (refused 14)) (readJob jobRoom bs m .answer);
-      state = readJob jobRoom bs m .state;
+      answer = lastReply (answered (refused 14)) (readJob (callOn jobRoom) bs m .answer);
+      state = readJob (callOn jobRoom) bs m .state;
     }
 
 -- the job of a file was run on what m lends: it ended so, and left the table t and the strips s

@@ -182,12 +182,12 @@ module _ (m : Lent) (k : Moment) (s : Step) (net : ℕ) (cs : List Point) (g : G
 
 pub tracks-apart : TracksApart
 unfolding reads
-tracks-apart m l c cs b earlier k later e net ds (inl (S, T, n, s, h)) =
-    let g = goes-on m k later (lay net S T) (at-every m l c cs b earlier k later e) s refl .0 in
+tracks-apart m l cs b earlier k later e net ds (inl (S, T, n, s, h)) =
+    let g = goes-on m k later (lay net S T) (at-every m l cs b earlier k later e) s refl .0 in
     kept-apart m k (lay net S T) net ds g s
     (lay-drew (k .room) (k .ledgerBefore) net S T ds n (sym (answer-is m k (lay net S T) g s) ∙ h))
-tracks-apart m l c cs b earlier k later e net ds (inr (ks, i, n, s, is, h)) =
-    let g = goes-on m k later (book net ks) (at-every m l c cs b earlier k later e) s refl .0 in
+tracks-apart m l cs b earlier k later e net ds (inr (ks, i, n, s, is, h)) =
+    let g = goes-on m k later (book net ks) (at-every m l cs b earlier k later e) s refl .0 in
     kept-apart m k (book net ks) net ds g s
     (subst (Drew (k .room) (book net ks) (k .ledgerBefore) net) is
     (book-drew (k .room) (k .ledgerBefore) net ks i n (sym (answer-is m k (book net ks) g s) ∙ h)))

@@ -99,5 +99,5 @@ after-step m k later (opens W H d new after) = after
 after-step m k later (runs-on g o) = g .after
 
 pub strips-stay-right : StripsStayRight
-strips-stay-right m l c cs b earlier k later e =
-    strips-right m (k .ledgerAfter) (k .after) (after-step m k later (at-every m l c cs b earlier k later e))
+strips-stay-right m l cs b earlier k later e =
+    strips-right m (k .ledgerAfter) (k .after) (after-step m k later (at-every m l cs b earlier k later e))

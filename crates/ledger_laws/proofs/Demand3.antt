@@ -69,8 +69,8 @@ lay-goes : (m : Lent) (k : Moment) (later : List Moment) (net : ℕ) (S T : Poin
 lay-goes m k later net S T w e = goes-on m k later (lay net S T) w e (lay-seeks net S T .seen)
 
 pub no-way : NoWay
-no-way m l c cs b earlier k later e net S T s long may =
-    let g = lay-goes m k later net S T (at-every m l c cs b earlier k later e) s .0 in
+no-way m l cs b earlier k later e net S T s long may =
+    let g = lay-goes m k later net S T (at-every m l cs b earlier k later e) s .0 in
     subst
     (λ (x : Answer). (x ≡ refused 9) ↔ ((ds : List Point) → isPath (free (k .ledgerBefore)) S T ds ≡ true → ⊥))
     (sym (answer-is m k (lay net S T) g s)) (ledger-9 (k .room) (k .ledgerBefore) net S T long may)
@@ -85,8 +85,8 @@ corners-front m k cs n g h =
     ∙ corners-read cs (drop (length (each pointNumbers cs)) (g .given))
 
 pub lays-first : LaysFirst
-lays-first m l c cs b earlier k later e net S T ds n s h =
-    let g = lay-goes m k later net S T (at-every m l c cs b earlier k later e) s .0 in
+lays-first m l cs b earlier k later e net S T ds n s h =
+    let g = lay-goes m k later net S T (at-every m l cs b earlier k later e) s .0 in
     let a = answer-is m k (lay net S T) g s in
     let f = ledger-first (lay-seeks net S T) (k .room) (k .ledgerBefore) ds n (sym a ∙ h) in
     (f .0, f .1, corners-front m k ds n g h)
@@ -104,8 +104,8 @@ lift-line k next net S T cs n m g s h q u long =
     (of-ok (k .ledgerBefore) (g .before .kept) .fine) (sym (answer-is m k (lay net S T) g s) ∙ h) long
 
 pub lifts-back : LiftsBack
-lifts-back m l c cs b earlier k later e net S T ds n s h next rest q u long =
-    let p = lay-goes m k later net S T (at-every m l c cs b earlier k later e) s in
+lifts-back m l cs b earlier k later e net S T ds n s h next rest q u long =
+    let p = lay-goes m k later net S T (at-every m l cs b earlier k later e) s in
     let w = subst (λ (js : List Moment). Chain m (k .ledgerAfter) js (p .1 .end)) q (p .1 .chain) in
     let line = lift-line k next net S T ds n m (p .0) s h (w .0) u long in
     let back-is : next .ledgerAfter ≡ k .ledgerBefore =

@@ -64,8 +64,8 @@ module _ (r : Room) (l : Layout) (S T : Point) (s-free : free l (S .x) (S .y) �
     )
 
 pub finds-no-way : FindsNoWay
-finds-no-way m l c cs b earlier k later e S T s long s-free t-free =
-    let g = goes-on m k later (find S T) (at-every m l c cs b earlier k later e) s (find-seeks S T .seen) .0 in
+finds-no-way m l cs b earlier k later e S T s long s-free t-free =
+    let g = goes-on m k later (find S T) (at-every m l cs b earlier k later e) s (find-seeks S T .seen) .0 in
     subst
     (λ (x : Answer). (x ≡ refused 9) ↔ ((ds : List Point) → isPath (free (k .ledgerBefore)) S T ds ≡ true → ⊥))
     (sym (answer-is m k (find S T) g s)) (find-9 (k .room) (k .ledgerBefore) S T s-free t-free long)
@@ -80,8 +80,8 @@ find-leaves r l S T = go (refusalOf r false (find S T) l)
     go (some n) = unfold settle in refl
 
 pub finds-first : FindsFirst
-finds-first m l c cs b earlier k later e S T ds n s h =
-    let g = goes-on m k later (find S T) (at-every m l c cs b earlier k later e) s (find-seeks S T .seen) .0 in
+finds-first m l cs b earlier k later e S T ds n s h =
+    let g = goes-on m k later (find S T) (at-every m l cs b earlier k later e) s (find-seeks S T .seen) .0 in
     let a = answer-is m k (find S T) g s in
     let f = ledger-first (find-seeks S T) (k .room) (k .ledgerBefore) ds n (sym a ∙ h) in
     let same : k .ledgerAfter ≡ k .ledgerBefore =
@@ -146,8 +146,8 @@ module _ (r : Room) (l : Layout) (net : ℕ) (ks : List ℕ) (allowed : netOk ne
 
 pub books-ways : BooksWays
 unfolding reads
-books-ways m l c cs b earlier k later e net ks s long allowed unused =
-    let g = goes-on m k later (book net ks) (at-every m l c cs b earlier k later e) s refl .0 in
+books-ways m l cs b earlier k later e net ks s long allowed unused =
+    let g = goes-on m k later (book net ks) (at-every m l cs b earlier k later e) s refl .0 in
     subst (λ (x : Answer). (x ≡ refused 19) ↔ (DrawsPath (free (k .ledgerBefore)) ks → ⊥))
     (sym (answer-is m k (book net ks) g s)) (book-19 (k .room) (k .ledgerBefore) net ks allowed unused long)
 

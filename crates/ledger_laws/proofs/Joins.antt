@@ -28,8 +28,8 @@ unfolding reads
 join-goes m k later net S w e = goes-on m k later (join net S) w e refl
 
 pub no-join : NoJoin
-no-join m l c cs b earlier k later e net S s long may =
-    let g = join-goes m k later net S (at-every m l c cs b earlier k later e) s .0 in
+no-join m l cs b earlier k later e net S s long may =
+    let g = join-goes m k later net S (at-every m l cs b earlier k later e) s .0 in
     subst
     (λ (x : Answer).
     (x ≡ refused 9)
@@ -55,14 +55,14 @@ module _ (m : Lent) (k : Moment) (g : Goes m k) (net : ℕ) (S : Point) (cs : Li
       )
 
 pub joins-first : JoinsFirst
-joins-first m l c cs b earlier k later e net S ds n s h =
-    let g = join-goes m k later net S (at-every m l c cs b earlier k later e) s .0 in
+joins-first m l cs b earlier k later e net S ds n s h =
+    let g = join-goes m k later net S (at-every m l cs b earlier k later e) s .0 in
     let j = joined m k g net S ds n s h in
     (j .is-first, j .bent, corners-front m k ds n g h)
 
 pub joins-apart : JoinsApart
-joins-apart m l c cs b earlier k later e net S ds n s h =
-    let g = join-goes m k later net S (at-every m l c cs b earlier k later e) s .0 in
+joins-apart m l cs b earlier k later e net S ds n s h =
+    let g = join-goes m k later net S (at-every m l cs b earlier k later e) s .0 in
     let j = joined m k g net S ds n s h in (
       ap (λ (x : Layout). x .entries) (left-is m k g net S ds n s h),
       way-apart (without net (k .ledgerBefore)) net ds
@@ -71,8 +71,8 @@ joins-apart m l c cs b earlier k later e net S ds n s h =
     )
 
 pub join-bends : JoinBends
-join-bends m l c cs b earlier k later e net S ds n s h =
-    let g = join-goes m k later net S (at-every m l c cs b earlier k later e) s .0 in
+join-bends m l cs b earlier k later e net S ds n s h =
+    let g = join-goes m k later net S (at-every m l cs b earlier k later e) s .0 in
     let j = joined m k g net S ds n s h in
     let left = left-is m k g net S ds n s h in
     let some = some-corner m k g net S ds n s h in (
@@ -82,8 +82,8 @@ join-bends m l c cs b earlier k later e net S ds n s h =
     )
 
 pub lifts-whole-after : LiftsWhole
-lifts-whole-after m l c cs b earlier k later e net S ds n s h next rest q u long =
-    let p = join-goes m k later net S (at-every m l c cs b earlier k later e) s in
+lifts-whole-after m l cs b earlier k later e net S ds n s h next rest q u long =
+    let p = join-goes m k later net S (at-every m l cs b earlier k later e) s in
     let j = joined m k (p .0) net S ds n s h in
     let w = subst (λ (js : List Moment). Chain m (k .ledgerAfter) js (p .1 .end)) q (p .1 .chain) in
     let line : ledgerStep (next .room) (next .step) (next .ledgerBefore)

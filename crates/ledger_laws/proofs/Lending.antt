@@ -63,7 +63,7 @@ reply-short act r b (runRecord bs at) l x e h =
     rw (short-second (tooLarge bs) (short r) ((b && not (eqb at 0) ⇒ 13) ∷ recordChecks bs at) e) refl
 reply-short act r b (ohms net i) l x e h = rw e refl
 
-call-short : (r : Room) (c : Call) (m : Lent) → short r ≡ true
+pub call-short : (r : Room) (c : Call) (m : Lent) → short r ≡ true
     → callOn r c m ≡ record { answer = answered (refused (shortNumber c)); state = m }
 unfolding callOn
 call-short r c m e = reply-short (stepOn r) r (not (sound m)) c (held m) m e (λ s. step-short r s m e)
@@ -92,7 +92,7 @@ pub record LongFront (c : Lending) (m : Lent) : Type 0 where
 pub long-front : (c : Lending) (m : Lent) → short (roomFor c m) ≡ false → LongFront c m
 unfolding front roomFor
 long-front c m e =
-    let n = long-lists maxEntries (front c m) (length (c .output)) e in
+    let n = long-lists (c .limit) (front c m) (length (c .output)) e in
     let t = length-take (c .tableFront) (m .table) in
     let s = length-take (c .stripFront) (m .strips) in
     record { table = omega (arith, n .table); strips = omega (arith, n .strips) }

@@ -5,6 +5,7 @@ pub mod Refusals
 pub mod Legs
 pub mod Rules
 pub mod Line
+pub mod Replies
 pub mod Kept
 pub mod Steps
 pub mod Sound

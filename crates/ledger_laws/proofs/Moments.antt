@@ -8,16 +8,17 @@ use mathlib.Core.Option.{Option, none, some}
 use Rattle.foil_spec.specs.Limits.{tableSize, stripsSize}
 use Rattle.foil_spec.specs.Foil.{Layout}
 use Rattle.foil_spec.specs.Ledger.{Clearance, Step, newFoil, Answer, Room, short, After, ledgerStep}
-use Rattle.foil_spec.specs.Lent.{Lent, store, layoutOk, stepOn, outputAfter}
+use Rattle.foil_spec.specs.Lent.{Lent, store, held, layoutOk, sound, stepOn, outputAfter}
 use Rattle.foil_spec.specs.Job.{steps}
 use Rattle.foil_spec.specs.Calls.{Call, step, runRecord, ohms, Reply, endsJob, andThen, actAll, actRecord}
 use Rattle.foil_spec.specs.Calls.{reply, ledgerCall}
-use Rattle.foil_spec.specs.Sequence.{Lending, Begins, front, roomFor, back, lend, told}
+use Rattle.foil_spec.specs.Sequence.{Lending, front, roomFor, back, lend, told}
 use Rattle.list_laws.proofs.Tests.{both}
-use Rattle.ledger_laws.specs.Moments.{Moment, momentOf, momentsOf, stepsRun, moments}
+use Rattle.ledger_laws.specs.Moments.{Moment, momentOf, momentsOf, stepsRun, moments, Started, begins, carried}
 use Rattle.ledger_laws.proofs.Stored.{Long, front-store, back-new, back-store}
 use Rattle.ledger_laws.proofs.Kept.{step-kept, call-kept}
 use Rattle.ledger_laws.proofs.Steps.{shown, step-is}
+use Rattle.ledger_laws.proofs.Sound.{of-sound, sound-store-is, sound-long}
 use Rattle.ledger_laws.proofs.Lending.{step-short, ledger-short, told-short, LongFront, long-front, long-whole}
 use Rattle.ledger_laws.proofs.Lending.{back-front, room-front, lend-is, Begun, new-is, new-state, begun}
 use Rattle.ledger_laws.proofs.Lending.{lend-begun, step-alone}
@@ -373,10 +374,22 @@ stands m ks o (j ∷ earlier) k later e =
     found m (o .opening .ledgerAfter) earlier k later (o .onward .end)
     (subst (λ (js : List Moment). Chain m (o .opening .ledgerAfter) js (o .onward .end)) q (o .onward .chain))
 
+-- on a foil that is there already, all steps go as on the ledger
+stands-on : (m : Lent) (cs : List Lending) → sound m ≡ true → (earlier : List Moment) (k : Moment) (later : List Moment)
+    → moments m (held m) cs ≡ earlier ++ (k ∷ later) → Standing m k later
+stands-on m cs g earlier k later e =
+    let known = of-sound m g in
+    let o =
+    subst (λ (x : Lent). Onward m (held m) (moments x (held m) cs)) (sound-store-is m known)
+    (onward m (sound-long m g) cs (held m) (known .kept)) in
+    found m (held m) earlier k later (o .end)
+    (subst (λ (ks : List Moment). Chain m (held m) ks (o .end)) e (o .chain))
+
 -- m is what the lists hold at first
-pub at-every : (m : Lent) (l : Layout) (c : Lending) (cs : List Lending) → Begins (c .call) (told m c l .answer)
-    → (earlier : List Moment) (k : Moment) (later : List Moment) → moments m l (c ∷ cs) ≡ earlier ++ (k ∷ later)
+pub at-every : (m : Lent) (l : Layout) (cs : List Lending) → Started m l cs
+    → (earlier : List Moment) (k : Moment) (later : List Moment) → moments m l cs ≡ earlier ++ (k ∷ later)
     → Standing m k later
-at-every m l c cs h earlier k later e =
+at-every _ _ _ (begins m l c cs h) earlier k later e =
     let b = begun (roomFor c m) (c .call) l (front c m) (unfold told in h) in
     stands m (moments m l (c ∷ cs)) (opened m l c b cs) earlier k later e
+at-every _ _ _ (carried m cs g) earlier k later e = stands-on m cs g earlier k later e

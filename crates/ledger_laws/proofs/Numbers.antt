@@ -156,18 +156,16 @@ ohms-but-13 : (r : Room) (net : ℕ) (i : Ink) (l : Layout) (n : ℕ)
 unfolding afterLent ohmsRefusals but
 ohms-but-13 r net i l = first-passes (but 13) _ (simp or-true)
 
+pub call-but-13 : (r : Room) (c : Call) (l : Layout) → all (but 13) (numbersIn (ledgerCall r c l .answer)) ≡ true
+unfolding but
+call-but-13 r c l =
+    call-passes (but 13) refl (λ s. true) (λ k. Unit {0}) r (λ s a k g. step-but-13 r s k) (λ s k g e. tt)
+    (file-but-13 r) (ohms-but-13 r) c (to-all (λ s. true) (stepsIn c) (λ s i. refl)) l tt
+
 pub never-broken : NeverBroken
-unfolding told but
+unfolding told
 never-broken m l c cs h =
-    let any : Layout → Type 0 = λ k. Unit {0} in
     not-among 13 _
     (ap (λ (os : List Left). all (but 13) (numbersOf os)) (behaves-as-ledger m l c cs h)
-    ∙ run-passes (but 13) any m (c ∷ cs) l tt
-    (λ d i.
-    let r : Room = roomFor d m in
-    record {
-      answers =
-          call-passes (but 13) refl (λ s. true) any r (λ s a k g. step-but-13 r s k) (λ s k g e. tt) (file-but-13 r)
-          (ohms-but-13 r) (d .call) (to-all (λ s. true) (stepsIn (d .call)) (λ s i. refl));
-      keeps = λ k g. tt;
-    }))
+    ∙ run-passes (but 13) (λ k. Unit {0}) m (c ∷ cs) l tt
+    (λ d i. record { answers = λ k g. call-but-13 (roomFor d m) (d .call) k; keeps = λ k g. tt }))

@@ -1,21 +1,25 @@
 -- A record at place 0 on lists that hold anything: it ends the job with the ledger's reply, or it begins a foil.
 use Prim.Native.Nat.{ℕ}
-use mathlib.Core.Path.{_≡_, refl, ap, _∙_}
+use native.Mathlib.Omega.{arith}
+use mathlib.Core.Path.{_≡_, refl, sym, ap, _∙_, subst}
 use mathlib.Core.Bool.{Bool, true, false, not, cond}
 use mathlib.Core.List.{List, [], _∷_}
+use mathlib.Core.Logic.{inl, inr}
 use mathlib.Core.Option.{Option, none, some}
 use borrow.Author.Tests.{eqb-true}
 use Rattle.foil_spec.specs.Lists.{any}
 use Rattle.foil_spec.specs.Foil.{Layout}
-use Rattle.foil_spec.specs.Ledger.{Clearance, Step, newFoil, Answer, refused, first, Room, short}
-use Rattle.foil_spec.specs.Ledger.{After, settle, refusalOf, ledgerStep, accepted, says}
+use Rattle.foil_spec.specs.Ledger.{Clearance, byPen, Step, newFoil, Answer, refused, first, Room, short, After, settle}
+use Rattle.foil_spec.specs.Ledger.{refusalOf, ledgerStep, accepted, says}
 use Rattle.foil_spec.specs.Lent.{Lent, held, sound, stepOn}
 use Rattle.foil_spec.specs.Job.{mapByte, has, isEnd, steps, recordEnd, recordChecks}
-use Rattle.foil_spec.specs.Calls.{runRecord, Reply, answered, ran, atEnd, measured, endsJob, andThen, actAll, actRecord}
-use Rattle.foil_spec.specs.Calls.{wholeRefusals, reply, ledgerCall, callOn}
+use Rattle.foil_spec.specs.Calls.{Call, step, runRecord, Reply, answered, ran, atEnd, measured, endsJob, andThen}
+use Rattle.foil_spec.specs.Calls.{actAll, actRecord, wholeRefusals, reply, ledgerCall, callOn}
+use Rattle.foil_spec.specs.Sequence.{Begins}
 use Rattle.list_laws.proofs.Tests.{both, clash}
 use Rattle.ledger_laws.proofs.Lending.{new-refusal, new-ends, Begun, Opens, board-first, opens, own-checks}
-use Rattle.ledger_laws.proofs.Lending.{whole-at-0, begun-record}
+use Rattle.ledger_laws.proofs.Steps.{shown}
+use Rattle.ledger_laws.proofs.Lending.{shortNumber, call-short, whole-at-0, begun-record}
 
 -- a reply after which there is no next place, and no strip is told
 abbrev pub Over : Reply → Type 0
@@ -132,3 +136,65 @@ module _ (r : Room) (bs : List ℕ) (l : Layout) (m : Lent) (long : short r ≡ 
 
   pub opening : Opening r bs l m
   opening = by-checks refusal refl
+
+-- ---- a call that begins a foil by what it answers on the lists begins one on the ledger
+
+settled-accepted : {S : Type 0} (o : Option ℕ) (done : After Answer S) (old : S) → settle o done old .answer ≡ accepted
+    → o ≡ none
+unfolding settle
+settled-accepted none done old e = refl
+settled-accepted (some n) done old e = absurd (let z : _≡_ {A = ℕ} 0 1 = cc in omega arith)
+
+module _ (r : Room) (l : Layout) (m : Lent) where
+  unrefused-new : (W H : ℕ) (d : Clearance) → stepOn r (newFoil W H d) m .answer ≡ accepted
+      → refusalOf r (not (sound m)) (newFoil W H d) (held m) ≡ none
+  unfolding stepOn
+  unrefused-new W H d e = settled-accepted (refusalOf r (not (sound m)) (newFoil W H d) (held m)) _ m e
+
+  new-told : (W H : ℕ) (d : Clearance) → callOn r (step (newFoil W H d)) m .answer ≡ answered accepted
+      → ledgerCall r (step (newFoil W H d)) l .answer ≡ answered accepted
+  unfolding callOn ledgerCall reply
+  new-told W H d e =
+      let a : stepOn r (newFoil W H d) m .answer ≡ accepted = cc in
+      ap answered
+      (on-ledger-accepted W H d r l (sym (new-refusal W H d r l (not (sound m)) (held m)) ∙ unrefused-new W H d a))
+
+  same-opening : (bs : List ℕ) → Opening r bs l m
+      → callOn r (runRecord bs 0) m .answer ≡ ledgerCall r (runRecord bs 0) l .answer
+  unfolding shown
+  same-opening bs (over a e f o) = e ∙ sym f
+  same-opening bs (begins b) = ap (λ (z : After Reply Lent). z .answer) (b .is)
+
+  -- steps are run only on lists that are long enough
+  ran-long : (bs : List ℕ) (given : List Answer) (n : Option ℕ) → callOn r (runRecord bs 0) m .answer ≡ ran given n
+      → short r ≡ false
+  ran-long bs given n e =
+      both (short r)
+      (λ t.
+      let q : answered (refused (shortNumber (runRecord bs 0))) ≡ ran given n =
+      ap (λ (z : After Reply Lent). z .answer) (sym (call-short r (runRecord bs 0) m t)) ∙ e in
+      absurd (let z : _≡_ {A = ℕ} 0 1 = cc in omega arith))
+      (λ t. t)
+
+  pub begins-told : (c : Call) → Begins c (callOn r c m .answer) → Begins c (ledgerCall r c l .answer)
+  begins-told c (inl (W, H, p, e, h)) =
+      inl (
+        W,
+        H,
+        p,
+        e,
+        subst (λ (x : Call). callOn r x m .answer ≡ answered accepted → ledgerCall r x l .answer ≡ answered accepted)
+            (sym e) (new-told W H (byPen p)) h,
+      )
+  begins-told c (inr (bs, xs, n, e, h)) =
+      inr (
+        bs,
+        xs,
+        n,
+        e,
+        subst
+            (λ (x : Call).
+            callOn r x m .answer ≡ ran (accepted ∷ xs) n → ledgerCall r x l .answer ≡ ran (accepted ∷ xs) n)
+            (sym e)
+            (λ q. sym (same-opening bs (opening r bs l m (ran-long bs (accepted ∷ xs) n q))) ∙ q) h,
+      )

@@ -53,21 +53,21 @@ all-accepted l = none-refused (l .entries) (length (boardBytes l))
 module _ (r : Room) (bs : List ℕ) where
   read-more : (n at p : ℕ) (m m′ : Lent) (given : List Answer)
       → callOn r (runRecord bs at) m ≡ record { answer = ran given (some p); state = m′ }
-      → readFrom r bs (suc n) (some at) m
+      → readFrom (callOn r) bs (suc n) (some at) m
       ≡ record {
-        answer = ran given (some p) ∷ readFrom r bs n (some p) m′ .answer;
-        state = readFrom r bs n (some p) m′ .state;
+        answer = ran given (some p) ∷ readFrom (callOn r) bs n (some p) m′ .answer;
+        state = readFrom (callOn r) bs n (some p) m′ .state;
       }
   unfolding readFrom placeAfter
   read-more n at p m m′ given e = rw e refl
 
-  read-none : (n : ℕ) (m : Lent) → readFrom r bs n none m ≡ record { answer = []; state = m }
+  read-none : (n : ℕ) (m : Lent) → readFrom (callOn r) bs n none m ≡ record { answer = []; state = m }
   unfolding readFrom
   read-none zero m = refl
   read-none (suc n) m = refl
 
   read-mark : (n at : ℕ) (m : Lent) → callOn r (runRecord bs at) m ≡ record { answer = atEnd; state = m }
-      → readFrom r bs (suc n) (some at) m ≡ record { answer = atEnd ∷ []; state = m }
+      → readFrom (callOn r) bs (suc n) (some at) m ≡ record { answer = atEnd ∷ []; state = m }
   unfolding readFrom placeAfter
   read-mark n at m e =
       rw e
@@ -180,14 +180,16 @@ module _ (r : Room) (long : short r ≡ false) (l : Layout) (g : layoutOk l ≡ 
 
     -- what is read after an entry that is accepted
     read-on : (n : ℕ) → tooFine (part (front ++ e ∷ [])) ≡ false
-        → readFrom r (jobOf l) (suc n) (some (length done)) (store (part front) m)
+        → readFrom (callOn r) (jobOf l) (suc n) (some (length done)) (store (part front) m)
         ≡ record {
           answer =
               ran (accepted ∷ []) (some (length done + length (entryBytes e)))
-              ∷ readFrom r (jobOf l) n (some (length (done ++ entryBytes e))) (store (part (front ++ e ∷ [])) m)
+              ∷ readFrom (callOn r) (jobOf l) n (some (length (done ++ entryBytes e)))
+              (store (part (front ++ e ∷ [])) m)
               .answer;
           state =
-              readFrom r (jobOf l) n (some (length (done ++ entryBytes e))) (store (part (front ++ e ∷ [])) m) .state;
+              readFrom (callOn r) (jobOf l) n (some (length (done ++ entryBytes e)))
+              (store (part (front ++ e ∷ [])) m) .state;
         }
     read-on n fine =
         rw length-append
@@ -197,7 +199,7 @@ module _ (r : Room) (long : short r ≡ false) (l : Layout) (g : layoutOk l ≡ 
   -- every beginning is fine
   read-all : (es front : List Entry) (done : List ℕ) (n : ℕ) → Stage done front es → length es ≤ n
       → any over (range (suc (length front)) (length es)) ≡ false
-      → readFrom r (jobOf l) (suc n) (some (length done)) (store (part front) m)
+      → readFrom (callOn r) (jobOf l) (suc n) (some (length done)) (store (part front) m)
       ≡ record { answer = entryReplies (length done) es; state = store l m }
   unfolding entryReplies
   read-all [] front done n s h fine =
@@ -230,7 +232,8 @@ module _ (r : Room) (long : short r ≡ false) (l : Layout) (g : layoutOk l ≡ 
   read-11 : (es front : List Entry) (done : List ℕ) (n : ℕ) → Stage done front es → length es ≤ n
       → any over (range (suc (length front)) (length es)) ≡ true
       → any refusal
-      (each answersIn (readFrom r (jobOf l) (suc n) (some (length done)) (store (part front) m) .answer)) ≡ true
+      (each answersIn (readFrom (callOn r) (jobOf l) (suc n) (some (length done)) (store (part front) m) .answer))
+      ≡ true
   unfolding answersIn refusal numberOf
   read-11 [] front done n s h fine = clash fine refl
   read-11 (e ∷ es) front done zero s h fine = absurd (omega arith)
@@ -261,17 +264,17 @@ module _ (r : Room) (long : short r ≡ false) (l : Layout) (g : layoutOk l ≡ 
   abbrev more : ℕ
   more = length (each entryBytes (l .entries)) + 10
 
-  after-board : readJob r (jobOf l) m
+  after-board : readJob (callOn r) (jobOf l) m
       ≡ record {
         answer =
             ran (accepted ∷ []) (some (length (boardBytes l)))
-            ∷ readFrom r (jobOf l) (suc more) (some (length (boardBytes l))) (store (part []) m) .answer;
-        state = readFrom r (jobOf l) (suc more) (some (length (boardBytes l))) (store (part []) m) .state;
+            ∷ readFrom (callOn r) (jobOf l) (suc more) (some (length (boardBytes l))) (store (part []) m) .answer;
+        state = readFrom (callOn r) (jobOf l) (suc more) (some (length (boardBytes l))) (store (part []) m) .state;
       }
   unfolding readJob jobOf
   after-board =
       let count : length (jobOf l) ≡ suc (suc more) = omega (arith, file-size l) in
-      ap (λ (n : ℕ). readFrom r (jobOf l) n (some 0) m) count
+      ap (λ (n : ℕ). readFrom (callOn r) (jobOf l) n (some 0) m) count
       ∙ read-more r (jobOf l) (suc more) 0 (length (boardBytes l)) m (store (part []) m) (accepted ∷ [])
       (board-call r long m (each entryBytes (l .entries) ++ (0 ∷ [])) l g not-large)
 
@@ -281,7 +284,7 @@ module _ (r : Room) (long : short r ≡ false) (l : Layout) (g : layoutOk l ≡ 
   from-one = rw (start .fine) refl
 
   pub reads-all : beginningTooFine l ≡ false
-      → readJob r (jobOf l) m ≡ record { answer = allAccepted l; state = store l m }
+      → readJob (callOn r) (jobOf l) m ≡ record { answer = allAccepted l; state = store l m }
   unfolding allAccepted
   reads-all b =
       after-board
@@ -290,7 +293,7 @@ module _ (r : Room) (long : short r ≡ false) (l : Layout) (g : layoutOk l ≡ 
       (read-all (l .entries) [] (boardBytes l) more start (omega (arith, entries-count (l .entries))) (from-one ∙ b))
 
   -- a step of the file is refused exactly when some beginning is too fine
-  pub refuses : any refusal (each answersIn (readJob r (jobOf l) m .answer)) ≡ beginningTooFine l
+  pub refuses : any refusal (each answersIn (readJob (callOn r) (jobOf l) m .answer)) ≡ beginningTooFine l
   unfolding answersIn refusal numberOf
   refuses =
       both (beginningTooFine l)

@@ -14,7 +14,7 @@ use Rattle.foil_spec.specs.Saving.{jobOf}
 use Rattle.foil_spec.specs.Ledger.{stripsOf, beginningTooFine, Room, short, save, refused, wrote, says, first, reads}
 use Rattle.foil_spec.specs.Ledger.{refusals, After, settle, refusalOf}
 use Rattle.foil_spec.specs.Lent.{Lent, stripNumbers, written, store, layoutOf, held, layoutOk, sound, stepOn}
-use Rattle.foil_spec.specs.Calls.{Reply, readJob}
+use Rattle.foil_spec.specs.Calls.{Reply, callOn, readJob}
 use Rattle.list_laws.proofs.Tests.{both, clash, not-ff}
 use Rattle.ledger_laws.specs.Line.{but}
 use Rattle.ledger_laws.specs.Saved.{lastPlace, SameFoil, ReadsBack, RefusesUnreadable}
@@ -75,8 +75,8 @@ reads-back r r′ m m′ bs e long fits =
     let w = wrote-file r m bs e in
     let l : Layout = held m in
     let k = of-sound m (w .unbroken) in
-    let read : readJob r′ bs m′ ≡ _ =
-    ap (λ (xs : List ℕ). readJob r′ xs m′) (w .bytes)
+    let read : readJob (callOn r′) bs m′ ≡ _ =
+    ap (λ (xs : List ℕ). readJob (callOn r′) xs m′) (w .bytes)
     ∙ reads-all r′ long l (k .kept) (omega (arith, fits, counted m)) m′ (w .beginnings) in
     let replies = ap (λ (a : After (List Reply) Lent). a .answer) read in
     record {

@@ -31,25 +31,31 @@ pub record MayLay (l : Layout) (net : ℕ) (S T : Point) : Type 0 where
 
 -- a lay between points that are free by the ledger as it stands before the lay, its net allowed and not in use, the
 -- table and the strip list long enough, answers 9 exactly when no path joins the points
-abbrev pub NoWay : Type 0
-NoWay =
-    AtEvery (λ k later.
+abbrev pub NoWayAt : Moment → List Moment → Type 0
+NoWayAt k later =
     (net : ℕ) (S T : Point) → k .step ≡ lay net S T → short (k .room) ≡ false → MayLay (k .ledgerBefore) net S T
-    → (k .answer ≡ refused 9) ↔ ((cs : List Point) → isPath (free (k .ledgerBefore)) S T cs ≡ true → ⊥))
+    → (k .answer ≡ refused 9) ↔ ((cs : List Point) → isPath (free (k .ledgerBefore)) S T cs ≡ true → ⊥)
+
+abbrev pub NoWay : Type 0
+NoWay = AtEvery NoWayAt
 
 -- a track that is laid is the first path of fewest bends over the points that are free before the lay, with the bends
 -- that are answered, and its corners stand at the front of the output list
-abbrev pub LaysFirst : Type 0
-LaysFirst =
-    AtEvery (λ k later.
+abbrev pub LaysFirstAt : Moment → List Moment → Type 0
+LaysFirstAt k later =
     (net : ℕ) (S T : Point) (cs : List Point) (n : ℕ) → k .step ≡ lay net S T → k .answer ≡ laid cs n
-    → IsFirst (free (k .ledgerBefore)) S (at T) cs × (n ≡ bends cs) × (cornersIn (k .output) (length cs) ≡ cs))
+    → IsFirst (free (k .ledgerBefore)) S (at T) cs × (n ≡ bends cs) × (cornersIn (k .output) (length cs) ≡ cs)
+
+abbrev pub LaysFirst : Type 0
+LaysFirst = AtEvery LaysFirstAt
 
 -- lifting it as the next step, in the same record or by another call, lent any front parts that are long enough and any
 -- output list, is accepted and gives back the record, the table and the strips
-abbrev pub LiftsBack : Type 0
-LiftsBack =
-    AtEvery (λ k later.
+abbrev pub LiftsBackAt : Moment → List Moment → Type 0
+LiftsBackAt k later =
     (net : ℕ) (S T : Point) (cs : List Point) (n : ℕ) → k .step ≡ lay net S T → k .answer ≡ laid cs n
     → (next : Moment) (rest : List Moment) → later ≡ next ∷ rest → next .step ≡ lift net → short (next .room) ≡ false
-    → (next .answer ≡ accepted) × (next .after ≡ k .before))
+    → (next .answer ≡ accepted) × (next .after ≡ k .before)
+
+abbrev pub LiftsBack : Type 0
+LiftsBack = AtEvery LiftsBackAt

@@ -24,21 +24,25 @@ pub record MayJoin (l : Layout) (net : ℕ) (S : Point) : Type 0 where
 -- a join of a net that is allowed and in use, from a point that is free for it by the ledger as it stands before the
 -- join, the table and the strip list long enough, answers 9 exactly when no path over points that are free for the net
 -- leads from the point to one of the net's legs
-abbrev pub NoJoin : Type 0
-NoJoin =
-    AtEvery (λ k later.
+abbrev pub NoJoinAt : Moment → List Moment → Type 0
+NoJoinAt k later =
     (net : ℕ) (S : Point) → k .step ≡ join net S → short (k .room) ≡ false → MayJoin (k .ledgerBefore) net S
     → (k .answer ≡ refused 9)
-    ↔ ((cs : List Point) → isPathTo (freeFor net (k .ledgerBefore)) S (onLegs net (k .ledgerBefore)) cs ≡ true → ⊥))
+    ↔ ((cs : List Point) → isPathTo (freeFor net (k .ledgerBefore)) S (onLegs net (k .ledgerBefore)) cs ≡ true → ⊥)
+
+abbrev pub NoJoin : Type 0
+NoJoin = AtEvery NoJoinAt
 
 -- a join that is accepted is the first path of fewest bends to the net's legs over the points that are free for the net
 -- before the join, with the bends that are answered, and its corners stand at the front of the output list
-abbrev pub JoinsFirst : Type 0
-JoinsFirst =
-    AtEvery (λ k later.
+abbrev pub JoinsFirstAt : Moment → List Moment → Type 0
+JoinsFirstAt k later =
     (net : ℕ) (S : Point) (cs : List Point) (n : ℕ) → k .step ≡ join net S → k .answer ≡ laid cs n
     → IsFirst (freeFor net (k .ledgerBefore)) S (onLegs net (k .ledgerBefore)) cs × (n ≡ bends cs)
-    × (cornersIn (k .output) (length cs) ≡ cs))
+    × (cornersIn (k .output) (length cs) ≡ cs)
+
+abbrev pub JoinsFirst : Type 0
+JoinsFirst = AtEvery JoinsFirstAt
 
 -- its legs are appended under the same net, and keep apart from all entries of other nets and from the edge
 abbrev pub JoinsApart : Type 0

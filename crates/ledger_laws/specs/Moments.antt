@@ -1,11 +1,11 @@
 -- The steps that a list of calls runs, by calls of their own or inside records, each with the ledger's layout.
 use Prim.Native.Nat.{ℕ}
 use mathlib.Core.Path.{_≡_}
-use mathlib.Core.Bool.{cond}
+use mathlib.Core.Bool.{true, cond}
 use mathlib.Core.List.{List, [], _∷_, _++_}
 use Rattle.foil_spec.specs.Foil.{Layout}
 use Rattle.foil_spec.specs.Ledger.{Step, Answer, Room, ledgerStep}
-use Rattle.foil_spec.specs.Lent.{Lent, stepOn, outputAfter}
+use Rattle.foil_spec.specs.Lent.{Lent, held, sound, stepOn, outputAfter}
 use Rattle.foil_spec.specs.Job.{steps}
 use Rattle.foil_spec.specs.Calls.{Call, step, runRecord, ohms, Reply, answered, ran, atEnd, measured, endsJob}
 use Rattle.foil_spec.specs.Sequence.{Lending, Begins, front, roomFor, back, lend, told}
@@ -64,10 +64,16 @@ moments m l (c ∷ cs) =
     momentsOf c m (stepsRun (c .call) (lend c m .answer)) (front c m) (c .output) l
     ++ moments (lend c m .state) (told m c l .state) cs
 
--- P holds of each step k that a list of calls runs from a call that begins a foil on, and of the steps run after it;
--- m is what the lists hold at first and l what the ledger held before, both anything
+-- where a list of calls starts, m being what the lists hold and l what the ledger holds: with a call that begins a
+-- foil, both m and l being anything; or on a foil that is there already, carried over
+pub data Started : Lent → Layout → List Lending → Type 0 where
+  begins : (m : Lent) (l : Layout) (c : Lending) (cs : List Lending) → Begins (c .call) (told m c l .answer)
+      → Started m l (c ∷ cs)
+  carried : (m : Lent) (cs : List Lending) → sound m ≡ true → Started m (held m) cs
+
+-- P holds of each step k that a list of calls runs, and of the steps run after it
 abbrev pub AtEvery : (Moment → List Moment → Type 0) → Type 0
 AtEvery P =
-    (m : Lent) (l : Layout) (c : Lending) (cs : List Lending) → Begins (c .call) (told m c l .answer)
-    → (earlier : List Moment) (k : Moment) (later : List Moment) → moments m l (c ∷ cs) ≡ earlier ++ (k ∷ later)
+    (m : Lent) (l : Layout) (cs : List Lending) → Started m l cs
+    → (earlier : List Moment) (k : Moment) (later : List Moment) → moments m l cs ≡ earlier ++ (k ∷ later)
     → P k later

@@ -13,7 +13,7 @@ use Rattle.foil_spec.specs.Foil.{Entry, Layout}
 use Rattle.foil_spec.specs.Saving.{boardBytes, entryBytes, jobOf}
 use Rattle.foil_spec.specs.Ledger.{Room, short, save, Answer, refused, accepted, wrote, numberOf}
 use Rattle.foil_spec.specs.Lent.{Lent, held, sound, stepOn}
-use Rattle.foil_spec.specs.Calls.{Reply, ran, atEnd, answersIn, placeAfter, readJob}
+use Rattle.foil_spec.specs.Calls.{Reply, ran, atEnd, callOn, answersIn, placeAfter, readJob}
 
 -- a record of one accepted step for each entry, the first at a place; then the end mark
 unfoldable pub entryReplies : ℕ → List Entry → List Reply
@@ -39,13 +39,13 @@ pub record SameFoil (m m′ : Lent) : Type 0 where
 -- the bytes bs are a job file that, run in the room r on lists m′, gives the foil that m holds
 pub record ReadBack (r : Room) (bs : List ℕ) (m m′ : Lent) : Type 0 where
   -- every step is accepted, and the end mark is met
-  pub replies : readJob r bs m′ .answer ≡ allAccepted (held m)
+  pub replies : readJob (callOn r) bs m′ .answer ≡ allAccepted (held m)
   -- as the last byte
-  pub ends : lastPlace 0 (readJob r bs m′ .answer) + 1 ≡ length bs
+  pub ends : lastPlace 0 (readJob (callOn r) bs m′ .answer) + 1 ≡ length bs
   -- the file is not too large for a job
   pub small : length bs ≤ maxBytes
   -- the record, the table and the strips are those of m
-  pub same : SameFoil m (readJob r bs m′ .state)
+  pub same : SameFoil m (readJob (callOn r) bs m′ .state)
 
 -- the bytes that save wrote read back, on lists that are long enough and hold anything, in a room that allows as many
 -- entries
@@ -63,4 +63,4 @@ abbrev pub RefusesUnreadable : Type 0
 RefusesUnreadable =
     (r r′ : Room) (m m′ : Lent) → short r ≡ false → sound m ≡ true → short r′ ≡ false → m .board .entries ≤ r′ .limit
     → (stepOn r save m .answer ≡ refused 11)
-    ↔ (any refusal (each answersIn (readJob r′ (jobOf (held m)) m′ .answer)) ≡ true)
+    ↔ (any refusal (each answersIn (readJob (callOn r′) (jobOf (held m)) m′ .answer)) ≡ true)

@@ -1,0 +1,318 @@
+-- A call on a foil of a sheet is the call on the foil alone, which is put back if the call wrote entries.
+use Prim.Native.Nat.{ℕ, zero, suc, _*_, _≤_, _<_}
+use native.Mathlib.Omega.{arith}
+use mathlib.Core.Path.{_≡_, refl, sym, ap, _∙_, subst}
+use mathlib.Core.Bool.{Bool, true, false, not, cond, _&&_, _||_, and-false, or-false, or-true, or-assoc}
+use mathlib.Core.List.{List, [], _∷_}
+use mathlib.Core.Option.{Option, none, some}
+use lib.ListN.{length, getD}
+use Rattle.foil_spec.specs.Lists.{consIf, any, all, range}
+use Rattle.foil_spec.specs.Limits.{sheetFoils, sheetSize}
+use Rattle.foil_spec.specs.Foil.{Layout}
+use Rattle.foil_spec.specs.Ledger.{Room, Step, save, Answer, says, next, After, settle, refusalOf}
+use Rattle.foil_spec.specs.Lent.{Lent, store, held, layoutOk, sound, stepOn}
+use Rattle.foil_spec.specs.Job.{has, stepBits, stepAt, stepsAt, steps, isEnd, recordEnd}
+use Rattle.foil_spec.specs.Calls.{Call, step, runRecord, ohms, Reply, endsJob, andThen, actAll, actRecord, reply}
+use Rattle.foil_spec.specs.Calls.{callOn, answersIn}
+use Rattle.foil_spec.specs.Sheet.{total, limitOf, SheetLent, counts, view, putBack, writes, sheetStep, sheetRefusal}
+use Rattle.foil_spec.specs.Sheet.{unless, sheetCall}
+use Rattle.list_laws.proofs.Tests.{both, clash, not-ff, and-i, and-l, and-r}
+use Rattle.ledger_laws.proofs.Stored.{held-store, store-again}
+use Rattle.ledger_laws.proofs.Refusals.{unrefused-sound, unrefused-own}
+use Rattle.ledger_laws.proofs.Sound.{of-sound, sound-store-is}
+use Rattle.ledger_laws.proofs.Line.{line}
+use Rattle.ledger_laws.proofs.Replies.{shownBy, reply-keeps, reply-is}
+use Rattle.sheet_laws.specs.Alone.{RoomOn}
+use Rattle.sheet_laws.specs.Answers.{taken}
+use Rattle.sheet_laws.specs.Back.{writing, rewrote, PutsBack, ClearsUnused}
+use Rattle.sheet_laws.proofs.Counts.{limit-own}
+use Rattle.sheet_laws.proofs.Line.{sheet-line}
+use Rattle.sheet_laws.proofs.Views.{Stands, stands-in, own-count, in-counts, view-own, put-again, put-zero}
+
+-- ---- every step of a record writes
+
+step-writes : (bs : List ℕ) (at k : ℕ) → writes (stepAt bs at k) ≡ true
+unfolding stepAt writes
+step-writes bs at zero = refl
+step-writes bs at (suc zero) = refl
+step-writes bs at (suc (suc zero)) = refl
+step-writes bs at (suc (suc (suc zero))) = refl
+step-writes bs at (suc (suc (suc (suc k)))) = refl
+
+write-if : (b : Bool) (s : Step) (ss : List Step) → writes s ≡ true → all writes ss ≡ true
+    → all writes (consIf b s ss) ≡ true
+write-if true s ss e h = and-i {a = writes s} e h
+write-if false s ss e h = h
+
+bits-write : (bs : List ℕ) (at : ℕ) (ks : List ℕ) → all writes (stepsAt bs at ks) ≡ true
+unfolding stepsAt
+bits-write bs at [] = refl
+bits-write bs at (k ∷ ks) =
+    write-if (has bs at k) (stepAt bs at k) (stepsAt bs at ks) (step-writes bs at k) (bits-write bs at ks)
+
+steps-write : (bs : List ℕ) (at : ℕ) → all writes (steps bs at) ≡ true
+unfolding steps
+steps-write bs at = bits-write bs at (range 0 stepBits)
+
+-- ---- whether something is written
+
+isSome : {A : Type 0} → Option A → Bool
+isSome none = false
+isSome (some x) = true
+
+-- ---- what the steps so far have written: nothing, or the foil with another layout
+
+module _ (r : Room) (k : ℕ) (m : SheetLent) (w : Stands r k m) (here : k < sheetFoils) where
+  -- the foil alone then, and the sheet
+  abbrev alone : Option Layout → Lent
+  alone none = view k m
+  alone (some l) = store l (view k m)
+
+  abbrev put : Option Layout → SheetLent
+  put none = m
+  put (some l) = putBack k m (store l (view k m))
+
+  -- the layout keeps the rules, and the foil may have so many entries
+  abbrev Ok : Option Layout → Type 0
+  Ok none = Unit {0}
+  Ok (some l) = (layoutOk l ≡ true) × (length (l .entries) ≤ limitOf (counts (m .boards)) k)
+
+  put-view : (t : Option Layout) → Ok t → view k (put t) ≡ alone t
+  put-view none g = refl
+  put-view (some l) (g, few) = view-own k m (w .whole) here l few
+
+  stored : (t : Option Layout) (l : Layout) → Ok t → store l (alone t) ≡ store l (view k m)
+  stored none l g = refl
+  stored (some l₀) l (g, few) = store-again l₀ l (view k m) g
+
+  put-next : (t : Option Layout) (v : Lent) → Ok t → putBack k (put t) v ≡ putBack k m v
+  put-next none v g = refl
+  put-next (some l) v (g, few) = put-again k m (w .whole) here l few v
+
+  few-held : (t : Option Layout) → Ok t → length (held (alone t) .entries) ≤ limitOf (counts (m .boards)) k
+  few-held none g =
+      omega (
+        arith,
+        own-count r k here m w save,
+        limit-own (counts (m .boards)) (w .whole .limits) k (in-counts k m (w .whole) here),
+      )
+  few-held (some l) (g, few) =
+      subst (λ (x : Layout). length (x .entries) ≤ limitOf (counts (m .boards)) k) (sym (held-store l (view k m))) few
+
+  -- ---- a step
+
+  module _ (s : Step) (t : Option Layout) where
+    abbrev v : Lent
+    v = alone t
+
+    abbrev l : Layout
+    l = held v
+
+    abbrev refusal : Option ℕ
+    refusal = refusalOf r (not (sound v)) s l
+
+  tell : Step → Option Layout → After Answer (Option Layout)
+  tell s t =
+      settle (refusal s t) (record { answer = says s (l s t); state = cond (writes s) (some (next s (l s t))) t }) t
+
+  module _ (s : Step) (t : Option Layout) (g : Ok t) where
+    next-ok : refusal s t ≡ none → Ok (some (next s (l s t)))
+    next-ok e = (
+      line s .kept r (l s t)
+          (λ f. of-sound (v s t) (not-ff (sound (v s t)) (unrefused-sound r s (l s t) _ e f)) .kept)
+          (unrefused-own r s (l s t) _ e),
+      omega (arith, sheet-line s .fits r (l s t) (unrefused-own r s (l s t) _ e), few-held t g, w .limit),
+    )
+
+    settle-ok : (o : Option ℕ) → refusal s t ≡ o
+        → Ok (settle o (record { answer = says s (l s t); state = cond (writes s) (some (next s (l s t))) t }) t .state)
+    unfolding settle
+    settle-ok (some n) e = g
+    settle-ok none e = both (writes s) (λ b. rw b (next-ok e)) (λ b. rw b g)
+
+    tell-ok : Ok (tell s t .state)
+    unfolding tell
+    tell-ok = settle-ok (refusal s t) refl
+
+    -- the foil alone after an accepted step
+    alone-next : refusal s t ≡ none
+        → store (next s (l s t)) (v s t) ≡ alone (cond (writes s) (some (next s (l s t))) t)
+    alone-next e =
+        both (writes s)
+        (λ b. rw b (stored t (next s (l s t)) g))
+        (λ b.
+        let known = not-ff (sound (v s t)) (unrefused-sound r s (l s t) _ e (sheet-line s .seen b)) in
+        rw (b, sheet-line s .still b (l s t)) (sound-store-is (v s t) (of-sound (v s t) known)))
+
+    alone-settled : (o : Option ℕ) → refusal s t ≡ o
+        → settle o (record { answer = says s (l s t); state = store (next s (l s t)) (v s t) }) (v s t)
+        ≡ shownBy alone
+        (settle o (record { answer = says s (l s t); state = cond (writes s) (some (next s (l s t))) t }) t)
+    unfolding settle shownBy
+    alone-settled (some n) e = refl
+    alone-settled none e =
+        ap {A = Lent} {B = After Answer Lent} (λ x. record { answer = says s (l s t); state = x }) (alone-next e)
+
+    tell-alone : stepOn r s (alone t) ≡ shownBy alone (tell s t)
+    unfolding stepOn tell
+    tell-alone = alone-settled (refusal s t) refl
+
+    -- and the sheet
+    put-after : (b : Bool)
+        → cond b (putBack k (put t) (store (next s (l s t)) (v s t))) (put t)
+        ≡ put (cond b (some (next s (l s t))) t)
+    put-after true = put-next t _ g ∙ ap (putBack k m) (stored t (next s (l s t)) g)
+    put-after false = refl
+
+    put-settled : (o : Option ℕ)
+        → settle o
+        (record {
+          answer = says s (l s t);
+          state = cond (writes s) (putBack k (put t) (store (next s (l s t)) (v s t))) (put t);
+        })
+        (put t)
+        ≡ shownBy put
+        (settle o (record { answer = says s (l s t); state = cond (writes s) (some (next s (l s t))) t }) t)
+    unfolding settle shownBy
+    put-settled (some n) = refl
+    put-settled none =
+        ap {A = SheetLent} {B = After Answer SheetLent} (λ x. record { answer = says s (l s t); state = x })
+        (put-after (writes s))
+
+    tell-sheet : sheetStep r k s (put t) ≡ shownBy put (tell s t)
+    unfolding sheetStep tell
+    tell-sheet = rw (put-view t g) (put-settled (refusal s t))
+
+    -- something is written after it just if it was before, or the step wrote
+    wrote-settled : (o : Option ℕ)
+        → isSome
+        (settle o (record { answer = says s (l s t); state = cond (writes s) (some (next s (l s t))) t }) t .state)
+        ≡ (isSome t
+        || (writes s
+        && taken
+        (settle o (record { answer = says s (l s t); state = cond (writes s) (some (next s (l s t))) t }) t .answer)))
+    unfolding settle taken isSome
+    wrote-settled (some n) = rw (and-false (writes s), or-false (isSome t)) refl
+    wrote-settled none =
+        both (writes s)
+        (λ b. rw (b, sheet-line s .told (l s t), or-true (isSome t)) refl)
+        (λ b. rw (b, or-false (isSome t)) refl)
+
+    tell-wrote : isSome (tell s t .state) ≡ (isSome t || (writes s && taken (tell s t .answer)))
+    unfolding tell
+    tell-wrote = wrote-settled (refusal s t)
+
+  -- ---- the steps of a record, and every call
+
+  then-wrote : (x : Bool) (a : After Answer (Option Layout)) (b : After (List Answer) (Option Layout))
+      → isSome (a .state) ≡ (x || taken (a .answer))
+      → isSome (b .state) ≡ (isSome (a .state) || any taken (b .answer))
+      → isSome (andThen a b .state) ≡ (x || any taken (andThen a b .answer))
+  unfolding andThen
+  then-wrote x a b e f = go (endsJob (a .answer))
+    where
+      go : (t : Bool)
+          → isSome
+          (cond {A = After (List Answer) (Option Layout)} t
+          (record { answer = a .answer ∷ []; state = a .state })
+          (record { answer = a .answer ∷ b .answer; state = b .state }) .state)
+          ≡ (x
+          || any taken
+          (cond {A = After (List Answer) (Option Layout)} t
+          (record { answer = a .answer ∷ []; state = a .state })
+          (record { answer = a .answer ∷ b .answer; state = b .state }) .answer))
+      go true = e ∙ ap (λ (y : Bool). x || y) (sym (or-false (taken (a .answer))))
+      go false =
+          f ∙ ap (λ (y : Bool). y || any taken (b .answer)) e ∙ or-assoc x (taken (a .answer)) (any taken (b .answer))
+
+  steps-wrote : (ss : List Step) (t : Option Layout) → Ok t → all writes ss ≡ true
+      → isSome (actAll tell ss t .state) ≡ (isSome t || any taken (actAll tell ss t .answer))
+  unfolding actAll
+  steps-wrote [] t g e = sym (or-false (isSome t))
+  steps-wrote (s ∷ ss) t g e =
+      then-wrote (isSome t) (tell s t) _
+      (tell-wrote s t g
+      ∙ ap (λ (y : Bool). isSome t || (y && taken (tell s t .answer))) (and-l (writes s) (all writes ss) e))
+      (steps-wrote ss (tell s t .state) (tell-ok s t g) (and-r (writes s) (all writes ss) e))
+
+  record-wrote : (o : Option ℕ) (e : Bool) (ss : List Step) (p : ℕ) → all writes ss ≡ true
+      → isSome (actRecord tell o e ss p none .state) ≡ any taken (answersIn (actRecord tell o e ss p none .answer))
+  unfolding actRecord answersIn isSome taken
+  record-wrote (some n) e ss p h = refl
+  record-wrote none true ss p h = refl
+  record-wrote none false ss p h = steps-wrote ss none tt h
+
+  reply-wrote : (b : Bool) (c : Call) (x : Layout)
+      → isSome (reply tell r b c x none .state) ≡ rewrote c (reply tell r b c x none .answer)
+  unfolding reply rewrote writing
+  reply-wrote b (step s) x =
+      tell-wrote s none tt
+      ∙ unfold isSome answersIn in ap (λ (y : Bool). writes s && y) (sym (or-false (taken (tell s none .answer))))
+  reply-wrote b (runRecord bs at) x = record-wrote _ (isEnd bs at) (steps bs at) (recordEnd bs at) (steps-write bs at)
+  reply-wrote b (ohms net i) x = unfold isSome in refl
+
+  abbrev told : Call → After Reply (Option Layout)
+  told c = reply tell r (not (sound (view k m))) c (held (view k m)) none
+
+  sheet-told : (c : Call)
+      → reply (sheetStep r k) r (not (sound (view k m))) c (held (view k m)) m ≡ shownBy put (told c)
+  sheet-told c = reply-is tell (sheetStep r k) put Ok tell-ok tell-sheet r _ c _ none tt
+
+  alone-told : (c : Call) → callOn r c (view k m) ≡ shownBy alone (told c)
+  unfolding callOn
+  alone-told c = reply-is tell (stepOn r) alone Ok tell-ok tell-alone r _ c _ none tt
+
+  put-told : (c : Call) (t : Option Layout) (b : Bool) → isSome t ≡ b → put t ≡ cond b (putBack k m (alone t)) m
+  unfolding isSome
+  put-told c none b e = rw (← e) refl
+  put-told c (some l) b e = rw (← e) refl
+
+  puts : (c : Call)
+      → shownBy put (told c)
+      ≡ record {
+        answer = shownBy alone (told c) .answer;
+        state =
+            cond (rewrote c (shownBy alone (told c) .answer)) (putBack k m (shownBy alone (told c) .state)) m;
+      }
+  unfolding shownBy
+  puts c =
+      ap {A = SheetLent} {B = After Reply SheetLent} (λ x. record { answer = told c .answer; state = x })
+      (put-told c (told c .state) (rewrote c (told c .answer))
+      (reply-wrote (not (sound (view k m))) c (held (view k m))))
+
+  -- where something was written, the unused places are zero
+  zero-told : (t : Option Layout) → Ok t → isSome t ≡ true → (i : ℕ) → 5 * total (counts (put t .boards)) ≤ i
+      → i < sheetSize → getD (put t .table) i 0 ≡ 0
+  unfolding isSome
+  zero-told none g e = clash e refl
+  zero-told (some l) (g, few) e = put-zero k m (w .whole) here l few
+
+  told-ok : (c : Call) → Ok (told c .state)
+  told-ok c = reply-keeps tell Ok tell-ok r _ c _ none tt
+
+pub puts-back : PutsBack
+unfolding sheetCall unless
+puts-back r k c m o e =
+    let w = stands-in r k m o in
+    rw (o .eight-foils .limits, e, sheet-told r k m w (o .here) c, alone-told r k m w (o .here) c)
+    (puts r k m w (o .here) c)
+
+call-told : (r : Room) (k : ℕ) (c : Call) (m : SheetLent) (o : RoomOn r k m) → sheetRefusal r false k c ≡ none
+    → sheetCall r k c m
+    ≡ shownBy (put r k m (stands-in r k m o) (o .here)) (told r k m (stands-in r k m o) (o .here) c)
+unfolding sheetCall unless
+call-told r k c m o e =
+    rw (o .eight-foils .limits, e) (sheet-told r k m (stands-in r k m o) (o .here) c)
+
+pub clears-unused : ClearsUnused
+clears-unused r k c m o e =
+    let w = stands-in r k m o in
+    subst
+    (λ (a : After Reply SheetLent).
+    rewrote c (a .answer) ≡ true → (i : ℕ) → 5 * total (counts (a .state .boards)) ≤ i → i < sheetSize
+    → getD (a .state .table) i 0 ≡ 0)
+    (sym (call-told r k c m o e))
+    (unfold shownBy in
+    λ h.
+    zero-told r k m w (o .here) (told r k m w (o .here) c .state) (told-ok r k m w (o .here) c)
+    (reply-wrote r k m w (o .here) (not (sound (view k m))) c (held (view k m)) ∙ h))

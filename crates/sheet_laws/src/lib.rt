@@ -1,0 +1,1 @@
+// Laws of a sheet of eight foils, in proofs/: no code.
