@@ -10,7 +10,7 @@ use Rattle.foil_spec.specs.Lists.{consIf, any, all, range}
 use Rattle.foil_spec.specs.Limits.{sheetFoils, sheetSize}
 use Rattle.foil_spec.specs.Foil.{Layout}
 use Rattle.foil_spec.specs.Ledger.{Room, Step, save, Answer, says, next, After, settle, refusalOf}
-use Rattle.foil_spec.specs.Lent.{Lent, store, held, layoutOk, sound, stepOn}
+use Rattle.foil_spec.specs.Lent.{Lent, boardOf, store, held, layoutOk, sound, stepOn}
 use Rattle.foil_spec.specs.Job.{has, stepBits, stepAt, stepsAt, steps, isEnd, recordEnd}
 use Rattle.foil_spec.specs.Calls.{Call, step, runRecord, ohms, Reply, endsJob, andThen, actAll, actRecord, reply}
 use Rattle.foil_spec.specs.Calls.{callOn, answersIn}
@@ -290,6 +290,18 @@ module _ (r : Room) (k : ℕ) (m : SheetLent) (w : Stands r k m) (here : k < she
   told-ok : (c : Call) → Ok (told c .state)
   told-ok c = reply-keeps tell Ok tell-ok r _ c _ none tt
 
+  -- the foil alone then has no more entries than it may; where nothing was written it is as it was
+  few-alone : (t : Option Layout) → Ok t → isSome t ≡ true
+      → alone t .board .entries ≤ limitOf (counts (m .boards)) k
+  unfolding isSome store boardOf
+  few-alone none g e = clash e refl
+  few-alone (some l) (g, few) e = few
+
+  same-alone : (t : Option Layout) → isSome t ≡ false → alone t ≡ view k m
+  unfolding isSome
+  same-alone none e = refl
+  same-alone (some l) e = clash refl e
+
 pub puts-back : PutsBack
 unfolding sheetCall unless
 puts-back r k c m o e =
@@ -316,3 +328,34 @@ clears-unused r k c m o e =
     λ h.
     zero-told r k m w (o .here) (told r k m w (o .here) c .state) (told-ok r k m w (o .here) c)
     (reply-wrote r k m w (o .here) (not (sound (view k m))) c (held (view k m)) ∙ h))
+
+-- ---- what a call leaves of the foil alone, for code that puts it back
+
+module _ (r : Room) (k : ℕ) (c : Call) (m : SheetLent) (o : RoomOn r k m) where
+  abbrev on-foil : After Reply Lent
+  on-foil = callOn r c (view k m)
+
+  abbrev w : Stands r k m
+  w = stands-in r k m o
+
+  -- where it wrote entries, no more of them than the foil may have
+  pub wrote-fits : rewrote c (on-foil .answer) ≡ true → on-foil .state .board .entries ≤ limitOf (counts (m .boards)) k
+  wrote-fits =
+      subst
+      (λ (a : After Reply Lent).
+      rewrote c (a .answer) ≡ true → a .state .board .entries ≤ limitOf (counts (m .boards)) k)
+      (sym (alone-told r k m w (o .here) c))
+      (unfold shownBy in
+      λ h.
+      few-alone r k m w (o .here) (told r k m w (o .here) c .state) (told-ok r k m w (o .here) c)
+      (reply-wrote r k m w (o .here) (not (sound (view k m))) c (held (view k m)) ∙ h))
+
+  -- and where it did not, all as it was
+  pub unwritten : rewrote c (on-foil .answer) ≡ false → on-foil .state ≡ view k m
+  unwritten =
+      subst (λ (a : After Reply Lent). rewrote c (a .answer) ≡ false → a .state ≡ view k m)
+      (sym (alone-told r k m w (o .here) c))
+      (unfold shownBy in
+      λ h.
+      same-alone r k m w (o .here) (told r k m w (o .here) c .state)
+      (reply-wrote r k m w (o .here) (not (sound (view k m))) c (held (view k m)) ∙ h))

@@ -35,7 +35,7 @@ total-reserved (n ∷ ns) = omega (arith, total-reserved ns)
 
 -- ---- the limit of 128 entries a foil
 
-few-at : (ns : List ℕ) (k : ℕ) → eachFew ns ≡ true → k < length ns → getD ns k 0 ≤ maxEntries
+pub few-at : (ns : List ℕ) (k : ℕ) → eachFew ns ≡ true → k < length ns → getD ns k 0 ≤ maxEntries
 unfolding eachFew
 few-at [] k h l = absurd (omega arith)
 few-at (n ∷ ns) zero h l = leb-true n maxEntries (and-l (leb n maxEntries) (eachFew ns) h)
@@ -52,11 +52,11 @@ few-set (m ∷ ns) (suc k) n h l =
 -- ---- both limits
 
 module _ (ns : List ℕ) (ok : countsOk ns ≡ true) where
-  ok-few : eachFew ns ≡ true
+  pub ok-few : eachFew ns ≡ true
   unfolding countsOk
   ok-few = and-l (eachFew ns) (leb (reserved ns) sheetEntries) ok
 
-  ok-reserved : reserved ns ≤ sheetEntries
+  pub ok-reserved : reserved ns ≤ sheetEntries
   unfolding countsOk
   ok-reserved = leb-true (reserved ns) sheetEntries (and-r (eachFew ns) (leb (reserved ns) sheetEntries) ok)
 

@@ -1,0 +1,55 @@
+-- `sheet_rows::limits::each_few` tests one number a turn.
+use native.Mathlib.Omega.{arith}
+use Prim.Native.Nat.{_-_}
+use Rattle.sheet_rows.proofs.Counting.{Few, few-none, few-over, few-more, few-done}
+use Rattle.sheet_rows.proofs.limits.each_few.Statement.{statement}
+use Rattle.sheet_rows.proofs.limits.each_few.Tie as tie
+
+abbrev Inv-loop : tie.InvT-loop
+Inv-loop counts i₀ i = Few counts i
+
+abbrev μ-loop : tie.MeasureT-loop
+μ-loop counts i₀ i = 8 - i
+
+loop-holds : tie.Need-loop-holds Inv-loop μ-loop
+loop-holds c = few-none _
+
+mul-if1 : tie.Need-mul-if1 Inv-loop μ-loop
+mul-if1 c = omega arith
+
+array-read-if1 : tie.Need-array-read-if1 Inv-loop μ-loop
+array-read-if1 c = omega arith
+
+returns : tie.Need-returns Inv-loop μ-loop
+returns c =
+    let ns = c .before .before .before .args .t1 in
+    few-over ns (omega arith) _ (omega arith) (c .if1 .taken)
+
+add-i : tie.Need-add-i Inv-loop μ-loop
+add-i c = omega arith
+
+loop-less : tie.Need-loop-less Inv-loop μ-loop
+loop-less c = omega arith
+
+loop-again : tie.Need-loop-again Inv-loop μ-loop
+loop-again c =
+    let ns = c .before .before .before .args .t1 in
+    few-more ns (omega arith) _ (omega arith) (c .if1 .left) (c .before .before .loop .inv)
+
+returns-2 : tie.Need-returns-2 Inv-loop μ-loop
+returns-2 c = few-done (c .before .before .args .t1) (omega arith) _ (omega arith) (c .before .loop .inv)
+
+pub each-few-spec : {M : Type 1} → statement M
+each-few-spec =
+    tie.close
+    (tie.spec
+    Inv-loop
+    μ-loop
+    loop-holds
+    mul-if1
+    array-read-if1
+    returns
+    add-i
+    loop-less
+    loop-again
+    returns-2)

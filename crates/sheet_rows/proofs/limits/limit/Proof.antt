@@ -1,0 +1,25 @@
+-- `sheet_rows::limits::limit` is `limit_by` of the foils' numbers of entries.
+use mathlib.Core.Path.{sym, ap, _∙_, subst}
+use mathlib.Core.Bool.{true}
+use Prim.Native.Nat.{ℕ}
+use mathlib.Core.List.{List}
+use Rattle.foil_spec.specs.Sheet.{countsOk, limitOf}
+use borrow.Author.Needs.{needs}
+use Rattle.sheet_rows.proofs.limits.limit.Statement.{statement}
+use Rattle.sheet_rows.proofs.limits.limit.Tie as tie
+
+counts-of-requires : tie.Need-counts-of-requires
+counts-of-requires c κs = search needs
+
+limit-by-requires : tie.Need-limit-by-requires
+limit-by-requires c κs =
+    let s = c .before in
+    (s .pre .0, ap countsOk (c .counts-of .ensures) ∙ s .pre .1)
+
+returns : tie.Need-returns
+returns c =
+    let s = c .before .before in
+    c .limit-by .ensures ∙ ap (λ (ns : List ℕ). limitOf ns (s .args .k)) (c .before .counts-of .ensures)
+
+pub limit-spec : {M : Type 1} → statement M
+limit-spec = tie.close (tie.spec counts-of-requires limit-by-requires returns)

@@ -1,0 +1,2 @@
+-- What the contracts of the sheet's rows cite.
+pub mod Rows

@@ -1,0 +1,59 @@
+// The rows of a sheet: how many entries its eight foils have and may have, and the table that they share, from which a
+// foil's entries are taken out for a call and to which they are put back.
+mod limits;
+mod table;
+
+use foil_spec::Board;
+pub use limits::counts_ok;
+pub use limits::limit;
+pub use table::put_back;
+pub use table::take_out;
+ghost use mathlib.Core.Path.{_≡_};
+ghost use Prim.Native.Nat.{_<_};
+ghost use lib.ListN.{getD, set};
+ghost use Rattle.foil_spec.specs.Limits.{sheetFoils};
+ghost use Rattle.foil_spec.specs.Sheet.{noBoard, counts};
+
+// How many entries the table of a sheet holds, and how many numbers they are in a flat list.
+pub const SHEET_ENTRIES: usize = 512;
+
+pub const SHEET_SIZE: usize = 2560;
+
+// The records of the eight foils.
+pub struct Sheet {
+    pub boards: [Board; 8],
+}
+
+// The record of foil k.
+pub fn board_at(sheet: Sheet, k: usize) -> Board
+    requires { ⌜ k < sheetFoils ⌝ }
+    ensures { λ r. ⌜ r ≡ getD (sheet .boards) k noBoard ⌝ }
+{
+    let boards = sheet.boards;
+    boards[k]
+}
+
+// The sheet with another record of foil k.
+pub(crate) fn with_board(sheet: Sheet, k: usize, board: Board) -> Sheet
+    requires { ⌜ k < sheetFoils ⌝ }
+    ensures { λ r. ⌜ r .boards ≡ set (sheet .boards) k board ⌝ }
+{
+    let mut boards = sheet.boards;
+    boards[k] = board;
+    Sheet { boards }
+}
+
+// How many entries each foil has by its record.
+pub(crate) fn counts_of(sheet: Sheet) -> [usize; 8]
+    ensures { λ r. ⌜ r ≡ counts (sheet .boards) ⌝ }
+{
+    let boards = sheet.boards;
+    let mut counts = [0usize; 8];
+    let mut i = 0;
+    while i < 8 {
+        let board = boards[i];
+        counts[i] = board.entries;
+        i += 1;
+    }
+    counts
+}
