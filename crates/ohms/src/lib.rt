@@ -31,7 +31,7 @@ pub fn ohms(table: &[u16], strips: &[u16], board: Board, net: u16, ink: Ink) -> 
 }
 
 // The same for a net of the first n entries of a table, once 12 and 13 do not apply.
-fn net_ohms(table: &[u16], n: usize, net: u16, ink: Ink) -> Resistance
+pub fn net_ohms(table: &[u16], n: usize, net: u16, ink: Ink) -> Resistance
     requires { ⌜ Boxes (now table) n ⌝ }
     ensures { λ r. ⌜ NetAnswered net ink (now (table .entry)) n r ⌝ }
 {

@@ -1,0 +1,75 @@
+// What a call on a foil of a sheet begins with: 23, 12, 13 for the counts; the foil's rows are taken out; and the foil's
+// own 13.
+use foil::Checked;
+use foil::lent_refusal;
+use foil_spec::STRIPS_SIZE;
+use sheet_rows::SHEET_SIZE;
+use sheet_rows::Sheet;
+use sheet_rows::board_at;
+use sheet_rows::counts_ok;
+use sheet_rows::take_out;
+ghost use mathlib.Core.Path.{_≡_};
+ghost use mathlib.Core.List.{[]};
+ghost use Rattle.booking.specs.Rows.{rowsOf};
+ghost use Rattle.foil.specs.Contract.{FirstChecked};
+ghost use Rattle.sheet_rows.specs.Rows.{sheetLent};
+ghost use Rattle.sheet.specs.Parts.{sheetOpening, Lending, Opening};
+
+// The refusals before foil k is looked at: 23, 12, and 13 for the counts.
+fn sheet_checks(sheet: Sheet, k: usize, table: &[u16], strips: &[u16]) -> Checked
+    ensures { λ r. ⌜ FirstChecked (sheetOpening k
+        (sheetLent (sheet .boards) (now (table .entry)) (now (strips .entry)))) r ⌝ }
+{
+    if 7 < k {
+        return Checked::Refused(23);
+    }
+    if table.len() < SHEET_SIZE {
+        return Checked::Refused(12);
+    }
+    if strips.len() < STRIPS_SIZE {
+        return Checked::Refused(12);
+    }
+    if !counts_ok(sheet) {
+        return Checked::Refused(13);
+    }
+    Checked::Passed
+}
+
+// These checks; where they are passed, foil k's entries are put into the rows, which are empty.
+pub(crate) fn lend_foil(
+    rows: &mut [u16],
+    table: &[u16],
+    strips: &[u16],
+    sheet: Sheet,
+    k: usize,
+) -> Checked
+    requires { ⌜ now rows ≡ rowsOf [] ⌝ }
+    ensures { λ r. ⌜ Lending k (sheetLent (sheet .boards) (now (table .entry)) (now (strips .entry)))
+        (now (rows .exit)) r ⌝ }
+{
+    let checked = sheet_checks(sheet, k, table, strips);
+    if let Checked::Refused(number) = checked {
+        return Checked::Refused(number);
+    }
+    take_out(rows, table, sheet, k);
+    Checked::Passed
+}
+
+// The same, and the foil's own 13.
+pub(crate) fn open_foil(
+    rows: &mut [u16],
+    table: &[u16],
+    strips: &[u16],
+    sheet: Sheet,
+    k: usize,
+) -> Checked
+    requires { ⌜ now rows ≡ rowsOf [] ⌝ }
+    ensures { λ r. ⌜ Opening k (sheetLent (sheet .boards) (now (table .entry)) (now (strips .entry)))
+        (now (rows .exit)) r ⌝ }
+{
+    let lending = lend_foil(rows, table, strips, sheet, k);
+    if let Checked::Refused(number) = lending {
+        return Checked::Refused(number);
+    }
+    lent_refusal(rows, strips, board_at(sheet, k))
+}
