@@ -135,7 +135,7 @@ module _ (bs : List ℕ) (at : ℕ) where
       (λ o. rw (ran-unset r m k o, o) (omega arith)))
 
   -- there are never more answers than bits that are set
-  ran-few : (r : Room) (m : Lent) (k : ℕ) → length (ranTo r bs at k m .answer) ≤ setBelow (has bs at) k
+  pub ran-few : (r : Room) (m : Lent) (k : ℕ) → length (ranTo r bs at k m .answer) ≤ setBelow (has bs at) k
   unfolding setBelow
   ran-few r m zero = unfold stepsAt actAll in omega arith
   ran-few r m (suc k) =

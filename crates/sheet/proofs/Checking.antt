@@ -11,14 +11,14 @@ use borrow.Author.Tests.{lt-ltb, le-ltb, ltb-false}
 use Rattle.foil_spec.specs.Limits.{maxEntries, maxStrips, stripsSize, sheetFoils, sheetEntries, sheetSize}
 use Rattle.foil_spec.specs.Ledger.{Room, short, Step, Refusal, first, reads, refused, refusals, afterLent, settle}
 use Rattle.foil_spec.specs.Ledger.{refusalOf}
-use Rattle.foil_spec.specs.Lent.{Lent, lent, held, sound, roomIn}
+use Rattle.foil_spec.specs.Lent.{Lent, lent, held, sound}
 use Rattle.foil_spec.specs.Calls.{Call, step, runRecord, ohms, ohmsReply, reply}
 use Rattle.foil_spec.specs.Ohms.{ohmsRefusals}
 use Rattle.foil_spec.specs.declared.Ink.{Ink}
 use Rattle.foil_spec.specs.Sheet.{countsOk, limitOf, SheetLent, noBoard, counts, tableAt, view, sheetRoom, sheetStep}
 use Rattle.foil_spec.specs.Sheet.{opening, sheetRefusal, unless, sheetCall}
 use Rattle.foil_spec.specs.declared.Board.{Board}
-use Rattle.foil.specs.Contract.{FirstChecked, LentChecked}
+use Rattle.foil.specs.Contract.{LentChecked}
 use Rattle.foil.specs.declared.lent.Checked.{Checked}
 use Rattle.foil.specs.declared.lent.Checked.the-variants as checked
 use Rattle.list_laws.proofs.Tests.{clash, parts, not-t, not-ff}
@@ -26,7 +26,6 @@ use Rattle.ledger_laws.proofs.Refusals.{no-rule, no-more}
 use Rattle.sheet_laws.specs.Alone.{EightFoils, RoomOn}
 use Rattle.sheet_laws.proofs.Alone.{room-view}
 use Rattle.sheet_laws.proofs.Lending.{table-long}
-use Rattle.sheet_rows.specs.Rows.{sheetLent}
 use Rattle.sheet.specs.Contract.{onSheet}
 use Rattle.sheet.specs.Parts.{sheetOpening, TakenOut, Lending, Opened, refusedOn, readsFoil, Opening}
 
@@ -189,7 +188,8 @@ module _ (k : ℕ) (m : SheetLent) (rows : List ℕ) (o : TakenOut k m rows) whe
     step-own : (s : Step) (output : ℕ) → reads s ≡ true
         → sheetStep (room k m output) k s m ≡ record { answer = refused n; state = m }
     unfolding sheetStep settle refusalOf
-    step-own s output f = rw (f, and-true (not (sound v)), own-first output (refusals s (room k m output) (held v))) refl
+    step-own s output f =
+        rw (f, and-true (not (sound v)), own-first output (refusals s (room k m output) (held v))) refl
 
     pub own-unopened : (c : Call) (output : ℕ) → readsFoil c ≡ true → onSheet k c m output ≡ refusedOn n m
     unfolding readsFoil sheetCall unless reply ohmsReply

@@ -1,21 +1,19 @@
 -- The end of a call that may write entries: the sheet is what the definitions give where the foil, taken out for the
 -- call, was put back. One law for all steps, and one with an output list.
 use Prim.Native.Nat.{ℕ, _≤_}
-use native.Mathlib.Omega.{arith}
-use mathlib.Core.Path.{_≡_, refl, sym, ap, ap₂, _∙_, subst}
+use mathlib.Core.Path.{_≡_, refl, sym, ap, _∙_, subst}
 use mathlib.Core.Bool.{Bool, true, false, cond, or-false}
 use mathlib.Core.List.{List}
 use mathlib.Core.Option.{none}
 use lib.ListN.{length, getD}
-use Rattle.foil_spec.specs.Limits.{maxEntries, tableSize}
-use Rattle.foil_spec.specs.Ledger.{Room, short, Step, refused, accepted, laid, found, wrote, booked, After}
+use Rattle.foil_spec.specs.Limits.{tableSize}
+use Rattle.foil_spec.specs.Ledger.{Step, refused, accepted, laid, found, wrote, booked, After}
 use Rattle.foil_spec.specs.Ledger.{Answer as Outcome}
-use Rattle.foil_spec.specs.Lent.{Lent, lent, sound, stepOn, outputAfter}
+use Rattle.foil_spec.specs.Lent.{Lent, lent, stepOn, outputAfter}
 use Rattle.foil_spec.specs.Calls.{Call, step, Reply, answered, reply, callOn, answersIn, outputAll, outputBy}
 use Rattle.foil_spec.specs.Sheet.{limitOf, SheetLent, noBoard, counts, view, putBack, writes, sheetRoom, sheetRefusal}
 use Rattle.foil_spec.specs.declared.Board.{Board}
 use Rattle.foil.specs.Contract.{answerOf, Gave, StepIn, Wrote, OutputIn}
-use Rattle.foil.specs.declared.Answer.{Answer}
 use Rattle.foil.specs.declared.Done.{Done}
 use Rattle.list_laws.proofs.Tests.{both}
 use Rattle.sheet_laws.specs.Answers.{taken}
@@ -23,8 +21,8 @@ use Rattle.sheet_laws.specs.Back.{writing, rewrote}
 use Rattle.sheet_laws.proofs.Back.{puts-back, wrote-fits, unwritten}
 use Rattle.sheet_rows.specs.Rows.{sheetLent, PutBack}
 use Rattle.sheet_rows.specs.declared.Sheet.{Sheet}
-use Rattle.sheet.specs.Contract.{onSheet, Tells, SheetGave, SheetStepDone, SheetOutputDone}
-use Rattle.sheet.specs.Parts.{TakenOut, Opened, refusedOn, accepts, Closable, Closed, Finished, refusedBy}
+use Rattle.sheet.specs.Contract.{onSheet, SheetGave, SheetStepDone, SheetOutputDone}
+use Rattle.sheet.specs.Parts.{TakenOut, refusedOn, accepts, Closable, Closed, Finished, refusedBy}
 use Rattle.sheet.specs.declared.SheetDone.{SheetDone}
 use Rattle.sheet.proofs.Checking.{room, out-long, in-room, limit-is, foil-is, step-goes}
 
@@ -51,7 +49,7 @@ finish-is k bs t rows d r t′ e did is z =
       closed = subst (λ (x : Bool). Closed k bs t rows (d .board) x (r .sheet .boards) t′) is z;
     }
 
-accepts-taken : (a : Outcome) → accepts (answerOf a) ≡ taken a
+pub accepts-taken : (a : Outcome) → accepts (answerOf a) ≡ taken a
 unfolding accepts answerOf taken
 accepts-taken (refused n) = refl
 accepts-taken accepted = refl
@@ -68,9 +66,20 @@ module _ (k : ℕ) (m : SheetLent) (rows : List ℕ) (o : TakenOut k m rows) (c 
   abbrev alone : After Reply Lent
   alone = callOn (room k m output) c (view k m)
 
+  done-so : onSheet k c m output
+      ≡ record { answer = alone .answer; state = cond (rewrote c (alone .answer)) (putBack k m (alone .state)) m }
+  done-so = puts-back (room k m output) k c m (in-room k m rows o output) goes
+
   -- it answers so
   pub answers : onSheet k c m output .answer ≡ alone .answer
-  answers = ap (λ (a : After Reply SheetLent). a .answer) (puts-back (room k m output) k c m (in-room k m rows o output) goes)
+  answers = ap (λ (a : After Reply SheetLent). a .answer) done-so
+
+  after : onSheet k c m output .state ≡ cond (rewrote c (alone .answer)) (putBack k m (alone .state)) m
+  after = ap (λ (a : After Reply SheetLent). a .state) done-so
+
+  -- a call that writes no entries leaves the sheet as it is
+  pub unchanged : ((a : Reply) → rewrote c a ≡ false) → onSheet k c m output .state ≡ m
+  unchanged w = after ∙ rw (w (alone .answer)) refl
 
   module _ (did : Bool) (is : did ≡ rewrote c (alone .answer)) (b : Board) (rows′ s′ : List ℕ)
       (left : lent b rows′ s′ ≡ alone .state) where
@@ -84,11 +93,6 @@ module _ (k : ℕ) (m : SheetLent) (rows : List ℕ) (o : TakenOut k m rows) (c 
               (wrote-fits (room k m output) k c m (in-room k m rows o output) (sym is ∙ e));
           full = full;
         }
-
-    after : onSheet k c m output .state ≡ cond (rewrote c (alone .answer)) (putBack k m (alone .state)) m
-    after =
-        ap (λ (a : After Reply SheetLent). a .state)
-        (puts-back (room k m output) k c m (in-room k m rows o output) goes)
 
     -- where nothing was written, the strips are as they were
     same-strips : did ≡ false → s′ ≡ m .strips

@@ -2,3 +2,4 @@
 pub mod Checking
 pub mod Closing
 pub mod Reading
+pub mod Recording

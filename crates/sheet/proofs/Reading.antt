@@ -1,31 +1,37 @@
 -- The end of a call that only reads a foil of a sheet: one law for all such steps, and one for the ohms.
 use Prim.Native.Nat.{ℕ}
 use mathlib.Core.Path.{_≡_, refl, sym, ap, _∙_, subst}
-use mathlib.Core.Bool.{Bool, true, false, not, _&&_, cond}
+use mathlib.Core.Bool.{Bool, false, not, _&&_}
 use mathlib.Core.List.{List, []}
 use mathlib.Core.Option.{Option, none, some}
 use lib.ListN.{length, getD}
 use Rattle.foil_spec.specs.Limits.{maxEntries}
 use Rattle.foil_spec.specs.Foil.{Point, Layout}
 use Rattle.foil_spec.specs.Ledger.{Room, short, cornerRoom, Step, newFoil, draw, lay, lift, lookUp, putLeg, save, find}
-use Rattle.foil_spec.specs.Ledger.{book, slip, join, Refusal, refused, found, says, next, first, reads, refusals}
-use Rattle.foil_spec.specs.Ledger.{afterLent, After, settle, refusalOf}
+use Rattle.foil_spec.specs.Ledger.{book, slip, join, Refusal, refused, found, numberOf, says, next, first, reads}
+use Rattle.foil_spec.specs.Ledger.{refusals, afterLent, After, settle, refusalOf}
 use Rattle.foil_spec.specs.Ledger.{Answer as Outcome}
-use Rattle.foil_spec.specs.Lent.{Lent, lent, store, held, sound, roomIn, roomOf, stepOn, outputAfter}
-use Rattle.foil_spec.specs.Calls.{step, Reply, answered, reply, callOn, outputAll, answersIn, outputBy}
+use Rattle.foil_spec.specs.Lent.{Lent, lent, store, layoutOf, held, sound, roomIn, roomOf, stepOn}
+use Rattle.foil_spec.specs.Lent.{outputAfter}
+use Rattle.foil_spec.specs.Ohms.{ohmsRefusals, ohmsOf}
+use Rattle.foil_spec.specs.Calls.{step, ohms, Reply, answered, ohmsReply, reply, callOn, outputAll, answersIn}
+use Rattle.foil_spec.specs.Calls.{outputBy}
 use Rattle.foil_spec.specs.Sheet.{limitOf, SheetLent, noBoard, counts, view, writes}
 use Rattle.foil_spec.specs.declared.Board.{Board}
+use Rattle.foil_spec.specs.declared.Ink.{Ink}
 use Rattle.foil.specs.Contract.{answerOf, Looked, WriteDone}
 use Rattle.foil.specs.declared.Answer.{Answer}
 use Rattle.foil.specs.declared.Answer.the-variants.{Refused}
 use Rattle.list_laws.proofs.Tests.{clash}
+use Rattle.ohms.specs.Contract.{resistanceOf, NetAnswered}
+use Rattle.ohms.specs.declared.Resistance.{Resistance}
+use Rattle.ohms.specs.declared.Resistance.the-variants.{Refused as ohmsRefused}
 use Rattle.sheet_laws.specs.Back.{writing, rewrote}
 use Rattle.sheet_laws.proofs.Alone.{room-view}
-use Rattle.sheet_laws.proofs.Back.{puts-back}
-use Rattle.sheet.specs.Contract.{onSheet, Tells, SheetReadDone}
-use Rattle.sheet.specs.Parts.{TakenOut, refusedOn}
-use Rattle.sheet.proofs.Checking.{room, in-room, foil-is, step-goes}
-use Rattle.sheet.proofs.Closing.{answers}
+use Rattle.sheet.specs.Contract.{onSheet, SheetReadDone, SheetOhmsDone}
+use Rattle.sheet.specs.Parts.{TakenOut, Opened, refusedOn}
+use Rattle.sheet.proofs.Checking.{room, out-long, foil-is, step-goes, ohms-goes}
+use Rattle.sheet.proofs.Closing.{answers, unchanged}
 
 -- ---- a step that only reads does not depend on how many entries the foil may have
 
@@ -110,11 +116,9 @@ module _ (k : ℕ) (m : SheetLent) (c : Step) (out : List ℕ) where
         answers k m rows o (step c) n (step-goes k m rows o c n)
         ∙ unfold callOn reply in ap (λ (a : After Outcome Lent). answered (a .answer)) on-view
 
-    unchanged : onSheet k (step c) m n .state ≡ m
-    unchanged =
-        ap (λ (a : After Reply SheetLent). a .state)
-        (puts-back (room k m n) k (step c) m (in-room k m rows o n) (step-goes k m rows o c n))
-        ∙ unfold rewrote writing in rw w refl
+    no-writing : (a : Reply) → rewrote (step c) a ≡ false
+    unfolding rewrote writing
+    no-writing a = rw w refl
 
     pub read-done : (r : Answer) (out′ : List ℕ) → WriteDone c (lent b rows (m .strips)) out r out′
         → SheetReadDone k c m out r out′
@@ -123,6 +127,33 @@ module _ (k : ℕ) (m : SheetLent) (c : Step) (out : List ℕ) where
         let d = subst (λ (v : Lent). WriteDone c v out r out′) (foil-is k m rows o b is) h in
         record {
           tells = record { said = said; is = reply-is; answer = d .answer };
-          state = sym unchanged;
+          state = sym (unchanged k m rows o (step c) n (step-goes k m rows o c n) no-writing);
           output = d .output ∙ rw reply-is refl;
         }
+
+-- ---- the ohms
+
+module _ (k : ℕ) (m : SheetLent) (net : ℕ) (i : Ink) where
+  pub ohms-refused : (n : ℕ) → onSheet k (ohms net i) m 0 ≡ refusedOn n m → SheetOhmsDone k net i m (ohmsRefused n)
+  unfolding resistanceOf numberOf
+  ohms-refused n e = record { answer = rw e refl; state = rw e refl }
+
+  own-ohms : (rows : List ℕ) → Opened k m rows
+      → callOn (room k m 0) (ohms net i) (view k m) .answer
+      ≡ ohmsReply (first (ohmsRefusals net i (held (view k m)))) (ohmsOf net i (held (view k m)))
+  unfolding callOn reply afterLent first
+  own-ohms rows o = rw (out-long k m rows (o .out) 0, o .keeps) refl
+
+  pub ohms-done : (rows : List ℕ) → Opened k m rows → (b : Board) → b ≡ getD (m .boards) k noBoard → (r : Resistance)
+      → NetAnswered net i rows (b .entries) r → SheetOhmsDone k net i m r
+  ohms-done rows o b is r h =
+      let goes = ohms-goes k m rows (o .out) net i 0 in
+      record {
+        answer =
+            h .answer (held (lent b rows (m .strips))) (unfold held layoutOf in refl)
+            ∙ ap
+            (λ (v : Lent). resistanceOf (ohmsReply (first (ohmsRefusals net i (held v))) (ohmsOf net i (held v))))
+            (foil-is k m rows (o .out) b is)
+            ∙ ap resistanceOf (sym (answers k m rows (o .out) (ohms net i) 0 goes ∙ own-ohms rows o));
+        state = sym (unchanged k m rows (o .out) (ohms net i) 0 goes (λ a. unfold rewrote writing in refl));
+      }

@@ -1,7 +1,7 @@
 -- What the parts of a call on a foil of a sheet are asked and say.
 use Prim.Native.Nat.{ℕ, _≤_, _<_}
 use mathlib.Core.Path.{_≡_}
-use mathlib.Core.Bool.{Bool, true, false, cond, not}
+use mathlib.Core.Bool.{Bool, true, false, cond, not, _||_}
 use mathlib.Core.List.{List, [], _∷_}
 use mathlib.Core.Option.{some}
 use lib.Dec.{ltb}
@@ -9,7 +9,7 @@ use lib.ListN.{length}
 use Rattle.foil_spec.specs.Limits.{tableSize, stripsSize, sheetFoils}
 use Rattle.foil_spec.specs.Ledger.{Refusal, _⇒_, first, reads, refused, afterLent, After}
 use Rattle.foil_spec.specs.Lent.{lent, sound}
-use Rattle.foil_spec.specs.Calls.{Call, step, runRecord, ohms, Reply, answered}
+use Rattle.foil_spec.specs.Calls.{Call, step, runRecord, ohms, Reply, answered, tooLarge}
 use Rattle.foil_spec.specs.Sheet.{countsOk, limitOf, SheetLent, counts, tableAt, view, putBack, sheetRoom}
 use Rattle.foil_spec.specs.declared.Board.{Board}
 use Rattle.foil.specs.declared.Answer.{Answer}
@@ -17,10 +17,16 @@ use Rattle.foil.specs.declared.Answer.the-variants.{Refused, Accepted, Laid, Fo
 use Rattle.foil.specs.declared.Done.{Done}
 use Rattle.foil.specs.declared.lent.Checked.{Checked}
 use Rattle.foil.specs.declared.lent.Checked.the-variants as checked
+use Rattle.job.specs.declared.Told.{Told}
+use Rattle.job.specs.declared.Told.the-variants.{Nothing, Said}
+use Rattle.job.specs.declared.Answers.{Answers}
+use Rattle.job.specs.declared.Reply.{Reply as Replied}
+use Rattle.job.specs.declared.Reply.the-variants.{Refused as RefusedWhole, Ran, AtEnd}
 use Rattle.sheet_laws.specs.Alone.{EightFoils}
 use Rattle.sheet_rows.specs.Rows.{sheetLent}
 use Rattle.sheet_rows.specs.declared.Sheet.{Sheet}
 use Rattle.sheet.specs.declared.SheetDone.{SheetDone}
+use Rattle.sheet.specs.declared.SheetReplied.{SheetReplied}
 use Rattle.sheet.specs.Contract.{onSheet}
 
 -- ---- the checks
@@ -64,6 +70,13 @@ Opening k m rows checked.Passed = Opened k m rows
 Opening k m rows (checked.Refused n) =
     (c : Call) (output : ℕ) → readsFoil c ≡ true → onSheet k c m output ≡ refusedOn n m
 
+-- the foil was taken out for a record of the bytes bs, which are not too many; or a record of them is refused by this
+-- number, wherever it begins
+abbrev pub RecordLending : ℕ → SheetLent → List ℕ → List ℕ → Checked → Type 0
+RecordLending k m bs rows checked.Passed = TakenOut k m rows × (tooLarge bs ≡ false)
+RecordLending k m bs rows (checked.Refused n) =
+    (at output : ℕ) → onSheet k (runRecord bs at) m output ≡ refusedOn n m
+
 -- ---- the end of a call
 
 -- the answer is no refusal
@@ -82,8 +95,8 @@ pub record Closable (k : ℕ) (bs : List Board) (t rows : List ℕ) (b : Board) 
   pub full : tableSize ≤ length rows
 
 -- it was put back if it did, and the records are bs′, the table t′; s and s′ are its strips before and after
-pub record Closed (k : ℕ) (bs : List Board) (t rows : List ℕ) (b : Board) (wrote : Bool) (bs′ : List Board) (t′ : List ℕ)
-    : Type 0 where
+pub record Closed (k : ℕ) (bs : List Board) (t rows : List ℕ) (b : Board) (wrote : Bool) (bs′ : List Board)
+    (t′ : List ℕ) : Type 0 where
   pub is : (s s′ : List ℕ)
       → sheetLent bs′ t′ s′ ≡ cond wrote (putBack k (sheetLent bs t s) (lent b rows s′)) (sheetLent bs t s′)
 
@@ -93,6 +106,24 @@ pub record Finished (k : ℕ) (bs : List Board) (t rows : List ℕ) (d : Done) (
   pub answer : r .answer ≡ d .answer
   pub closed : Closed k bs t rows (d .board) (accepts (d .answer)) (r .sheet .boards) t′
 
+-- what a bit of a record told is no refusal
+unfoldable pub took : Told → Bool
+took Nothing = false
+took (Said a) = accepts a
+
+-- so it is for some bit
+unfoldable pub someTook : Answers → Bool
+someTook a = took (a .board) || took (a .patch) || took (a .track) || took (a .lift) || took (a .leg)
+
+-- a step of the record was accepted
+unfoldable pub tookAny : Replied → Bool
+tookAny (RefusedWhole n) = false
+tookAny (Ran a n) = someTook a
+tookAny AtEnd = false
+
 -- a refusal by its number
 abbrev pub refusedBy : ℕ → Sheet → SheetDone
 refusedBy n s = record { answer = Refused n; sheet = s }
+
+abbrev pub refusedRecord : ℕ → Sheet → SheetReplied
+refusedRecord n s = record { reply = RefusedWhole n; sheet = s }

@@ -1,7 +1,8 @@
-// What a call on a foil of a sheet begins with: 23, 12, 13 for the counts; the foil's rows are taken out; and the foil's
-// own 13.
+// What a call on a foil of a sheet begins with: 23, 12, 13 for the counts; the foil's rows are taken out; and the
+// foil's own 13.
 use foil::Checked;
 use foil::lent_refusal;
+use foil_spec::MAX_BYTES;
 use foil_spec::STRIPS_SIZE;
 use sheet_rows::SHEET_SIZE;
 use sheet_rows::Sheet;
@@ -13,7 +14,7 @@ ghost use mathlib.Core.List.{[]};
 ghost use Rattle.booking.specs.Rows.{rowsOf};
 ghost use Rattle.foil.specs.Contract.{FirstChecked};
 ghost use Rattle.sheet_rows.specs.Rows.{sheetLent};
-ghost use Rattle.sheet.specs.Parts.{sheetOpening, Lending, Opening};
+ghost use Rattle.sheet.specs.Parts.{sheetOpening, Lending, RecordLending, Opening};
 
 // The refusals before foil k is looked at: 23, 12, and 13 for the counts.
 fn sheet_checks(sheet: Sheet, k: usize, table: &[u16], strips: &[u16]) -> Checked
@@ -72,4 +73,27 @@ pub(crate) fn open_foil(
         return Checked::Refused(number);
     }
     lent_refusal(rows, strips, board_at(sheet, k))
+}
+
+// The checks before a record of the bytes is looked at: 18 comes after 23. Where they are passed, foil k's entries are
+// put into the rows, which are empty.
+pub(crate) fn lend_for_record(
+    rows: &mut [u16],
+    table: &[u16],
+    strips: &[u16],
+    sheet: Sheet,
+    k: usize,
+    bytes: &[u8],
+) -> Checked
+    requires { ⌜ now rows ≡ rowsOf [] ⌝ }
+    ensures { λ r. ⌜ RecordLending k (sheetLent (sheet .boards) (now (table .entry)) (now (strips .entry)))
+        (now (bytes .entry)) (now (rows .exit)) r ⌝ }
+{
+    if 7 < k {
+        return Checked::Refused(23);
+    }
+    if MAX_BYTES < bytes.len() {
+        return Checked::Refused(18);
+    }
+    lend_foil(rows, table, strips, sheet, k)
 }

@@ -1,10 +1,12 @@
 // The calls on a foil of a sheet, over slices of numbers: the table of the eight foils has 512 places of five numbers,
-// and the strip list is that of the foil called. None has a `requires`: whatever is lent, each answers, and changes only
-// what documents 01 and 02 say. Each is its checks, taking the foil's rows out of the table, the body that there is for
-// a foil of its own, with as many entries as the other foils leave to it, and putting the rows back where it wrote
-// entries.
+// and the strip list is that of the foil called. None has a `requires`: whatever is lent, each answers, and changes
+// only what documents 01 and 02 say. Each is its checks, taking the foil's rows out of the table, the body that there
+// is for a foil of its own, with as many entries as the other foils leave to it, and putting the rows back where it
+// wrote entries. Those that only read stand in `queries`, and a record in `record`.
 mod checks;
 mod finishing;
+mod queries;
+mod record;
 
 use checks::lend_foil;
 use checks::open_foil;
@@ -23,6 +25,12 @@ use foil_spec::TABLE_SIZE;
 use job::Reply;
 use joining::join_in;
 use laying::lay_in;
+pub use queries::find;
+pub use queries::look_up;
+pub use queries::ohms;
+pub use queries::save;
+pub use queries::slip;
+pub use record::run_record;
 pub use sheet_rows::Sheet;
 use sheet_rows::board_at;
 use sheet_rows::limit;

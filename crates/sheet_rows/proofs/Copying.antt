@@ -87,7 +87,8 @@ module _ (t rows : List ℕ) (m start rest end : ℕ) (room : start + m + (end -
       let l1 = length-append front middle in
       let l2 = length-append (front ++ middle) back in
       let fa : a ≡ written sheetSize front [] =
-      filled sheetSize [] t [] (replicate sheetSize 0) a 0 start (unfold written in refl) ea refl (omega arith) (omega arith) in
+      filled sheetSize [] t [] (replicate sheetSize 0) a 0 start (unfold written in refl) ea refl (omega arith)
+      (omega arith) in
       let fb : b ≡ written sheetSize (front ++ middle) [] =
       filled sheetSize front rows [] a b start m fa eb lf full (omega arith) in
       let fc : c ≡ written sheetSize ((front ++ middle) ++ back) [] =

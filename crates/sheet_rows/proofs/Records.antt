@@ -3,7 +3,7 @@ use Prim.Native.Nat.{ℕ, _+_, _≤_, _<_}
 use native.Mathlib.Omega.{arith}
 use mathlib.Core.Path.{_≡_, sym, _∙_}
 use mathlib.Core.List.{List, append-nil}
-use lib.ListN.{length, getD, set, replicate, length-map, List·getD-map}
+use lib.ListN.{length, getD, set, replicate, length-map}
 use lib.Seq.{take-all}
 use mir.Val.{Val}
 use denote.Laws.{Is}

@@ -2,7 +2,7 @@
 use Prim.Native.Nat.{ℕ, zero, suc, _+_, _-_, _*_, _≤_, _<_, max}
 use native.Mathlib.Omega.{arith}
 use native.Mathlib.Numerals.{add-one}
-use mathlib.Core.Path.{_≡_, refl, sym, ap, ap₂, _∙_, subst}
+use mathlib.Core.Path.{_≡_, refl, sym, ap, ap₂, _∙_}
 use mathlib.Core.Bool.{Bool, true, false, not}
 use mathlib.Core.List.{List, [], _∷_, _++_}
 use lib.Dec.{leb}
@@ -10,7 +10,7 @@ use lib.ListN.{length, getD, set, take, drop, length-drop}
 use lib.Seq.{paste, take-all}
 use Rattle.foil_spec.specs.Limits.{maxEntries, tableSize, sheetFoils, sheetEntries, sheetSize, sureEntries}
 use Rattle.foil_spec.specs.Lent.{lent, written}
-use Rattle.foil_spec.specs.Sheet.{total, reserved, eachFew, countsOk, limitOf, SheetLent, counts, tableAt, putBack}
+use Rattle.foil_spec.specs.Sheet.{total, reserved, eachFew, countsOk, limitOf, counts, tableAt, putBack}
 use Rattle.foil_spec.specs.declared.Board.{Board}
 use Rattle.list_laws.proofs.Tests.{not-t}
 use Rattle.booking.specs.Rows.{rowsOf}

@@ -8,14 +8,14 @@ use foil_spec::Board;
 ghost use mathlib.Core.Path.{_≡_};
 ghost use mathlib.Core.Bool.{true};
 ghost use mathlib.Core.List.{[], _++_};
-ghost use Prim.Native.Nat.{suc, _+_, _-_, _*_, _<_, _≤_};
-ghost use lib.ListN.{length, getD, take, drop};
+ghost use Prim.Native.Nat.{_+_, _-_, _*_, _<_, _≤_};
+ghost use lib.ListN.{length, take, drop};
 ghost use lib.Seq.{paste};
 ghost use Rattle.foil_spec.specs.Limits.{tableSize, sheetFoils, sheetSize};
 ghost use Rattle.foil_spec.specs.Lent.{written};
 ghost use Rattle.foil_spec.specs.Sheet.{counts as countsIn, countsOk, limitOf, tableAt};
 ghost use Rattle.booking.specs.Rows.{rowsOf};
-ghost use Rattle.sheet_laws.specs.Places.{startOf, before, behind};
+ghost use Rattle.sheet_laws.specs.Places.{before, behind};
 ghost use Rattle.sheet_laws.specs.Alone.{EightFoils};
 ghost use Rattle.sheet_rows.specs.Rows.{PutBack};
 

@@ -1,5 +1,4 @@
 -- `sheet::checks::sheet_checks` answers 23, 12 for either list, 13, or that none of these applies.
-use Rattle.sheet_rows.specs.Rows.{sheetLent}
 use Rattle.sheet.proofs.Checking.{no-foil, short-table, short-strips, bad-counts, good-counts}
 use borrow.Author.Needs.{needs}
 use Rattle.sheet.proofs.checks.sheet_checks.Statement.{statement}

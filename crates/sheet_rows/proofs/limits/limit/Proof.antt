@@ -1,6 +1,5 @@
 -- `sheet_rows::limits::limit` is `limit_by` of the foils' numbers of entries.
-use mathlib.Core.Path.{sym, ap, _∙_, subst}
-use mathlib.Core.Bool.{true}
+use mathlib.Core.Path.{ap, _∙_}
 use Prim.Native.Nat.{ℕ}
 use mathlib.Core.List.{List}
 use Rattle.foil_spec.specs.Sheet.{countsOk, limitOf}

@@ -1,0 +1,79 @@
+-- `sheet::queries::find` takes foil k out, and is `find_in` of it.
+use mathlib.Core.Path.{refl}
+use Rattle.foil_spec.specs.Ledger.{reads}
+use Rattle.foil_spec.specs.Sheet.{writes}
+use Rattle.foil.proofs.Beginning.{no-rows}
+use Rattle.sheet.specs.Parts.{readsFoil}
+use Rattle.sheet.proofs.Checking.{opened, not-opened, keeps-rules}
+use Rattle.sheet.proofs.Reading.{read-refused, read-done}
+use borrow.Author.Needs.{needs}
+use Rattle.sheet.proofs.queries.find.Statement.{statement}
+use Rattle.sheet.proofs.queries.find.Tie as tie
+
+-- back to the checks, and to the body
+abbrev atPassed : tie.After-enum-told → tie.After-open-foil
+atPassed c = c .before .before .before
+
+abbrev atBody : tie.After-slice-known2 → tie.After-find-in
+atBody c = c .before .before
+
+slice-aggregate-open-foil : tie.Need-slice-aggregate-open-foil
+slice-aggregate-open-foil c = search needs
+
+open-foil-requires : tie.Need-open-foil-requires
+open-foil-requires c κs = no-rows
+
+enum-known-checked : tie.Need-enum-known-checked
+enum-known-checked c = search needs
+
+returns : tie.Need-returns
+unfolding readsFoil reads
+returns c =
+    let told = c .before in
+    let opening = told .before .before .before in
+    read-refused _ _ _ _ _
+    (not-opened _ _ _ _ (opening .open-foil .ensures) _ (told .checked .given .1) _ _ refl)
+
+enum-told : tie.Need-enum-told
+enum-told c = search needs
+
+board-at-requires : tie.Need-board-at-requires
+board-at-requires c κs =
+    opened _ _ _ _ (atPassed c .open-foil .ensures) (c .enum-told .given .1) .out .here
+
+slice-aggregate-find-in : tie.Need-slice-aggregate-find-in
+slice-aggregate-find-in c = search needs
+
+find-in-requires : tie.Need-find-in-requires
+find-in-requires c κs =
+    let board = c .before .before in
+    let told = board .before in
+    let o = opened _ _ _ _ (atPassed told .open-foil .ensures) (told .enum-told .given .1) in
+    keeps-rules _ _ _ o _ (board .board-at .ensures)
+
+same-length : tie.Need-same-length
+same-length c = search needs
+
+returns-2 : tie.Need-returns-2
+unfolding writes
+returns-2 c =
+    let body = atBody c in
+    let board = body .before .before .before in
+    let told = board .before in
+    let o = opened _ _ _ _ (atPassed told .open-foil .ensures) (told .enum-told .given .1) in
+    read-done _ _ _ _ _ (o .out) _ (board .board-at .ensures) refl _ _ (body .find-in .ensures)
+
+pub find-spec : {M : Type 1} → statement M
+find-spec =
+    tie.close
+    (tie.spec
+    slice-aggregate-open-foil
+    open-foil-requires
+    enum-known-checked
+    returns
+    enum-told
+    board-at-requires
+    slice-aggregate-find-in
+    find-in-requires
+    same-length
+    returns-2)

@@ -1,0 +1,72 @@
+-- `sheet::queries::look_up` takes foil k out, and is `look_up_in` of it.
+use mathlib.Core.Path.{refl}
+use Rattle.foil_spec.specs.Ledger.{reads}
+use Rattle.foil_spec.specs.Sheet.{writes}
+use Rattle.foil.proofs.Beginning.{no-rows}
+use Rattle.sheet.specs.Parts.{readsFoil}
+use Rattle.sheet.proofs.Checking.{opened, not-opened, keeps-rules}
+use Rattle.sheet.proofs.Reading.{looked, read-refused, read-done}
+use borrow.Author.Needs.{needs}
+use Rattle.sheet.proofs.queries.look_up.Statement.{statement}
+use Rattle.sheet.proofs.queries.look_up.Tie as tie
+
+-- back to the checks
+abbrev atPassed : tie.After-enum-told → tie.After-open-foil
+atPassed c = c .before .before .before
+
+slice-aggregate-open-foil : tie.Need-slice-aggregate-open-foil
+slice-aggregate-open-foil c = search needs
+
+open-foil-requires : tie.Need-open-foil-requires
+open-foil-requires c κs = no-rows
+
+enum-known-checked : tie.Need-enum-known-checked
+enum-known-checked c = search needs
+
+returns : tie.Need-returns
+unfolding readsFoil reads
+returns c =
+    let told = c .before in
+    let opening = told .before .before .before in
+    read-refused _ _ _ _ _
+    (not-opened _ _ _ _ (opening .open-foil .ensures) _ (told .checked .given .1) _ _ refl)
+
+enum-told : tie.Need-enum-told
+enum-told c = search needs
+
+board-at-requires : tie.Need-board-at-requires
+board-at-requires c κs =
+    opened _ _ _ _ (atPassed c .open-foil .ensures) (c .enum-told .given .1) .out .here
+
+slice-aggregate-look-up-in : tie.Need-slice-aggregate-look-up-in
+slice-aggregate-look-up-in c = search needs
+
+look-up-in-requires : tie.Need-look-up-in-requires
+look-up-in-requires c κs =
+    let board = c .before in
+    let told = board .before in
+    let o = opened _ _ _ _ (atPassed told .open-foil .ensures) (told .enum-told .given .1) in
+    keeps-rules _ _ _ o _ (board .board-at .ensures)
+
+returns-2 : tie.Need-returns-2
+unfolding writes
+returns-2 c =
+    let body = c in
+    let board = body .before .before in
+    let told = board .before in
+    let o = opened _ _ _ _ (atPassed told .open-foil .ensures) (told .enum-told .given .1) in
+    read-done _ _ _ _ _ (o .out) _ (board .board-at .ensures) refl _ _ (looked _ _ _ (body .look-up-in .ensures))
+
+pub look-up-spec : {M : Type 1} → statement M
+look-up-spec =
+    tie.close
+    (tie.spec
+    slice-aggregate-open-foil
+    open-foil-requires
+    enum-known-checked
+    returns
+    enum-told
+    board-at-requires
+    slice-aggregate-look-up-in
+    look-up-in-requires
+    returns-2)
