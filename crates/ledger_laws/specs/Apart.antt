@@ -49,8 +49,10 @@ Tracks k net cs =
 
 -- a track that is laid or booked keeps apart from all that was in the table before it and from the edge; its legs are
 -- appended there
-abbrev pub TracksApart : Type 0
-TracksApart =
-    AtEvery (λ k later.
+abbrev pub TracksApartAt : Moment → List Moment → Type 0
+TracksApartAt k later =
     (net : ℕ) (cs : List Point) → Tracks k net cs
-    → (k .ledgerAfter .entries ≡ k .ledgerBefore .entries ++ legs net cs) × KeepsApart (k .ledgerBefore) (legs net cs))
+    → (k .ledgerAfter .entries ≡ k .ledgerBefore .entries ++ legs net cs) × KeepsApart (k .ledgerBefore) (legs net cs)
+
+abbrev pub TracksApart : Type 0
+TracksApart = AtEvery TracksApartAt

@@ -45,20 +45,24 @@ abbrev pub JoinsFirst : Type 0
 JoinsFirst = AtEvery JoinsFirstAt
 
 -- its legs are appended under the same net, and keep apart from all entries of other nets and from the edge
-abbrev pub JoinsApart : Type 0
-JoinsApart =
-    AtEvery (λ k later.
+abbrev pub JoinsApartAt : Moment → List Moment → Type 0
+JoinsApartAt k later =
     (net : ℕ) (S : Point) (cs : List Point) (n : ℕ) → k .step ≡ join net S → k .answer ≡ laid cs n
     → (k .ledgerAfter .entries ≡ k .ledgerBefore .entries ++ legs net cs)
-    × KeepsApart (without net (k .ledgerBefore)) (legs net cs))
+    × KeepsApart (without net (k .ledgerBefore)) (legs net cs)
+
+abbrev pub JoinsApart : Type 0
+JoinsApart = AtEvery JoinsApartAt
 
 -- the net has the join's bends and one more of them than before, and is longer by the join
-abbrev pub JoinBends : Type 0
-JoinBends =
-    AtEvery (λ k later.
+abbrev pub JoinBendsAt : Moment → List Moment → Type 0
+JoinBendsAt k later =
     (net : ℕ) (S : Point) (cs : List Point) (n : ℕ) → k .step ≡ join net S → k .answer ≡ laid cs n
     → (netBends net (k .ledgerAfter) ≡ netBends net (k .ledgerBefore) + n + 1)
-    × (netLength net (k .ledgerAfter) ≡ netLength net (k .ledgerBefore) + pathLength cs))
+    × (netLength net (k .ledgerAfter) ≡ netLength net (k .ledgerBefore) + pathLength cs)
+
+abbrev pub JoinBends : Type 0
+JoinBends = AtEvery JoinBendsAt
 
 -- lifting the net as the next step, lent lists that are long enough, takes it whole: the foil is then the one before
 -- the join without the net; where that would have too many strips, the lift answers 11
@@ -66,9 +70,11 @@ pub record TakesWhole (net : ℕ) (l : Layout) (next : Moment) : Type 0 where
   pub lifts : tooFine (without net l) ≡ false → (next .answer ≡ accepted) × (next .ledgerAfter ≡ without net l)
   pub too-fine : tooFine (without net l) ≡ true → next .answer ≡ refused 11
 
-abbrev pub LiftsWhole : Type 0
-LiftsWhole =
-    AtEvery (λ k later.
+abbrev pub LiftsWholeAt : Moment → List Moment → Type 0
+LiftsWholeAt k later =
     (net : ℕ) (S : Point) (cs : List Point) (n : ℕ) → k .step ≡ join net S → k .answer ≡ laid cs n
     → (next : Moment) (rest : List Moment) → later ≡ next ∷ rest → next .step ≡ lift net → short (next .room) ≡ false
-    → TakesWhole net (k .ledgerBefore) next)
+    → TakesWhole net (k .ledgerBefore) next
+
+abbrev pub LiftsWhole : Type 0
+LiftsWhole = AtEvery LiftsWholeAt

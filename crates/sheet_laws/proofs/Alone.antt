@@ -24,17 +24,22 @@ use Rattle.foil_spec.specs.declared.Board.{Board}
 use Rattle.list_laws.proofs.Tests.{both}
 use Rattle.ledger_laws.specs.Demand2.{StripsRight}
 use Rattle.ledger_laws.specs.Demand3.{NoWayAt, LaysFirstAt, LiftsBackAt}
-use Rattle.ledger_laws.specs.Joins.{NoJoinAt, JoinsFirstAt}
+use Rattle.ledger_laws.specs.Drawn.{FindsNoWayAt, FindsFirstAt, BooksWaysAt}
+use Rattle.ledger_laws.specs.Apart.{TracksApartAt}
+use Rattle.ledger_laws.specs.Joins.{NoJoinAt, JoinsFirstAt, JoinsApartAt, JoinBendsAt, LiftsWholeAt}
 use Rattle.ledger_laws.specs.Moments.{Started, begins as by-call, carried as carried-alone}
 use Rattle.ledger_laws.proofs.Lending.{step-short, back-front as lists-back}
 use Rattle.ledger_laws.proofs.Opening.{begins-told}
 use Rattle.ledger_laws.proofs.Demand2.{strips-stay-right}
 use Rattle.ledger_laws.proofs.Demand3.{no-way, lays-first, lifts-back}
-use Rattle.ledger_laws.proofs.Joins.{no-join, joins-first}
+use Rattle.ledger_laws.proofs.Drawn.{finds-no-way, finds-first, books-ways}
+use Rattle.ledger_laws.proofs.Apart.{tracks-apart}
+use Rattle.ledger_laws.proofs.Joins.{no-join, joins-first, joins-apart, join-bends, lifts-whole-after}
 use Rattle.ledger_laws.proofs.Replies.{shownBy}
 use Rattle.sheet_laws.specs.Alone.{EightFoils, foilOf, aloneCall, aloneCalls, leftOf, FoilsAlone, LeavesOthers}
 use Rattle.sheet_laws.specs.Alone.{SheetNoWay, SheetLaysFirst, SheetLiftsBack, SheetNoJoin, SheetJoinsFirst}
-use Rattle.sheet_laws.specs.Alone.{SheetStripsRight, OthersStay}
+use Rattle.sheet_laws.specs.Alone.{SheetStripsRight, SheetTracksApart, SheetJoinsApart, SheetJoinBends}
+use Rattle.sheet_laws.specs.Alone.{SheetLiftsWhole, SheetFindsNoWay, SheetFindsFirst, SheetBooksWays, OthersStay}
 use Rattle.sheet_laws.specs.Alone.{StartedOn, begins, carried, AlsoOnSheet}
 use Rattle.sheet_laws.proofs.Counts.{ok-total, ok-at}
 use Rattle.sheet_laws.proofs.Parts.{part-few, parts-append}
@@ -435,3 +440,24 @@ sheet-no-join = also-on-sheet NoJoinAt no-join
 
 pub sheet-joins-first : SheetJoinsFirst
 sheet-joins-first = also-on-sheet JoinsFirstAt joins-first
+
+pub sheet-tracks-apart : SheetTracksApart
+sheet-tracks-apart = also-on-sheet TracksApartAt tracks-apart
+
+pub sheet-joins-apart : SheetJoinsApart
+sheet-joins-apart = also-on-sheet JoinsApartAt joins-apart
+
+pub sheet-join-bends : SheetJoinBends
+sheet-join-bends = also-on-sheet JoinBendsAt join-bends
+
+pub sheet-lifts-whole : SheetLiftsWhole
+sheet-lifts-whole = also-on-sheet LiftsWholeAt lifts-whole-after
+
+pub sheet-finds-no-way : SheetFindsNoWay
+sheet-finds-no-way = also-on-sheet FindsNoWayAt finds-no-way
+
+pub sheet-finds-first : SheetFindsFirst
+sheet-finds-first = also-on-sheet FindsFirstAt finds-first
+
+pub sheet-books-ways : SheetBooksWays
+sheet-books-ways = also-on-sheet BooksWaysAt books-ways

@@ -18,7 +18,9 @@ use Rattle.foil_spec.specs.Calls.{outputBy}
 use Rattle.foil_spec.specs.declared.Board.{Board}
 use Rattle.ledger_laws.specs.Demand2.{StripsRight}
 use Rattle.ledger_laws.specs.Demand3.{NoWayAt, LaysFirstAt, LiftsBackAt}
-use Rattle.ledger_laws.specs.Joins.{NoJoinAt, JoinsFirstAt}
+use Rattle.ledger_laws.specs.Drawn.{FindsNoWayAt, FindsFirstAt, BooksWaysAt}
+use Rattle.ledger_laws.specs.Apart.{TracksApartAt}
+use Rattle.ledger_laws.specs.Joins.{NoJoinAt, JoinsFirstAt, JoinsApartAt, JoinBendsAt, LiftsWholeAt}
 use Rattle.ledger_laws.specs.Moments.{Moment, moments, AtEvery}
 
 -- the records and the table of a sheet of eight foils within both limits, on at least 512 places; the foils may hold
@@ -122,3 +124,27 @@ SheetNoJoin = OnSheet NoJoinAt
 
 abbrev pub SheetJoinsFirst : Type 0
 SheetJoinsFirst = OnSheet JoinsFirstAt
+
+-- a new track and a join keep apart from what is on their own foil, and from its edge
+abbrev pub SheetTracksApart : Type 0
+SheetTracksApart = OnSheet TracksApartAt
+
+abbrev pub SheetJoinsApart : Type 0
+SheetJoinsApart = OnSheet JoinsApartAt
+
+-- a join's bends and steps count for its net, and a lift of the net as the next step on the foil takes it whole
+abbrev pub SheetJoinBends : Type 0
+SheetJoinBends = OnSheet JoinBendsAt
+
+abbrev pub SheetLiftsWhole : Type 0
+SheetLiftsWhole = OnSheet LiftsWholeAt
+
+-- what find and book promise
+abbrev pub SheetFindsNoWay : Type 0
+SheetFindsNoWay = OnSheet FindsNoWayAt
+
+abbrev pub SheetFindsFirst : Type 0
+SheetFindsFirst = OnSheet FindsFirstAt
+
+abbrev pub SheetBooksWays : Type 0
+SheetBooksWays = OnSheet BooksWaysAt
