@@ -69,7 +69,8 @@ limit-requires : tie.Need-limit-requires
 limit-requires c κs =
     let told = c .before in
     let o = record-out _ _ _ _ _ (atPassed told .lend-for-record .ensures) (told .enum-told .given .1) in
-    (o .0 .here, o .0 .eight-foils .limits)
+    let here = o .0 .here in
+    (omega arith, o .0 .eight-foils .limits)
 
 slice-aggregate-run-record-in : tie.Need-slice-aggregate-run-record-in
 slice-aggregate-run-record-in c = search needs
