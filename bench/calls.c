@@ -1,39 +1,52 @@
-/* One call by its name, `times` times, on a foil that is made first: calls NAME TIMES, and then a point for a look up,
-   or a foil by its name for a lay and a join. The difference of the instructions of two runs, with one call and with
-   two, is the cost of a call: what is made first, and the first touch of the stack, is in both. */
+/* One call by its name, `times` times, on foil 0 of a sheet, which is made first: calls NAME TIMES, and then a point
+   for a look up, or a foil by its name for a lay and a join. Where `full` stands before the name, the other foils have 378
+   entries. The difference of the instructions of two runs, with one call and with two, is the cost of a call: what is
+   made first, and the first touch of the stack, is in both. */
 #include <stdio.h>
 #include <stdlib.h>
 #include <string.h>
 
 #include "foil.h"
 
-static struct foil_board board;
-static struct foil_entry table[FOIL_ENTRIES];
+static struct foil_sheet sheet;
+static size_t called;
+static struct foil_entry table[FOIL_PLACES];
 static uint16_t strips[4 * FOIL_STRIPS], corners[2 * 8192];
 static uint8_t bytes[FOIL_SLIP_LINE * FOIL_ENTRIES];
 
-#define LENT &board, table, FOIL_ENTRIES, strips, 4 * FOIL_STRIPS
+#define LENT &sheet, table, FOIL_PLACES, strips, 4 * FOIL_STRIPS
 #define CORNERS corners, 2 * 8192
+
+/* 54 entries on each other foil */
+static void full(void)
+{
+    unsigned k;
+    for (called = FOIL_FOILS - 1; called > 0; called--) {
+        foil_new_foil(LENT, called, 64, 64, 0, 0);
+        for (k = 0; k < 54; k++)
+            foil_draw(LENT, called, k, k, k + 1, k + 1);
+    }
+}
 
 /* document 01's foil of 4,096 strips */
 static void finest(void)
 {
     unsigned k;
-    foil_new_foil(LENT, 127, 127, 0, 0);
+    foil_new_foil(LENT, called, 127, 127, 0, 0);
     for (k = 1; k < 126; k += 2)
-        foil_draw(LENT, k, 0, k + 1, 127);
+        foil_draw(LENT, called, k, 0, k + 1, 127);
     for (k = 1; k < 126; k += 2)
-        foil_draw(LENT, 0, k, 127, k + 1);
+        foil_draw(LENT, called, 0, k, 127, k + 1);
 }
 
 /* so many nets of one point each, on a foil of 4,096 by 4,096 */
 static void points(unsigned n)
 {
     unsigned k;
-    foil_new_foil(LENT, 4096, 4096, 0, 0);
+    foil_new_foil(LENT, called, 4096, 4096, 0, 0);
     for (k = 0; k < n; k++) {
         struct foil_entry leg = {1 + 7 * k, 31 * k, 29 * k, 31 * k + 1, 29 * k + 1};
-        foil_put_leg(LENT, leg);
+        foil_put_leg(LENT, called, leg);
     }
 }
 
@@ -41,9 +54,9 @@ static void points(unsigned n)
 static void bars(unsigned n)
 {
     unsigned k;
-    foil_new_foil(LENT, 4096, 4096, 0, 0);
+    foil_new_foil(LENT, called, 4096, 4096, 0, 0);
     for (k = 0; k < n; k++)
-        foil_draw(LENT, 30 * k % 2600, 32 * k, 30 * k % 2600 + 1400, 32 * k + 9);
+        foil_draw(LENT, called, 30 * k % 2600, 32 * k, 30 * k % 2600 + 1400, 32 * k + 9);
 }
 
 /* so many patches here and there, as bench/jobs.rs scatters them */
@@ -51,13 +64,13 @@ static void scattered(unsigned n)
 {
     uint64_t seed = 3;
     unsigned k, i, size[4];
-    foil_new_foil(LENT, 4096, 4096, 0, 0);
+    foil_new_foil(LENT, called, 4096, 4096, 0, 0);
     for (k = 0; k < n; k++) {
         for (i = 0; i < 4; i++) {
             seed = seed * 6364136223846793005u + 1442695040888963407u;
             size[i] = (seed >> 33) % (i < 2 ? 60 : 4096 - size[i - 2]) + (i < 2);
         }
-        foil_draw(LENT, size[2], size[3], size[2] + size[0], size[3] + size[1]);
+        foil_draw(LENT, called, size[2], size[3], size[2] + size[0], size[3] + size[1]);
     }
 }
 
@@ -65,20 +78,20 @@ static void scattered(unsigned n)
 static void staggered(unsigned n)
 {
     unsigned k, step = 4096 / (n + 1), less = 4096 / (4 * n);
-    foil_new_foil(LENT, 4096, 4096, 0, 0);
+    foil_new_foil(LENT, called, 4096, 4096, 0, 0);
     for (k = 1; k <= n; k++)
-        foil_draw(LENT, k * step, k * less, k * step + 1, 4096 - k * less);
+        foil_draw(LENT, called, k * step, k * less, k * step + 1, 4096 - k * less);
 }
 
 /* so many long legs of net 7, and a patch below each; no two ends are on one line */
 static void long_legs(unsigned n)
 {
     unsigned k;
-    foil_new_foil(LENT, 4096, 4096, 0, 0);
+    foil_new_foil(LENT, called, 4096, 4096, 0, 0);
     for (k = 0; k < n; k++) {
         struct foil_entry leg = {7, 30 + 7 * k, 60 + 66 * k, 4060 - 9 * k, 61 + 66 * k};
-        foil_put_leg(LENT, leg);
-        foil_draw(LENT, 101 + 61 * k, 80 + 66 * k, 121 + 61 * k, 90 + 66 * k);
+        foil_put_leg(LENT, called, leg);
+        foil_draw(LENT, called, 101 + 61 * k, 80 + 66 * k, 121 + 61 * k, 90 + 66 * k);
     }
 }
 
@@ -112,20 +125,21 @@ static struct pair made(const char *foil)
    33 thousand instructions, in both */
 static struct foil_said led(int joins, const char *foil, int times)
 {
-    static struct foil_entry made_table[FOIL_ENTRIES];
+    static struct foil_entry made_table[FOIL_PLACES];
     static uint16_t made_strips[4 * FOIL_STRIPS];
     struct foil_said said = {0, 0, 0, 0, 0};
     struct pair p = made(foil);
     struct foil_entry end = {7, p.tx, p.ty, p.tx + 1, p.ty + 1};
-    struct foil_board made_board;
+    struct foil_sheet made_sheet;
     if (joins)
-        foil_put_leg(LENT, end);
-    made_board = board;
+        foil_put_leg(LENT, called, end);
+    made_sheet = sheet;
     memcpy(made_table, table, sizeof table);
     memcpy(made_strips, strips, sizeof strips);
     for (; times > 0; times--) {
-        said = joins ? foil_join(LENT, CORNERS, 7, p.sx, p.sy) : foil_lay(LENT, CORNERS, 8, p.sx, p.sy, p.tx, p.ty);
-        board = made_board;
+        said = joins ? foil_join(LENT, CORNERS, called, 7, p.sx, p.sy)
+                     : foil_lay(LENT, CORNERS, called, 8, p.sx, p.sy, p.tx, p.ty);
+        sheet = made_sheet;
         memcpy(table, made_table, sizeof table);
         memcpy(strips, made_strips, sizeof strips);
     }
@@ -150,36 +164,40 @@ int main(int argc, char **argv)
     struct foil_said said = {0, 0, 0, 0, 0};
     unsigned x = argc > 3 ? atoi(argv[3]) : 0, y = argc > 4 ? atoi(argv[4]) : 0;
     size_t n;
+    if (strncmp(name, "full", 4) == 0) {
+        full();
+        name += 4;
+    }
     if (strcmp(name, "look") == 0) {
         for (finest(); times > 0; times--)
-            said = foil_look_up(LENT, x, y);
+            said = foil_look_up(LENT, called, x, y);
     } else if (strcmp(name, "save") == 0) {
         for (bars(128); times > 0; times--)
-            said = foil_save(LENT, bytes, sizeof bytes);
+            said = foil_save(LENT, bytes, sizeof bytes, called);
     } else if (strcmp(name, "savefine") == 0) {
         for (finest(); times > 0; times--)
-            said = foil_save(LENT, bytes, sizeof bytes);
+            said = foil_save(LENT, bytes, sizeof bytes, called);
     } else if (strcmp(name, "slip") == 0) {
         for (points(128); times > 0; times--)
-            said = foil_slip(LENT, bytes, sizeof bytes);
+            said = foil_slip(LENT, bytes, sizeof bytes, called);
     } else if (strcmp(name, "lay") == 0 || strcmp(name, "join") == 0) {
         said = led(*name == 'j', argc > 3 ? argv[3] : "", times);
     } else if (strcmp(name, "find") == 0) {
         for (bars(120); times > 0; times--)
-            said = foil_find(LENT, CORNERS, 0, 20, 4000, 4090);
+            said = foil_find(LENT, CORNERS, called, 0, 20, 4000, 4090);
     } else if (strcmp(name, "book") == 0) {
         n = stairs(129);
         /* 128 entries far from the stairs: the whole list is tried, and then there is no place for its legs (10) */
         unsigned k;
-        foil_new_foil(LENT, 4096, 4096, 0, 0);
+        foil_new_foil(LENT, called, 4096, 4096, 0, 0);
         for (k = 0; k < 128; k++)
-            foil_draw(LENT, 1000 + 20 * k, 500 + 25 * k, 1011 + 20 * k, 507 + 25 * k);
+            foil_draw(LENT, called, 1000 + 20 * k, 500 + 25 * k, 1011 + 20 * k, 507 + 25 * k);
         for (; times > 0; times--)
-            said = foil_book(LENT, corners, n, 7);
+            said = foil_book(LENT, corners, n, called, 7);
     } else if (strcmp(name, "leg") == 0 || strcmp(name, "draw") == 0) {
         struct foil_entry leg = {7, 126, 126, 127, 127};
         for (finest(); times > 0; times--)
-            said = *name == 'l' ? foil_put_leg(LENT, leg) : foil_draw(LENT, 126, 126, 127, 127);
+            said = *name == 'l' ? foil_put_leg(LENT, called, leg) : foil_draw(LENT, called, 126, 126, 127, 127);
     }
     printf("%u %zu %zu %zu %zu\n", said.number, said.corners, said.bends, said.place, said.bytes);
     return 0;

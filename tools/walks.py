@@ -8,23 +8,23 @@ Four shapes of function have a walk each. A walk follows the MIR statement by st
 function must be just as it stands here; `rest` is lists lent as `&mut` or `&`, numbers, and structs by value, in any
 order, the same in the function and in its core.
 
-    public   pub fn f(board: &mut Board, table: &mut [Entry], rest) -> Answer
-             { let b = *board; let out = core(b, table, rest); *board = out.board; out.answer }
+    public   pub fn f(sheet: &mut Sheet, table: &mut [Entry], rest) -> Answer
+             { let s = *sheet; let out = core(s, table, rest); *sheet = out.sheet; out.answer }
 
-    inner    pub fn f(b: Board, table: &mut [Entry], rest) -> Left
-             { let t = load(table); let out = core(b, t, rest); let u = out.table; store(table, u); out }
+    inner    pub fn f(s: Sheet, table: &mut [Entry], rest) -> Left
+             { let t = load(table); let out = core(s, t, rest); let u = out.table; store(table, u); out }
 
-    look     pub fn f(board: &Board, table: &[Entry], rest) -> Answer
-             { let b = *board; let t = load(table); core(b, t, rest) }
+    look     pub fn f(sheet: &Sheet, table: &[Entry], rest) -> Answer
+             { let s = *sheet; let t = load(table); core(s, t, rest) }
 
-    told     pub extern "C" fn f(board, table, rest) -> Said
-             { let answer = core(board, table, rest); say(answer) }
+    told     pub extern "C" fn f(sheet, table, rest) -> Said
+             { let answer = core(sheet, table, rest); say(answer) }
 
 A walk hands `rest` on as one thing, and what the callees ensure unopened, so that it knows nothing of a contract: a
-public call's is its core's at `out.answer` and `out.board`, a told one's is `ToldBy` of its core's, and those of an
+public call's is its core's at `out.answer` and `out.sheet`, a told one's is `ToldBy` of its core's, and those of an
 inner function and of a look follow from their core's by the law named with them, of e₁ : t ≡ frontOf es, e₂ : what the
-core ensures, and for an inner function e₃ : es′ ≡ overFront (out .table) es. The laws of walks stand in Walks.antt and
-Locals.antt of crates/host/proofs.
+core ensures, and for an inner function e₃ : es′ ≡ overFront (out .table) es; besides, they are told that the records
+are eight. The laws of walks stand in Walks.antt and Locals.antt of crates/host/proofs.
 
 A position in a walk counts the items that are held: the last local stands first, and each local is two items, its cell
 and the right to free it.
@@ -37,7 +37,8 @@ import tempfile
 
 CRATE = 'host'
 WIDTHS = {'u8': 'w8', 'u16': 'w16', 'u32': 'w32', 'u64': 'w64', 'usize': 'w64'}
-ROWS = {'Entry': 'entry.the-row', 'Board': 'board.the-row'}
+EIGHT = 'use Rattle.sheet_rows.proofs.Records.{eight}'
+ROWS = {'Entry': 'entry.the-row', 'Sheet': 'sheet.the-row'}
 
 
 # ---- names and terms
@@ -191,48 +192,48 @@ class Walk:
 
 def public(function, core, left, answer, rest):
     """left is the type of the core's result, answer that of the call's"""
-    w = Walk(['&mut Board', '&mut [Entry]'] + rest, 2 + 2 * (1 + sum(r.startswith('&mut') for r in rest)))
+    w = Walk(['&mut Sheet', '&mut [Entry]'] + rest, 2 + 2 * (1 + sum(r.startswith('&mut') for r in rest)))
     n = w.lifetimes()
     record, result = w.local(), w.local()
     w.begin('(‵ (flft (κs .0) (qs .0)) ⊛ raw (toks 𝓤 A %d (κs .1) (qs .1)))' % (n - 1))
     w.note("the record's borrow is opened, and the record copied out")
     cells = 2 * w.count
     w.say(move(cells + 1) + 'fsplit ! $ fsplit3 ! $ drop ! $ ' + move(cells + 3) + 'split ! $ ' + move(2, 3, 0))
-    w.say('opens-record ! tt a-Board (a .0 .now) (a .0 .ptr .0) (a .0 .ptr .1) (λ g. ')
+    w.say('opens-record ! tt a-Sheet (a .0 .now) (a .0 .ptr .0) (a .0 .ptr .1) (λ g. ')
     # the record's cell; what it owns; the open borrow; obs; auth; tokens; what the other parameters own
     w.copy(record, '(from ! (hop ! (look ! %d refl) (stop !))) (look-raw ! 0 refl)' % w.place(1, 7), 7,
-           '(typed-at W a-Board (a .0 .now) g .0)')
+           '(typed-at W a-Sheet (a .0 .now) g .0)')
     operands = w.lend_all(1, 7)
     w.say(move(1, 6) + 'fjoin ! $ ' + move(5, 0) + 'join ! $ ')
-    w.call('core', 'known', '(κs .1, qs .1, tt, (a .0 .now, a .1), (a-Board .val (a .0 .now) ∷ [], vals .1))',
+    w.call('core', 'known', '(κs .1, qs .1, tt, (a .0 .now, a .1), (a-Sheet .val (a .0 .now) ∷ [], vals .1))',
            value(left), [record] + operands, 5, 'r is ok ws')
     w.land(result, 7, 'ok')
     part = left.lower()
     w.note('the new record is stored, and the borrow closed at it')
     w.say('assigns ! (of-opd ! (load ! (from ! (fld ! refl (stop !))) (look-in ! %d (sub ! 0 refl (whole !))))) '
-          '(from ! (hop ! (look ! %d refl) (stop !))) (store-raw ! 3 refl (typed-at W a-Board (r .board) (%s-board r '
+          '(from ! (hop ! (look ! %d refl) (stop !))) (store-raw ! 3 refl (typed-at W a-Sheet (r .sheet) (%s-sheet r '
           'is) .0)) $ '
           % (w.place(result, 7), w.place(1, 7), part))
     w.copy(0, '(from ! (fld ! refl (stop !))) (look-in ! %d (sub ! 1 refl (whole !)))' % w.place(result, 7), 7,
            '(typed-at W %s (r .%s) (%s-answer r is) .0)' % (value(answer), answer.lower(), part))
-    w.say('has-value ! a-Board (r .board) (%s-board r is) $ ' % part + move(4, 0, 5, 6, 7))
-    w.say('closes ! tt board.the-row (r .board) (a-Board .val (r .board) ∷ []) (a .0 .ptr .0) (a .0 .ptr .1) $ ')
+    w.say('has-value ! a-Sheet (r .sheet) (%s-sheet r is) $ ' % part + move(4, 0, 5, 6, 7))
+    w.say('closes ! tt sheet.the-row (r .sheet) (a-Sheet .val (r .sheet) ∷ []) (a .0 .ptr .0) (a .0 .ptr .1) $ ')
     w.leave(6)
     # obs; the borrow; its token; tokens; the last lists; what is ensured
-    w.say('use1 W (‵ (fres (a .0 .name) (board.the-row .coded .code (r .board)))) (W .names .obs-res (a .0 .name) '
-          '(board.the-row .coded .code (r .board))) $ ' + move(4) + 'fsplit ! $ drop ! $ ' + move(1, 0) + 'fjoin ! $ '
+    w.say('use1 W (‵ (fres (a .0 .name) (sheet.the-row .coded .code (r .sheet)))) (W .names .obs-res (a .0 .name) '
+          '(sheet.the-row .coded .code (r .sheet))) $ ' + move(4) + 'fsplit ! $ drop ! $ ' + move(1, 0) + 'fjoin ! $ '
           + move(2, 3) + 'join ! $ has-value ! %s (r .%s) (%s-answer r is) $ keep ! (1 ∷ 0 ∷ 2 ∷ 4 ∷ []) $ '
           % (value(answer), answer.lower(), part))
-    w.end('ends-with', '(r .%s)' % answer.lower(), value(answer), '(r .board, ws .1)')
+    w.end('ends-with', '(r .%s)' % answer.lower(), value(answer), '(r .sheet, ws .1)')
     write(function, w, 'public', "The record's borrow is opened and the record copied out; the lists are given to "
           '`%s` for good; the new record is stored, and the borrow closed at it.' % colons(core),
-          [('core', core, 'known')], ['a-Board', value(left), value(answer), part + '-board', part + '-answer'])
+          [('core', core, 'known')], ['a-Sheet', value(left), value(answer), part + '-sheet', part + '-answer'])
 
 
 def inner(function, core, left, rest, law):
     """law: its `use` line, and the law with its arguments but the facts"""
     lent = sum(r.startswith('&mut') for r in rest)
-    w = Walk(['Board', '&mut [Entry]'] + rest, 8 + 2 * lent)
+    w = Walk(['Sheet', '&mut [Entry]'] + rest, 8 + 2 * lent)
     n = w.lifetimes()
     table = w.params[1]
     loaded, result, stored = w.local(), w.local(), w.local()
@@ -280,17 +281,18 @@ def inner(function, core, left, rest, law):
           + move(1) + 'fsplit ! $ ' + move(1) + 'drop ! $ ' + move(3) + 'fsplit ! $ drop ! $ fsplit ! $ drop ! $ '
           + move(1, 0) + 'fjoin ! $ nothing ! $ fjoin ! $ ' + move(1, 2) + 'join ! $ has-value ! %s r is₂ $ '
           % value(left) + move(1, 0))
-    w.end('ends-saying', 'r', value(left), '(tt, (vs .0, zs .1 .1))', ' (factI 𝓤 _ (emp 𝓤) (%s e₁ e₂ e₃))' % law[1])
+    w.end('ends-saying', 'r', value(left), '(tt, (vs .0, zs .1 .1))',
+          ' (factI 𝓤 _ (emp 𝓤) (%s (eight (a .0) (are .0)) e₁ e₂ e₃))' % law[1])
     write(function, w, 'inner', 'The table is lent as a `&` to `%s` for a lifetime that the walk makes, and comes back '
           '(Shared.antt); the other lists are given to `%s` for good, and the table to `%s`.'
           % (colons('table.load'), colons(core), colons('table.store')),
           [('core', core, 'known'), ('ld', 'table.load', 'known-load'), ('st', 'table.store', 'known-store')],
-          ['a-Board', 'a-Flat', value(left), part + '-table'],
-          ['use Rattle.host.proofs.Shared.{LentShared, lends-shared, shared-back}', law[0]])
+          ['a-Sheet', 'a-Flat', value(left), part + '-table'],
+          ['use Rattle.host.proofs.Shared.{LentShared, lends-shared, shared-back}', EIGHT, law[0]])
 
 
 def look(function, core, answer, rest, law):
-    w = Walk(['&Board', '&[Entry]'] + rest, 2 + 2 * sum(r.startswith('&mut') for r in rest))
+    w = Walk(['&Sheet', '&[Entry]'] + rest, 2 + 2 * sum(r.startswith('&mut') for r in rest))
     n = w.lifetimes()
     record, loaded = w.local(), w.local()
     w.begin('(‵ (flft (κs .0) (qs .0)) ⊛ (‵ (flft (κs .1 .0) (qs .1 .0)) ⊛ raw (toks 𝓤 A %d (κs .1 .1) (qs .1 .1))))'
@@ -298,12 +300,12 @@ def look(function, core, answer, rest, law):
     w.note('the record is looked into, and copied out')
     cells = 2 * w.count
     w.say(move(cells + 1) + 'fsplit ! $ fsplit3 ! $ drop ! $ drop ! $ ' + move(cells + 2) + 'split ! $ ' + move(2, 0))
-    w.say('looks-into ! tt a-Board (LL.copy board.the-type board′.the-copy 𝓤 H A W) (a .0 .now) (a .0 .ptr .0) '
+    w.say('looks-into ! tt a-Sheet (LL.copy sheet.the-type sheet′.the-copy 𝓤 H A W) (a .0 .now) (a .0 .ptr .0) '
           '(a .0 .ptr .1) (λ q g. ')
     # the record's cell; what it owns; its open borrow; its borrow; the other tokens; what the other parameters own
     w.copy(record, '(from ! (hop ! (look ! %d refl) (stop !))) (look-raw ! 0 refl)' % w.place(1, 6), 6,
-           '(typed-at W a-Board (a .0 .now) g .0)')
-    w.say('shuts ! tt board.the-row q (a .0 .now) (a-Board .val (a .0 .now) ∷ []) (a .0 .ptr .0) (a .0 .ptr .1) $ ')
+           '(typed-at W a-Sheet (a .0 .now) g .0)')
+    w.say('shuts ! tt sheet.the-row q (a .0 .now) (a-Sheet .val (a .0 .now) ∷ []) (a .0 .ptr .0) (a .0 .ptr .1) $ ')
     w.say(move(2) + 'split ! $ ' + move(4) + 'fsplit ! $ nothing ! $ ' + move(1, 0) + 'fjoin ! $ nothing ! $ '
           + move(3, 0) + 'join ! $ join ! $ ')
     w.call('ld', 'known-load', '((κs .1 .0, tt), (qs .1 .0, tt), tt, (a .1 .0, tt), (vals .1 .0, tt))', 'a-Flat',
@@ -312,9 +314,9 @@ def look(function, core, answer, rest, law):
     w.land(loaded, 5, 'ok₁')
     # the table's token; what the rest owns; the other tokens; the record's token and borrow
     operands = w.lend_all(2, 5)
-    w.say('has-value ! a-Flat t is₁ $ ' + move(0, 2) + 'fjoin ! $ has-value ! a-Board (a .0 .now) g $ fjoin ! $ '
+    w.say('has-value ! a-Flat t is₁ $ ' + move(0, 2) + 'fjoin ! $ has-value ! a-Sheet (a .0 .now) g $ fjoin ! $ '
           + move(2, 0) + 'join ! $ ')
-    w.call('core', 'known', '(κs .1 .1, qs .1 .1, tt, (a .0 .now, (t, a .1 .1)), (a-Board .val (a .0 .now) ∷ [], '
+    w.call('core', 'known', '(κs .1 .1, qs .1 .1, tt, (a .0 .now, (t, a .1 .1)), (a-Sheet .val (a .0 .now) ∷ [], '
            '(a-Flat .val t ∷ [], vals .1 .1)))', value(answer), [record, loaded] + operands, 4, 'r is₂ ok₂ zs')
     w.land(0, 6, 'ok₂')
     w.leave(6)
@@ -322,11 +324,11 @@ def look(function, core, answer, rest, law):
     w.say(move(2) + 'heard ! _ (λ e₂. ' + move(2) + 'use1 W (‵ (flft (κs .1 .0) (qs .1 .0))) (fst∗ 𝓤 _ (emp 𝓤)) $ '
           + move(0, 1) + 'join ! $ ' + move(2, 0) + 'join ! $ has-value ! %s r is₂ $ keep ! (1 ∷ 0 ∷ 2 ∷ []) $ '
           % value(answer))
-    w.end('ends-saying', 'r', value(answer), 'zs', ' (factI 𝓤 _ (emp 𝓤) (%s e₁ e₂))' % law[1])
+    w.end('ends-saying', 'r', value(answer), 'zs', ' (factI 𝓤 _ (emp 𝓤) (%s (eight (a .0 .now) g) e₁ e₂))' % law[1])
     write(function, w, 'look', 'The record is copied out of its `&`; the table is passed to `%s` and the rest to `%s`.'
           % (colons('table.load'), colons(core)), [('core', core, 'known'), ('ld', 'table.load', 'known-load')],
-          ['a-Board', 'a-Flat', value(answer)],
-          [law[0], 'use denote.Struct.Laws as LL', 'use Rattle.foil_spec.proofs.Board.Laws as board′'])
+          ['a-Sheet', 'a-Flat', value(answer)],
+          [EIGHT, law[0], 'use denote.Struct.Laws as LL', 'use Rattle.sheet_rows.proofs.Sheet.Laws as sheet′'])
 
 
 def told(function, core, answer, say, said, first, rest):
@@ -482,9 +484,9 @@ def write(function, walk, shape, idea, callees, values, more=()):
     values = set(values) | {value(p.type) for p in walk.params if not p.ref and p.type not in WIDTHS}
     head += uses('Rattle.host.proofs.Values', sorted(values))
     head += list(more)
-    for prefix, module in (('board', 'Board'), ('entry', 'Entry')):
+    for prefix, module in (('sheet', 'sheet_rows.proofs.Sheet'), ('entry', 'foil_spec.proofs.Entry')):
         if prefix + '.the-row' in text or prefix + '.the-type' in text:
-            head += ['use Rattle.foil_spec.proofs.%s as %s' % (module, prefix)]
+            head += ['use Rattle.%s as %s' % (module, prefix)]
     head += ['use %s as %s' % (proofs_of(c), p) for p, c, _ in callees] + ['use %s as f' % proofs_of(function), '']
     WRITTEN[os.path.join('crates', CRATE, 'proofs', *function.split('.'), 'Proof.antt')] = \
         '\n'.join(wrapped(head + body)) + '\n'
@@ -502,36 +504,35 @@ def changing(name, thin, core, left, answer, rest, law):
     """A call that changes the foil: its thin function over the table, the call, and the call for C."""
     inner(thin, core, left, rest, law)
     public(name, thin, left, answer, rest)
-    told('exported.foil_' + name, name, answer, *SAY[answer], ['&mut Board', '&mut [Entry]'], rest)
+    told('exported.foil_' + name, name, answer, *SAY[answer], ['&mut Sheet', '&mut [Entry]'], rest)
 
 
 def reading(name, core, answer, rest, law):
     """A call that only reads the foil: the call, and the call for C."""
     look(name, core, answer, rest, law)
-    told('exported.foil_' + name, name, answer, *SAY[answer], ['&Board', '&[Entry]'], rest)
+    told('exported.foil_' + name, name, answer, *SAY[answer], ['&Sheet', '&[Entry]'], rest)
 
 
-STEP = (TABLES % 'whole-done', 'whole-done' + ' _' * 8)
-WRITE = (TABLES % 'whole-wrote', 'whole-wrote' + ' _' * 10)
-RECORD = (RUNNING % 'whole-ran', 'whole-ran' + ' _' * 11)
-READ = (TABLES % 'whole-read', 'whole-read' + ' _' * 8)
-LOOK = (TABLES % 'whole-looked', 'whole-looked' + ' _' * 6)
-OHMS = (TABLES % 'whole-ohms', 'whole-ohms' + ' _' * 7)
-STRIPS, CORNERS = '&mut [u16]', '&mut [u16]'
-changing('new_foil', 'table.clear', 'flat.new_foil', 'Left', 'Answer', [STRIPS] + ['u16'] * 4, STEP)
-changing('draw', 'table.append', 'flat.draw', 'Left', 'Answer', [STRIPS] + ['u16'] * 4, STEP)
-changing('lay', 'table.append_track', 'flat.lay', 'Left', 'Answer', [STRIPS, CORNERS] + ['u16'] * 5, WRITE)
-changing('join', 'table.append_join', 'flat.join', 'Left', 'Answer', [STRIPS, CORNERS] + ['u16'] * 3, WRITE)
-changing('lift', 'table.lift', 'flat.lift', 'Left', 'Answer', [STRIPS, 'u16'], STEP)
-changing('put_leg', 'table.append_leg', 'flat.put_leg', 'Left', 'Answer', [STRIPS, 'Entry'], STEP)
-changing('book', 'table.append_way', 'flat.book', 'Left', 'Answer', [STRIPS, '&[u16]', 'u16'], STEP)
+STEP = (TABLES % 'whole-done', 'whole-done' + ' _' * 9)
+WRITE = (TABLES % 'whole-wrote', 'whole-wrote' + ' _' * 11)
+RECORD = (RUNNING % 'whole-ran', 'whole-ran' + ' _' * 12)
+READ = (TABLES % 'whole-read', 'whole-read' + ' _' * 9)
+OHMS = (TABLES % 'whole-ohms', 'whole-ohms' + ' _' * 8)
+STRIPS, CORNERS, FOIL = '&mut [u16]', '&mut [u16]', 'usize'
+changing('new_foil', 'table.clear', 'flat.new_foil', 'Left', 'Answer', [STRIPS, FOIL] + ['u16'] * 4, STEP)
+changing('draw', 'table.append', 'flat.draw', 'Left', 'Answer', [STRIPS, FOIL] + ['u16'] * 4, STEP)
+changing('lay', 'table.append_track', 'flat.lay', 'Left', 'Answer', [STRIPS, CORNERS, FOIL] + ['u16'] * 5, WRITE)
+changing('join', 'table.append_join', 'flat.join', 'Left', 'Answer', [STRIPS, CORNERS, FOIL] + ['u16'] * 3, WRITE)
+changing('lift', 'table.lift', 'flat.lift', 'Left', 'Answer', [STRIPS, FOIL, 'u16'], STEP)
+changing('put_leg', 'table.append_leg', 'flat.put_leg', 'Left', 'Answer', [STRIPS, FOIL, 'Entry'], STEP)
+changing('book', 'table.append_way', 'flat.book', 'Left', 'Answer', [STRIPS, '&[u16]', FOIL, 'u16'], STEP)
 changing('run_record', 'table.run_record', 'records.run_record', 'Ran', 'Reply',
-         [STRIPS, CORNERS, '&[u8]', 'usize'], RECORD)
-reading('look_up', 'flat.look_up', 'Answer', ['&[u16]', 'u16', 'u16'], LOOK)
-reading('find', 'flat.find', 'Answer', ['&[u16]', CORNERS] + ['u16'] * 4, READ)
-reading('save', 'flat.save', 'Answer', ['&[u16]', '&mut [u8]'], READ)
-reading('slip', 'flat.slip', 'Answer', ['&[u16]', '&mut [u8]'], READ)
-reading('ohms', 'flat.ohms', 'Resistance', ['&[u16]', 'u16', 'Ink'], OHMS)
+         [STRIPS, CORNERS, '&[u8]', FOIL, 'usize'], RECORD)
+reading('look_up', 'flat.look_up', 'Answer', ['&[u16]', FOIL, 'u16', 'u16'], READ)
+reading('find', 'flat.find', 'Answer', ['&[u16]', CORNERS, FOIL] + ['u16'] * 4, READ)
+reading('save', 'flat.save', 'Answer', ['&[u16]', '&mut [u8]', FOIL], READ)
+reading('slip', 'flat.slip', 'Answer', ['&[u16]', '&mut [u8]', FOIL], READ)
+reading('ohms', 'flat.ohms', 'Resistance', ['&[u16]', FOIL, 'u16', 'Ink'], OHMS)
 
 
 def formatted(files):

@@ -1,9 +1,12 @@
-/* The calls on a foil, for C: the functions that `rt staticlib host` exports, as crates/host/src/exported.rt has them.
-   A list is lent by its address and its length. The table has 5 numbers an entry; a strip is 4 numbers (x0, y0, x1,
-   y1), a corner 2 (x, y). A call may be lent any lists: one that is too short is refused by 12, and of a longer one the
-   places past the first FOIL_ENTRIES or FOIL_STRIPS are neither read nor written. Lists must not overlap each other nor
-   the record. A refused call writes to no list, and to the record what it held. A lay, a join, a find, or a record
-   with a lay, needs up to 1.9 MB of stack. */
+/* The calls on a foil of a sheet, for C: the functions that `rt staticlib host` exports, as crates/host/src/exported.rt
+   has them. A sheet is eight foils, numbered 0 to 7: their records, and one table for all of them, foil after foil by
+   number, unused places last. A sheet begins with records and table all zero. A call is lent the records, the table,
+   the strips of the foil called, and the foil's number. A list is lent by its address and its length. An entry of the
+   table is 5 numbers; a strip is 4 (x0, y0, x1, y1), a corner 2 (x, y). A call may be lent any lists: one that is too
+   short is refused by 12, and of a longer one the places past the first FOIL_PLACES or FOIL_STRIPS are neither read nor
+   written. Lists must not overlap each other nor the records. A refused call writes to no list, and to the records what
+   they held; a foil number above 7 is refused by 23, before all else. A lay, a join, a find, or a record with a lay,
+   needs up to 1.9 MB of stack. */
 #ifndef FOIL_H
 #define FOIL_H
 
@@ -11,20 +14,33 @@
 #include <stddef.h>
 #include <stdint.h>
 
-/* what a foil's lists must have room for; and the bytes that are enough to save any foil: 12, 9 for each patch and 11
-   for each leg */
-enum { FOIL_ENTRIES = 128, FOIL_STRIPS = 4096, FOIL_BYTES = 12 + 11 * FOIL_ENTRIES };
+/* the foils of a sheet, and the places of their table; the entries that a foil may have, and those that it is sure of
+   whatever the others have; the strips that a foil's list must have room for; and the bytes that are enough to save any
+   foil: 12, 9 for each patch and 11 for each leg */
+enum {
+    FOIL_FOILS = 8,
+    FOIL_PLACES = 512,
+    FOIL_ENTRIES = 128,
+    FOIL_SURE = 32,
+    FOIL_STRIPS = 4096,
+    FOIL_BYTES = 12 + 11 * FOIL_ENTRIES
+};
 
 /* a line of a slip, its line feed included; a foil has no more nets than entries */
 enum { FOIL_SLIP_LINE = 33 };
 
-/* the board's record, with the pen's half width and gap */
+/* a foil's record, with the pen's half width and gap; all zero where the foil is not begun */
 struct foil_board {
     uint16_t width, height, half, gap;
     size_t entries, strips;
 };
 
-/* an entry of the patch table: its net, and the points with x0 <= x < x1 and y0 <= y < y1 */
+/* the records of the foils */
+struct foil_sheet {
+    struct foil_board boards[FOIL_FOILS];
+};
+
+/* an entry of the table: its net, and the points with x0 <= x < x1 and y0 <= y < y1 */
 struct foil_entry {
     uint16_t net, x0, y0, x1, y1;
 };
@@ -63,65 +79,69 @@ struct foil_resistance {
     double ohms;
 };
 
-/* begins a foil of w by h with a pen of half width 0 to 7 and gap 0 to 15: a patch and the foil's edge block the points
+/* begins the foil, w by h with a pen of half width 0 to 7 and gap 0 to 15: a patch and the foil's edge block the points
    up to half + gap away, a leg those up to 2 * half + gap; so a new foil has one strip, or none where the edge leaves
-   nothing */
-struct foil_said foil_new_foil(struct foil_board *board, struct foil_entry *table, size_t entries, uint16_t *strips,
-                               size_t strip_numbers, uint16_t w, uint16_t h, uint16_t half, uint16_t gap);
+   nothing. The entries that the foil had are taken out of the table */
+struct foil_said foil_new_foil(struct foil_sheet *sheet, struct foil_entry *table, size_t places, uint16_t *strips,
+                               size_t strip_numbers, size_t foil, uint16_t w, uint16_t h, uint16_t half, uint16_t gap);
 
 /* draws a patch */
-struct foil_said foil_draw(struct foil_board *board, struct foil_entry *table, size_t entries, uint16_t *strips,
-                           size_t strip_numbers, uint16_t x0, uint16_t y0, uint16_t x1, uint16_t y1);
+struct foil_said foil_draw(struct foil_sheet *sheet, struct foil_entry *table, size_t places, uint16_t *strips,
+                           size_t strip_numbers, size_t foil, uint16_t x0, uint16_t y0, uint16_t x1, uint16_t y1);
 
 /* lays a track of the net from (sx, sy) to (tx, ty), and writes its corners */
-struct foil_said foil_lay(struct foil_board *board, struct foil_entry *table, size_t entries, uint16_t *strips,
-                          size_t strip_numbers, uint16_t *corners, size_t corner_numbers, uint16_t net, uint16_t sx,
-                          uint16_t sy, uint16_t tx, uint16_t ty);
+struct foil_said foil_lay(struct foil_sheet *sheet, struct foil_entry *table, size_t places, uint16_t *strips,
+                          size_t strip_numbers, uint16_t *corners, size_t corner_numbers, size_t foil, uint16_t net,
+                          uint16_t sx, uint16_t sy, uint16_t tx, uint16_t ty);
 
 /* joins the point (sx, sy) to the net: finds a way from it to any point of the net's legs, writes its corners, and adds
    its legs under the same net, one of a single point if the point is on a leg already. Points that only the net's own
    legs block are free for it. Refused by 6 if the net is not on the foil, by 8 if the point is blocked for that net.
    foil_lift takes the net whole: it is not the undoing of a join */
-struct foil_said foil_join(struct foil_board *board, struct foil_entry *table, size_t entries, uint16_t *strips,
-                           size_t strip_numbers, uint16_t *corners, size_t corner_numbers, uint16_t net, uint16_t sx,
-                           uint16_t sy);
+struct foil_said foil_join(struct foil_sheet *sheet, struct foil_entry *table, size_t places, uint16_t *strips,
+                           size_t strip_numbers, uint16_t *corners, size_t corner_numbers, size_t foil, uint16_t net,
+                           uint16_t sx, uint16_t sy);
 
 /* finds the track from (sx, sy) to (tx, ty), and writes its corners; the foil is not changed */
-struct foil_said foil_find(const struct foil_board *board, const struct foil_entry *table, size_t entries,
+struct foil_said foil_find(const struct foil_sheet *sheet, const struct foil_entry *table, size_t places,
                            const uint16_t *strips, size_t strip_numbers, uint16_t *corners, size_t corner_numbers,
-                           uint16_t sx, uint16_t sy, uint16_t tx, uint16_t ty);
+                           size_t foil, uint16_t sx, uint16_t sy, uint16_t tx, uint16_t ty);
 
 /* books the way that the whole corner list draws as a track of the net; the list is only read */
-struct foil_said foil_book(struct foil_board *board, struct foil_entry *table, size_t entries, uint16_t *strips,
-                           size_t strip_numbers, const uint16_t *corners, size_t corner_numbers, uint16_t net);
+struct foil_said foil_book(struct foil_sheet *sheet, struct foil_entry *table, size_t places, uint16_t *strips,
+                           size_t strip_numbers, const uint16_t *corners, size_t corner_numbers, size_t foil,
+                           uint16_t net);
 
 /* lifts a net */
-struct foil_said foil_lift(struct foil_board *board, struct foil_entry *table, size_t entries, uint16_t *strips,
-                           size_t strip_numbers, uint16_t net);
+struct foil_said foil_lift(struct foil_sheet *sheet, struct foil_entry *table, size_t places, uint16_t *strips,
+                           size_t strip_numbers, size_t foil, uint16_t net);
 
 /* puts a leg as booked: appends its entry, without any search */
-struct foil_said foil_put_leg(struct foil_board *board, struct foil_entry *table, size_t entries, uint16_t *strips,
-                              size_t strip_numbers, struct foil_entry leg);
+struct foil_said foil_put_leg(struct foil_sheet *sheet, struct foil_entry *table, size_t places, uint16_t *strips,
+                              size_t strip_numbers, size_t foil, struct foil_entry leg);
 
 /* looks a point up */
-struct foil_said foil_look_up(const struct foil_board *board, const struct foil_entry *table, size_t entries,
-                              const uint16_t *strips, size_t strip_numbers, uint16_t x, uint16_t y);
+struct foil_said foil_look_up(const struct foil_sheet *sheet, const struct foil_entry *table, size_t places,
+                              const uint16_t *strips, size_t strip_numbers, size_t foil, uint16_t x, uint16_t y);
 
 /* saves the foil: writes it as a job file to the front of `bytes`; what is lent past its end is not touched */
-struct foil_said foil_save(const struct foil_board *board, const struct foil_entry *table, size_t entries,
-                           const uint16_t *strips, size_t strip_numbers, uint8_t *bytes, size_t byte_count);
+struct foil_said foil_save(const struct foil_sheet *sheet, const struct foil_entry *table, size_t places,
+                           const uint16_t *strips, size_t strip_numbers, uint8_t *bytes, size_t byte_count,
+                           size_t foil);
 
 /* writes the slip of the foil's tracks to the front of `bytes`, a line a net; what is lent past it is not touched */
-struct foil_said foil_slip(const struct foil_board *board, const struct foil_entry *table, size_t entries,
-                           const uint16_t *strips, size_t strip_numbers, uint8_t *bytes, size_t byte_count);
+struct foil_said foil_slip(const struct foil_sheet *sheet, const struct foil_entry *table, size_t places,
+                           const uint16_t *strips, size_t strip_numbers, uint8_t *bytes, size_t byte_count,
+                           size_t foil);
 
 /* the ohms of a net */
-struct foil_resistance foil_ohms(const struct foil_board *board, const struct foil_entry *table, size_t entries,
-                                 const uint16_t *strips, size_t strip_numbers, uint16_t net, struct foil_ink ink);
+struct foil_resistance foil_ohms(const struct foil_sheet *sheet, const struct foil_entry *table, size_t places,
+                                 const uint16_t *strips, size_t strip_numbers, size_t foil, uint16_t net,
+                                 struct foil_ink ink);
 
 /* runs the record that begins at place `at` of a job file's bytes; a lay's corners are written as by foil_lay */
-struct foil_record foil_run_record(struct foil_board *board, struct foil_entry *table, size_t entries, uint16_t *strips,
+struct foil_record foil_run_record(struct foil_sheet *sheet, struct foil_entry *table, size_t places, uint16_t *strips,
                                    size_t strip_numbers, uint16_t *corners, size_t corner_numbers,
-                                   const uint8_t *bytes, size_t byte_count, size_t at);
+                                   const uint8_t *bytes, size_t byte_count, size_t foil, size_t at);
 
 #endif

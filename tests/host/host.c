@@ -1,7 +1,8 @@
-/* A host program: the foil of document 01's job, by calls and then as the job's bytes, as a customer's program would
-   make it; a track found and a drawing booked, with the slip of both; the foil saved, and read on other lists; tracks
-   of a wider pen; points joined to nets; and lists in protected pages, which show what a call does not touch: if it
-   did, the program would die. */
+/* A host program. On foil 0 of a sheet: the foil of document 01's job, by calls and then as the job's bytes, as a
+   customer's program would make it; a track found and a drawing booked, with the slip of both; the foil saved, and read
+   on other lists; tracks of a wider pen; points joined to nets; and lists in protected pages, which show what a call
+   does not touch: if it did, the program would die. Then eight foils on one sheet: what they share, what each is sure
+   of, and what is refused for all of them. */
 #define _DEFAULT_SOURCE
 #include <stdio.h>
 #include <stdlib.h>
@@ -15,23 +16,39 @@
 static const uint8_t job[] = {0x03, 0x06, 0x00, 0x04, 0x00, 0x00, 0x00, 0x02, 0x00, 0x00, 0x00, 0x03, 0x00, 0x03,
                               0x00, 0x04, 0x05, 0x00, 0x00, 0x00, 0x00, 0x00, 0x04, 0x00, 0x00, 0x00, 0x00};
 
-/* one foil, and the lists that are lent for it, with their lengths */
-static struct foil_board board;
+/* a sheet, the foil that is called, and the lists that are lent for it, with their lengths */
+static struct foil_sheet sheet;
+static size_t foil;
 static struct foil_entry *table;
 static uint16_t *strips, *corners;
-static size_t entries, strip_numbers, corner_numbers;
+static size_t places, strip_numbers, corner_numbers;
 
-#define LENT &board, table, entries, strips, strip_numbers
+#define LENT &sheet, table, places, strips, strip_numbers
 #define CORNERS corners, corner_numbers
+#define BOARD sheet.boards[foil]
+
+static void show_entry(struct foil_entry e)
+{
+    printf("entry %u %u %u %u %u\n", e.net, e.x0, e.y0, e.x1, e.y1);
+}
+
+/* how many entries the foils before foil k have: where its entries begin */
+static size_t start_of(size_t k)
+{
+    size_t i, start = 0;
+    for (i = 0; i < k; i++)
+        start += sheet.boards[i].entries;
+    return start;
+}
 
 static void show_foil(void)
 {
-    size_t k;
-    printf("foil %u by %u, half %u, gap %u, entries %zu, strips %zu\n", board.width, board.height, board.half,
-           board.gap, board.entries, board.strips);
-    for (k = 0; k < board.entries; k++)
-        printf("entry %u %u %u %u %u\n", table[k].net, table[k].x0, table[k].y0, table[k].x1, table[k].y1);
-    for (k = 0; k < board.strips; k++)
+    size_t k, start = start_of(foil);
+    printf("foil %u by %u, half %u, gap %u, entries %zu, strips %zu\n", BOARD.width, BOARD.height, BOARD.half,
+           BOARD.gap, BOARD.entries, BOARD.strips);
+    for (k = 0; k < BOARD.entries; k++)
+        show_entry(table[start + k]);
+    for (k = 0; k < BOARD.strips; k++)
         printf("strip %u %u %u %u\n", strips[4 * k], strips[4 * k + 1], strips[4 * k + 2], strips[4 * k + 3]);
 }
 
@@ -54,28 +71,28 @@ static void show_lay(unsigned net, struct foil_said said)
     show_way(said);
 }
 
-static void show_join(uint16_t net, uint16_t sx, uint16_t sy, size_t places)
+static void show_join(uint16_t net, uint16_t sx, uint16_t sy, size_t numbers)
 {
     printf("join %u", net);
-    show_way(foil_join(LENT, corners, places, net, sx, sy));
+    show_way(foil_join(LENT, corners, numbers, foil, net, sx, sy));
 }
 
 static void show_leg(uint16_t net, uint16_t x0, uint16_t y0, uint16_t x1, uint16_t y1)
 {
     struct foil_entry leg = {net, x0, y0, x1, y1};
-    printf("leg %u %u\n", net, foil_put_leg(LENT, leg).number);
+    printf("leg %u %u\n", net, foil_put_leg(LENT, foil, leg).number);
 }
 
 static void show_save(uint8_t *bytes, size_t byte_count)
 {
-    struct foil_said said = foil_save(LENT, bytes, byte_count);
+    struct foil_said said = foil_save(LENT, bytes, byte_count, foil);
     printf("save %u %zu\n", said.number, said.bytes);
 }
 
 /* saves the foil, shows its file, and answers how many bytes this has */
 static size_t show_file(uint8_t *bytes, size_t byte_count)
 {
-    size_t k, count = foil_save(LENT, bytes, byte_count).bytes;
+    size_t k, count = foil_save(LENT, bytes, byte_count, foil).bytes;
     printf("saved %zu:", count);
     for (k = 0; k < count; k++)
         printf(" %02x", bytes[k]);
@@ -85,33 +102,33 @@ static size_t show_file(uint8_t *bytes, size_t byte_count)
 
 static void show_place(uint16_t x, uint16_t y)
 {
-    struct foil_said said = foil_look_up(LENT, x, y);
+    struct foil_said said = foil_look_up(LENT, foil, x, y);
     printf("place %u %zu\n", said.number, said.place);
 }
 
-static void show_find(uint16_t sx, uint16_t sy, uint16_t tx, uint16_t ty, size_t places)
+static void show_find(uint16_t sx, uint16_t sy, uint16_t tx, uint16_t ty, size_t numbers)
 {
     printf("find");
-    show_way(foil_find(LENT, corners, places, sx, sy, tx, ty));
+    show_way(foil_find(LENT, corners, numbers, foil, sx, sy, tx, ty));
 }
 
 static void show_book(uint16_t net, const uint16_t *drawn, size_t numbers)
 {
-    struct foil_said said = foil_book(LENT, drawn, numbers, net);
+    struct foil_said said = foil_book(LENT, drawn, numbers, foil, net);
     printf("book %u %u %zu %zu\n", net, said.number, said.corners, said.bends);
 }
 
 static void show_slip(uint8_t *bytes, size_t byte_count)
 {
-    struct foil_said said = foil_slip(LENT, bytes, byte_count);
+    struct foil_said said = foil_slip(LENT, bytes, byte_count, foil);
     printf("slip %u %zu\n", said.number, said.bytes);
     fwrite(bytes, 1, said.bytes, stdout);
 }
 
-static void show_ohms(unsigned net, double sheet, double width, double bend)
+static void show_ohms(unsigned net, double square, double width, double bend)
 {
-    struct foil_ink ink = {sheet, width, bend};
-    struct foil_resistance r = foil_ohms(LENT, net, ink);
+    struct foil_ink ink = {square, width, bend};
+    struct foil_resistance r = foil_ohms(LENT, foil, net, ink);
     printf("ohms %u %u %.17g\n", net, r.number, r.ohms);
 }
 
@@ -120,7 +137,7 @@ static void run_job(const uint8_t *bytes, size_t count)
 {
     size_t at = 0;
     for (;;) {
-        struct foil_record r = foil_run_record(LENT, CORNERS, bytes, count, at);
+        struct foil_record r = foil_run_record(LENT, CORNERS, bytes, count, foil, at);
         if (r.number != 0) {
             printf("file %u\n", r.number);
             return;
@@ -148,24 +165,24 @@ static void run_job(const uint8_t *bytes, size_t count)
 /* the foil of document 01's job, with calls that are refused between */
 static void document_01(void)
 {
-    static struct foil_entry own_table[FOIL_ENTRIES];
+    static struct foil_entry own_table[FOIL_PLACES];
     static uint16_t own_strips[4 * FOIL_STRIPS], own_corners[2 * 8192];
     table = own_table;
-    entries = FOIL_ENTRIES;
+    places = FOIL_PLACES;
     strips = own_strips;
     strip_numbers = 4 * FOIL_STRIPS;
     corners = own_corners;
     corner_numbers = 2 * 8192;
     /* nothing is begun yet: the lists hold zeros, which are no foil */
-    printf("patch %u\n", foil_draw(LENT, 2, 0, 3, 3).number);
-    printf("board %u\n", foil_new_foil(LENT, 0, 4, 0, 0).number);
-    printf("board %u\n", foil_new_foil(LENT, 6, 4, 0, 0).number);
-    printf("patch %u\n", foil_draw(LENT, 2, 0, 3, 3).number);
-    printf("patch %u\n", foil_draw(LENT, 3, 0, 2, 3).number);
-    show_lay(5, foil_lay(LENT, CORNERS, 5, 0, 0, 4, 0));
-    show_lay(5, foil_lay(LENT, CORNERS, 5, 0, 0, 4, 0));
-    show_lay(6, foil_lay(LENT, CORNERS, 6, 1, 0, 5, 0));
-    show_lay(7, foil_lay(LENT, corners, 1, 7, 1, 0, 1, 2));
+    printf("patch %u\n", foil_draw(LENT, foil, 2, 0, 3, 3).number);
+    printf("board %u\n", foil_new_foil(LENT, foil, 0, 4, 0, 0).number);
+    printf("board %u\n", foil_new_foil(LENT, foil, 6, 4, 0, 0).number);
+    printf("patch %u\n", foil_draw(LENT, foil, 2, 0, 3, 3).number);
+    printf("patch %u\n", foil_draw(LENT, foil, 3, 0, 2, 3).number);
+    show_lay(5, foil_lay(LENT, CORNERS, foil, 5, 0, 0, 4, 0));
+    show_lay(5, foil_lay(LENT, CORNERS, foil, 5, 0, 0, 4, 0));
+    show_lay(6, foil_lay(LENT, CORNERS, foil, 6, 1, 0, 5, 0));
+    show_lay(7, foil_lay(LENT, corners, 1, foil, 7, 1, 0, 1, 2));
     show_foil();
     show_place(5, 3);
     show_place(2, 2);
@@ -173,14 +190,14 @@ static void document_01(void)
     show_ohms(5, 0.1, 3, 0.7);
     show_ohms(5, 1000, 65, 4);
     show_ohms(6, 1000, 65, 4);
-    /* a table of 127 places is too short, and stays as it is */
-    printf("lift 5 %u\n", foil_lift(&board, table, 127, strips, strip_numbers, 5).number);
-    printf("lift 5 %u\n", foil_lift(LENT, 5).number);
-    printf("lift 5 %u\n", foil_lift(LENT, 5).number);
+    /* a table of 511 places is too short, and stays as it is */
+    printf("lift 5 %u\n", foil_lift(&sheet, table, 511, strips, strip_numbers, foil, 5).number);
+    printf("lift 5 %u\n", foil_lift(LENT, foil, 5).number);
+    printf("lift 5 %u\n", foil_lift(LENT, foil, 5).number);
     show_foil();
     /* a foil that another program has spoiled */
     strips[0] = 1;
-    printf("lift 5 %u\n", foil_lift(LENT, 5).number);
+    printf("lift 5 %u\n", foil_lift(LENT, foil, 5).number);
     /* a job's first record begins the foil anew */
     run_job(job, sizeof job);
     run_job(job, sizeof job - 1);
@@ -193,8 +210,8 @@ static void drawn(void)
     static const uint16_t job_corners[] = {0, 0, 0, 3, 6, 3, 6, 0};
     static const uint16_t round_the_patch[] = {1, 0, 1, 2, 0, 2, 0, 3, 5, 3, 5, 0};
     static uint8_t slip[2 * FOIL_SLIP_LINE];
-    printf("board %u\n", foil_new_foil(LENT, 6, 4, 0, 0).number);
-    printf("patch %u\n", foil_draw(LENT, 2, 0, 3, 3).number);
+    printf("board %u\n", foil_new_foil(LENT, foil, 6, 4, 0, 0).number);
+    printf("patch %u\n", foil_draw(LENT, foil, 2, 0, 3, 3).number);
     show_slip(slip, 0);
     /* 8 and 9 numbers are places for four corners, 7 for three */
     show_find(0, 0, 4, 0, 7);
@@ -206,7 +223,7 @@ static void drawn(void)
     show_book(9, job_corners, 8);
     show_book(9, round_the_patch, 12);
     show_book(9, round_the_patch, 12);
-    show_lay(3, foil_lay(LENT, CORNERS, 3, 3, 0, 3, 2));
+    show_lay(3, foil_lay(LENT, CORNERS, foil, 3, 3, 0, 3, 2));
     show_slip(slip, sizeof slip - 1);
     show_slip(slip, sizeof slip);
     show_foil();
@@ -216,7 +233,7 @@ static void drawn(void)
 /* the same foil with two legs as booked, saved, and its file read on other lists */
 static void saved(void)
 {
-    static struct foil_entry read_table[FOIL_ENTRIES];
+    static struct foil_entry read_table[FOIL_PLACES];
     static uint16_t read_strips[4 * FOIL_STRIPS];
     static uint8_t bytes[FOIL_BYTES];
     struct foil_entry *was_table = table;
@@ -233,7 +250,7 @@ static void saved(void)
     show_save(bytes, count - 1);
     table = read_table;
     strips = read_strips;
-    memset(&board, 0, sizeof board);
+    memset(&sheet, 0, sizeof sheet);
     /* nothing is begun on these yet */
     show_save(bytes, count);
     run_job(bytes, count);
@@ -247,17 +264,17 @@ static void wider_pen(void)
 {
     static uint8_t bytes[FOIL_BYTES];
     /* the widest pen leaves nothing of this foil */
-    printf("board %u\n", foil_new_foil(LENT, 20, 16, 7, 15).number);
+    printf("board %u\n", foil_new_foil(LENT, foil, 20, 16, 7, 15).number);
     show_foil();
-    printf("board %u\n", foil_new_foil(LENT, 20, 16, 1, 1).number);
-    printf("patch %u\n", foil_draw(LENT, 9, 5, 11, 7).number);
+    printf("board %u\n", foil_new_foil(LENT, foil, 20, 16, 1, 1).number);
+    printf("patch %u\n", foil_draw(LENT, foil, 9, 5, 11, 7).number);
     show_place(7, 3);
     show_place(6, 3);
     show_foil();
     /* a track just past what the patch blocks, and one beside it: 3 away, then 4 */
-    show_lay(3, foil_lay(LENT, CORNERS, 3, 2, 2, 17, 2));
-    show_lay(4, foil_lay(LENT, CORNERS, 4, 2, 5, 17, 5));
-    show_lay(4, foil_lay(LENT, CORNERS, 4, 2, 6, 17, 6));
+    show_lay(3, foil_lay(LENT, CORNERS, foil, 3, 2, 2, 17, 2));
+    show_lay(4, foil_lay(LENT, CORNERS, foil, 4, 2, 5, 17, 5));
+    show_lay(4, foil_lay(LENT, CORNERS, foil, 4, 2, 6, 17, 6));
     show_foil();
     run_job(bytes, show_file(bytes, sizeof bytes));
 }
@@ -267,8 +284,8 @@ static void wider_pen(void)
 static void joined(void)
 {
     static uint8_t slip[FOIL_SLIP_LINE];
-    printf("board %u\n", foil_new_foil(LENT, 9, 7, 0, 0).number);
-    show_lay(5, foil_lay(LENT, CORNERS, 5, 1, 1, 7, 1));
+    printf("board %u\n", foil_new_foil(LENT, foil, 9, 7, 0, 0).number);
+    show_lay(5, foil_lay(LENT, CORNERS, foil, 5, 1, 1, 7, 1));
     show_join(5, 4, 5, corner_numbers);
     show_foil();
     /* on a leg already */
@@ -279,7 +296,7 @@ static void joined(void)
     show_join(5, 0, 9, corner_numbers);
     show_join(6, 0, 0, corner_numbers);
     show_join(0, 0, 0, corner_numbers);
-    show_lay(8, foil_lay(LENT, CORNERS, 8, 0, 6, 8, 6));
+    show_lay(8, foil_lay(LENT, CORNERS, foil, 8, 0, 6, 8, 6));
     /* a point of the other net, and one of its own */
     show_join(5, 0, 6, corner_numbers);
     show_join(8, 0, 0, corner_numbers);
@@ -288,7 +305,7 @@ static void joined(void)
     show_join(5, 8, 5, 4);
     show_join(5, 8, 5, 2);
     show_foil();
-    printf("lift 5 %u\n", foil_lift(LENT, 5).number);
+    printf("lift 5 %u\n", foil_lift(LENT, foil, 5).number);
     show_foil();
     show_join(5, 4, 5, corner_numbers);
 }
@@ -296,28 +313,28 @@ static void joined(void)
 /* what a join keeps apart from: patches and the tracks of other nets, by their gaps, and not its own net */
 static void joined_apart(void)
 {
-    printf("board %u\n", foil_new_foil(LENT, 9, 7, 0, 1).number);
-    show_lay(5, foil_lay(LENT, CORNERS, 5, 2, 2, 6, 2));
-    printf("patch %u\n", foil_draw(LENT, 4, 4, 5, 5).number);
+    printf("board %u\n", foil_new_foil(LENT, foil, 9, 7, 0, 1).number);
+    show_lay(5, foil_lay(LENT, CORNERS, foil, 5, 2, 2, 6, 2));
+    printf("patch %u\n", foil_draw(LENT, foil, 4, 4, 5, 5).number);
     show_join(5, 4, 6, corner_numbers);
     show_join(5, 1, 5, corner_numbers);
     show_join(5, 6, 5, corner_numbers);
     show_foil();
-    printf("board %u\n", foil_new_foil(LENT, 12, 9, 0, 1).number);
-    show_lay(5, foil_lay(LENT, CORNERS, 5, 2, 2, 9, 2));
-    show_lay(6, foil_lay(LENT, CORNERS, 6, 2, 6, 9, 6));
+    printf("board %u\n", foil_new_foil(LENT, foil, 12, 9, 0, 1).number);
+    show_lay(5, foil_lay(LENT, CORNERS, foil, 5, 2, 2, 9, 2));
+    show_lay(6, foil_lay(LENT, CORNERS, foil, 6, 2, 6, 9, 6));
     show_join(5, 5, 4, corner_numbers);
     show_join(6, 10, 4, corner_numbers);
     show_foil();
     /* fewest bends come before length, and then the nearer leg */
-    printf("board %u\n", foil_new_foil(LENT, 9, 9, 0, 0).number);
-    show_lay(5, foil_lay(LENT, CORNERS, 5, 4, 0, 4, 3));
+    printf("board %u\n", foil_new_foil(LENT, foil, 9, 9, 0, 0).number);
+    show_lay(5, foil_lay(LENT, CORNERS, foil, 5, 4, 0, 4, 3));
     show_leg(5, 0, 8, 9, 9);
     show_join(5, 2, 5, corner_numbers);
     show_join(5, 6, 4, corner_numbers);
     show_join(5, 6, 6, corner_numbers);
     show_foil();
-    printf("board %u\n", foil_new_foil(LENT, 8, 3, 0, 0).number);
+    printf("board %u\n", foil_new_foil(LENT, foil, 8, 3, 0, 0).number);
     show_leg(5, 0, 0, 1, 3);
     show_leg(5, 7, 0, 8, 3);
     show_join(5, 3, 1, corner_numbers);
@@ -377,31 +394,31 @@ static const char *kept(struct pages p)
     return "kept";
 }
 
-/* a table of 200 places and a strip list of 5,000: those past 128 and 4,096 may neither be read nor written, nor may
+/* a table of 600 places and a strip list of 5,000: those past 512 and 4,096 may neither be read nor written, nor may
    those of a byte list past the end of the file */
 static void longer_lists(struct pages t, struct pages s, struct pages b)
 {
-    table = (struct foil_entry *)(void *)t.border - FOIL_ENTRIES;
-    entries = 200;
+    table = (struct foil_entry *)(void *)t.border - FOIL_PLACES;
+    places = 600;
     strips = (uint16_t *)(void *)s.border - 4 * FOIL_STRIPS;
     strip_numbers = 4 * 5000;
     protect(t.border, t.behind, PROT_NONE);
     protect(s.border, s.behind, PROT_NONE);
     protect(b.border, b.behind, PROT_NONE);
-    printf("board %u\n", foil_new_foil(LENT, 6, 4, 0, 0).number);
-    printf("patch %u\n", foil_draw(LENT, 2, 0, 3, 3).number);
-    printf("patch %u\n", foil_draw(LENT, 3, 0, 2, 3).number);
-    show_lay(5, foil_lay(LENT, CORNERS, 5, 0, 0, 4, 0));
+    printf("board %u\n", foil_new_foil(LENT, foil, 6, 4, 0, 0).number);
+    printf("patch %u\n", foil_draw(LENT, foil, 2, 0, 3, 3).number);
+    printf("patch %u\n", foil_draw(LENT, foil, 3, 0, 2, 3).number);
+    show_lay(5, foil_lay(LENT, CORNERS, foil, 5, 0, 0, 4, 0));
     show_place(5, 3);
     show_join(5, 1, 1, corner_numbers);
-    printf("lift 5 %u\n", foil_lift(LENT, 5).number);
+    printf("lift 5 %u\n", foil_lift(LENT, foil, 5).number);
     show_leg(5, 0, 0, 1, 4);
     show_save(b.border - 32, 32 + b.behind);
     run_job(job, sizeof job);
     writable(t);
     writable(s);
     writable(b);
-    printf("past 128: %s\n", kept(t));
+    printf("past 512: %s\n", kept(t));
     printf("past 4096: %s\n", kept(s));
     printf("past the file: %s\n", kept(b));
 }
@@ -419,53 +436,53 @@ static void refused_calls(struct pages t, struct pages s, struct pages c, struct
     read_only(s);
     read_only(c);
     read_only(b);
-    printf("board %u\n", foil_new_foil(LENT, 6, 4, 8, 0).number);
-    printf("board %u\n", foil_new_foil(LENT, 6, 4, 0, 16).number);
-    printf("board %u\n", foil_new_foil(LENT, 0, 4, 8, 16).number);
+    printf("board %u\n", foil_new_foil(LENT, foil, 6, 4, 8, 0).number);
+    printf("board %u\n", foil_new_foil(LENT, foil, 6, 4, 0, 16).number);
+    printf("board %u\n", foil_new_foil(LENT, foil, 0, 4, 8, 16).number);
     run_job(wide_job, sizeof wide_job);
-    printf("patch %u\n", foil_draw(LENT, 3, 0, 2, 3).number);
-    show_lay(5, foil_lay(LENT, CORNERS, 5, 0, 0, 4, 0));
-    show_lay(6, foil_lay(LENT, CORNERS, 6, 1, 0, 5, 0));
-    show_lay(7, foil_lay(LENT, corners, 1, 7, 1, 0, 1, 2));
+    printf("patch %u\n", foil_draw(LENT, foil, 3, 0, 2, 3).number);
+    show_lay(5, foil_lay(LENT, CORNERS, foil, 5, 0, 0, 4, 0));
+    show_lay(6, foil_lay(LENT, CORNERS, foil, 6, 1, 0, 5, 0));
+    show_lay(7, foil_lay(LENT, corners, 1, foil, 7, 1, 0, 1, 2));
     show_find(1, 0, 1, 2, 3);
     show_find(1, 0, 5, 0, corner_numbers);
     show_book(5, corners, 4);
     show_book(7, corners, 5);
-    printf("lift 6 %u\n", foil_lift(LENT, 6).number);
+    printf("lift 6 %u\n", foil_lift(LENT, foil, 6).number);
     show_leg(0, 0, 0, 1, 4);
     show_leg(7, 0, 0, 2, 2);
     show_save(b.border - 53, 53);
     show_slip(b.border - 32, 32);
-    printf("lift 5 %u\n", foil_lift(&board, table, 127, strips, strip_numbers, 5).number);
-    printf("lift 6 %u\n", foil_run_record(LENT, CORNERS, lift_6, sizeof lift_6, 1).lift.said.number);
-    printf("file %u\n", foil_run_record(LENT, CORNERS, lift_6, sizeof lift_6, 4).number);
+    printf("lift 5 %u\n", foil_lift(&sheet, table, 511, strips, strip_numbers, foil, 5).number);
+    printf("lift 6 %u\n", foil_run_record(LENT, CORNERS, lift_6, sizeof lift_6, foil, 1).lift.said.number);
+    printf("file %u\n", foil_run_record(LENT, CORNERS, lift_6, sizeof lift_6, foil, 4).number);
     /* document 01's foil of 4,095 strips, and a track of one point that makes one more */
     writable(t);
     writable(s);
     writable(c);
-    printf("board %u\n", foil_new_foil(LENT, 129, 127, 0, 0).number);
+    printf("board %u\n", foil_new_foil(LENT, foil, 129, 127, 0, 0).number);
     for (k = 1; k < 128; k += 2)
-        foil_draw(LENT, k, 0, k + 1, 127);
+        foil_draw(LENT, foil, k, 0, k + 1, 127);
     for (k = 1; k < 124; k += 2)
-        foil_draw(LENT, 0, k, 129, k + 1);
-    show_lay(5, foil_lay(LENT, CORNERS, 5, 0, 125, 0, 125));
-    printf("entries %zu, strips %zu\n", board.entries, board.strips);
+        foil_draw(LENT, foil, 0, k, 129, k + 1);
+    show_lay(5, foil_lay(LENT, CORNERS, foil, 5, 0, 125, 0, 125));
+    printf("entries %zu, strips %zu\n", BOARD.entries, BOARD.strips);
     read_only(t);
     read_only(s);
     read_only(c);
-    printf("patch %u\n", foil_draw(LENT, 0, 125, 129, 126).number);
-    show_lay(6, foil_lay(LENT, CORNERS, 6, 2, 125, 2, 125));
+    printf("patch %u\n", foil_draw(LENT, foil, 0, 125, 129, 126).number);
+    show_lay(6, foil_lay(LENT, CORNERS, foil, 6, 2, 125, 2, 125));
     show_leg(6, 2, 125, 3, 126);
-    /* a line drawn once more fills the table */
+    /* a line drawn once more is the foil's last entry */
     writable(t);
     writable(s);
-    printf("patch %u\n", foil_draw(LENT, 0, 1, 129, 2).number);
+    printf("patch %u\n", foil_draw(LENT, foil, 0, 1, 129, 2).number);
     read_only(t);
     read_only(s);
-    printf("patch %u\n", foil_draw(LENT, 0, 1, 129, 2).number);
-    show_lay(6, foil_lay(LENT, CORNERS, 6, 2, 125, 2, 125));
+    printf("patch %u\n", foil_draw(LENT, foil, 0, 1, 129, 2).number);
+    show_lay(6, foil_lay(LENT, CORNERS, foil, 6, 2, 125, 2, 125));
     show_leg(6, 2, 125, 3, 126);
-    /* the file of a full table, with a byte too few and with as many as it has; the foil's lists are only read */
+    /* the file of a full foil, with a byte too few and with as many as it has; the foil's lists are only read */
     show_save(b.border - 1165, 1165);
     writable(b);
     show_save(b.border - 1166, 1166);
@@ -478,9 +495,9 @@ static void refused_joins(struct pages t, struct pages s, struct pages c)
     writable(t);
     writable(s);
     writable(c);
-    printf("board %u\n", foil_new_foil(LENT, 6, 4, 0, 0).number);
-    printf("patch %u\n", foil_draw(LENT, 2, 0, 3, 4).number);
-    show_lay(5, foil_lay(LENT, CORNERS, 5, 0, 0, 1, 0));
+    printf("board %u\n", foil_new_foil(LENT, foil, 6, 4, 0, 0).number);
+    printf("patch %u\n", foil_draw(LENT, foil, 2, 0, 3, 4).number);
+    show_lay(5, foil_lay(LENT, CORNERS, foil, 5, 0, 0, 1, 0));
     read_only(t);
     read_only(s);
     read_only(c);
@@ -491,37 +508,270 @@ static void refused_joins(struct pages t, struct pages s, struct pages c)
     /* behind the patch: without a way no corner is wanted */
     show_join(5, 3, 0, 0);
     show_join(5, 1, 3, 3);
-    printf("join 5 %u\n", foil_join(&board, table, 127, strips, strip_numbers, CORNERS, 5, 1, 3).number);
-    printf("join 5 %u\n", foil_join(&board, table, entries, strips, 4 * FOIL_STRIPS - 1, CORNERS, 5, 1, 3).number);
+    printf("join 5 %u\n", foil_join(&sheet, table, 511, strips, strip_numbers, CORNERS, foil, 5, 1, 3).number);
+    printf("join 5 %u\n", foil_join(&sheet, table, places, strips, 4 * FOIL_STRIPS - 1, CORNERS, foil, 5, 1, 3).number);
     /* a record that is not this foil's */
-    board.entries = 1;
+    BOARD.entries = 1;
     show_join(5, 1, 3, corner_numbers);
     /* 63 lines each way, and a leg of the net along the last of its fields, of 3 by 3 points: a join from the middle of
        that field parts it */
     writable(t);
     writable(s);
-    printf("board %u\n", foil_new_foil(LENT, 129, 129, 0, 0).number);
+    printf("board %u\n", foil_new_foil(LENT, foil, 129, 129, 0, 0).number);
     for (k = 1; k < 126; k += 2)
-        foil_draw(LENT, k, 0, k + 1, 129);
+        foil_draw(LENT, foil, k, 0, k + 1, 129);
     for (k = 1; k < 126; k += 2)
-        foil_draw(LENT, 0, k, 129, k + 1);
+        foil_draw(LENT, foil, 0, k, 129, k + 1);
     show_leg(5, 126, 128, 129, 129);
-    printf("entries %zu, strips %zu\n", board.entries, board.strips);
+    printf("entries %zu, strips %zu\n", BOARD.entries, BOARD.strips);
     read_only(t);
     read_only(s);
     show_join(5, 127, 127, corner_numbers);
-    /* a line drawn once more fills the table */
+    /* a line drawn once more is the foil's last entry */
     writable(t);
     writable(s);
-    printf("patch %u\n", foil_draw(LENT, 0, 1, 129, 2).number);
+    printf("patch %u\n", foil_draw(LENT, foil, 0, 1, 129, 2).number);
     read_only(t);
     read_only(s);
     show_join(5, 127, 127, corner_numbers);
 }
 
+/* ---- eight foils on one sheet */
+
+static uint16_t sheet_strips[FOIL_FOILS][4 * FOIL_STRIPS];
+
+/* the calls are on foil k from here on, with its own strips; a number above 7 has no strips, and is lent foil 0's */
+static void on(size_t k)
+{
+    foil = k;
+    strips = sheet_strips[k < FOIL_FOILS ? k : 0];
+}
+
+/* no foil is begun, on these lists */
+static void empty_sheet(struct pages t)
+{
+    writable(t);
+    memset(&sheet, 0, sizeof sheet);
+    table = (struct foil_entry *)(void *)t.border - FOIL_PLACES;
+    memset(table, 0, FOIL_PLACES * sizeof *table);
+    places = 600;
+    strip_numbers = 4 * FOIL_STRIPS;
+    protect(t.border, t.behind, PROT_NONE);
+}
+
+/* what stands in the places that no foil uses */
+static const char *unused(void)
+{
+    const unsigned char *from = (const unsigned char *)(table + start_of(FOIL_FOILS));
+    const unsigned char *end = (const unsigned char *)(table + FOIL_PLACES);
+    for (; from < end; from++)
+        if (*from != 0)
+            return "other";
+    return "zero";
+}
+
+static void show_table(void)
+{
+    size_t k, count = start_of(FOIL_FOILS);
+    printf("table %zu, unused: %s\n", count, unused());
+    for (k = 0; k < count; k++)
+        show_entry(table[k]);
+}
+
+/* runs one record on the foil that is called */
+static void show_record(const uint8_t *bytes, size_t count, size_t at)
+{
+    struct foil_record r = foil_run_record(LENT, CORNERS, bytes, count, foil, at);
+    if (r.number != 0)
+        printf("file %u\n", r.number);
+    else if (r.end)
+        printf("end\n");
+    else
+        printf("board %u, next %zu\n", r.board.said.number, r.next);
+}
+
+/* two foils in one table, one in front of the other, whose entries move as it grows and shrinks */
+static void two_foils(struct pages t)
+{
+    static const uint8_t begins[] = {0x01, 0x06, 0x00, 0x04, 0x00, 0x00, 0x00, 0x00};
+    static const uint8_t end[] = {0x00};
+    empty_sheet(t);
+    on(8);
+    printf("board %u\n", foil_new_foil(LENT, foil, 6, 4, 0, 0).number);
+    on(1);
+    printf("patch %u\n", foil_draw(LENT, foil, 0, 0, 1, 1).number);
+    printf("board %u\n", foil_new_foil(LENT, foil, 6, 4, 0, 0).number);
+    on(0);
+    printf("board %u\n", foil_new_foil(LENT, foil, 3, 3, 0, 0).number);
+    on(1);
+    printf("patch %u\n", foil_draw(LENT, foil, 2, 0, 3, 3).number);
+    on(0);
+    show_lay(9, foil_lay(LENT, CORNERS, foil, 9, 0, 0, 2, 2));
+    on(1);
+    show_lay(5, foil_lay(LENT, CORNERS, foil, 5, 0, 0, 4, 0));
+    show_table();
+    show_foil();
+    on(0);
+    printf("lift 9 %u\n", foil_lift(LENT, foil, 9).number);
+    show_table();
+    on(7);
+    show_place(0, 0);
+    on(0);
+    show_foil();
+    printf("board %u\n", foil_new_foil(LENT, foil, 5, 5, 1, 0).number);
+    show_table();
+    on(3);
+    show_record(begins, sizeof begins, 0);
+    show_foil();
+    show_record(begins, sizeof begins, 7);
+    on(4);
+    show_record(begins, sizeof begins, 7);
+    on(9);
+    show_record(end, sizeof end, 0);
+}
+
+/* draws patches of one point on foil k, the ones from `first` to `last` by rows of 64 */
+static void draw_points(size_t k, unsigned first, unsigned last)
+{
+    unsigned i, drawn = 0, full = 0;
+    on(k);
+    for (i = first; i <= last; i++) {
+        uint16_t x = i % 64, y = i / 64;
+        uint8_t number = foil_draw(LENT, foil, x, y, x + 1, y + 1).number;
+        drawn += number == 0;
+        full += number == 10;
+    }
+    printf("foil %zu: %u drawn, %u not, entries %zu\n", k, drawn, full, BOARD.entries);
+}
+
+/* as many entries as the sheet has places: what a foil is sure of, and what another may have beside it */
+static void full_sheet(struct pages t)
+{
+    size_t k;
+    empty_sheet(t);
+    for (k = 0; k < FOIL_FOILS; k++) {
+        on(k);
+        printf("board %u\n", foil_new_foil(LENT, foil, 64, 64, 0, 0).number);
+    }
+    draw_points(0, 0, 127);
+    draw_points(1, 0, 127);
+    draw_points(2, 0, 127);
+    draw_points(3, 0, 32);
+    draw_points(4, 0, 0);
+    draw_points(0, 192, 192);
+    on(3);
+    printf("strips %zu\n", BOARD.strips);
+    /* what foil 2 gives up above its 32, foil 3 can use */
+    on(2);
+    printf("board %u\n", foil_new_foil(LENT, foil, 64, 64, 0, 0).number);
+    draw_points(3, 32, 127);
+    draw_points(2, 0, 32);
+    draw_points(5, 0, 32);
+    draw_points(6, 0, 32);
+    draw_points(7, 0, 32);
+    draw_points(4, 1, 32);
+    printf("entries %zu\n", start_of(FOIL_FOILS));
+    /* foil 4 stands behind foils 0 to 3 */
+    show_entry(table[start_of(4)]);
+    show_entry(table[start_of(4) + 31]);
+    show_entry(table[FOIL_PLACES - 1]);
+}
+
+/* every call once, and the numbers of their refusals */
+static void show_numbers(const char *why, uint8_t *bytes)
+{
+    static const struct foil_entry leg = {7, 0, 0, 1, 1};
+    static const struct foil_ink ink = {1, 1, 0};
+    printf("%s:", why);
+    printf(" %u", foil_new_foil(LENT, foil, 6, 4, 0, 0).number);
+    printf(" %u", foil_draw(LENT, foil, 0, 0, 1, 1).number);
+    printf(" %u", foil_lay(LENT, CORNERS, foil, 5, 0, 0, 1, 1).number);
+    printf(" %u", foil_join(LENT, CORNERS, foil, 5, 0, 0).number);
+    printf(" %u", foil_find(LENT, CORNERS, foil, 0, 0, 1, 1).number);
+    printf(" %u", foil_book(LENT, corners, 4, foil, 7).number);
+    printf(" %u", foil_lift(LENT, foil, 5).number);
+    printf(" %u", foil_put_leg(LENT, foil, leg).number);
+    printf(" %u", foil_look_up(LENT, foil, 0, 0).number);
+    printf(" %u", foil_save(LENT, bytes, FOIL_BYTES, foil).number);
+    printf(" %u", foil_slip(LENT, bytes, FOIL_BYTES, foil).number);
+    printf(" %u", foil_ohms(LENT, foil, 5, ink).number);
+    printf(" %u\n", foil_run_record(LENT, CORNERS, job, sizeof job, foil, 0).number);
+}
+
+/* what every call is refused for, on lists that may only be read: a foil that is none, lists that are too short, and
+   counts that break a limit, those of another foil too */
+static void refused_for_all(struct pages t, struct pages s, struct pages c, struct pages b)
+{
+    uint8_t *bytes = b.border - FOIL_BYTES;
+    size_t k;
+    empty_sheet(t);
+    on(0);
+    printf("board %u\n", foil_new_foil(LENT, foil, 6, 4, 0, 0).number);
+    memcpy(s.border - sizeof sheet_strips[0], strips, sizeof sheet_strips[0]);
+    strips = (uint16_t *)(void *)s.border - 4 * FOIL_STRIPS;
+    read_only(t);
+    read_only(s);
+    read_only(c);
+    read_only(b);
+    foil = 8;
+    show_numbers("foil 8", bytes);
+    foil = SIZE_MAX;
+    places = 0;
+    strip_numbers = 0;
+    show_numbers("foil of the largest number, no lists", bytes);
+    foil = 0;
+    show_numbers("no lists", bytes);
+    places = 511;
+    strip_numbers = 4 * FOIL_STRIPS;
+    show_numbers("511 places", bytes);
+    places = 512;
+    strip_numbers--;
+    show_numbers("a number less than the strips", bytes);
+    strip_numbers++;
+    sheet.boards[7].entries = 129;
+    show_numbers("129 entries on foil 7", bytes);
+    sheet.boards[7].entries = SIZE_MAX;
+    show_numbers("the largest count on foil 7", bytes);
+    for (k = 1; k < FOIL_FOILS; k++)
+        sheet.boards[k].entries = 69;
+    sheet.boards[7].entries = 67;
+    show_numbers("513 places kept", bytes);
+    sheet.boards[7].entries = 66;
+    show_place(0, 0);
+    writable(s);
+    writable(c);
+    writable(b);
+}
+
+/* unused places that hold something: no call is refused for them; one that is refused or only reads leaves them, one
+   that begins a foil, adds or takes entries clears them */
+static void unused_places(struct pages t)
+{
+    static uint8_t bytes[FOIL_BYTES];
+    empty_sheet(t);
+    on(2);
+    memset(table, 0xa5, FOIL_PLACES * sizeof *table);
+    printf("board %u\n", foil_new_foil(LENT, foil, 0, 4, 0, 0).number);
+    printf("unused: %s\n", unused());
+    printf("board %u\n", foil_new_foil(LENT, foil, 6, 4, 0, 0).number);
+    printf("unused: %s\n", unused());
+    show_lay(5, foil_lay(LENT, CORNERS, foil, 5, 0, 0, 0, 0));
+    table[1].y1 = 7;
+    table[511].net = 1;
+    show_place(1, 0);
+    show_lay(5, foil_lay(LENT, CORNERS, foil, 5, 0, 0, 0, 0));
+    show_find(1, 0, 2, 0, corner_numbers);
+    show_save(bytes, sizeof bytes);
+    printf("unused: %s, %u %u\n", unused(), table[1].y1, table[511].net);
+    printf("lift 5 %u\n", foil_lift(LENT, foil, 5).number);
+    printf("unused: %s\n", unused());
+    protect(t.border, t.behind, PROT_READ);
+    printf("past 512: %s\n", kept(t));
+}
+
 int main(void)
 {
-    struct pages t = parted(FOIL_ENTRIES * sizeof(struct foil_entry), 72 * sizeof(struct foil_entry));
+    struct pages t = parted(FOIL_PLACES * sizeof(struct foil_entry), 88 * sizeof(struct foil_entry));
     struct pages s = parted(4 * FOIL_STRIPS * sizeof(uint16_t), 4 * 904 * sizeof(uint16_t));
     struct pages c = parted(2 * 8192 * sizeof(uint16_t), 0);
     struct pages b = parted(FOIL_BYTES, 64);
@@ -534,5 +784,10 @@ int main(void)
     longer_lists(t, s, b);
     refused_calls(t, s, c, b);
     refused_joins(t, s, c);
+    writable(c);
+    two_foils(t);
+    full_sheet(t);
+    refused_for_all(t, s, c, b);
+    unused_places(t);
     return 0;
 }

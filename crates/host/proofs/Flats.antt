@@ -1,4 +1,4 @@
--- The numbers of a table's first 128 places: what is loaded is the table's front, and what is stored goes over it.
+-- The numbers of a table's first 512 places: what is loaded is the table's front, and what is stored goes over it.
 use Prim.Native.Nat.{ℕ, zero, suc, _+_, _*_, _<_, _≤_, min}
 use native.Mathlib.Nat.{not-suc-le-zero}
 use native.Mathlib.Decide.{ℕ-discrete}
@@ -8,10 +8,10 @@ use mathlib.Core.Bool.{Bool, true, false}
 use mathlib.Core.Logic.{by-cases, ⊎-elim, _≢_}
 use mathlib.Core.List.{List, [], _∷_, _++_, map}
 use lib.Dec.{eqb}
-use lib.ListN.{length, set, getD, take, drop, length-set, length-replicate, length-drop, take-append-drop}
-use lib.Seq.{getD-set-same, getD-set-other, set-getD, set-out, getD-drop, take-suc, take-all, ext-getD}
+use lib.ListN.{length, set, getD, take, drop, replicate, length-set, length-replicate, length-drop, take-append-drop}
+use lib.Seq.{getD-set-same, getD-set-other, set-getD, getD-drop, take-suc, take-all, ext-getD}
 use borrow.Author.Tests.{eqb-true, eqb-false}
-use lib.ListN.{length-map, List·getD-eq-default}
+use lib.ListN.{length-map}
 use mir.Val.{Val}
 use denote.Laws.{Is}
 use denote.Struct.Laws as LL
@@ -23,7 +23,7 @@ use Rattle.ledger_laws.proofs.Sound.{read-numbers}
 use Rattle.list_laws.proofs.Members.{map-last}
 use Rattle.list_laws.proofs.Tests.{lt-or-le}
 use Rattle.host.specs.declared.flat.Flat.{Flat}
-use Rattle.host.specs.Flats.{zeros, setFive, withEntry, placesLent, numbersLent, entriesOf, noEntry}
+use Rattle.host.specs.Flats.{setFive, placesLent, numbersLent, entriesOf, noEntry}
 use Rattle.host.specs.Flats.{loadTo, storeTo, frontOf, overFront}
 use Rattle.host.proofs.flat.Flat as T
 use Rattle.host.proofs.flat.Flat.Laws as T′
@@ -43,11 +43,11 @@ module _ (a b : Entry) (net : a .net ≡ b .net) (x0 : a .x0 ≡ b .x0) (y0 : a 
 
 -- ---- one place more
 
-pub load-more : (es : List Entry) (k : ℕ) → withEntry (loadTo es k) k (getD es k noEntry) ≡ loadTo es (k + 1)
+pub load-more : (es : List Entry) (k : ℕ) → setFive (loadTo es k) (k * 5) (getD es k noEntry) ≡ loadTo es (k + 1)
 unfolding loadTo
 load-more es k = let e : k + 1 ≡ suc k = omega arith in rw e refl
 
-pub load-none : (es : List Entry) → zeros (length es) ≡ loadTo es 0
+pub load-none : (es : List Entry) → replicate 2560 0 ≡ loadTo es 0
 unfolding loadTo
 load-none es = refl
 
@@ -102,13 +102,6 @@ module _ (a : List ℕ) (k : ℕ) (e : Entry) where
   five-length : length (setFive a k e) ≡ length a
   unfolding setFive
   five-length = length-set s₄ (k + 4) (e .y1) ∙ len₄
-
-  five-past : length a ≤ k → setFive a k e ≡ a
-  unfolding setFive
-  five-past l =
-      set-out s₄ (k + 4) (e .y1) (omega (arith, len₄, l)) ∙ set-out s₃ (k + 3) (e .x1) (omega (arith, len₃, l))
-      ∙ set-out s₂ (k + 2) (e .y0) (omega (arith, len₂, l)) ∙ set-out s₁ (k + 1) (e .x0) (omega (arith, len₁, l))
-      ∙ set-out a k (e .net) l
 
   -- each number from the i-th on stands as it is laid in: the later ones go elsewhere
   past₁ : (i : ℕ) → i ≢ k + 1 → i ≢ k + 2 → i ≢ k + 3 → i ≢ k + 4 → getD (setFive a k e) i 0 ≡ getD s₁ i 0
@@ -178,49 +171,23 @@ entry-other a i n e ne =
     let p₄ = far (n * 5 + 4) (omega arith) (omega arith) in
     λ t. record { net = p₀ t; x0 = p₁ t; y0 = p₂ t; x1 = p₃ t; y1 = p₄ t }
 
--- past the numbers there is no entry, and none is laid in
-pub entry-past : (a : List ℕ) (i : ℕ) → length a ≡ 640 → 128 ≤ i → noEntry ≡ entryAt a i
-unfolding entryAt
-entry-past a i full l =
-    let none : (k : ℕ) → 640 ≤ k → 0 ≡ getD a k 0 = λ k m. sym (List·getD-eq-default a 0 (omega (arith, full, m))) in
-    let p₀ = none (i * 5) (omega (arith, l)) in
-    let p₁ = none (i * 5 + 1) (omega (arith, l)) in
-    let p₂ = none (i * 5 + 2) (omega (arith, l)) in
-    let p₃ = none (i * 5 + 3) (omega (arith, l)) in
-    let p₄ = none (i * 5 + 4) (omega (arith, l)) in
-    λ t. record { net = p₀ t; x0 = p₁ t; y0 = p₂ t; x1 = p₃ t; y1 = p₄ t }
-
-pub put-past : (f : Flat) (i : ℕ) (e : Entry) → length (f .at) ≡ 640 → 128 ≤ i → f ≡ withEntry f i e
-unfolding withEntry
-put-past f i e full l =
-    let none : f .at ≡ setFive (f .at) (i * 5) e = sym (five-past (f .at) (i * 5) e (omega (arith, full, l))) in
-    λ j. record { at = none j; len = f .len }
-
 -- ---- what is loaded
 
-load-length : (es : List Entry) (k : ℕ) → length (loadTo es k .at) ≡ 640
-unfolding loadTo zeros withEntry
-load-length es zero = length-replicate {A = ℕ} 640 0
-load-length es (suc k) = five-length (loadTo es k .at) (k * 5) (getD es k noEntry) ∙ load-length es k
+load-length : (es : List Entry) (k : ℕ) → length (loadTo es k) ≡ 2560
+unfolding loadTo
+load-length es zero = length-replicate {A = ℕ} 2560 0
+load-length es (suc k) = five-length (loadTo es k) (k * 5) (getD es k noEntry) ∙ load-length es k
 
-load-places : (es : List Entry) (k : ℕ) → loadTo es k .len ≡ length es
-unfolding loadTo zeros withEntry
-load-places es zero = refl
-load-places es (suc k) = load-places es k
-
-pub front-places : (es : List Entry) → frontOf es .len ≡ length es
-front-places es = load-places es (placesLent (length es))
-
-loaded-at : (es : List Entry) (k n : ℕ) → n < k → n < 128 → entryAt (loadTo es k .at) n ≡ getD es n noEntry
-unfolding loadTo withEntry
+loaded-at : (es : List Entry) (k n : ℕ) → n < k → n < 512 → entryAt (loadTo es k) n ≡ getD es n noEntry
+unfolding loadTo
 loaded-at es zero n l m = absurd (not-suc-le-zero l)
 loaded-at es (suc k) n l m =
-    let f : Flat = loadTo es k in
+    let a : List ℕ = loadTo es k in
     let e : Entry = getD es k noEntry in
     by-cases (ℕ-discrete n k)
-    (λ (q : n ≡ k). ap (entryAt (setFive (f .at) (k * 5) e)) q
-    ∙ entry-same (f .at) k e (omega (arith, load-length es k, q, m)) ∙ ap (λ (j : ℕ). getD es j noEntry) (sym q))
-    (λ (ne : n ≡ k → ⊥). entry-other (f .at) k n e ne ∙ loaded-at es k n (omega (arith, ne, l)) m)
+    (λ (q : n ≡ k). ap (entryAt (setFive a (k * 5) e)) q
+    ∙ entry-same a k e (omega (arith, load-length es k, q, m)) ∙ ap (λ (j : ℕ). getD es j noEntry) (sym q))
+    (λ (ne : n ≡ k → ⊥). entry-other a k n e ne ∙ loaded-at es k n (omega (arith, ne, l)) m)
 
 -- the first n places, one by one
 places : (g : ℕ → Entry) (es : List Entry) (n : ℕ) → n ≤ length es → ((k : ℕ) → k < n → g k ≡ getD es k noEntry)
@@ -242,14 +209,12 @@ take-least n k es e =
     (lt-or-le n k)
 
 -- what is loaded is the front of the table
-pub loaded : (es : List Entry) → entriesOf (frontOf es) ≡ take 128 es
+pub loaded : (es : List Entry) → entriesOf (frontOf es) ≡ take 512 es
 unfolding entriesOf
 loaded es =
-    let f : Flat = frontOf es in
-    let p : f .len ≡ length es = front-places es in
-    places (entryAt (f .at)) es (placesLent (f .len)) (omega (arith, p))
-    (λ k l. loaded-at es (placesLent (length es)) k (omega (arith, p, l)) (omega (arith, l)))
-    ∙ take-least (f .len) 128 es p
+    let n : ℕ = placesLent (length es) in
+    places (entryAt (loadTo es n)) es n (omega arith) (λ k l. loaded-at es n k l (omega (arith, l)))
+    ∙ take-least (length es) 512 es refl
 
 -- ---- what is stored
 
@@ -274,33 +239,33 @@ stored-at f es (suc k) n l m =
     (λ (ne : n ≡ k → ⊥). getD-set-other old k n e noEntry ne ∙ stored-at f es k n (omega (arith, ne, l)) m)
 
 -- what is stored goes over the front of the table, and the rest stays
-pub stored : (f : Flat) (es : List Entry) → f .len ≡ length es → overFront f es ≡ entriesOf f ++ drop 128 es
+pub stored : (f : Flat) (es : List Entry) → f .len ≡ length es → overFront f es ≡ entriesOf f ++ drop 512 es
 unfolding entriesOf
 stored f es p =
     let n : ℕ = placesLent (length es) in
     let new : List Entry = overFront f es in
     let same : length new ≡ length es = store-length f es n in
-    let d = length-drop 128 new in
-    let d′ = length-drop 128 es in
-    let front : map (entryAt (f .at)) (range 0 (placesLent (f .len))) ≡ take 128 new =
+    let d = length-drop 512 new in
+    let d′ = length-drop 512 es in
+    let front : map (entryAt (f .at)) (range 0 (placesLent (f .len))) ≡ take 512 new =
     places (entryAt (f .at)) new (placesLent (f .len)) (omega (arith, p, same))
     (λ k l. sym (stored-at f es n k (omega (arith, p, l)) (omega (arith, p, l))))
-    ∙ take-least (f .len) 128 new (p ∙ sym same) in
-    let back : drop 128 new ≡ drop 128 es =
-    ext-getD noEntry (drop 128 new) (drop 128 es) (omega (arith, d, d′, same))
-    (λ i l. getD-drop 128 new i noEntry
-    ∙ stored-not f es n (128 + i) (omega arith)
-    ∙ sym (getD-drop 128 es i noEntry)) in
-    sym (take-append-drop 128 new) ∙ ap₂ (λ (a b : List Entry). a ++ b) (sym front) back
+    ∙ take-least (f .len) 512 new (p ∙ sym same) in
+    let back : drop 512 new ≡ drop 512 es =
+    ext-getD noEntry (drop 512 new) (drop 512 es) (omega (arith, d, d′, same))
+    (λ i l. getD-drop 512 new i noEntry
+    ∙ stored-not f es n (512 + i) (omega arith)
+    ∙ sym (getD-drop 512 es i noEntry)) in
+    sym (take-append-drop 512 new) ∙ ap₂ (λ (a b : List Entry). a ++ b) (sym front) back
 
 -- ---- what is lent on
 
 -- an array of the code has its length
-pub full : (f : Flat) {w : List Val} → Is T.the-row f w → length (f .at) ≡ 640
+pub full : (f : Flat) {w : List Val} → Is T.the-row f w → length (f .at) ≡ 2560
 full f is =
     sym (length-map (f .at) (λ (v : ℕ). v)) ∙ LL.owed T.the-type T′.the-laws f _ is .0 .1 .0 .1
 
 -- the numbers that are lent on are those of the entries
-pub lent-on : (f : Flat) → length (f .at) ≡ 640 → take (numbersLent (f .len)) (f .at) ≡ each entryNumbers (entriesOf f)
+pub lent-on : (f : Flat) → length (f .at) ≡ 2560 → take (numbersLent (f .len)) (f .at) ≡ each entryNumbers (entriesOf f)
 unfolding numbersLent entriesOf
 lent-on f h = sym (read-numbers (f .at) (placesLent (f .len)) (omega (arith, h)))

@@ -1,264 +1,164 @@
--- A table that goes on past its first 640 numbers: a step on it does what it does on the front, and keeps the rest.
-use Prim.Native.Nat.{ℕ, _-_, _/_, _≤_}
+-- A table that goes on past its first 2,560 numbers: a call on it does what it does on the front, and keeps the rest.
+use Prim.Native.Nat.{ℕ, _*_, _-_, _/_, _<_, _≤_}
 use native.Mathlib.Omega.{arith}
 use mathlib.Core.Path.{_≡_, refl, sym, ap, ap₂, _∙_}
-use mathlib.Core.Bool.{Bool, true, false, cond, not, and-false}
-use mathlib.Core.List.{List, [], _∷_, _++_, append-assoc}
+use mathlib.Core.Bool.{Bool, true, false, cond, not}
+use mathlib.Core.List.{List, [], _++_, append-assoc}
 use mathlib.Core.Option.{Option, none, some}
-use lib.ListN.{length, take, drop, replicate, length-append}
-use lib.Seq.{take-at, drop-append-le}
+use lib.Dec.{ltb}
+use lib.ListN.{length, getD, set, take, drop, replicate, length-append}
+use lib.Seq.{drop-append-le}
 use borrow.Author.Tests.{le-ltb}
-use Rattle.foil_spec.specs.Lists.{each}
-use Rattle.foil_spec.specs.Limits.{maxEntries, tableSize}
-use Rattle.foil_spec.specs.Foil.{entryNumbers, Layout}
-use Rattle.foil_spec.specs.Ledger.{Step, Answer, first, Room, short, reads, afterLent, After, says, next}
-use Rattle.foil_spec.specs.Ledger.{settle, refusalOf}
-use Rattle.foil_spec.specs.Lent.{Lent, lent, written, boardOf, store, held, layoutOk, sound, roomIn}
-use Rattle.foil_spec.specs.Lent.{stepOn}
-use Rattle.foil_spec.specs.Calls.{runRecord, ohms, ohmsReply, endsJob, andThen, actAll, actRecord, wholeRefusals}
-use Rattle.foil_spec.specs.Calls.{reply, callOn}
-use Rattle.foil_spec.specs.declared.Ink.{Ink}
-use Rattle.foil_spec.proofs.Written.{length-written}
-use Rattle.list_laws.proofs.Tests.{both, clash}
-use Rattle.ledger_laws.proofs.Refusals.{short-refused, broken-refused, unrefused-sound, unrefused-own}
-use Rattle.ledger_laws.proofs.Stored.{entries-fit, held-store, sound-store}
-use Rattle.ledger_laws.proofs.Line.{line}
-use Rattle.ledger_laws.proofs.Sound.{of-sound, sound-store-is}
+use Rattle.foil_spec.specs.Limits.{tableSize, sheetFoils, sheetEntries, sheetSize}
+use Rattle.foil_spec.specs.Ledger.{Room, Step, Answer, says, next, settle, refusalOf, first, afterLent}
+use Rattle.foil_spec.specs.Lent.{Lent, lent, written, store, held, sound}
+use Rattle.foil_spec.specs.Calls.{Call, step, runRecord, ohms, reply}
+use Rattle.foil_spec.specs.Sheet.{countsOk, SheetLent, noBoard, counts, parts, joined, tableAt, view, putBack, writes}
+use Rattle.foil_spec.specs.Sheet.{sheetRoom, sheetStep, opening, sheetRefusal, unless, sheetCall}
+use Rattle.list_laws.proofs.Tests.{both, not-ff}
+use Rattle.ledger_laws.proofs.Refusals.{no-more, none-applies}
+use Rattle.ledger_laws.proofs.Replies.{shownBy, reply-is}
+use Rattle.sheet_laws.proofs.Counts.{ok-total}
+use Rattle.sheet_laws.proofs.Parts.{parts-append}
+use Rattle.sheet_laws.proofs.Views.{Stands, call-others}
+use Rattle.sheet_laws.proofs.Called.{passed}
+use Rattle.sheet_rows.specs.Rows.{sheetLent}
+use Rattle.sheet.specs.Contract.{onSheet}
 
 -- what is lent, with more numbers after the table
-abbrev pub longer : List ℕ → Lent → Lent
-longer rest m = lent (m .board) (m .table ++ rest) (m .strips)
+abbrev pub longer : List ℕ → SheetLent → SheetLent
+longer rest m = sheetLent (m .boards) (m .table ++ rest) (m .strips)
 
--- its first 640 numbers
-abbrev cut : Lent → Lent
-cut m = lent (m .board) (take tableSize (m .table)) (m .strips)
+-- the call with more numbers after the table, and the call without
+pub record Longer (rest : List ℕ) (k : ℕ) (c : Call) (m : SheetLent) (output : ℕ) : Type 0 where
+  pub answer : onSheet k c (longer rest m) output .answer ≡ onSheet k c m output .answer
+  pub state : onSheet k c (longer rest m) output .state ≡ longer rest (onSheet k c m output .state)
 
-module _ (rest : List ℕ) where
-  store-longer : (l : Layout) (m : Lent) → tableSize ≤ length (m .table)
-      → store l (longer rest m) ≡ longer rest (store l m)
-  unfolding store written
-  store-longer l m h =
-      let ns : List ℕ = each entryNumbers (l .entries) in
-      let zs : List ℕ = replicate (tableSize - length ns) 0 in
-      ap (λ (t : List ℕ). lent (boardOf l) t (store l m .strips))
-      (ap (λ (x : List ℕ). ns ++ (zs ++ x)) (drop-append-le tableSize (m .table) rest h)
-      ∙ ap (λ (x : List ℕ). ns ++ x) (sym (append-assoc zs (drop tableSize (m .table)) rest))
-      ∙ sym (append-assoc ns (zs ++ drop tableSize (m .table)) rest))
+-- a sheet in the room r whose table is just its places
+record Whole (r : Room) (k : ℕ) (x : SheetLent) : Type 0 where
+  stands : Stands r k x
+  size : length (x .table) ≡ sheetSize
 
-  -- what 13 does not apply to is what it says, stored
-  is-stored : (m : Lent) → sound m ≡ true → m ≡ store (held m) m
-  is-stored m g = sym (sound-store-is m (of-sound m g))
+module _ (rest : List ℕ) (r : Room) (k : ℕ) (here : k < sheetFoils) where
+  whole-after : (s : Step) (x : SheetLent) → Whole r k x → Whole r k (sheetStep r k s x .state)
+  unfolding reply
+  whole-after s x w =
+      let (stands, others) = call-others r k here (step s) x (w .stands) in
+      record { stands = stands; size = others .size ∙ w .size }
 
-  module _ (m : Lent) (full : length (m .table) ≡ tableSize) where
-    longer-stored : sound m ≡ true → longer rest m ≡ store (held m) (longer rest m)
-    longer-stored g =
-        ap (longer rest) (is-stored m g) ∙ sym (store-longer (held m) m (omega (arith, full)))
+  module _ (x : SheetLent) (w : Whole r k x) where
+    abbrev ns : List ℕ
+    ns = counts (x .boards)
 
-    sound-up : sound m ≡ true → sound (longer rest m) ≡ true
-    sound-up g =
-        ap sound (longer-stored g) ∙ sound-store (held m) (longer rest m) (of-sound m g .kept)
+    parts-longer : parts ns (x .table ++ rest) ≡ parts ns (x .table)
+    parts-longer =
+        parts-append ns (x .table) rest (omega (arith, ok-total ns (w .stands .whole .limits), w .size))
 
-    held-longer : sound m ≡ true → held (longer rest m) ≡ held m
-    held-longer g = ap held (longer-stored g) ∙ held-store (held m) (longer rest m)
+    view-longer : view k (longer rest x) ≡ view k x
+    unfolding view tableAt
+    view-longer =
+        ap (λ (ps : List (List ℕ)). lent (getD (x .boards) k noBoard) (written tableSize (getD ps k []) []) (x .strips))
+        parts-longer
 
-    sound-down : sound (longer rest m) ≡ true → sound m ≡ true
-    sound-down g =
-        let l : Layout = held (longer rest m) in
-        let ok = of-sound (longer rest m) g .kept in
-        let e : longer rest m ≡ longer rest (store l m) =
-        is-stored (longer rest m) g ∙ store-longer l m (omega (arith, full)) in
-        let size : length (store l m .table) ≡ tableSize =
-        unfold store in length-written tableSize (each entryNumbers (l .entries)) (m .table) (entries-fit l ok)
-        (omega (arith, full)) ∙ full in
-        let here : cut (longer rest m) ≡ m =
-        ap (λ (t : List ℕ). lent (m .board) t (m .strips)) (take-at (m .table) rest tableSize full) in
-        let there : cut (longer rest (store l m)) ≡ store l m =
-        ap (λ (t : List ℕ). lent (store l m .board) t (store l m .strips))
-        (take-at (store l m .table) rest tableSize size) in
-        let same : m ≡ store l m = sym here ∙ ap cut e ∙ there in
-        ap sound same ∙ sound-store l m ok
+    put-longer : (v : Lent) → putBack k (longer rest x) v ≡ longer rest (putBack k x v)
+    unfolding putBack written
+    put-longer v =
+        let p : List ℕ = take (5 * v .board .entries) (v .table) in
+        let js : List ℕ = joined (set (parts ns (x .table)) k p) in
+        let zs : List ℕ = replicate (sheetSize - length js) 0 in
+        ap (λ (t : List ℕ). sheetLent (set (x .boards) k (v .board)) t (v .strips))
+        (ap₂ (λ (ps : List (List ℕ)) (t : List ℕ). joined (set ps k p)
+        ++ (replicate (sheetSize - length (joined (set ps k p))) 0 ++ t)) parts-longer
+        (drop-append-le sheetSize (x .table) rest (omega (arith, w .size)))
+        ∙ ap (λ (t : List ℕ). js ++ t) (sym (append-assoc zs (drop sheetSize (x .table)) rest))
+        ∙ sym (append-assoc js (zs ++ drop sheetSize (x .table)) rest))
 
-    sound-longer : sound (longer rest m) ≡ sound m
-    sound-longer =
-        both (sound m) (λ e. sound-up e ∙ sym e)
-        (λ e. both (sound (longer rest m)) (λ u. clash (sound-down u) e) (λ u. u ∙ sym e))
+    after-longer : (t : Bool) (v : Lent)
+        → cond t (putBack k (longer rest x) v) (longer rest x) ≡ longer rest (cond t (putBack k x v) x)
+    after-longer true v = put-longer v
+    after-longer false v = refl
 
--- ---- rooms that differ in the places of the table alone, none too few
+    settle-longer : (o : Option ℕ) (a : Answer) (t : Bool) (v : Lent)
+        → settle o (record { answer = a; state = cond t (putBack k (longer rest x) v) (longer rest x) }) (longer rest x)
+        ≡ shownBy (longer rest) (settle o (record { answer = a; state = cond t (putBack k x v) x }) x)
+    unfolding settle shownBy
+    settle-longer (some n) a t v = refl
+    settle-longer none a t v = ap (λ (y : SheetLent). record { answer = a; state = y }) (after-longer t v)
 
-pub record Alike (r r′ : Room) : Type 0 where
-  pub as-short : short r′ ≡ short r
-  pub output : r′ .output ≡ r .output
-  pub limit : r′ .limit ≡ r .limit
-
-pub alike : (rest : List ℕ) (m : Lent) (limit n : ℕ) → length (m .table) ≡ tableSize
-    → Alike (roomIn limit m n) (roomIn limit (longer rest m) n)
-unfolding short roomIn
-alike rest m limit n full =
-    let k = length-append (m .table) rest in
-    record {
-      as-short =
-          rw (
-            le-ltb (length (m .table ++ rest) / 5) maxEntries (omega (arith, k, full)),
-            le-ltb (length (m .table) / 5) maxEntries (omega (arith, full)),
-          ) refl;
-      output = refl;
-      limit = refl;
-    }
-
--- an answer, and a state that goes on after the front
-abbrev pub andMore : {A : Type 0} → List ℕ → After A Lent → After A Lent
-andMore rest a = record { answer = a .answer; state = longer rest (a .state) }
-
-module _ (rest : List ℕ) (r r′ : Room) (like : Alike r r′) where
-  -- ---- one step
-
-  module _ (m : Lent) (full : length (m .table) ≡ tableSize) where
-    -- a step leaves the front as it leaves it where there is no more
-    abbrev Longer : Step → Type 0
-    Longer s = stepOn r′ s (longer rest m) ≡ andMore rest (stepOn r s m)
-
-    settle-longer : (o : Option ℕ) (a b : Answer) (l k : Layout) → a ≡ b → l ≡ k
-        → settle o (record { answer = a; state = store l (longer rest m) }) (longer rest m)
-        ≡ andMore rest (settle o (record { answer = b; state = store k m }) m)
-    unfolding settle
-    settle-longer (some n) a b l k e f = refl
-    settle-longer none a b l k e f =
-        rw (e, f)
-        (ap {A = Lent} {B = After Answer Lent} (λ x. record { answer = b; state = x })
-        (store-longer rest k m (omega (arith, full))))
-
-    same-step : (s : Step)
-        → refusalOf r′ (not (sound (longer rest m))) s (held (longer rest m)) ≡ refusalOf r (not (sound m)) s (held m)
-        → says s (held (longer rest m)) ≡ says s (held m) → next s (held (longer rest m)) ≡ next s (held m) → Longer s
-    unfolding stepOn
-    same-step s e a b = rw e (settle-longer (refusalOf r (not (sound m)) s (held m)) _ _ _ _ a b)
-
-    same-refusal : (s : Step) (b : Bool) (l : Layout) → refusalOf r′ b s l ≡ refusalOf r b s l
-    unfolding refusalOf afterLent first
-    same-refusal s b l = rw (like .as-short, line s .of-room r′ r l (like .output) (like .limit)) refl
-
-    sound-step : (s : Step) → sound m ≡ true → Longer s
-    sound-step s g =
-        let h = held-longer rest m full g in
-        same-step s
-        (ap₂ (λ (b : Bool) (l : Layout). refusalOf r′ (not b) s l) (sound-longer rest m full) h
-        ∙ same-refusal s (not (sound m)) (held m))
-        (ap (says s) h) (ap (next s) h)
-
-    -- where 13 applies, each step that reads is refused
-    broken-step : (s : Step) → reads s ≡ true → sound m ≡ false → Longer s
-    unfolding stepOn settle
-    broken-step s f g =
-        let g′ : sound (longer rest m) ≡ false = sound-longer rest m full ∙ g in
-        both (short r)
-        (λ e. rw (
-          short-refused r′ s (held (longer rest m)) (not (sound (longer rest m))) (like .as-short ∙ e),
-          short-refused r s (held m) (not (sound m)) e,
-        ) refl)
-        (λ e. rw (
-          g′,
-          g,
-          broken-refused r′ s (held (longer rest m)) (like .as-short ∙ e) f,
-          broken-refused r s (held m) e f,
-        ) refl)
-
-    -- a step that does not read what is lent
-    blind-refusal : (s : Step) → reads s ≡ false → (b b′ : Bool) (l l′ : Layout)
-        → refusalOf r′ b′ s l′ ≡ refusalOf r b s l
-    unfolding refusalOf afterLent first
-    blind-refusal s f b b′ l l′ =
-        rw (
-          like .as-short,
-          f,
-          and-false b′,
-          and-false b,
-          line s .of-room r′ r l′ (like .output) (like .limit),
-          line s .blind f r l′ l .0,
-        ) refl
-
-    blind-step : (s : Step) → reads s ≡ false → Longer s
-    blind-step s f =
-        let z = line s .blind f r (held (longer rest m)) (held m) in
-        same-step s (blind-refusal s f _ _ _ _) (z .1) (z .2)
-
-    pub step-longer : (s : Step) → Longer s
+    step-longer : (s : Step) → sheetStep r k s (longer rest x) ≡ shownBy (longer rest) (sheetStep r k s x)
+    unfolding sheetStep
     step-longer s =
-        both (sound m) (λ g. sound-step s g)
-        (λ g. both (reads s) (λ f. broken-step s f g) (λ f. blind-step s f))
+        rw view-longer
+        (settle-longer (refusalOf r (not (sound (view k x))) s (held (view k x))) (says s (held (view k x))) (writes s)
+        (store (next s (held (view k x))) (view k x)))
 
-    -- a step leaves the front as long as it was
-    next-ok : (s : Step) → refusalOf r (not (sound m)) s (held m) ≡ none → layoutOk (next s (held m)) ≡ true
-    next-ok s h =
-        line s .kept r (held m)
-        (λ f. of-sound m (fine (unrefused-sound r s (held m) (not (sound m)) h f)) .kept)
-        (unrefused-own r s (held m) (not (sound m)) h)
-      where
-        fine : not (sound m) ≡ false → sound m ≡ true
-        fine e = both (sound m) (λ g. g) (λ g. clash (ap not g) e)
+  reply-longer : (c : Call) (x : SheetLent) → Whole r k x
+      → reply (sheetStep r k) r (not (sound (view k (longer rest x)))) c (held (view k (longer rest x))) (longer rest x)
+      ≡ shownBy (longer rest) (reply (sheetStep r k) r (not (sound (view k x))) c (held (view k x)) x)
+  reply-longer c x w =
+      rw (view-longer x w)
+      (reply-is (sheetStep r k) (sheetStep r k) (longer rest) (Whole r k) whole-after (λ s y v. step-longer y v s) r
+      (not (sound (view k x))) c (held (view k x)) x w)
 
-    settle-full : (o : Option ℕ) (s : Step) → refusalOf r (not (sound m)) s (held m) ≡ o
-        → length (settle o (record { answer = says s (held m); state = store (next s (held m)) m }) m .state .table)
-        ≡ tableSize
-    unfolding settle
-    settle-full (some n) s h = full
-    settle-full none s h =
-        unfold store in
-        length-written tableSize (each entryNumbers (next s (held m) .entries)) (m .table)
-        (entries-fit (next s (held m)) (next-ok s h)) (omega (arith, full))
-        ∙ full
+-- where no refusal that a call begins with applies, the counts keep both limits
+unbroken : (r : Room) (b : Bool) (c : Call) → first (opening r b c) ≡ none → b ≡ false
+unfolding opening afterLent
+unbroken r b (step s) e = search none-applies
+unbroken r b (runRecord bs at) e = search none-applies
+unbroken r b (ohms net i) e = search none-applies
 
-    step-full : (s : Step) → length (stepOn r s m .state .table) ≡ tableSize
-    unfolding stepOn
-    step-full s = settle-full (refusalOf r (not (sound m)) s (held m)) s refl
+module _ (rest : List ℕ) (k : ℕ) (c : Call) (m : SheetLent) (output : ℕ) (full : length (m .table) ≡ sheetSize)
+    (eight : length (m .boards) ≡ sheetFoils) where
+  abbrev r : Room
+  r = sheetRoom k (counts (m .boards)) m output
 
-  -- ---- a record
+  same-room : sheetRoom k (counts (m .boards)) (longer rest m) output ≡ r
+  unfolding sheetRoom
+  same-room =
+      rw (
+        le-ltb (length (m .table ++ rest) / 5) sheetEntries (omega (arith, length-append (m .table) rest, full)),
+        le-ltb (length (m .table) / 5) sheetEntries (omega (arith, full)),
+      ) refl
 
-  then-more : (a : After Answer Lent) (b : After (List Answer) Lent)
-      → andThen (andMore rest a) (andMore rest b) ≡ andMore rest (andThen a b)
-  unfolding andThen
-  then-more a b = go (endsJob (a .answer))
-    where
-      go : (t : Bool)
-          → cond t
-          (record { answer = a .answer ∷ []; state = longer rest (a .state) })
-          (record { answer = a .answer ∷ b .answer; state = longer rest (b .state) })
-          ≡ andMore rest
-          (cond t
-          (record { answer = a .answer ∷ []; state = a .state })
-          (record { answer = a .answer ∷ b .answer; state = b .state }))
-      go true = refl
-      go false = refl
+  abbrev broken : Bool
+  broken = not (countsOk (counts (m .boards)))
 
-  steps-longer : (ss : List Step) (m : Lent) → length (m .table) ≡ tableSize
-      → actAll (stepOn r′) ss (longer rest m) ≡ andMore rest (actAll (stepOn r) ss m)
-  unfolding actAll
-  steps-longer [] m full = refl
-  steps-longer (s ∷ ss) m full =
-      rw (step-longer m full s)
-      (ap (andThen (andMore rest (stepOn r s m))) (steps-longer ss (stepOn r s m .state) (step-full m full s))
-      ∙ then-more (stepOn r s m) (actAll (stepOn r) ss (stepOn r s m .state)))
+  in-room : sheetRefusal r broken k c ≡ none → Whole r k m
+  unfolding sheetRefusal sheetRoom
+  in-room e =
+      record {
+        stands =
+            record {
+              whole =
+                  record {
+                    eight = eight;
+                    limits =
+                        not-ff (countsOk (counts (m .boards)))
+                        (unbroken r broken c (no-more (ltb 7 k) 23 (opening r broken c) e));
+                    places = omega (arith, full);
+                  };
+              limit = refl;
+            };
+        size = full;
+      }
 
-  ran-longer : (o : Option ℕ) (end : Bool) (ss : List Step) (p : ℕ) (m : Lent) → length (m .table) ≡ tableSize
-      → actRecord (stepOn r′) o end ss p (longer rest m) ≡ andMore rest (actRecord (stepOn r) o end ss p m)
-  unfolding actRecord
-  ran-longer (some n) end ss p m full = refl
-  ran-longer none true ss p m full = refl
-  ran-longer none false ss p m full = rw (steps-longer ss m full) refl
+  unless-longer : (o : Option ℕ) → sheetRefusal r broken k c ≡ o
+      → unless o
+      (reply (sheetStep r k) r (not (sound (view k (longer rest m)))) c (held (view k (longer rest m))) (longer rest m))
+      (longer rest m)
+      ≡ shownBy (longer rest) (unless o (reply (sheetStep r k) r (not (sound (view k m))) c (held (view k m)) m) m)
+  unfolding unless shownBy
+  unless-longer (some n) e = refl
+  unless-longer none e = reply-longer rest r k (passed r broken k c e .here) c m (in-room e)
 
-  pub record-longer : (bs : List ℕ) (at : ℕ) (m : Lent) → length (m .table) ≡ tableSize
-      → callOn r′ (runRecord bs at) (longer rest m) ≡ andMore rest (callOn r (runRecord bs at) m)
-  unfolding callOn reply wholeRefusals afterLent
-  record-longer bs at m full =
-      rw (like .as-short, sound-longer rest m full) (ran-longer _ _ _ _ m full)
+  sheet-longer : onSheet k c (longer rest m) output ≡ shownBy (longer rest) (onSheet k c m output)
+  unfolding sheetCall
+  sheet-longer = rw same-room (unless-longer (sheetRefusal r broken k c) refl)
 
-  -- ---- the ohms
-
-  pub ohms-longer : (net : ℕ) (i : Ink) (m : Lent) → length (m .table) ≡ tableSize
-      → callOn r′ (ohms net i) (longer rest m) ≡ andMore rest (callOn r (ohms net i) m)
-  unfolding callOn reply afterLent first ohmsReply
-  ohms-longer net i m full =
-      both (sound m)
-      (λ g. rw (like .as-short, sound-longer rest m full, held-longer rest m full g) refl)
-      (λ g. both (short r)
-      (λ e. rw (like .as-short, e) refl)
-      (λ e. rw (like .as-short, sound-longer rest m full, e, g) refl))
+  pub call-longer : Longer rest k c m output
+  unfolding shownBy
+  call-longer =
+      record {
+        answer = ap (λ x. x .answer) sheet-longer;
+        state = ap (λ x. x .state) sheet-longer;
+      }

@@ -4,6 +4,7 @@ pub mod Walks
 pub mod Values
 pub mod Places
 pub mod Locals
+pub mod Lending
 pub mod Words
 pub mod Flats
 pub mod Fronts

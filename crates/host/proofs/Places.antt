@@ -3,13 +3,15 @@ use Prim.Native.Nat.{ℕ, _<_, _^_, _*_, _+_}
 use native.Mathlib.Omega.{arith}
 use mathlib.Core.Path.{_≡_, refl}
 use mathlib.Core.Bool.{Bool, true, false}
-use mathlib.Core.List.{[], _∷_}
+use mathlib.Core.List.{List, [], _∷_}
 use mir.Syntax.{Ty, w64, tyInt}
 use mir.Val.{Val}
 use denote.Laws.{Is}
 use Rattle.foil_spec.specs.declared.Entry.{Entry}
 use Rattle.host.specs.declared.flat.Flat.{Flat}
-use Rattle.host.proofs.Values.{an-Entry, a-Flat}
+use denote.Array.{Array}
+use denote.Builtin.{u16}
+use Rattle.host.proofs.Values.{an-Entry, a-Flat, some-Numbers}
 use Rattle.foil_spec.proofs.Entry as TE
 use Rattle.host.proofs.flat.Flat as TF
 
@@ -34,9 +36,15 @@ machE e = an-Entry .val e
 abbrev pub machF : Flat → Val
 machF g = a-Flat .val g
 
+abbrev pub machN : List ℕ → Val
+machN a = some-Numbers .val a
+
 -- that these are values of their types
 abbrev pub IsE : Entry → Type 0
 IsE e = Is TE.the-row e (machE e ∷ [])
 
 abbrev pub IsF : Flat → Type 0
 IsF g = Is TF.the-row g (machF g ∷ [])
+
+abbrev pub IsN : List ℕ → Type 0
+IsN a = Is (Array u16 2560) a (machN a ∷ [])

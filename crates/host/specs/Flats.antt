@@ -1,29 +1,21 @@
--- The numbers of a table's first 128 places by value: laid in place by place, and stored over a table.
+-- The numbers of a table's first 512 places by value: laid in place by place, and stored over a table.
 use Prim.Native.Nat.{ℕ, zero, suc, _+_, _*_, min}
 use mathlib.Core.List.{List, map}
 use lib.ListN.{length, set, getD, replicate}
 use Rattle.foil_spec.specs.Lists.{range}
-use Rattle.foil_spec.specs.Limits.{maxEntries, tableSize}
+use Rattle.foil_spec.specs.Limits.{sheetEntries, sheetSize}
 use Rattle.foil_spec.specs.Foil.{Entry, entry}
 use Rattle.foil_spec.specs.Lent.{entryAt}
 use Rattle.host.specs.declared.flat.Flat.{Flat}
-
--- no entry, for a table of n places
-unfoldable pub zeros : ℕ → Flat
-zeros n = record { at = replicate tableSize 0; len = n }
 
 -- five numbers from place k on
 unfoldable pub setFive : List ℕ → ℕ → Entry → List ℕ
 setFive a k e =
     set (set (set (set (set a k (e .net)) (k + 1) (e .x0)) (k + 2) (e .y0)) (k + 3) (e .x1)) (k + 4) (e .y1)
 
--- with the entry e at place i
-unfoldable pub withEntry : Flat → ℕ → Entry → Flat
-withEntry f i e = record { at = setFive (f .at) (i * 5) e; len = f .len }
-
--- how many places are lent on of a table of n: its first 128
+-- how many places are lent on of a table of n: its first 512
 abbrev pub placesLent : ℕ → ℕ
-placesLent n = min n maxEntries
+placesLent n = min n sheetEntries
 
 -- how many numbers these are
 unfoldable pub numbersLent : ℕ → ℕ
@@ -37,20 +29,20 @@ entriesOf f = map (entryAt (f .at)) (range 0 (placesLent (f .len)))
 abbrev pub noEntry : Entry
 noEntry = entry 0 0 0 0 0
 
--- the numbers of the first k places of a table
-unfoldable pub loadTo : List Entry → ℕ → Flat
-loadTo es zero = zeros (length es)
-loadTo es (suc k) = withEntry (loadTo es k) k (getD es k noEntry)
+-- the numbers of the first k places of a table, zeros after them
+unfoldable pub loadTo : List Entry → ℕ → List ℕ
+loadTo es zero = replicate sheetSize 0
+loadTo es (suc k) = setFive (loadTo es k) (k * 5) (getD es k noEntry)
 
 -- a table with its first k places stored over
 unfoldable pub storeTo : Flat → List Entry → ℕ → List Entry
 storeTo f es zero = es
 storeTo f es (suc k) = set (storeTo f es k) k (entryAt (f .at) k)
 
--- the numbers of a table's first 128 places
+-- the numbers of a table's first 512 places
 abbrev pub frontOf : List Entry → Flat
-frontOf es = loadTo es (placesLent (length es))
+frontOf es = record { at = loadTo es (placesLent (length es)); len = length es }
 
--- a table with its first 128 places stored over
+-- a table with its first 512 places stored over
 abbrev pub overFront : Flat → List Entry → List Entry
 overFront f es = storeTo f es (placesLent (length es))

@@ -1,12 +1,10 @@
--- What running a record over structs has done: the same as on numbers, `callOn` of the table's numbers.
+-- What running a record over structs has done: the same as on numbers, `onSheet` of the table's numbers.
 use Prim.Native.Nat.{ℕ}
 use mathlib.Core.Path.{_≡_}
 use mathlib.Core.Bool.{Bool, true, false}
 use mathlib.Core.List.{List}
 use Rattle.foil_spec.specs.Lists.{each}
 use Rattle.foil_spec.specs.Foil.{Entry, entryNumbers}
-use Rattle.foil_spec.specs.Lent.{lent}
-use Rattle.foil_spec.specs.declared.Board.{Board}
 use Rattle.job.specs.declared.Told.{Told}
 use Rattle.job.specs.declared.Told.the-variants.{Nothing, Said}
 use Rattle.job.specs.declared.Answers.{Answers}
@@ -14,21 +12,21 @@ use Rattle.job.specs.declared.Next.{Next}
 use Rattle.job.specs.declared.Next.the-variants.{At, Nowhere}
 use Rattle.job.specs.declared.Reply.{Reply}
 use Rattle.job.specs.declared.Reply.the-variants.{Refused, Ran as HasRun, AtEnd}
-use Rattle.job.specs.Contract.{RecordDone}
+use Rattle.sheet_rows.specs.declared.Sheet.{Sheet}
+use Rattle.sheet.specs.Contract.{SheetRecordDone}
 use Rattle.host.specs.declared.flat.Flat.{Flat}
 use Rattle.host.specs.declared.records.StepSaid.{StepSaid}
 use Rattle.host.specs.declared.records.RecordSaid.{RecordSaid}
 use Rattle.host.specs.declared.records.Ran.{Ran}
 use Rattle.host.specs.Flats.{entriesOf}
-use Rattle.host.specs.Calls.{nothingSaid, saidOf}
+use Rattle.host.specs.Calls.{lentOf, nothingSaid, saidOf}
 
--- the record at a place of the bytes bs, on the table es: board, strips and corner list were b, s and ks; it replied r
--- and left b′, es′, s′ and ks′
-abbrev pub HostRan : List ℕ → ℕ → Board → List Entry → List ℕ → List ℕ → Reply → Board → List Entry → List ℕ
+-- the record at a place of the bytes bs, on foil k: records, table, strips and corner list were b, es, s and ks; it
+-- replied r and left b′, es′, s′ and ks′
+abbrev pub HostRan : ℕ → List ℕ → ℕ → Sheet → List Entry → List ℕ → List ℕ → Reply → Sheet → List Entry → List ℕ
     → List ℕ → Type 0
-HostRan bs at b es s ks r b′ es′ s′ ks′ =
-    RecordDone bs at (lent b (each entryNumbers es) s) ks (record { reply = r; board = b′ }) (each entryNumbers es′)
-    s′ ks′
+HostRan k bs at b es s ks r b′ es′ s′ ks′ =
+    SheetRecordDone k bs at (lentOf b es s) ks (record { reply = r; sheet = b′ }) (each entryNumbers es′) s′ ks′
 
 -- ---- replies as numbers
 
@@ -75,7 +73,7 @@ recordSaidOf AtEnd = ranSaid 0 true noAnswers Nowhere
 -- ---- what a record on the table's numbers leaves
 
 -- a record on the table's numbers by value, whose places stay as many, left r, s′ and ks′
-pub record FlatRan (bs : List ℕ) (at : ℕ) (b : Board) (t : Flat) (s ks : List ℕ) (r : Ran) (s′ ks′ : List ℕ)
+pub record FlatRan (k : ℕ) (bs : List ℕ) (at : ℕ) (b : Sheet) (t : Flat) (s ks : List ℕ) (r : Ran) (s′ ks′ : List ℕ)
     : Type 0 where
   pub places : r .table .len ≡ t .len
-  pub done : HostRan bs at b (entriesOf t) s ks (r .reply) (r .board) (entriesOf (r .table)) s′ ks′
+  pub done : HostRan k bs at b (entriesOf t) s ks (r .reply) (r .sheet) (entriesOf (r .table)) s′ ks′

@@ -19,51 +19,55 @@ use crate::records::record_said_of;
 use crate::run_record;
 use crate::save;
 use crate::slip;
-use foil_spec::Board;
 use foil_spec::Entry;
 use foil_spec::Ink;
+use sheet_rows::Sheet;
+ghost use mathlib.Core.List.{[]};
 ghost use Rattle.foil_spec.specs.Foil.{point, pen};
 ghost use Rattle.foil_spec.specs.Ledger.{byPen, newFoil, draw as draws, lay as lays, lift as lifts, putLeg};
 ghost use Rattle.foil_spec.specs.Ledger.{join as joins, save as saves, find as finds, book as books, slip as slips};
-ghost use Rattle.host.specs.Calls.{ToldBy, saidOf, ohmsSaid, HostDone, HostWrote, HostLooked, HostRead, HostOhms};
+ghost use Rattle.foil_spec.specs.Ledger.{lookUp};
+ghost use Rattle.host.specs.Calls.{ToldBy, saidOf, ohmsSaid, HostDone, HostWrote, HostRead, HostOhms};
 ghost use Rattle.host.specs.Records.{recordSaidOf, HostRan};
 
 // Begins a foil of w by h with a pen of this half width and gap: an empty table, and one strip, what
 // the edge leaves, or none.
 #[no_mangle]
 pub extern "C" fn foil_new_foil(
-    board: &mut Board,
+    sheet: &mut Sheet,
     table: &mut [Entry],
     strips: &mut [u16],
+    k: usize,
     w: u16,
     h: u16,
     half: u16,
     gap: u16,
 ) -> Said
-    ensures { λ r. ⌜ ToldBy saidOf (λ a. HostDone (newFoil w h (byPen (pen half gap)))
-        (now (board .entry)) (now (table .entry)) (now (strips .entry))
-        a (now (board .exit)) (now (table .exit)) (now (strips .exit))) r ⌝ }
+    ensures { λ r. ⌜ ToldBy saidOf (λ a. HostDone k (newFoil w h (byPen (pen half gap)))
+        (now (sheet .entry)) (now (table .entry)) (now (strips .entry))
+        a (now (sheet .exit)) (now (table .exit)) (now (strips .exit))) r ⌝ }
 {
-    let answer = new_foil(board, table, strips, w, h, half, gap);
+    let answer = new_foil(sheet, table, strips, k, w, h, half, gap);
     said_of(answer)
 }
 
 // Draws a patch: appends an entry of net 0.
 #[no_mangle]
 pub extern "C" fn foil_draw(
-    board: &mut Board,
+    sheet: &mut Sheet,
     table: &mut [Entry],
     strips: &mut [u16],
+    k: usize,
     x0: u16,
     y0: u16,
     x1: u16,
     y1: u16,
 ) -> Said
-    ensures { λ r. ⌜ ToldBy saidOf (λ a. HostDone (draws x0 y0 x1 y1)
-        (now (board .entry)) (now (table .entry)) (now (strips .entry))
-        a (now (board .exit)) (now (table .exit)) (now (strips .exit))) r ⌝ }
+    ensures { λ r. ⌜ ToldBy saidOf (λ a. HostDone k (draws x0 y0 x1 y1)
+        (now (sheet .entry)) (now (table .entry)) (now (strips .entry))
+        a (now (sheet .exit)) (now (table .exit)) (now (strips .exit))) r ⌝ }
 {
-    let answer = draw(board, table, strips, x0, y0, x1, y1);
+    let answer = draw(sheet, table, strips, k, x0, y0, x1, y1);
     said_of(answer)
 }
 
@@ -71,21 +75,22 @@ pub extern "C" fn foil_draw(
 // list, and appends an entry for each leg.
 #[no_mangle]
 pub extern "C" fn foil_lay(
-    board: &mut Board,
+    sheet: &mut Sheet,
     table: &mut [Entry],
     strips: &mut [u16],
     corners: &mut [u16],
+    k: usize,
     net: u16,
     sx: u16,
     sy: u16,
     tx: u16,
     ty: u16,
 ) -> Said
-    ensures { λ r. ⌜ ToldBy saidOf (λ a. HostWrote (lays net (point sx sy) (point tx ty))
-        (now (board .entry)) (now (table .entry)) (now (strips .entry)) (now (corners .entry))
-        a (now (board .exit)) (now (table .exit)) (now (strips .exit)) (now (corners .exit))) r ⌝ }
+    ensures { λ r. ⌜ ToldBy saidOf (λ a. HostWrote k (lays net (point sx sy) (point tx ty))
+        (now (sheet .entry)) (now (table .entry)) (now (strips .entry)) (now (corners .entry))
+        a (now (sheet .exit)) (now (table .exit)) (now (strips .exit)) (now (corners .exit))) r ⌝ }
 {
-    let answer = lay(board, table, strips, corners, net, sx, sy, tx, ty);
+    let answer = lay(sheet, table, strips, corners, k, net, sx, sy, tx, ty);
     said_of(answer)
 }
 
@@ -93,19 +98,20 @@ pub extern "C" fn foil_lay(
 // front of the corner list, and appends an entry of the same net for each leg of the way.
 #[no_mangle]
 pub extern "C" fn foil_join(
-    board: &mut Board,
+    sheet: &mut Sheet,
     table: &mut [Entry],
     strips: &mut [u16],
     corners: &mut [u16],
+    k: usize,
     net: u16,
     sx: u16,
     sy: u16,
 ) -> Said
-    ensures { λ r. ⌜ ToldBy saidOf (λ a. HostWrote (joins net (point sx sy))
-        (now (board .entry)) (now (table .entry)) (now (strips .entry)) (now (corners .entry))
-        a (now (board .exit)) (now (table .exit)) (now (strips .exit)) (now (corners .exit))) r ⌝ }
+    ensures { λ r. ⌜ ToldBy saidOf (λ a. HostWrote k (joins net (point sx sy))
+        (now (sheet .entry)) (now (table .entry)) (now (strips .entry)) (now (corners .entry))
+        a (now (sheet .exit)) (now (table .exit)) (now (strips .exit)) (now (corners .exit))) r ⌝ }
 {
-    let answer = join(board, table, strips, corners, net, sx, sy);
+    let answer = join(sheet, table, strips, corners, k, net, sx, sy);
     said_of(answer)
 }
 
@@ -113,20 +119,21 @@ pub extern "C" fn foil_join(
 // foil is not changed.
 #[no_mangle]
 pub extern "C" fn foil_find(
-    board: &Board,
+    sheet: &Sheet,
     table: &[Entry],
     strips: &[u16],
     corners: &mut [u16],
+    k: usize,
     sx: u16,
     sy: u16,
     tx: u16,
     ty: u16,
 ) -> Said
-    ensures { λ r. ⌜ ToldBy saidOf (λ a. HostRead (finds (point sx sy) (point tx ty))
-        (now (board .entry)) (now (table .entry)) (now (strips .entry)) (now (corners .entry))
+    ensures { λ r. ⌜ ToldBy saidOf (λ a. HostRead k (finds (point sx sy) (point tx ty))
+        (now (sheet .entry)) (now (table .entry)) (now (strips .entry)) (now (corners .entry))
         a (now (corners .exit))) r ⌝ }
 {
-    let answer = find(board, table, strips, corners, sx, sy, tx, ty);
+    let answer = find(sheet, table, strips, corners, k, sx, sy, tx, ty);
     said_of(answer)
 }
 
@@ -134,120 +141,138 @@ pub extern "C" fn foil_find(
 // leg. The list is only read.
 #[no_mangle]
 pub extern "C" fn foil_book(
-    board: &mut Board,
+    sheet: &mut Sheet,
     table: &mut [Entry],
     strips: &mut [u16],
     corners: &[u16],
+    k: usize,
     net: u16,
 ) -> Said
-    ensures { λ r. ⌜ ToldBy saidOf (λ a. HostDone (books net (now (corners .entry)))
-        (now (board .entry)) (now (table .entry)) (now (strips .entry))
-        a (now (board .exit)) (now (table .exit)) (now (strips .exit))) r ⌝ }
+    ensures { λ r. ⌜ ToldBy saidOf (λ a. HostDone k (books net (now (corners .entry)))
+        (now (sheet .entry)) (now (table .entry)) (now (strips .entry))
+        a (now (sheet .exit)) (now (table .exit)) (now (strips .exit))) r ⌝ }
 {
-    let answer = book(board, table, strips, corners, net);
+    let answer = book(sheet, table, strips, corners, k, net);
     said_of(answer)
 }
 
 // Lifts a net: takes out all its entries, the rest keeping their order.
 #[no_mangle]
 pub extern "C" fn foil_lift(
-    board: &mut Board,
+    sheet: &mut Sheet,
     table: &mut [Entry],
     strips: &mut [u16],
+    k: usize,
     net: u16,
 ) -> Said
-    ensures { λ r. ⌜ ToldBy saidOf (λ a. HostDone (lifts net)
-        (now (board .entry)) (now (table .entry)) (now (strips .entry))
-        a (now (board .exit)) (now (table .exit)) (now (strips .exit))) r ⌝ }
+    ensures { λ r. ⌜ ToldBy saidOf (λ a. HostDone k (lifts net)
+        (now (sheet .entry)) (now (table .entry)) (now (strips .entry))
+        a (now (sheet .exit)) (now (table .exit)) (now (strips .exit))) r ⌝ }
 {
-    let answer = lift(board, table, strips, net);
+    let answer = lift(sheet, table, strips, k, net);
     said_of(answer)
 }
 
 // Puts a leg as booked: appends its entry, without any search.
 #[no_mangle]
 pub extern "C" fn foil_put_leg(
-    board: &mut Board,
+    sheet: &mut Sheet,
     table: &mut [Entry],
     strips: &mut [u16],
+    k: usize,
     leg: Entry,
 ) -> Said
-    ensures { λ r. ⌜ ToldBy saidOf (λ a. HostDone (putLeg leg)
-        (now (board .entry)) (now (table .entry)) (now (strips .entry))
-        a (now (board .exit)) (now (table .exit)) (now (strips .exit))) r ⌝ }
+    ensures { λ r. ⌜ ToldBy saidOf (λ a. HostDone k (putLeg leg)
+        (now (sheet .entry)) (now (table .entry)) (now (strips .entry))
+        a (now (sheet .exit)) (now (table .exit)) (now (strips .exit))) r ⌝ }
 {
-    let answer = put_leg(board, table, strips, leg);
+    let answer = put_leg(sheet, table, strips, k, leg);
     said_of(answer)
 }
 
 // Looks a point up: the place of the one strip that holds it. Nothing is changed.
 #[no_mangle]
 pub extern "C" fn foil_look_up(
-    board: &Board,
+    sheet: &Sheet,
     table: &[Entry],
     strips: &[u16],
+    k: usize,
     x: u16,
     y: u16,
 ) -> Said
-    ensures { λ r. ⌜ ToldBy saidOf (λ a. HostLooked (point x y)
-        (now (board .entry)) (now (table .entry)) (now (strips .entry)) a) r ⌝ }
+    ensures { λ r. ⌜ ToldBy saidOf (λ a. HostRead k (lookUp (point x y))
+        (now (sheet .entry)) (now (table .entry)) (now (strips .entry)) [] a []) r ⌝ }
 {
-    let answer = look_up(board, table, strips, x, y);
+    let answer = look_up(sheet, table, strips, k, x, y);
     said_of(answer)
 }
 
 // Saves the foil: writes it as a job file to the front of `out`. The foil is not changed.
 #[no_mangle]
-pub extern "C" fn foil_save(board: &Board, table: &[Entry], strips: &[u16], out: &mut [u8]) -> Said
-    ensures { λ r. ⌜ ToldBy saidOf (λ a. HostRead saves
-        (now (board .entry)) (now (table .entry)) (now (strips .entry)) (now (out .entry))
+pub extern "C" fn foil_save(
+    sheet: &Sheet,
+    table: &[Entry],
+    strips: &[u16],
+    out: &mut [u8],
+    k: usize,
+) -> Said
+    ensures { λ r. ⌜ ToldBy saidOf (λ a. HostRead k saves
+        (now (sheet .entry)) (now (table .entry)) (now (strips .entry)) (now (out .entry))
         a (now (out .exit))) r ⌝ }
 {
-    let answer = save(board, table, strips, out);
+    let answer = save(sheet, table, strips, out, k);
     said_of(answer)
 }
 
 // Writes the slip of the foil's tracks to the front of `out`. The foil is not changed.
 #[no_mangle]
-pub extern "C" fn foil_slip(board: &Board, table: &[Entry], strips: &[u16], out: &mut [u8]) -> Said
-    ensures { λ r. ⌜ ToldBy saidOf (λ a. HostRead slips
-        (now (board .entry)) (now (table .entry)) (now (strips .entry)) (now (out .entry))
+pub extern "C" fn foil_slip(
+    sheet: &Sheet,
+    table: &[Entry],
+    strips: &[u16],
+    out: &mut [u8],
+    k: usize,
+) -> Said
+    ensures { λ r. ⌜ ToldBy saidOf (λ a. HostRead k slips
+        (now (sheet .entry)) (now (table .entry)) (now (strips .entry)) (now (out .entry))
         a (now (out .exit))) r ⌝ }
 {
-    let answer = slip(board, table, strips, out);
+    let answer = slip(sheet, table, strips, out, k);
     said_of(answer)
 }
 
 // The ohms of a net. Nothing is changed.
 #[no_mangle]
 pub extern "C" fn foil_ohms(
-    board: &Board,
+    sheet: &Sheet,
     table: &[Entry],
     strips: &[u16],
+    k: usize,
     net: u16,
     ink: Ink,
 ) -> OhmsSaid
-    ensures { λ r. ⌜ ToldBy ohmsSaid (λ a. HostOhms net ink
-        (now (board .entry)) (now (table .entry)) (now (strips .entry)) a) r ⌝ }
+    ensures { λ r. ⌜ ToldBy ohmsSaid (λ a. HostOhms k net ink
+        (now (sheet .entry)) (now (table .entry)) (now (strips .entry)) a) r ⌝ }
 {
-    let answer = ohms(board, table, strips, net, ink);
+    let answer = ohms(sheet, table, strips, k, net, ink);
     ohms_said(answer)
 }
 
 // Runs the record that begins at place `at` of a job file's bytes.
 #[no_mangle]
 pub extern "C" fn foil_run_record(
-    board: &mut Board,
+    sheet: &mut Sheet,
     table: &mut [Entry],
     strips: &mut [u16],
     corners: &mut [u16],
     bytes: &[u8],
+    k: usize,
     at: usize,
 ) -> RecordSaid
-    ensures { λ r. ⌜ ToldBy recordSaidOf (λ a. HostRan (now (bytes .entry)) at
-        (now (board .entry)) (now (table .entry)) (now (strips .entry)) (now (corners .entry))
-        a (now (board .exit)) (now (table .exit)) (now (strips .exit)) (now (corners .exit))) r ⌝ }
+    ensures { λ r. ⌜ ToldBy recordSaidOf (λ a. HostRan k (now (bytes .entry)) at
+        (now (sheet .entry)) (now (table .entry)) (now (strips .entry)) (now (corners .entry))
+        a (now (sheet .exit)) (now (table .exit)) (now (strips .exit)) (now (corners .exit))) r ⌝ }
 {
-    let reply = run_record(board, table, strips, corners, bytes, at);
+    let reply = run_record(sheet, table, strips, corners, bytes, k, at);
     record_said_of(reply)
 }

@@ -1,24 +1,29 @@
-// The table's numbers by value, and the calls on numbers on them.
+// The table's numbers by value, and the calls on numbers on them, on foil k of a sheet.
 use foil::Answer;
-use foil::Done;
-use foil_spec::Board;
 use foil_spec::Entry;
 use foil_spec::Ink;
-use foil_spec::MAX_ENTRIES;
-use foil_spec::TABLE_SIZE;
 use ohms::Resistance;
+use sheet::SheetDone;
+use sheet_rows::SHEET_ENTRIES;
+use sheet_rows::SHEET_SIZE;
+use sheet_rows::Sheet;
 ghost use mathlib.Core.Path.{_≡_};
+ghost use mathlib.Core.List.{[]};
+ghost use Prim.Native.Nat.{_*_, _<_};
+ghost use lib.ListN.{replicate};
+ghost use Rattle.foil_spec.specs.Limits.{sheetEntries, sheetSize};
 ghost use Rattle.foil_spec.specs.Foil.{point, pen};
 ghost use Rattle.foil_spec.specs.Ledger.{byPen, newFoil, draw as draws, lay as lays, lift as lifts, putLeg};
 ghost use Rattle.foil_spec.specs.Ledger.{join as joins, save as saves, find as finds, book as books, slip as slips};
+ghost use Rattle.foil_spec.specs.Ledger.{lookUp};
 ghost use Rattle.foil_spec.specs.Lent.{entryAt};
 ghost use Rattle.strips.specs.Told.{Told};
-ghost use Rattle.host.specs.Flats.{zeros, withEntry, placesLent, numbersLent, entriesOf};
-ghost use Rattle.host.specs.Calls.{saidOf, ohmsSaid, FlatDone, FlatWrote, HostLooked, HostRead, HostOhms};
+ghost use Rattle.host.specs.Flats.{setFive, placesLent, numbersLent, entriesOf};
+ghost use Rattle.host.specs.Calls.{saidOf, ohmsSaid, FlatDone, FlatWrote, HostRead, HostOhms};
 
-// The first 128 places of a lent table as numbers, five a place, and how many places are lent.
+// The first 512 places of a lent table as numbers, five a place, and how many places are lent.
 pub struct Flat {
-    pub at: [u16; TABLE_SIZE],
+    pub at: [u16; SHEET_SIZE],
     pub len: usize,
 }
 
@@ -41,61 +46,52 @@ pub struct OhmsSaid {
     pub ohms: f64,
 }
 
-// What a call leaves: the board's record, its answer, and the table's numbers.
+// What a call leaves: the records, its answer, and the table's numbers.
 pub struct Left {
-    pub board: Board,
+    pub sheet: Sheet,
     pub answer: Answer,
     pub table: Flat,
 }
 
-// No entry, for a lent table of n places.
-pub fn empty(n: usize) -> Flat
-    ensures { λ r. ⌜ r ≡ zeros n ⌝ }
+// No entry's numbers.
+pub fn no_numbers() -> [u16; SHEET_SIZE]
+    ensures { λ r. ⌜ r ≡ replicate sheetSize 0 ⌝ }
 {
-    let a = [0; TABLE_SIZE];
-    Flat { at: a, len: n }
+    [0; SHEET_SIZE]
 }
 
-// With the entry e at place i; a place past the first 128 is left out.
-pub fn put(f: Flat, i: usize, e: Entry) -> Flat
-    ensures { λ r. ⌜ r ≡ withEntry f i e ⌝ }
+// Lays the entry e in at place i.
+pub fn put(a: &mut [u16; SHEET_SIZE], i: usize, e: Entry)
+    requires { ⌜ i < sheetEntries ⌝ }
+    ensures { λ _. ⌜ now (a .exit) ≡ setFive (now (a .entry)) (i * 5) e ⌝ }
 {
-    if i < MAX_ENTRIES {
-        let k = i * 5;
-        let mut a = f.at;
-        a[k] = e.net;
-        a[k + 1] = e.x0;
-        a[k + 2] = e.y0;
-        a[k + 3] = e.x1;
-        a[k + 4] = e.y1;
-        Flat { at: a, len: f.len }
-    } else {
-        f
-    }
+    let k = i * 5;
+    a[k] = e.net;
+    a[k + 1] = e.x0;
+    a[k + 2] = e.y0;
+    a[k + 3] = e.x1;
+    a[k + 4] = e.y1;
 }
 
-// The entry at place i; past the first 128 places one of zeros.
-pub fn pick(f: Flat, i: usize) -> Entry
-    ensures { λ r. ⌜ r ≡ entryAt (f .at) i ⌝ }
+// The numbers of a lent table of n places.
+pub fn flat_of(at: [u16; SHEET_SIZE], len: usize) -> Flat
+    ensures { λ r. ⌜ r ≡ record { at = at; len = len } ⌝ }
 {
-    if i < MAX_ENTRIES {
-        let k = i * 5;
-        let a = f.at;
-        Entry {
-            net: a[k],
-            x0: a[k + 1],
-            y0: a[k + 2],
-            x1: a[k + 3],
-            y1: a[k + 4],
-        }
-    } else {
-        Entry {
-            net: 0,
-            x0: 0,
-            y0: 0,
-            x1: 0,
-            y1: 0,
-        }
+    Flat { at, len }
+}
+
+// The entry at place i.
+pub fn pick(a: &[u16; SHEET_SIZE], i: usize) -> Entry
+    requires { ⌜ i < sheetEntries ⌝ }
+    ensures { λ r. ⌜ r ≡ entryAt (now (a .entry)) i ⌝ }
+{
+    let k = i * 5;
+    Entry {
+        net: a[k],
+        x0: a[k + 1],
+        y0: a[k + 2],
+        x1: a[k + 3],
+        y1: a[k + 4],
     }
 }
 
@@ -118,11 +114,11 @@ pub fn same(a: Entry, b: Entry) -> bool
     a.y1 == b.y1
 }
 
-// How many places are lent on of a table of n: its first 128.
+// How many places are lent on of a table of n: its first 512.
 pub fn places_lent(n: usize) -> usize
     ensures { λ r. ⌜ r ≡ placesLent n ⌝ }
 {
-    if n < MAX_ENTRIES { n } else { MAX_ENTRIES }
+    if n < SHEET_ENTRIES { n } else { SHEET_ENTRIES }
 }
 
 // How many numbers these places have, five each.
@@ -161,165 +157,187 @@ pub fn said_of(answer: Answer) -> Said
 }
 
 // What a call on the table's numbers has left.
-fn leave(done: Done, at: [u16; TABLE_SIZE], len: usize) -> Left
+fn leave(done: SheetDone, at: [u16; SHEET_SIZE], len: usize) -> Left
     ensures { λ r. ⌜ r ≡ record {
-      board = done .board;
+      sheet = done .sheet;
       answer = done .answer;
       table = record { at = at; len = len };
     } ⌝ }
 {
-    let board = done.board;
+    let sheet = done.sheet;
     let answer = done.answer;
     Left {
-        board,
+        sheet,
         answer,
         table: Flat { at, len },
     }
 }
 
-// Begins a foil.
-pub fn new_foil(b: Board, t: Flat, strips: &mut [u16], w: u16, h: u16, half: u16, gap: u16) -> Left
-    ensures { λ r. ⌜ FlatDone (newFoil w h (byPen (pen half gap))) b t (now (strips .entry)) r (now (strips .exit)) ⌝ }
+// Begins the foil.
+pub fn new_foil(
+    s: Sheet,
+    t: Flat,
+    strips: &mut [u16],
+    k: usize,
+    w: u16,
+    h: u16,
+    half: u16,
+    gap: u16,
+) -> Left
+    ensures { λ r. ⌜ FlatDone k (newFoil w h (byPen (pen half gap))) s t
+        (now (strips .entry)) r (now (strips .exit)) ⌝ }
 {
     let mut a = t.at;
     let n = numbers_lent(t.len);
-    let done = foil::new_foil(&mut a[..n], strips, b, w, h, half, gap);
+    let done = sheet::new_foil(&mut a[..n], strips, s, k, w, h, half, gap);
     leave(done, a, t.len)
 }
 
 // Draws a patch.
-pub fn draw(b: Board, t: Flat, strips: &mut [u16], x0: u16, y0: u16, x1: u16, y1: u16) -> Left
-    ensures { λ r. ⌜ FlatDone (draws x0 y0 x1 y1) b t (now (strips .entry)) r (now (strips .exit)) ⌝ }
+pub fn draw(
+    s: Sheet,
+    t: Flat,
+    strips: &mut [u16],
+    k: usize,
+    x0: u16,
+    y0: u16,
+    x1: u16,
+    y1: u16,
+) -> Left
+    ensures { λ r. ⌜ FlatDone k (draws x0 y0 x1 y1) s t (now (strips .entry)) r (now (strips .exit)) ⌝ }
 {
     let mut a = t.at;
     let n = numbers_lent(t.len);
-    let done = foil::draw(&mut a[..n], strips, b, x0, y0, x1, y1);
+    let done = sheet::draw(&mut a[..n], strips, s, k, x0, y0, x1, y1);
     leave(done, a, t.len)
 }
 
 // Lays a track.
 pub fn lay(
-    b: Board,
+    s: Sheet,
     t: Flat,
     strips: &mut [u16],
     corners: &mut [u16],
+    k: usize,
     net: u16,
     sx: u16,
     sy: u16,
     tx: u16,
     ty: u16,
 ) -> Left
-    ensures { λ r. ⌜ FlatWrote (lays net (point sx sy) (point tx ty)) b t
+    ensures { λ r. ⌜ FlatWrote k (lays net (point sx sy) (point tx ty)) s t
         (now (strips .entry)) (now (corners .entry)) r (now (strips .exit)) (now (corners .exit)) ⌝ }
 {
     let mut a = t.at;
     let n = numbers_lent(t.len);
-    let done = laying::lay(&mut a[..n], strips, corners, b, net, sx, sy, tx, ty);
+    let done = sheet::lay(&mut a[..n], strips, corners, s, k, net, sx, sy, tx, ty);
     leave(done, a, t.len)
 }
 
 // Joins a point to a net.
 pub fn join(
-    b: Board,
+    s: Sheet,
     t: Flat,
     strips: &mut [u16],
     corners: &mut [u16],
+    k: usize,
     net: u16,
     sx: u16,
     sy: u16,
 ) -> Left
-    ensures { λ r. ⌜ FlatWrote (joins net (point sx sy)) b t
+    ensures { λ r. ⌜ FlatWrote k (joins net (point sx sy)) s t
         (now (strips .entry)) (now (corners .entry)) r (now (strips .exit)) (now (corners .exit)) ⌝ }
 {
     let mut a = t.at;
     let n = numbers_lent(t.len);
-    let done = joining::join(&mut a[..n], strips, corners, b, net, sx, sy);
+    let done = sheet::join(&mut a[..n], strips, corners, s, k, net, sx, sy);
     leave(done, a, t.len)
 }
 
 // Finds a track.
 pub fn find(
-    b: Board,
+    s: Sheet,
     t: Flat,
     strips: &[u16],
     corners: &mut [u16],
+    k: usize,
     sx: u16,
     sy: u16,
     tx: u16,
     ty: u16,
 ) -> Answer
-    ensures { λ r. ⌜ HostRead (finds (point sx sy) (point tx ty)) b (entriesOf t)
+    ensures { λ r. ⌜ HostRead k (finds (point sx sy) (point tx ty)) s (entriesOf t)
         (now (strips .entry)) (now (corners .entry)) r (now (corners .exit)) ⌝ }
 {
     let a = t.at;
     let n = numbers_lent(t.len);
-    finding::find(corners, &a[..n], strips, b, sx, sy, tx, ty)
+    sheet::find(corners, &a[..n], strips, s, k, sx, sy, tx, ty)
 }
 
 // Books a drawn track.
-pub fn book(b: Board, t: Flat, strips: &mut [u16], corners: &[u16], net: u16) -> Left
-    ensures { λ r. ⌜ FlatDone (books net (now (corners .entry))) b t (now (strips .entry)) r (now (strips .exit)) ⌝ }
+pub fn book(s: Sheet, t: Flat, strips: &mut [u16], corners: &[u16], k: usize, net: u16) -> Left
+    ensures { λ r. ⌜ FlatDone k (books net (now (corners .entry))) s t (now (strips .entry)) r (now (strips .exit)) ⌝ }
 {
     let mut a = t.at;
     let n = numbers_lent(t.len);
-    let done = drawn::book(&mut a[..n], strips, b, net, corners);
+    let done = sheet::book(&mut a[..n], strips, s, k, net, corners);
     leave(done, a, t.len)
 }
 
 // Lifts a net.
-pub fn lift(b: Board, t: Flat, strips: &mut [u16], net: u16) -> Left
-    ensures { λ r. ⌜ FlatDone (lifts net) b t (now (strips .entry)) r (now (strips .exit)) ⌝ }
+pub fn lift(s: Sheet, t: Flat, strips: &mut [u16], k: usize, net: u16) -> Left
+    ensures { λ r. ⌜ FlatDone k (lifts net) s t (now (strips .entry)) r (now (strips .exit)) ⌝ }
 {
     let mut a = t.at;
     let n = numbers_lent(t.len);
-    let done = foil::lift(&mut a[..n], strips, b, net);
+    let done = sheet::lift(&mut a[..n], strips, s, k, net);
     leave(done, a, t.len)
 }
 
 // Appends a leg as booked.
-pub fn put_leg(b: Board, t: Flat, strips: &mut [u16], leg: Entry) -> Left
-    ensures { λ r. ⌜ FlatDone (putLeg leg) b t (now (strips .entry)) r (now (strips .exit)) ⌝ }
+pub fn put_leg(s: Sheet, t: Flat, strips: &mut [u16], k: usize, leg: Entry) -> Left
+    ensures { λ r. ⌜ FlatDone k (putLeg leg) s t (now (strips .entry)) r (now (strips .exit)) ⌝ }
 {
     let mut a = t.at;
     let n = numbers_lent(t.len);
-    let done = foil::put_leg(&mut a[..n], strips, b, leg);
+    let done = sheet::put_leg(&mut a[..n], strips, s, k, leg);
     leave(done, a, t.len)
 }
 
 // Looks a point up.
-pub fn look_up(b: Board, t: Flat, strips: &[u16], x: u16, y: u16) -> Answer
-    ensures { λ r. ⌜ HostLooked (point x y) b (entriesOf t) (now (strips .entry)) r ⌝ }
+pub fn look_up(s: Sheet, t: Flat, strips: &[u16], k: usize, x: u16, y: u16) -> Answer
+    ensures { λ r. ⌜ HostRead k (lookUp (point x y)) s (entriesOf t) (now (strips .entry)) [] r [] ⌝ }
 {
     let a = t.at;
     let n = numbers_lent(t.len);
-    foil::look_up(&a[..n], strips, b, x, y)
+    sheet::look_up(&a[..n], strips, s, k, x, y)
 }
 
 // Saves the foil as a job file.
-pub fn save(b: Board, t: Flat, strips: &[u16], out: &mut [u8]) -> Answer
-    ensures { λ r. ⌜ HostRead saves b (entriesOf t) (now (strips .entry)) (now (out .entry)) r (now (out .exit)) ⌝ }
+pub fn save(s: Sheet, t: Flat, strips: &[u16], out: &mut [u8], k: usize) -> Answer
+    ensures { λ r. ⌜ HostRead k saves s (entriesOf t) (now (strips .entry)) (now (out .entry)) r (now (out .exit)) ⌝ }
 {
     let a = t.at;
     let n = numbers_lent(t.len);
-    saving::save(out, &a[..n], strips, b)
+    sheet::save(out, &a[..n], strips, s, k)
 }
 
 // Writes the slip.
-pub fn slip(b: Board, t: Flat, strips: &[u16], out: &mut [u8]) -> Answer
-    ensures { λ r. ⌜ HostRead slips b (entriesOf t) (now (strips .entry)) (now (out .entry)) r (now (out .exit)) ⌝ }
+pub fn slip(s: Sheet, t: Flat, strips: &[u16], out: &mut [u8], k: usize) -> Answer
+    ensures { λ r. ⌜ HostRead k slips s (entriesOf t) (now (strips .entry)) (now (out .entry)) r (now (out .exit)) ⌝ }
 {
     let a = t.at;
     let n = numbers_lent(t.len);
-    slips::slip(out, &a[..n], strips, b)
+    sheet::slip(out, &a[..n], strips, s, k)
 }
 
 // The ohms of a net.
-pub fn ohms(b: Board, t: Flat, strips: &[u16], net: u16, ink: Ink) -> Resistance
-    ensures { λ r. ⌜ HostOhms net ink b (entriesOf t) (now (strips .entry)) r ⌝ }
+pub fn ohms(s: Sheet, t: Flat, strips: &[u16], k: usize, net: u16, ink: Ink) -> Resistance
+    ensures { λ r. ⌜ HostOhms k net ink s (entriesOf t) (now (strips .entry)) r ⌝ }
 {
     let a = t.at;
     let n = numbers_lent(t.len);
-    ohms::ohms(&a[..n], strips, b, net, ink)
+    sheet::ohms(&a[..n], strips, s, k, net, ink)
 }
 
 // The numbers of an answer for ohms.

@@ -3,13 +3,13 @@ use crate::flat::Flat;
 use crate::flat::Said;
 use crate::flat::numbers_lent;
 use crate::flat::said_of;
-use foil_spec::Board;
-use foil_spec::TABLE_SIZE;
 use job::Answers;
 use job::Next;
-use job::Replied;
 use job::Reply;
 use job::Told;
+use sheet::SheetReplied;
+use sheet_rows::SHEET_SIZE;
+use sheet_rows::Sheet;
 ghost use mathlib.Core.Path.{_≡_};
 ghost use mathlib.Core.Bool.{true, false};
 ghost use Rattle.host.specs.Calls.{nothingSaid};
@@ -37,9 +37,9 @@ pub struct RecordSaid {
     pub next: usize,
 }
 
-// What a record leaves: the board's record, its reply, and the table's numbers.
+// What a record leaves: the records of the foils, its reply, and the table's numbers.
 pub struct Ran {
-    pub board: Board,
+    pub sheet: Sheet,
     pub reply: Reply,
     pub table: Flat,
 }
@@ -146,17 +146,17 @@ pub fn record_said_of(reply: Reply) -> RecordSaid
 }
 
 // What a record on the table's numbers has left.
-fn leave(done: Replied, at: [u16; TABLE_SIZE], len: usize) -> Ran
+fn leave(done: SheetReplied, at: [u16; SHEET_SIZE], len: usize) -> Ran
     ensures { λ r. ⌜ r ≡ record {
-      board = done .board;
+      sheet = done .sheet;
       reply = done .reply;
       table = record { at = at; len = len };
     } ⌝ }
 {
-    let board = done.board;
+    let sheet = done.sheet;
     let reply = done.reply;
     Ran {
-        board,
+        sheet,
         reply,
         table: Flat { at, len },
     }
@@ -164,18 +164,19 @@ fn leave(done: Replied, at: [u16; TABLE_SIZE], len: usize) -> Ran
 
 // Runs the record at a place of the bytes.
 pub fn run_record(
-    b: Board,
+    s: Sheet,
     t: Flat,
     strips: &mut [u16],
     corners: &mut [u16],
     bytes: &[u8],
+    k: usize,
     at: usize,
 ) -> Ran
-    ensures { λ r. ⌜ FlatRan (now (bytes .entry)) at b t (now (strips .entry)) (now (corners .entry))
+    ensures { λ r. ⌜ FlatRan k (now (bytes .entry)) at s t (now (strips .entry)) (now (corners .entry))
         r (now (strips .exit)) (now (corners .exit)) ⌝ }
 {
     let mut a = t.at;
     let n = numbers_lent(t.len);
-    let done = job::run_record(&mut a[..n], strips, corners, b, bytes, at);
+    let done = sheet::run_record(&mut a[..n], strips, corners, s, k, bytes, at);
     leave(done, a, t.len)
 }

@@ -20,6 +20,7 @@ pub const SHEET_ENTRIES: usize = 512;
 pub const SHEET_SIZE: usize = 2560;
 
 // The records of the eight foils.
+#[repr(C)]
 pub struct Sheet {
     pub boards: [Board; 8],
 }

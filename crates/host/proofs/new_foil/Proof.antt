@@ -4,9 +4,9 @@
 use mathlib.Core.List.{[], _∷_}
 use types.Kit.{‵, _⊛_, _$_, _∵_, ! }
 use Rattle.host.proofs.Walks.{_⨾_}
-use Rattle.host.proofs.Words.{refl, URA, named, w16, SProp, flft, fres, Memory, Routine, Heap, WpFn, Tables}
-use Rattle.host.proofs.Words.{Atoms, Fun, Lfts, Shares, toks, givenOf, tables, tablesOf, Given, raw, qed}
-use Rattle.host.proofs.Words.{by, move, keep, use1, split, join, fsplit, fjoin, drop, fsplit3, look}
+use Rattle.host.proofs.Words.{refl, URA, named, w16, w64, SProp, flft, fres, Memory, Routine, Heap, WpFn}
+use Rattle.host.proofs.Words.{Tables, Atoms, Fun, Lfts, Shares, toks, givenOf, tables, tablesOf, Given, raw}
+use Rattle.host.proofs.Words.{qed, by, move, keep, use1, split, join, fsplit, fjoin, drop, fsplit3, look}
 use Rattle.host.proofs.Words.{look-raw, store-raw, init, stop, hop, fld, from, load, of-opd, no-more}
 use Rattle.host.proofs.Words.{assigns, land, returns, enter, params1, pass1, pass0, whole, sub, look-in}
 use Rattle.host.proofs.Words.{fmOf, owns, Spells, valss, uint-vals, uint-tells, u16, ptr-vals, mut-tells}
@@ -14,15 +14,16 @@ use Rattle.host.proofs.Words.{slice-vals, mut-slice-tells, typesAt, clo
 use Rattle.host.proofs.Words.{entered, cited, Walk, meets-by, and-nothing, calls-for, typed-at, has-value}
 use Rattle.host.proofs.Words.{opens-record, ends-with, allocates, releases, arg, in-slice, in-number}
 use Rattle.host.proofs.Words.{lends-on}
-use Rattle.host.proofs.Values.{a-Board, a-Left, an-Answer, left-answer, left-board}
-use Rattle.foil_spec.proofs.Board as board
+use Rattle.host.proofs.Values.{a-Left, a-Sheet, an-Answer, left-answer, left-sheet}
+use Rattle.sheet_rows.proofs.Sheet as sheet
 use Rattle.foil_spec.proofs.Entry as entry
 use Rattle.host.proofs.table.clear as core
 use Rattle.host.proofs.new_foil as f
 
 -- the machine values of the parameters
 abbrev spells : (κs : Lfts 3) → Spells (typesAt (f.signature .params) κs)
-spells κs = ptr-vals ⨾ slice-vals ⨾ slice-vals ⨾ uint-vals w16 ⨾ uint-vals w16 ⨾ uint-vals w16 ⨾ uint-vals w16 ⨾ tt
+spells κs = ptr-vals ⨾ slice-vals ⨾ slice-vals ⨾ uint-vals w64 ⨾ uint-vals w16 ⨾ uint-vals w16 ⨾ uint-vals w16 ⨾
+    uint-vals w16 ⨾ tt
 
 module _ {M : Type 1} (𝓤 : URA M) (H : Heap 𝓤) (A : Atoms 𝓤) (W : Given 𝓤 H A) (mem : Memory → SProp 𝓤)
     (run : Routine → Fun 𝓤) (𝓣 : Tables 𝓤 H)
@@ -37,17 +38,17 @@ module _ {M : Type 1} (𝓤 : URA M) (H : Heap 𝓤) (A : Atoms 𝓤) (W : Given
         qed W ((‵ (flft (κs .0) (qs .0)) ⊛ raw (toks 𝓤 A 2 (κs .1) (qs .1))) ∷ ‵ (owns (typesAt (f.signature .params)
         κs) a vals) ∷ []) ∵
         enter ! (𝓣 .C) (𝓣 .Λ) f.Code.function _ _ $ allocates ! _
-        (λ bs. params1 ! $ pass1 ! (init ! 24 refl (tt, tt)) $ pass1 ! (init ! 22 refl (in-slice (are .1 .0 .0 .1
-        .0))) $ pass1 ! (init ! 20 refl (in-slice (are .1 .1 .0 .0 .1 .0))) $ pass1 ! (init ! 18 refl (in-number (are
-        .1 .1 .1 .0 .1))) $ pass1 ! (init ! 16 refl (in-number (are .1 .1 .1 .1 .0 .1))) $ pass1 ! (init ! 14 refl
-        (in-number (are .1 .1 .1 .1 .1 .0 .1))) $ pass1 ! (init ! 12 refl (in-number (are .1 .1 .1 .1 .1 .1 .0 .1)))
-        $ pass0 ! $
+        (λ bs. params1 ! $ pass1 ! (init ! 26 refl (tt, tt)) $ pass1 ! (init ! 24 refl (in-slice (are .1 .0 .0 .1
+        .0))) $ pass1 ! (init ! 22 refl (in-slice (are .1 .1 .0 .0 .1 .0))) $ pass1 ! (init ! 20 refl (in-number (are
+        .1 .1 .1 .0 .1))) $ pass1 ! (init ! 18 refl (in-number (are .1 .1 .1 .1 .0 .1))) $ pass1 ! (init ! 16 refl
+        (in-number (are .1 .1 .1 .1 .1 .0 .1))) $ pass1 ! (init ! 14 refl (in-number (are .1 .1 .1 .1 .1 .1 .0 .1)))
+        $ pass1 ! (init ! 12 refl (in-number (are .1 .1 .1 .1 .1 .1 .1 .0 .1))) $ pass0 ! $
         -- the record's borrow is opened, and the record copied out
-        move ! (29 ∷ []) $ fsplit ! $ fsplit3 ! $ drop ! $ move ! (31 ∷ []) $ split ! $ move ! (2 ∷ 3 ∷ 0 ∷ []) $
-        opens-record ! tt a-Board (a .0 .now) (a .0 .ptr .0) (a .0 .ptr .1) (λ g. assigns ! (of-opd ! (load ! (from !
-        (hop ! (look ! 31 refl) (stop !))) (look-raw ! 0 refl))) (from ! (stop !)) (init ! 17 refl (typed-at W
-        a-Board (a .0 .now) g .0)) $ lends-on ! 29 13 refl refl (init ! 13 refl (tt, tt)) refl refl (init ! 11 refl
-        (in-slice (are .1 .0 .0 .1 .0))) $ lends-on ! 27 9 refl refl (init ! 9 refl (tt, tt)) refl refl (init ! 7
+        move ! (31 ∷ []) $ fsplit ! $ fsplit3 ! $ drop ! $ move ! (33 ∷ []) $ split ! $ move ! (2 ∷ 3 ∷ 0 ∷ []) $
+        opens-record ! tt a-Sheet (a .0 .now) (a .0 .ptr .0) (a .0 .ptr .1) (λ g. assigns ! (of-opd ! (load ! (from !
+        (hop ! (look ! 33 refl) (stop !))) (look-raw ! 0 refl))) (from ! (stop !)) (init ! 17 refl (typed-at W
+        a-Sheet (a .0 .now) g .0)) $ lends-on ! 31 13 refl refl (init ! 13 refl (tt, tt)) refl refl (init ! 11 refl
+        (in-slice (are .1 .0 .0 .1 .0))) $ lends-on ! 29 9 refl refl (init ! 9 refl (tt, tt)) refl refl (init ! 7
         refl (in-slice (are .1 .1 .0 .0 .1 .0))) $ move ! (1 ∷ 6 ∷ []) $ fjoin ! $ move ! (5 ∷ 0 ∷ []) $ join ! $
         calls-for core.ended (core.clauses 𝓤 H A mem run) fm known (
           (
@@ -56,36 +57,36 @@ module _ {M : Type 1} (𝓤 : URA M) (H : Heap 𝓤) (A : Atoms 𝓤) (W : Given
             tt,
             (a .0 .now, a .1),
             (
-              a-Board
+              a-Sheet
                   .val (a .0 .now) ∷ [],
               vals .1,
             ),
           ),
           tt,
         ) a-Left (and-nothing 𝓤 _) (arg ! 15 refl (arg ! 9 refl (arg ! 5 refl
-        (arg ! 23 refl (arg ! 21 refl (arg ! 19 refl (arg ! 17 refl (no-more !)))))))) (λ r is ok ws. land ! (from !
-        (stop !)) (init ! 15 refl (ok .0)) $
+        (arg ! 25 refl (arg ! 23 refl (arg ! 21 refl (arg ! 19 refl (arg ! 17 refl (no-more !))))))))) (λ r is ok ws.
+        land ! (from ! (stop !)) (init ! 15 refl (ok .0)) $
         -- the new record is stored, and the borrow closed at it
         assigns ! (of-opd ! (load ! (from ! (fld ! refl (stop !))) (look-in ! 15 (sub ! 0 refl (whole !))))) (from !
-        (hop ! (look ! 31 refl) (stop !))) (store-raw ! 3 refl (typed-at W a-Board (r .board) (left-board r is) .0))
+        (hop ! (look ! 33 refl) (stop !))) (store-raw ! 3 refl (typed-at W a-Sheet (r .sheet) (left-sheet r is) .0))
         $ assigns ! (of-opd ! (load ! (from ! (fld ! refl (stop !))) (look-in ! 15 (sub ! 1 refl (whole !))))) (from
-        ! (stop !)) (init ! 33 refl (typed-at W an-Answer (r .answer) (left-answer r is) .0)) $ has-value ! a-Board
-        (r .board) (left-board r is) $ move ! (4 ∷ 0 ∷ 5 ∷ 6 ∷ 7 ∷ []) $ closes ! tt board.the-row (r .board)
-        (a-Board .val (r .board) ∷ []) (a .0 .ptr .0) (a .0 .ptr .1) $ returns ! (look ! 32 refl) $ releases ! (_ ∷ _
-        ∷ _ ∷ _ ∷ _ ∷ _ ∷ []) _ $ use1 W (‵ (fres (a .0 .name) (board.the-row .coded .code (r .board)))) (W .names
-        .obs-res (a .0 .name) (board.the-row .coded .code (r .board))) $ move ! (4 ∷ []) $ fsplit ! $ drop ! $ move !
+        ! (stop !)) (init ! 35 refl (typed-at W an-Answer (r .answer) (left-answer r is) .0)) $ has-value ! a-Sheet
+        (r .sheet) (left-sheet r is) $ move ! (4 ∷ 0 ∷ 5 ∷ 6 ∷ 7 ∷ []) $ closes ! tt sheet.the-row (r .sheet)
+        (a-Sheet .val (r .sheet) ∷ []) (a .0 .ptr .0) (a .0 .ptr .1) $ returns ! (look ! 34 refl) $ releases ! (_ ∷ _
+        ∷ _ ∷ _ ∷ _ ∷ _ ∷ []) _ $ use1 W (‵ (fres (a .0 .name) (sheet.the-row .coded .code (r .sheet)))) (W .names
+        .obs-res (a .0 .name) (sheet.the-row .coded .code (r .sheet))) $ move ! (4 ∷ []) $ fsplit ! $ drop ! $ move !
         (1 ∷ 0 ∷ []) $ fjoin ! $ move ! (2 ∷ 3 ∷ []) $ join ! $ has-value ! an-Answer (r .answer) (left-answer r is)
         $ keep ! (1 ∷ 0 ∷ 2 ∷ 4 ∷ []) $ by ! (ends-with W f.ended (f.clauses 𝓤 H A mem run) (
           (κs, qs, tt, a, vals),
           tt,
-        ) (an-Answer .val (r .answer)) (r .answer) (r .board, ws .1)))))
+        ) (an-Answer .val (r .answer)) (r .answer) (r .sheet, ws .1)))))
 
   meets : Meets 𝓤 H A f.signature (WpFn 𝓤 H (𝓣 .C) (𝓣 .Λ) f.Code.function) (f.spec 𝓤 H A mem run)
   meets =
       meets-by 𝓤 H A f.signature (f.spec 𝓤 H A mem run) (WpFn 𝓤 H (𝓣 .C) (𝓣 .Λ) f.Code.function) spells
-      (λ κs. mut-tells (named 0) (κs .0) board.the-row ⨾ mut-slice-tells (named 1) (κs .1 .0) entry.the-row ⨾
-      mut-slice-tells (named 2) (κs .1 .1 .0) u16 ⨾ uint-tells w16 ⨾ uint-tells w16 ⨾ uint-tells w16 ⨾ uint-tells w16
-      ⨾ tt)
+      (λ κs. mut-tells (named 0) (κs .0) sheet.the-row ⨾ mut-slice-tells (named 1) (κs .1 .0) entry.the-row ⨾
+      mut-slice-tells (named 2) (κs .1 .1 .0) u16 ⨾ uint-tells w64 ⨾ uint-tells w16 ⨾ uint-tells w16 ⨾ uint-tells w16
+      ⨾ uint-tells w16 ⨾ tt)
       (λ κs qs bounds a g. walk κs qs a)
 
 pub new-foil-spec : {M : Type 1} → f.Statement.statement M

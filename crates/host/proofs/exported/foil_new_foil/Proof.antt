@@ -3,16 +3,16 @@
 use mathlib.Core.List.{[], _∷_}
 use types.Kit.{‵, _$_, _∵_, ! }
 use Rattle.host.proofs.Walks.{_⨾_}
-use Rattle.host.proofs.Words.{refl, URA, named, w16, SProp, emp, Memory, Routine, Heap, WpFn, Tables, Atoms}
-use Rattle.host.proofs.Words.{Fun, factI, Lfts, Shares, toks, givenOf, tables, tablesOf, Given, raw, qed}
-use Rattle.host.proofs.Words.{by, move, keep, join, fjoin, look, init, stop, hop, from, addr, no-more}
+use Rattle.host.proofs.Words.{refl, URA, named, w16, w64, SProp, emp, Memory, Routine, Heap, WpFn, Tables}
+use Rattle.host.proofs.Words.{Atoms, Fun, factI, Lfts, Shares, toks, givenOf, tables, tablesOf, Given, raw}
+use Rattle.host.proofs.Words.{qed, by, move, keep, join, fjoin, look, init, stop, hop, from, addr, no-more}
 use Rattle.host.proofs.Words.{assigns, land, returns, enter, params1, pass1, pass0, fmOf, owns, Spells}
 use Rattle.host.proofs.Words.{valss, uint-vals, uint-tells, u16, ptr-vals, mut-tells, slice-vals}
 use Rattle.host.proofs.Words.{mut-slice-tells, typesAt, heard, nothing, Args, Vals, Meets, tripleOf}
 use Rattle.host.proofs.Words.{entered, cited, Walk, meets-by, and-nothing, calls-for, has-value}
 use Rattle.host.proofs.Words.{ends-saying, allocates, releases, arg, in-slice, in-number, lends-on}
 use Rattle.host.proofs.Values.{a-Said, an-Answer}
-use Rattle.foil_spec.proofs.Board as board
+use Rattle.sheet_rows.proofs.Sheet as sheet
 use Rattle.foil_spec.proofs.Entry as entry
 use Rattle.host.proofs.new_foil as core
 use Rattle.host.proofs.flat.said_of as say
@@ -20,7 +20,8 @@ use Rattle.host.proofs.exported.foil_new_foil as f
 
 -- the machine values of the parameters
 abbrev spells : (κs : Lfts 3) → Spells (typesAt (f.signature .params) κs)
-spells κs = ptr-vals ⨾ slice-vals ⨾ slice-vals ⨾ uint-vals w16 ⨾ uint-vals w16 ⨾ uint-vals w16 ⨾ uint-vals w16 ⨾ tt
+spells κs = ptr-vals ⨾ slice-vals ⨾ slice-vals ⨾ uint-vals w64 ⨾ uint-vals w16 ⨾ uint-vals w16 ⨾ uint-vals w16 ⨾
+    uint-vals w16 ⨾ tt
 
 module _ {M : Type 1} (𝓤 : URA M) (H : Heap 𝓤) (A : Atoms 𝓤) (W : Given 𝓤 H A) (mem : Memory → SProp 𝓤)
     (run : Routine → Fun 𝓤) (𝓣 : Tables 𝓤 H)
@@ -34,22 +35,22 @@ module _ {M : Type 1} (𝓤 : URA M) (H : Heap 𝓤) (A : Atoms 𝓤) (W : Given
     walk are =
         let fm = fmOf 𝓤 H (W .laws) 𝓣 in
         qed W (raw (toks 𝓤 A 3 κs qs) ∷ ‵ (owns (typesAt (f.signature .params) κs) a vals) ∷ []) ∵
-        enter ! (𝓣 .C) (𝓣 .Λ) f.Code.function _ _ $ allocates ! _ (λ bs. params1 ! $ pass1 ! (init ! 24 refl
-        (tt, tt)) $ pass1 ! (init ! 22 refl (in-slice (are .1 .0 .0 .1 .0))) $ pass1 ! (init ! 20 refl (in-slice (are
-        .1 .1 .0 .0 .1 .0))) $ pass1 ! (init ! 18 refl (in-number (are .1 .1 .1 .0 .1))) $ pass1 ! (init ! 16 refl
-        (in-number (are .1 .1 .1 .1 .0 .1))) $ pass1 ! (init ! 14 refl (in-number (are .1 .1 .1 .1 .1 .0 .1))) $
-        pass1 ! (init ! 12 refl (in-number (are .1 .1 .1 .1 .1 .1 .0 .1))) $ pass0 ! $ assigns ! (addr ! (from ! (hop
-        ! (look ! 24 refl) (stop !)))) (from ! (stop !)) (init ! 8 refl (tt, tt)) $ lends-on ! 22 6 refl refl (init !
-        6 refl (tt, tt)) refl refl (init ! 4 refl (in-slice (are .1 .0 .0 .1 .0))) $ lends-on ! 20 2 refl refl (init
-        ! 2 refl (tt, tt)) refl refl (init ! 0 refl (in-slice (are .1 .1 .0 .0 .1 .0))) $ move ! (28 ∷ 29 ∷ []) $
-        join ! $
+        enter ! (𝓣 .C) (𝓣 .Λ) f.Code.function _ _ $ allocates ! _ (λ bs. params1 ! $ pass1 ! (init ! 26 refl
+        (tt, tt)) $ pass1 ! (init ! 24 refl (in-slice (are .1 .0 .0 .1 .0))) $ pass1 ! (init ! 22 refl (in-slice (are
+        .1 .1 .0 .0 .1 .0))) $ pass1 ! (init ! 20 refl (in-number (are .1 .1 .1 .0 .1))) $ pass1 ! (init ! 18 refl
+        (in-number (are .1 .1 .1 .1 .0 .1))) $ pass1 ! (init ! 16 refl (in-number (are .1 .1 .1 .1 .1 .0 .1))) $
+        pass1 ! (init ! 14 refl (in-number (are .1 .1 .1 .1 .1 .1 .0 .1))) $ pass1 ! (init ! 12 refl (in-number (are
+        .1 .1 .1 .1 .1 .1 .1 .0 .1))) $ pass0 ! $ assigns ! (addr ! (from ! (hop ! (look ! 26 refl) (stop !)))) (from
+        ! (stop !)) (init ! 8 refl (tt, tt)) $ lends-on ! 24 6 refl refl (init ! 6 refl (tt, tt)) refl refl (init ! 4
+        refl (in-slice (are .1 .0 .0 .1 .0))) $ lends-on ! 22 2 refl refl (init ! 2 refl (tt, tt)) refl refl (init !
+        0 refl (in-slice (are .1 .1 .0 .0 .1 .0))) $ move ! (30 ∷ 31 ∷ []) $ join ! $
         calls-for core.ended (core.clauses 𝓤 H A mem run) fm known ((κs, qs, tt, a, vals), tt) an-Answer (and-nothing
-        𝓤 _) (arg ! 9 refl (arg ! 5 refl (arg ! 1 refl (arg ! 19 refl (arg ! 17 refl (arg ! 15 refl (arg ! 13 refl
-        (no-more !)))))))) (λ r is₁ ok₁ ws. land ! (from ! (stop !)) (init ! 13 refl (ok₁ .0)) $ nothing ! $
-        has-value ! an-Answer r is₁ $ fjoin ! $ nothing ! $ join ! $
+        𝓤 _) (arg ! 9 refl (arg ! 5 refl (arg ! 1 refl (arg ! 21 refl (arg ! 19 refl (arg ! 17 refl (arg ! 15 refl
+        (arg ! 13 refl (no-more !))))))))) (λ r is₁ ok₁ ws. land ! (from ! (stop !)) (init ! 13 refl (ok₁ .0)) $
+        nothing ! $ has-value ! an-Answer r is₁ $ fjoin ! $ nothing ! $ join ! $
         calls-for say.ended (say.clauses 𝓤 H A mem run) fm known-say
         ((tt, tt, tt, (r, tt), (an-Answer .val r ∷ [], tt)), tt) a-Said (and-nothing 𝓤 _) (arg ! 14 refl (no-more !))
-        (λ s is₂ ok₂ us. land ! (from ! (stop !)) (init ! 32 refl (ok₂ .0)) $ returns ! (look ! 32 refl) $
+        (λ s is₂ ok₂ us. land ! (from ! (stop !)) (init ! 34 refl (ok₂ .0)) $ returns ! (look ! 34 refl) $
         releases ! (_ ∷ _ ∷ _ ∷ _ ∷ _ ∷ _ ∷ []) _ $ move ! (2 ∷ []) $ heard ! _ (λ e₁. move ! (4 ∷ []) $
         heard ! _ (λ e₂. has-value ! a-Said s is₂ $ keep ! (3 ∷ 0 ∷ 4 ∷ []) $ by ! (ends-saying W f.ended (f.clauses
         𝓤 H A mem run) ((κs, qs, tt, a, vals), tt) (a-Said .val s) s ws (factI 𝓤 _ (emp 𝓤) (record
@@ -58,9 +59,9 @@ module _ {M : Type 1} (𝓤 : URA M) (H : Heap 𝓤) (A : Atoms 𝓤) (W : Given
   meets : Meets 𝓤 H A f.signature (WpFn 𝓤 H (𝓣 .C) (𝓣 .Λ) f.Code.function) (f.spec 𝓤 H A mem run)
   meets =
       meets-by 𝓤 H A f.signature (f.spec 𝓤 H A mem run) (WpFn 𝓤 H (𝓣 .C) (𝓣 .Λ) f.Code.function) spells
-      (λ κs. mut-tells (named 0) (κs .0) board.the-row ⨾ mut-slice-tells (named 1) (κs .1 .0) entry.the-row ⨾
-      mut-slice-tells (named 2) (κs .1 .1 .0) u16 ⨾ uint-tells w16 ⨾ uint-tells w16 ⨾ uint-tells w16 ⨾ uint-tells w16
-      ⨾ tt)
+      (λ κs. mut-tells (named 0) (κs .0) sheet.the-row ⨾ mut-slice-tells (named 1) (κs .1 .0) entry.the-row ⨾
+      mut-slice-tells (named 2) (κs .1 .1 .0) u16 ⨾ uint-tells w64 ⨾ uint-tells w16 ⨾ uint-tells w16 ⨾ uint-tells w16
+      ⨾ uint-tells w16 ⨾ tt)
       (λ κs qs bounds a g. walk κs qs a)
 
 pub foil-new-foil-spec : {M : Type 1} → f.Statement.statement M

@@ -3,16 +3,16 @@
 use mathlib.Core.List.{[], _∷_}
 use types.Kit.{‵, _$_, _∵_, ! }
 use Rattle.host.proofs.Walks.{_⨾_}
-use Rattle.host.proofs.Words.{refl, URA, named, w16, SProp, emp, Memory, Routine, Heap, WpFn, Tables, Atoms}
-use Rattle.host.proofs.Words.{Fun, factI, Lfts, Shares, toks, givenOf, tables, tablesOf, Given, raw, qed}
-use Rattle.host.proofs.Words.{by, move, keep, join, fjoin, look, init, stop, from, no-more, land, returns}
-use Rattle.host.proofs.Words.{enter, params1, pass1, pass0, fmOf, owns, Spells, valss, uint-vals}
+use Rattle.host.proofs.Words.{refl, URA, named, w16, w64, SProp, emp, Memory, Routine, Heap, WpFn, Tables}
+use Rattle.host.proofs.Words.{Atoms, Fun, factI, Lfts, Shares, toks, givenOf, tables, tablesOf, Given, raw}
+use Rattle.host.proofs.Words.{qed, by, move, keep, join, fjoin, look, init, stop, from, no-more, land}
+use Rattle.host.proofs.Words.{returns, enter, params1, pass1, pass0, fmOf, owns, Spells, valss, uint-vals}
 use Rattle.host.proofs.Words.{uint-tells, u16, ptr-vals, shr-tells, slice-vals, shr-slice-tells, typesAt}
 use Rattle.host.proofs.Words.{heard, nothing, Args, Vals, Meets, tripleOf, entered, cited, Walk, meets-by}
 use Rattle.host.proofs.Words.{and-nothing, calls-for, typed-at, has-value, ends-saying, allocates, releases}
 use Rattle.host.proofs.Words.{arg, in-slice, in-number}
 use Rattle.host.proofs.Values.{a-Resistance, an-Ink, an-OhmsSaid}
-use Rattle.foil_spec.proofs.Board as board
+use Rattle.sheet_rows.proofs.Sheet as sheet
 use Rattle.foil_spec.proofs.Entry as entry
 use Rattle.host.proofs.ohms as core
 use Rattle.host.proofs.flat.ohms_said as say
@@ -20,7 +20,7 @@ use Rattle.host.proofs.exported.foil_ohms as f
 
 -- the machine values of the parameters
 abbrev spells : (κs : Lfts 3) → Spells (typesAt (f.signature .params) κs)
-spells κs = ptr-vals ⨾ slice-vals ⨾ slice-vals ⨾ uint-vals w16 ⨾ (λ x. an-Ink .val x ∷ []) ⨾ tt
+spells κs = ptr-vals ⨾ slice-vals ⨾ slice-vals ⨾ uint-vals w64 ⨾ uint-vals w16 ⨾ (λ x. an-Ink .val x ∷ []) ⨾ tt
 
 module _ {M : Type 1} (𝓤 : URA M) (H : Heap 𝓤) (A : Atoms 𝓤) (W : Given 𝓤 H A) (mem : Memory → SProp 𝓤)
     (run : Routine → Fun 𝓤) (𝓣 : Tables 𝓤 H)
@@ -34,17 +34,18 @@ module _ {M : Type 1} (𝓤 : URA M) (H : Heap 𝓤) (A : Atoms 𝓤) (W : Given
     walk are =
         let fm = fmOf 𝓤 H (W .laws) 𝓣 in
         qed W (raw (toks 𝓤 A 3 κs qs) ∷ ‵ (owns (typesAt (f.signature .params) κs) a vals) ∷ []) ∵
-        enter ! (𝓣 .C) (𝓣 .Λ) f.Code.function _ _ $ allocates ! _ (λ bs. params1 ! $ pass1 ! (init ! 10 refl
-        (tt, tt)) $ pass1 ! (init ! 8 refl (in-slice (are .1 .0 .0 .1 .0))) $ pass1 ! (init ! 6 refl (in-slice (are
-        .1 .1 .0 .0 .1 .0))) $ pass1 ! (init ! 4 refl (in-number (are .1 .1 .1 .0 .1))) $ pass1 ! (init ! 2 refl
-        (typed-at W an-Ink (a .1 .1 .1 .1 .0) (are .1 .1 .1 .1 .0) .0)) $ pass0 ! $ move ! (14 ∷ 15 ∷ []) $ join ! $
+        enter ! (𝓣 .C) (𝓣 .Λ) f.Code.function _ _ $ allocates ! _ (λ bs. params1 ! $ pass1 ! (init ! 12 refl
+        (tt, tt)) $ pass1 ! (init ! 10 refl (in-slice (are .1 .0 .0 .1 .0))) $ pass1 ! (init ! 8 refl (in-slice (are
+        .1 .1 .0 .0 .1 .0))) $ pass1 ! (init ! 6 refl (in-number (are .1 .1 .1 .0 .1))) $ pass1 ! (init ! 4 refl
+        (in-number (are .1 .1 .1 .1 .0 .1))) $ pass1 ! (init ! 2 refl (typed-at W an-Ink (a .1 .1 .1 .1 .1 .0) (are
+        .1 .1 .1 .1 .1 .0) .0)) $ pass0 ! $ move ! (16 ∷ 17 ∷ []) $ join ! $
         calls-for core.ended (core.clauses 𝓤 H A mem run) fm known ((κs, qs, tt, a, vals), tt) a-Resistance
-        (and-nothing 𝓤 _) (arg ! 11 refl (arg ! 9 refl (arg ! 7 refl (arg ! 5 refl (arg ! 3 refl (no-more !)))))) (λ
-        r is₁ ok₁ ws. land ! (from ! (stop !)) (init ! 3 refl (ok₁ .0)) $ nothing ! $ has-value ! a-Resistance r is₁
-        $ fjoin ! $ nothing ! $ join ! $
+        (and-nothing 𝓤 _) (arg ! 13 refl (arg ! 11 refl (arg ! 9 refl (arg ! 7 refl (arg ! 5 refl (arg ! 3 refl
+        (no-more !))))))) (λ r is₁ ok₁ ws. land ! (from ! (stop !)) (init ! 3 refl (ok₁ .0)) $ nothing ! $
+        has-value ! a-Resistance r is₁ $ fjoin ! $ nothing ! $ join ! $
         calls-for say.ended (say.clauses 𝓤 H A mem run) fm known-say
         ((tt, tt, tt, (r, tt), (a-Resistance .val r ∷ [], tt)), tt) an-OhmsSaid (and-nothing 𝓤 _) (arg ! 4 refl
-        (no-more !)) (λ s is₂ ok₂ us. land ! (from ! (stop !)) (init ! 18 refl (ok₂ .0)) $ returns ! (look ! 18 refl)
+        (no-more !)) (λ s is₂ ok₂ us. land ! (from ! (stop !)) (init ! 20 refl (ok₂ .0)) $ returns ! (look ! 20 refl)
         $ releases ! (_ ∷ _ ∷ _ ∷ _ ∷ _ ∷ _ ∷ []) _ $ move ! (2 ∷ []) $ heard ! _ (λ e₁. move ! (4 ∷ []) $
         heard ! _ (λ e₂. has-value ! an-OhmsSaid s is₂ $ keep ! (3 ∷ 0 ∷ 4 ∷ []) $ by ! (ends-saying W f.ended
         (f.clauses 𝓤 H A mem run) ((κs, qs, tt, a, vals), tt) (an-OhmsSaid .val s) s ws (factI 𝓤 _ (emp 𝓤) (record
@@ -53,8 +54,8 @@ module _ {M : Type 1} (𝓤 : URA M) (H : Heap 𝓤) (A : Atoms 𝓤) (W : Given
   meets : Meets 𝓤 H A f.signature (WpFn 𝓤 H (𝓣 .C) (𝓣 .Λ) f.Code.function) (f.spec 𝓤 H A mem run)
   meets =
       meets-by 𝓤 H A f.signature (f.spec 𝓤 H A mem run) (WpFn 𝓤 H (𝓣 .C) (𝓣 .Λ) f.Code.function) spells
-      (λ κs. shr-tells (named 0) (κs .0) board.the-row ⨾ shr-slice-tells (named 1) (κs .1 .0) entry.the-row ⨾
-      shr-slice-tells (named 2) (κs .1 .1 .0) u16 ⨾ uint-tells w16 ⨾ an-Ink .tells ⨾ tt)
+      (λ κs. shr-tells (named 0) (κs .0) sheet.the-row ⨾ shr-slice-tells (named 1) (κs .1 .0) entry.the-row ⨾
+      shr-slice-tells (named 2) (κs .1 .1 .0) u16 ⨾ uint-tells w64 ⨾ uint-tells w16 ⨾ an-Ink .tells ⨾ tt)
       (λ κs qs bounds a g. walk κs qs a)
 
 pub foil-ohms-spec : {M : Type 1} → f.Statement.statement M

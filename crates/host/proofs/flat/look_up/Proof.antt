@@ -5,7 +5,7 @@ use native.Mathlib.Omega.{arith}
 use lib.ListN.{length, length-take}
 use Rattle.host.specs.Flats.{numbersLent}
 use Rattle.host.proofs.Flats.{full}
-use Rattle.host.proofs.Tables.{flat-looked}
+use Rattle.host.proofs.Tables.{flat-read}
 use Rattle.host.proofs.flat.look_up.Statement.{statement}
 use Rattle.host.proofs.flat.look_up.Tie as tie
 
@@ -13,7 +13,7 @@ use Rattle.host.proofs.flat.look_up.Tie as tie
 abbrev atStart : tie.After-numbers-lent → tie.Start
 atStart c = c .before .before .before
 
-whole : (c : tie.Start) → length (c .args .t .at) ≡ 640
+whole : (c : tie.Start) → length (c .args .t .at) ≡ 2560
 whole c = full (c .args .t) (c .good .1 .0)
 
 numbers-lent-requires : tie.Need-numbers-lent-requires
@@ -40,7 +40,7 @@ look-up-requires c κs = search needs
 returns : tie.Need-returns
 returns c =
     let lent = c .before .before in
-    flat-looked _ _ _ _ _ _ (whole (atStart lent)) (lent .numbers-lent .ensures) (c .look-up .ensures)
+    flat-read _ _ _ _ _ _ _ _ _ (whole (atStart lent)) (lent .numbers-lent .ensures) (c .look-up .ensures)
 
 pub look-up-spec : {M : Type 1} → statement M
 look-up-spec =

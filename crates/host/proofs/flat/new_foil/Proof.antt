@@ -22,7 +22,7 @@ called c = c .before
 abbrev leftBy : tie.After-leave → tie.After-a3
 leftBy c = c .before .before .before
 
-whole : (c : tie.Start) → length (c .args .t .at) ≡ 640
+whole : (c : tie.Start) → length (c .args .t .at) ≡ 2560
 whole c = full (c .args .t) (c .good .1 .0)
 
 numbers-lent-requires : tie.Need-numbers-lent-requires
@@ -56,7 +56,7 @@ returns : tie.Need-returns
 returns c =
     let d = leftBy c in
     let lent = lentOn (called d) in
-    flat-done _ _ _ _ _ _ _ _ _ (whole (atStart lent)) (lent .numbers-lent .ensures) (d .a3 .given)
+    flat-done _ _ _ _ _ _ _ _ _ _ (whole (atStart lent)) (lent .numbers-lent .ensures) (d .a3 .given)
     (called d .new-foil .ensures) (c .leave .ensures)
 
 pub new-foil-spec : {M : Type 1} → statement M

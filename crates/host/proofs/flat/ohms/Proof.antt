@@ -13,7 +13,7 @@ use Rattle.host.proofs.flat.ohms.Tie as tie
 abbrev atStart : tie.After-numbers-lent → tie.Start
 atStart c = c .before .before .before
 
-whole : (c : tie.Start) → length (c .args .t .at) ≡ 640
+whole : (c : tie.Start) → length (c .args .t .at) ≡ 2560
 whole c = full (c .args .t) (c .good .1 .0)
 
 numbers-lent-requires : tie.Need-numbers-lent-requires
@@ -40,7 +40,7 @@ ohms-requires c κs = search needs
 returns : tie.Need-returns
 returns c =
     let lent = c .before .before in
-    flat-ohms _ _ _ _ _ _ _ (whole (atStart lent)) (lent .numbers-lent .ensures) (c .ohms .ensures)
+    flat-ohms _ _ _ _ _ _ _ _ (whole (atStart lent)) (lent .numbers-lent .ensures) (c .ohms .ensures)
 
 pub ohms-spec : {M : Type 1} → statement M
 ohms-spec =

@@ -1,8 +1,7 @@
--- In the first 128 places five numbers are laid in; past them there is nowhere to lay them.
+-- Five numbers are laid in.
 use borrow.Author.Needs.{needs}
 use mathlib.Core.Path.{refl}
-use Rattle.host.specs.Flats.{setFive, withEntry}
-use Rattle.host.proofs.Flats.{put-past, full}
+use Rattle.host.specs.Flats.{setFive}
 use Rattle.host.proofs.flat.put.Statement.{statement}
 use Rattle.host.proofs.flat.put.Tie as tie
 
@@ -12,8 +11,8 @@ mul-k c = search needs
 mul-a : tie.Need-mul-a
 mul-a c = search needs
 
-array-write-a : tie.Need-array-write-a
-array-write-a c = search needs
+element-write-a : tie.Need-element-write-a
+element-write-a c = search needs
 
 add-a : tie.Need-add-a
 add-a c = search needs
@@ -21,8 +20,8 @@ add-a c = search needs
 mul-a-2 : tie.Need-mul-a-2
 mul-a-2 c = search needs
 
-array-write-a-2 : tie.Need-array-write-a-2
-array-write-a-2 c = search needs
+element-write-a-2 : tie.Need-element-write-a-2
+element-write-a-2 c = search needs
 
 add-a-2 : tie.Need-add-a-2
 add-a-2 c = search needs
@@ -30,8 +29,8 @@ add-a-2 c = search needs
 mul-a-3 : tie.Need-mul-a-3
 mul-a-3 c = search needs
 
-array-write-a-3 : tie.Need-array-write-a-3
-array-write-a-3 c = search needs
+element-write-a-3 : tie.Need-element-write-a-3
+element-write-a-3 c = search needs
 
 add-a-3 : tie.Need-add-a-3
 add-a-3 c = search needs
@@ -39,8 +38,8 @@ add-a-3 c = search needs
 mul-a-4 : tie.Need-mul-a-4
 mul-a-4 c = search needs
 
-array-write-a-4 : tie.Need-array-write-a-4
-array-write-a-4 c = search needs
+element-write-a-4 : tie.Need-element-write-a-4
+element-write-a-4 c = search needs
 
 add-a-4 : tie.Need-add-a-4
 add-a-4 c = search needs
@@ -48,15 +47,12 @@ add-a-4 c = search needs
 mul-a-5 : tie.Need-mul-a-5
 mul-a-5 c = search needs
 
-array-write-a-5 : tie.Need-array-write-a-5
-array-write-a-5 c = search needs
+element-write-a-5 : tie.Need-element-write-a-5
+element-write-a-5 c = search needs
 
 returns : tie.Need-returns
-unfolding withEntry setFive
+unfolding setFive
 returns c = refl
-
-returns-2 : tie.Need-returns-2
-returns-2 c = put-past _ _ _ (full (c .before .args .f) (c .before .good .0)) (c .if1 .left)
 
 pub put-spec : {M : Type 1} → statement M
 put-spec =
@@ -64,18 +60,17 @@ put-spec =
     (tie.spec
     mul-k
     mul-a
-    array-write-a
+    element-write-a
     add-a
     mul-a-2
-    array-write-a-2
+    element-write-a-2
     add-a-2
     mul-a-3
-    array-write-a-3
+    element-write-a-3
     add-a-3
     mul-a-4
-    array-write-a-4
+    element-write-a-4
     add-a-4
     mul-a-5
-    array-write-a-5
-    returns
-    returns-2)
+    element-write-a-5
+    returns)

@@ -19,7 +19,7 @@ lentOn c = c .before .before
 abbrev called : tie.After-slice-known2 → tie.After-save
 called c = c .before .before
 
-whole : (c : tie.Start) → length (c .args .t .at) ≡ 640
+whole : (c : tie.Start) → length (c .args .t .at) ≡ 2560
 whole c = full (c .args .t) (c .good .1 .0)
 
 numbers-lent-requires : tie.Need-numbers-lent-requires
@@ -50,7 +50,7 @@ returns : tie.Need-returns
 returns c =
     let d = called c in
     let lent = lentOn (d .before) in
-    flat-read _ _ _ _ _ _ _ _ (whole (atStart lent)) (lent .numbers-lent .ensures) (d .save .ensures)
+    flat-read _ _ _ _ _ _ _ _ _ (whole (atStart lent)) (lent .numbers-lent .ensures) (d .save .ensures)
 
 pub save-spec : {M : Type 1} → statement M
 save-spec =

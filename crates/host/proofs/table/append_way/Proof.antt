@@ -4,7 +4,7 @@
 use mathlib.Core.List.{[], _∷_}
 use types.Kit.{‵, _⊛_, _$_, _∵_, ! }
 use Rattle.host.proofs.Walks.{_⨾_}
-use Rattle.host.proofs.Words.{refl, URA, fullShare, named, w16, SProp, emp, fst∗, GName, flft, Memory}
+use Rattle.host.proofs.Words.{refl, URA, fullShare, named, w16, w64, SProp, emp, fst∗, GName, flft, Memory}
 use Rattle.host.proofs.Words.{Routine, Heap, WpFn, Tables, Atoms, Fun, factI, Lfts, Shares, toks, givenOf}
 use Rattle.host.proofs.Words.{tables, tablesOf, Given, raw, some, later, qed, by, move, use1, use2, split}
 use Rattle.host.proofs.Words.{join, pick, fsplit, fjoin, await, drop, look, init, stop, fld, from, load}
@@ -15,8 +15,9 @@ use Rattle.host.proofs.Words.{shr-slice-tells, typesAt, heard, nothing,
 use Rattle.host.proofs.Words.{entered, cited, Walk, meets-by, and-nothing, calls-for, typed-at, has-value}
 use Rattle.host.proofs.Words.{ends-saying, of-nothing, allocates, releases, arg, in-slice, in-number}
 use Rattle.host.proofs.Words.{lends-on}
-use Rattle.host.proofs.Values.{a-Board, a-Flat, a-Left, left-table}
+use Rattle.host.proofs.Values.{a-Flat, a-Left, a-Sheet, left-table}
 use Rattle.host.proofs.Shared.{LentShared, lends-shared, shared-back}
+use Rattle.sheet_rows.proofs.Records.{eight}
 use Rattle.host.proofs.Tables.{whole-done}
 use Rattle.foil_spec.proofs.Entry as entry
 use Rattle.host.proofs.flat.book as core
@@ -26,7 +27,7 @@ use Rattle.host.proofs.table.append_way as f
 
 -- the machine values of the parameters
 abbrev spells : (κs : Lfts 3) → Spells (typesAt (f.signature .params) κs)
-spells κs = (λ x. a-Board .val x ∷ []) ⨾ slice-vals ⨾ slice-vals ⨾ slice-vals ⨾ uint-vals w16 ⨾ tt
+spells κs = (λ x. a-Sheet .val x ∷ []) ⨾ slice-vals ⨾ slice-vals ⨾ slice-vals ⨾ uint-vals w64 ⨾ uint-vals w16 ⨾ tt
 
 module _ {M : Type 1} (𝓤 : URA M) (H : Heap 𝓤) (A : Atoms 𝓤) (W : Given 𝓤 H A) (mem : Memory → SProp 𝓤)
     (run : Routine → Fun 𝓤) (𝓣 : Tables 𝓤 H)
@@ -43,13 +44,13 @@ module _ {M : Type 1} (𝓤 : URA M) (H : Heap 𝓤) (A : Atoms 𝓤) (W : Given
         qed W ((‵ (flft (κs .0) (qs .0)) ⊛ raw (toks 𝓤 A 2 (κs .1) (qs .1))) ∷ ‵ (owns (typesAt (f.signature .params)
         κs) a vals) ∷ []) ∵
         enter ! (𝓣 .C) (𝓣 .Λ) f.Code.function _ _ $ allocates ! _
-        (λ bs. params1 ! $ pass1 ! (init ! 28 refl (typed-at W a-Board (a .0) (are .0) .0)) $ pass1 ! (init ! 26 refl
-        (in-slice (are .1 .0 .0 .1 .0))) $ pass1 ! (init ! 24 refl (in-slice (are .1 .1 .0 .0 .1 .0))) $ pass1 !
-        (init ! 22 refl (in-slice (are .1 .1 .1 .0 .0 .1 .0))) $ pass1 ! (init ! 20 refl (in-number (are .1 .1 .1 .1
-        .0 .1))) $ pass0 ! $ lends-on ! 26 12 refl refl (init ! 12 refl (tt, tt)) refl refl (init ! 10 refl (in-slice
-        (are .1 .0 .0 .1 .0))) $
+        (λ bs. params1 ! $ pass1 ! (init ! 30 refl (typed-at W a-Sheet (a .0) (are .0) .0)) $ pass1 ! (init ! 28 refl
+        (in-slice (are .1 .0 .0 .1 .0))) $ pass1 ! (init ! 26 refl (in-slice (are .1 .1 .0 .0 .1 .0))) $ pass1 !
+        (init ! 24 refl (in-slice (are .1 .1 .1 .0 .0 .1 .0))) $ pass1 ! (init ! 22 refl (in-number (are .1 .1 .1 .1
+        .0 .1))) $ pass1 ! (init ! 20 refl (in-number (are .1 .1 .1 .1 .1 .0 .1))) $ pass0 ! $ lends-on ! 28 12 refl
+        refl (init ! 12 refl (tt, tt)) refl refl (init ! 10 refl (in-slice (are .1 .0 .0 .1 .0))) $
         -- the table is lent as a `&` for the lifetime ν of the first call, and comes back
-        move ! (33 ∷ []) $ fsplit ! $ move ! (1 ∷ []) $ fsplit ! $ move ! (35 ∷ []) $ split ! $ lft-new ! tt (λ ν.
+        move ! (35 ∷ []) $ fsplit ! $ move ! (1 ∷ []) $ fsplit ! $ move ! (37 ∷ []) $ split ! $ lft-new ! tt (λ ν.
         move ! (3 ∷ 1 ∷ []) $ use2 W (later (some (λ (δ : GName). ‵ (ShrSlice (named 0) (ν ∷ []) entry.the-row .own
         (record { ptr = a .1 .0 .ptr; name = δ; now = a .1 .0 .now }) (vals .1 .0)) ⊛ ‵ (LentShared entry.the-row (κs
         .0) (ν ∷ []) (qs .0) (a .1 .0 .name) (a .1 .0 .ptr .0) (a .1 .0 .ptr .1) (a .1 .0 .now))))) (lends-shared
@@ -78,7 +79,7 @@ module _ {M : Type 1} (𝓤 : URA M) (H : Heap 𝓤) (A : Atoms 𝓤) (W : Given
         lft-end ! tt $ use2 W (later (‵ (MutSlice (named 0) (κs .0) entry.the-row .own (a .1 .0) (vals .1 .0)) ⊛ ‵
         (flft (κs .0) (qs .0)))) (shared-back entry.the-row (κs .0) (ν ∷ []) (qs .0) (a .1 .0 .name) (a .1 .0 .ptr
         .0) (a .1 .0 .ptr .1) 𝓤 H A W (named 0) (named 0) (a .1 .0 .now) (are .1 .0 .0 .1)) $ await ! tt $ split ! $
-        lends-on ! 29 13 refl refl (init ! 13 refl (tt, tt)) refl refl (init ! 11 refl (in-slice (are .1 .1 .0 .0 .1
+        lends-on ! 31 13 refl refl (init ! 13 refl (tt, tt)) refl refl (init ! 11 refl (in-slice (are .1 .1 .0 .0 .1
         .0))) $ has-value ! a-Flat t is₁ $ move ! (0 ∷ 4 ∷ []) $ fjoin ! $ move ! (4 ∷ 0 ∷ []) $ fjoin ! $ move ! (3
         ∷ 0 ∷ []) $ join ! $
         calls-for core.ended (core.clauses 𝓤 H A mem run) fm known (
@@ -94,13 +95,13 @@ module _ {M : Type 1} (𝓤 : URA M) (H : Heap 𝓤) (A : Atoms 𝓤) (W : Given
             ),
           ),
           tt,
-        ) a-Left (and-nothing 𝓤 _) (arg ! 31 refl (arg ! 21 refl (arg ! 9
-        refl (arg ! 25 refl (arg ! 23 refl (no-more !)))))) (λ r is₂ ok₂ zs. land ! (from ! (stop !)) (init ! 21 refl
-        (ok₂ .0)) $ assigns ! (of-opd ! (load ! (from ! (fld ! refl (stop !))) (look-in ! 21 (sub ! 2 refl (whole
-        !))))) (from ! (stop !)) (init ! 19 refl (typed-at W a-Flat (r .table) (left-table r is₂) .0)) $ lends-on !
-        31 7 refl refl (init ! 7 refl (tt, tt)) refl refl (init ! 5 refl (in-slice (are .1 .0 .0 .1 .0))) $ nothing !
-        $ has-value ! a-Flat (r .table) (left-table r is₂) $ fjoin ! $ move ! (4 ∷ 0 ∷ []) $ fjoin ! $ nothing ! $
-        move ! (5 ∷ 0 ∷ []) $ join ! $ join ! $
+        ) a-Left (and-nothing 𝓤 _) (arg ! 33 refl (arg ! 21 refl (arg ! 9
+        refl (arg ! 27 refl (arg ! 25 refl (arg ! 23 refl (no-more !))))))) (λ r is₂ ok₂ zs. land ! (from ! (stop !))
+        (init ! 21 refl (ok₂ .0)) $ assigns ! (of-opd ! (load ! (from ! (fld ! refl (stop !))) (look-in ! 21 (sub ! 2
+        refl (whole !))))) (from ! (stop !)) (init ! 19 refl (typed-at W a-Flat (r .table) (left-table r is₂) .0)) $
+        lends-on ! 33 7 refl refl (init ! 7 refl (tt, tt)) refl refl (init ! 5 refl (in-slice (are .1 .0 .0 .1 .0)))
+        $ nothing ! $ has-value ! a-Flat (r .table) (left-table r is₂) $ fjoin ! $ move ! (4 ∷ 0 ∷ []) $ fjoin ! $
+        nothing ! $ move ! (5 ∷ 0 ∷ []) $ join ! $ join ! $
         calls-for st.ended (st.clauses 𝓤 H A mem run) fm known-store (
           (
             (κs .0, tt),
@@ -119,19 +120,20 @@ module _ {M : Type 1} (𝓤 : URA M) (H : Heap 𝓤) (A : Atoms 𝓤) (W : Given
           tt,
         ) of-nothing (and-nothing 𝓤 _) (arg ! 4
         refl (arg ! 18 refl (no-more !))) (λ u is₃ ok₃ vs. land ! (from ! (stop !)) (init ! 10 refl (ok₃ .0)) $
-        assigns ! (of-opd ! (load ! (from ! (stop !)) (look ! 22 refl))) (from ! (stop !)) (init ! 36 refl (ok₂ .0))
-        $ returns ! (look ! 36 refl) $ releases ! (_ ∷ _ ∷ _ ∷ _ ∷ _ ∷ _ ∷ []) _ $ move ! (5 ∷ []) $ heard ! _ (λ e₂.
+        assigns ! (of-opd ! (load ! (from ! (stop !)) (look ! 22 refl))) (from ! (stop !)) (init ! 38 refl (ok₂ .0))
+        $ returns ! (look ! 38 refl) $ releases ! (_ ∷ _ ∷ _ ∷ _ ∷ _ ∷ _ ∷ []) _ $ move ! (5 ∷ []) $ heard ! _ (λ e₂.
         move ! (2 ∷ []) $ heard ! _ (λ e₃. use1 W (‵ (flft (κs .0) (qs .0))) (fst∗ 𝓤 _ (emp 𝓤)) $ move ! (1 ∷ []) $
         fsplit ! $ move ! (1 ∷ []) $ drop ! $ move ! (3 ∷ []) $ fsplit ! $ drop ! $ fsplit ! $ drop ! $ move ! (1 ∷ 0
         ∷ []) $ fjoin ! $ nothing ! $ fjoin ! $ move ! (1 ∷ 2 ∷ []) $ join ! $ has-value ! a-Left r is₂ $ move ! (1 ∷
         0 ∷ []) $ by ! (ends-saying W f.ended (f.clauses 𝓤 H A mem run) ((κs, qs, tt, a, vals), tt) (a-Left .val r) r
-        (tt, (vs .0, zs .1 .1)) (factI 𝓤 _ (emp 𝓤) (whole-done _ _ _ _ _ _ _ _ e₁ e₂ e₃))))))))))))
+        (tt, (vs .0, zs .1 .1)) (factI 𝓤 _ (emp 𝓤) (whole-done _ _ _ _ _ _ _ _ _ (eight (a .0) (are .0)) e₁ e₂
+        e₃))))))))))))
 
   meets : Meets 𝓤 H A f.signature (WpFn 𝓤 H (𝓣 .C) (𝓣 .Λ) f.Code.function) (f.spec 𝓤 H A mem run)
   meets =
       meets-by 𝓤 H A f.signature (f.spec 𝓤 H A mem run) (WpFn 𝓤 H (𝓣 .C) (𝓣 .Λ) f.Code.function) spells
-      (λ κs. a-Board .tells ⨾ mut-slice-tells (named 0) (κs .0) entry.the-row ⨾ mut-slice-tells (named 1) (κs .1 .0)
-      u16 ⨾ shr-slice-tells (named 2) (κs .1 .1 .0) u16 ⨾ uint-tells w16 ⨾ tt)
+      (λ κs. a-Sheet .tells ⨾ mut-slice-tells (named 0) (κs .0) entry.the-row ⨾ mut-slice-tells (named 1) (κs .1 .0)
+      u16 ⨾ shr-slice-tells (named 2) (κs .1 .1 .0) u16 ⨾ uint-tells w64 ⨾ uint-tells w16 ⨾ tt)
       (λ κs qs bounds a g. walk κs qs a)
 
 pub append-way-spec : {M : Type 1} → f.Statement.statement M
