@@ -707,6 +707,7 @@ static void refused_for_all(struct pages t, struct pages s, struct pages c, stru
     empty_sheet(t);
     on(0);
     printf("board %u\n", foil_new_foil(LENT, foil, 6, 4, 0, 0).number);
+    writable(s);
     memcpy(s.border - sizeof sheet_strips[0], strips, sizeof sheet_strips[0]);
     strips = (uint16_t *)(void *)s.border - 4 * FOIL_STRIPS;
     read_only(t);
