@@ -1,5 +1,5 @@
 -- A table that goes on past its first 2,560 numbers: a call on it does what it does on the front, and keeps the rest.
-use Prim.Native.Nat.{ℕ, _*_, _-_, _/_, _<_, _≤_}
+use Prim.Native.Nat.{ℕ, _*_, _-_, _/_, _<_}
 use native.Mathlib.Omega.{arith}
 use mathlib.Core.Path.{_≡_, refl, sym, ap, ap₂, _∙_}
 use mathlib.Core.Bool.{Bool, true, false, cond, not}
@@ -15,7 +15,7 @@ use Rattle.foil_spec.specs.Lent.{Lent, lent, written, store, held, sound}
 use Rattle.foil_spec.specs.Calls.{Call, step, runRecord, ohms, reply}
 use Rattle.foil_spec.specs.Sheet.{countsOk, SheetLent, noBoard, counts, parts, joined, tableAt, view, putBack, writes}
 use Rattle.foil_spec.specs.Sheet.{sheetRoom, sheetStep, opening, sheetRefusal, unless, sheetCall}
-use Rattle.list_laws.proofs.Tests.{both, not-ff}
+use Rattle.list_laws.proofs.Tests.{not-ff}
 use Rattle.ledger_laws.proofs.Refusals.{no-more, none-applies}
 use Rattle.ledger_laws.proofs.Replies.{shownBy, reply-is}
 use Rattle.sheet_laws.proofs.Counts.{ok-total}

@@ -43,6 +43,7 @@ module _ (S : RattleType) (n : ℕ) where
 
     module _ {M : Type 1} {𝓤 : URA M} {H : Heap 𝓤} {A : Atoms 𝓤} {K : Type 0} {W : Given 𝓤 H A} {Γ : List (Item 𝓤)}
         {G : Goal 𝓤 H} where
+      -- the local in memory, and back
       lies : K → (h : R .Denot) → Is R h (B .val h ∷ []) → Step K W (‵ (partAt R fullShare h b 0) ∷ Γ) G
           (‵ (holds h) ∷ Γ) G
       unfolding partOf
@@ -72,13 +73,11 @@ module _ (S : RattleType) (n : ℕ) where
 
       pub local-back : K → Soaks G → (h : R .Denot) (ν : ℕ) (γ : GName)
           → (Is R h (B .val h ∷ []) → Seq K W (‵ (holds h) ∷ Γ) G)
-          → Seq K W (‵ (flft (ν ∷ []) fullShare) ∷ ‵ (flent (ν ∷ []) (Body (mem R) b 0 γ)) ∷ ‵
-          (fres γ (R .coded .code h))
-          ∷ Γ) G
+          → Seq K W (‵ (flft (ν ∷ []) fullShare) ∷ ‵ (flent (ν ∷ []) (Body (mem R) b 0 γ))
+          ∷ ‵ (fres γ (R .coded .code h)) ∷ Γ) G
       local-back t z h ν γ k =
           lft-end t z $ use3 W (later (‵ (partAt R fullShare h b 0))) (ref-back 𝓤 H A W R (ν ∷ []) γ h b 0) $
-          await t z $
-          found t h k
+          await t z $ found t h k
 
       pub shows-local : K → Soaks G → (h : R .Denot) → Is R h (B .val h ∷ [])
           → ((ν : ℕ) (γ : GName) → Seq K W (‵ (ShrRef (named 0) (ν ∷ []) R .own (ref γ h) (vptr b 0 ∷ []))

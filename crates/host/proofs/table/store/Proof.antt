@@ -229,12 +229,12 @@ module _ {M : Type 1} (𝓤 : URA M) (H : Heap 𝓤) (A : Atoms 𝓤) (W : Given
           assigns ! (bin ! (load ! (from ! (stop !)) (look ! (cell 5 6) refl)) (lit ! tt) (record { fits = far }))
           (from ! (stop !)) (init ! (cell 5 10) refl (tt, record { fits = far })) $
           assigns ! (bin ! (load ! (from ! (fld ! refl (stop !))) (look-in ! (cell 4 1) (sub ! 0 refl (whole !))))
-          (load ! (from ! (stop !)) (look ! (cell 5 10) refl)) tt) (from ! (stop !)) (init ! (cell 5 11) refl (tt, tt))
-          $
+          (load ! (from ! (stop !)) (look ! (cell 5 10) refl)) tt) (from ! (stop !)) (init ! (cell 5 11) refl
+          (tt, tt)) $
           rewrite ! (cell 5 11) (λ (p : ℕ). ‵ (fat fullShare tyPtr l₁₁ 0 (vptr b p))) (sym (place-is 10 o k)) refl $
           elem-out ! T.the-row (Is T.the-row) (shows 𝓤 H A T.the-row) (LL.vals T.the-type T′.the-laws) (LL.tells
           T.the-type T′.the-laws) fullShare (Z k) k noEntry b o inside (λ isO.
-          -- [table[i]; what it owns; the others; the open borrow; obs; auth; the locals]
+          -- [table[i]; what it owns; the others; the open borrow; obs; auth; the numbers; the locals]
           assigns ! (of-opd ! (load ! (from ! (hop ! (look ! (cell 7 11) refl) (stop !))) (look-raw ! 0 refl)))
           (from ! (stop !)) (init ! (cell 7 12) refl (typed-at W an-Entry old isO .0)) $
           assigns ! (of-opd ! (load ! (from ! (stop !)) (look ! (cell 7 12) refl))) (from ! (stop !))
@@ -250,11 +250,7 @@ module _ {M : Type 1} (𝓤 : URA M) (H : Heap 𝓤) (A : Atoms 𝓤) (W : Given
               (fullShare, tt),
               tt,
               (record { ptr = (l₅, 0); name = δ; now = g .at }, (k, tt)),
-              (
-                vptr l₅ 0
-                    ∷ [],
-                (vint w64 k ∷ [], tt),
-              ),
+              (vptr l₅ 0 ∷ [], (vint w64 k ∷ [], tt)),
             ),
             tt,
           ) an-Entry (and-fact 𝓤 placed _)
@@ -289,9 +285,8 @@ module _ {M : Type 1} (𝓤 : URA M) (H : Heap 𝓤) (A : Atoms 𝓤) (W : Given
           elem-put ! T.the-row fullShare (Z k) k new (machE new ∷ []) b o inside $
           rewrite ! 0 (λ (l : List Entry). ‵ (row T.the-row fullShare l b o)) (store-more g ys k) refl $
           forget ! (cell 5 16) refl $ forget ! (cell 5 15) refl $ forget ! (cell 5 14) refl $
-          forget ! (cell 5 13) refl $
-          forget ! (cell 5 12) refl $ forget ! (cell 5 11) refl $ forget ! (cell 5 10) refl $
-          forget ! (cell 5 9) refl $ forget ! (cell 5 8) refl $ forget ! (cell 5 7) refl $
+          forget ! (cell 5 13) refl $ forget ! (cell 5 12) refl $ forget ! (cell 5 11) refl $
+          forget ! (cell 5 10) refl $ forget ! (cell 5 9) refl $ forget ! (cell 5 8) refl $ forget ! (cell 5 7) refl $
           exec ! C Λ En steps-on (anyQ (Turned i)) $ next i below)
           -- it is the same: it is put back as it was
           (λ kept.
@@ -299,9 +294,8 @@ module _ {M : Type 1} (𝓤 : URA M) (H : Heap 𝓤) (A : Atoms 𝓤) (W : Given
           rewrite ! 0 (λ (l : List Entry). ‵ (row T.the-row fullShare l b o)) (store-same g ys k (told-same t told
           kept)) refl $
           forget ! (cell 5 14) refl $ forget ! (cell 5 13) refl $ forget ! (cell 5 12) refl $
-          forget ! (cell 5 11) refl $
-          forget ! (cell 5 10) refl $ forget ! (cell 5 9) refl $ forget ! (cell 5 8) refl $
-          forget ! (cell 5 7) refl $
+          forget ! (cell 5 11) refl $ forget ! (cell 5 10) refl $ forget ! (cell 5 9) refl $
+          forget ! (cell 5 8) refl $ forget ! (cell 5 7) refl $
           exec ! C Λ En steps-on (anyQ (Turned i)) $ next i below))))))))
 
       -- the turn that leaves the loop, and the rest of the body: the borrow is closed
