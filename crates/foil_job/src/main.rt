@@ -1,11 +1,11 @@
 // The job program: reads a job file from standard input, and writes the lines of its records in turn.
 use foil_spec::CORNERS_SIZE;
 use foil_spec::STRIPS_SIZE;
-use foil_spec::TABLE_SIZE;
 use job::Next;
 use job_report::OUT_SIZE;
 use job_report::no_board;
 use job_report::report_record;
+use sheet_rows::SHEET_SIZE;
 ghost use Prim.Native.Nat.{_≤_};
 ghost use lib.ListN.{length};
 
@@ -21,10 +21,10 @@ fn main() {
     write_job(&bytes[..n]);
 }
 
-// Runs the records of a job file in turn, on a foil of its own, and writes the lines of each.
+// Runs the records of a job file in turn, on foil 0 of a sheet else empty, and writes the lines of each.
 fn write_job(bytes: &[u8]) {
     let mut out = [0u8; OUT_SIZE];
-    let mut table = [0u16; TABLE_SIZE];
+    let mut table = [0u16; SHEET_SIZE];
     let mut strips = [0u16; STRIPS_SIZE];
     let mut corners = [0u16; CORNERS_SIZE];
     let mut board = no_board();

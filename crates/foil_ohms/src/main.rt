@@ -6,15 +6,16 @@ mod show;
 
 use booking::in_use;
 use figures::ink_of;
-use foil_spec::Board;
 use foil_spec::Ink;
 use foil_spec::MAX_ENTRIES;
 use foil_spec::STRIPS_SIZE;
-use foil_spec::TABLE_SIZE;
 use job_foil::Ended;
 use job_foil::run_job;
 use job_foil::tell;
-use ohms::ohms;
+use job_report::only_foil_0;
+use sheet::ohms;
+use sheet_rows::SHEET_SIZE;
+use sheet_rows::Sheet;
 
 // One byte more than a job file may have, so that a longer one is known.
 const BYTES: usize = 60001;
@@ -30,34 +31,34 @@ fn main() {
 // Runs a job file, and writes the ohms of each net on the foil that it leaves; or the number of what
 // ended the job before its end mark.
 fn write_job(bytes: &[u8], ink: Ink) {
-    let mut table = [0u16; TABLE_SIZE];
+    let mut table = [0u16; SHEET_SIZE];
     let mut strips = [0u16; STRIPS_SIZE];
     let ended = run_job(&mut table, &mut strips, bytes);
     let Ended::AtMark(board) = ended else {
         tell(1, ended);
         return;
     };
-    write_nets(&table, &strips, board, ink);
+    write_nets(&table, &strips, only_foil_0(board), ink);
 }
 
-// Writes the ohms of each net on the foil.
-fn write_nets(table: &[u16; TABLE_SIZE], strips: &[u16; STRIPS_SIZE], board: Board, ink: Ink) {
+// Writes the ohms of each net on foil 0 of a sheet else empty.
+fn write_nets(table: &[u16; SHEET_SIZE], strips: &[u16; STRIPS_SIZE], sheet: Sheet, ink: Ink) {
     let mut net: u16 = 0;
     while net < 999 {
         net += 1;
-        write_net(table, strips, board, net, ink);
+        write_net(table, strips, sheet, net, ink);
     }
 }
 
-// Writes the ohms of a net, if it is on the foil. The places after the last entry are of net 0.
+// Writes the ohms of a net, if it is on the foil, whose entries come first. The places after the last one are of net 0.
 fn write_net(
-    table: &[u16; TABLE_SIZE],
+    table: &[u16; SHEET_SIZE],
     strips: &[u16; STRIPS_SIZE],
-    board: Board,
+    sheet: Sheet,
     net: u16,
     ink: Ink,
 ) {
     if in_use(table, MAX_ENTRIES, net) {
-        show::answer(net, ohms(table, strips, board, net, ink));
+        show::answer(net, ohms(table, strips, sheet, 0, net, ink));
     }
 }

@@ -3,13 +3,14 @@
 // has the number, and nothing else is written.
 use foil_spec::Board;
 use foil_spec::STRIPS_SIZE;
-use foil_spec::TABLE_SIZE;
 use job_foil::Ended;
 use job_foil::run_job;
 use job_foil::tell;
 use job_foil::write_answer;
+use job_report::only_foil_0;
+use sheet::slip;
+use sheet_rows::SHEET_SIZE;
 use slips::PAGE_SIZE;
-use slips::slip;
 
 // One byte more than a job file may have, so that a longer one is known.
 const BYTES: usize = 60001;
@@ -22,7 +23,7 @@ fn main() {
 
 // Runs a job file, and writes the slip of the foil that it leaves.
 fn slip_job(bytes: &[u8]) {
-    let mut table = [0u16; TABLE_SIZE];
+    let mut table = [0u16; SHEET_SIZE];
     let mut strips = [0u16; STRIPS_SIZE];
     let ended = run_job(&mut table, &mut strips, bytes);
     let Ended::AtMark(board) = ended else {
@@ -32,9 +33,9 @@ fn slip_job(bytes: &[u8]) {
     write_slip(&table, &strips, board);
 }
 
-// Writes the slip of a foil.
-fn write_slip(table: &[u16; TABLE_SIZE], strips: &[u16; STRIPS_SIZE], board: Board) {
+// Writes the slip of foil 0 of a sheet else empty.
+fn write_slip(table: &[u16; SHEET_SIZE], strips: &[u16; STRIPS_SIZE], board: Board) {
     let mut out = [0u8; PAGE_SIZE];
-    let answer = slip(&mut out, table, strips, board);
+    let answer = slip(&mut out, table, strips, only_foil_0(board), 0);
     write_answer(&out, answer, b"slip ");
 }

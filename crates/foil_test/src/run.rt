@@ -4,7 +4,6 @@ use foil::Answer;
 use foil_spec::Board;
 use foil_spec::CORNERS_SIZE;
 use foil_spec::STRIPS_SIZE;
-use foil_spec::TABLE_SIZE;
 use job::Answers;
 use job::Next;
 use job::Replied;
@@ -12,6 +11,7 @@ use job::Reply;
 use job::Told;
 use job_report::no_board;
 use job_report::run_one;
+use sheet_rows::SHEET_SIZE;
 ghost use Prim.Native.Nat.{_<_, _≤_};
 ghost use lib.ListN.{length};
 
@@ -95,7 +95,7 @@ fn over(done: Replied) -> Job {
 
 // Runs a job file and counts its steps by their numbers.
 pub(crate) fn run(counts: &mut [u64; 32], bytes: &[u8]) -> Job {
-    let mut table = [0u16; TABLE_SIZE];
+    let mut table = [0u16; SHEET_SIZE];
     let mut strips = [0u16; STRIPS_SIZE];
     let mut corners = [0u16; CORNERS_SIZE];
     let mut board = no_board();

@@ -10,15 +10,17 @@ use Rattle.foil_spec.specs.Foil.{Layout}
 use Rattle.foil_spec.specs.Ledger.{Step, newFoil, draw, lay, lift, lookUp, putLeg, save, find, book, slip, join}
 use Rattle.foil_spec.specs.Ledger.{Answer, refused, says, Refusal, Room, short, reads, refusals, afterLent, After}
 use Rattle.foil_spec.specs.Ledger.{settle, refusalOf}
-use Rattle.foil_spec.specs.Lent.{Lent, held, stepOn}
+use Rattle.foil_spec.specs.Lent.{held, sound}
 use Rattle.foil_spec.specs.Job.{has, isEnd, stepAt, stepsAt, steps, recordEnd}
 use Rattle.foil_spec.specs.Calls.{Reply as Outcome, answered, ran, atEnd, measured, runRecord, endsJob, andThen, actAll}
-use Rattle.foil_spec.specs.Calls.{actRecord, reply, callOn, placeAfter}
+use Rattle.foil_spec.specs.Calls.{actRecord, reply, placeAfter}
+use Rattle.foil_spec.specs.Sheet.{SheetLent, view, sheetStep, sheetCall}
 use Rattle.foil_spec.specs.declared.Board.{Board}
 use Rattle.list_laws.proofs.Tests.{both, clash, and-l, and-r, and-i, not-t}
 use Rattle.ledger_laws.proofs.Refusals.{first-passes}
 use Rattle.job.specs.Contract.{setBelow, saidAt, toldAt, byBit, answersOf, replyOf}
 use Rattle.job_report.proofs.Answering.{number-in}
+use Rattle.job_report.proofs.Places.{past-opening}
 use Rattle.job_foil.specs.Left.{firstNumber, endedOf}
 use Rattle.job_foil.specs.Parts.{numberTold, endedBy}
 use Rattle.job_foil.specs.declared.Ended.{Ended}
@@ -65,31 +67,33 @@ says-on (book net ks) l = refl
 says-on slip l = refl
 says-on (join net S) l = refl
 
-settled-on : (o : Option ℕ) (a : After Answer Lent) (m : Lent) → endsJob (a .answer) ≡ false
+settled-on : (o : Option ℕ) (a : After Answer SheetLent) (m : SheetLent) → endsJob (a .answer) ≡ false
     → ((n : ℕ) → o ≡ some n → goesOn n ≡ true) → endsJob (settle o a m .answer) ≡ false
 unfolding settle
 settled-on none a m e h = e
 settled-on (some n) a m e h = not-t (endsJob (refused n)) (h n refl)
 
 module _ (r : Room) where
-  step-on : (s : Step) (m : Lent) → reads s ≡ true → endsJob (stepOn r s m .answer) ≡ false
-  unfolding stepOn refusalOf
+  step-on : (s : Step) (m : SheetLent) → reads s ≡ true → endsJob (sheetStep r 0 s m .answer) ≡ false
+  unfolding sheetStep refusalOf
   step-on s m h =
-      settled-on _ _ m (says-on s (held m)) (first-passes goesOn _ (lent-mild r _ _ (own-mild s r (held m) h)))
+      let l : Layout = held (view 0 m) in
+      settled-on _ _ m (says-on s l) (first-passes goesOn _ (lent-mild r _ _ (own-mild s r l h)))
 
   -- ---- the steps of a record
 
-  then-on : (a : After Answer Lent) (b : After (List Answer) Lent) → endsJob (a .answer) ≡ false
+  then-on : (a : After Answer SheetLent) (b : After (List Answer) SheetLent) → endsJob (a .answer) ≡ false
       → any endsJob (b .answer) ≡ false → any endsJob (andThen a b .answer) ≡ false
   unfolding andThen
   then-on a b e h = rw (e, e) h
 
-  steps-on : (ss : List Step) (m : Lent) → all reads ss ≡ true → any endsJob (actAll (stepOn r) ss m .answer) ≡ false
+  steps-on : (ss : List Step) (m : SheetLent) → all reads ss ≡ true
+      → any endsJob (actAll (sheetStep r 0) ss m .answer) ≡ false
   unfolding actAll
   steps-on [] m h = refl
   steps-on (s ∷ ss) m h =
-      then-on (stepOn r s m) _ (step-on s m (and-l (reads s) (all reads ss) h))
-      (steps-on ss (stepOn r s m .state) (and-r (reads s) (all reads ss) h))
+      then-on (sheetStep r 0 s m) _ (step-on s m (and-l (reads s) (all reads ss) h))
+      (steps-on ss (sheetStep r 0 s m .state) (and-r (reads s) (all reads ss) h))
 
 module _ (bs : List ℕ) (at : ℕ) where
   reads-at : (k : ℕ) → reads (stepAt bs at (suc k)) ≡ true
@@ -131,17 +135,30 @@ module _ {S : Type 0} (act : Step → S → After Answer S) where
       go true f = refl
       go false f = absurd (let z : _≡_ {A = ℕ} 0 1 = cc in omega arith)
 
-module _ (r : Room) (bs : List ℕ) (at : ℕ) (m : Lent) where
-  has-board : (given : List Answer) → callOn r (runRecord bs at) m .answer ≡ ran given none → has bs at 0 ≡ true
-  unfolding callOn reply
+module _ (r : Room) (bs : List ℕ) (at : ℕ) (m : SheetLent) where
+  -- past the refusals that the call begins with
+  abbrev called : After Outcome SheetLent
+  called = reply (sheetStep r 0) r (not (sound (view 0 m))) (runRecord bs at) (held (view 0 m)) m
+
+  called-ran : (given : List Answer) → sheetCall r 0 (runRecord bs at) m .answer ≡ ran given none
+      → called .answer ≡ ran given none
+  unfolding sheetCall
+  called-ran given h = past-opening (λ o. o ≡ ran given none) never _ called m h
+    where
+      never : (n : ℕ) → answered (refused n) ≡ ran given none → ⊥
+      never n e = let z : _≡_ {A = ℕ} 0 1 = cc in omega arith
+
+  has-board : (given : List Answer) → sheetCall r 0 (runRecord bs at) m .answer ≡ ran given none → has bs at 0 ≡ true
+  unfolding reply
   has-board given h =
       both (has bs at 0) (λ set. set)
       (λ unset.
-      clash (ended-by (stepOn r) _ (isEnd bs at) (steps bs at) (recordEnd bs at) m given h)
+      clash
+      (ended-by (sheetStep r 0) _ (isEnd bs at) (steps bs at) (recordEnd bs at) m given (called-ran given h))
       (steps-on r (steps bs at) m (reads-all bs at unset)))
 
   -- the code's way and that of the definitions
-  pub same-end : (o : Outcome) (b : Board) → callOn r (runRecord bs at) m .answer ≡ o → placeAfter o ≡ none
+  pub same-end : (o : Outcome) (b : Board) → sheetCall r 0 (runRecord bs at) m .answer ≡ o → placeAfter o ≡ none
       → endedBy (replyOf (has bs at) o) b ≡ endedOf o b
   unfolding replyOf endedBy endedOf placeAfter answersOf byBit
   same-end (answered a) b h e = refl

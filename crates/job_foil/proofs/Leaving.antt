@@ -8,34 +8,36 @@ use mathlib.Core.Option.{Option, none, some}
 use lib.ListN.{length}
 use Rattle.foil_spec.specs.Limits.{maxBytes}
 use Rattle.foil_spec.specs.Ledger.{After}
-use Rattle.foil_spec.specs.Lent.{Lent, lent}
 use Rattle.foil_spec.specs.Job.{jobRoom, has}
 use Rattle.foil_spec.specs.Calls.{Reply as Outcome, answered, ran, atEnd, measured, placeAfter}
+use Rattle.foil_spec.specs.Sheet.{SheetLent, noBoard, view}
 use Rattle.foil_spec.specs.declared.Board.{Board}
-use Rattle.job.specs.Contract.{nextOf, replyOf, Replies}
+use Rattle.job.specs.Contract.{nextOf, replyOf}
 use Rattle.job.specs.declared.Next.{Next}
 use Rattle.job.specs.declared.Next.the-variants.{At, Nowhere}
 use Rattle.job.specs.declared.Replied.{Replied}
-use Rattle.job_report.specs.Report.{ranRecord}
+use Rattle.sheet_laws.specs.Jobs.{onlyFoil0}
+use Rattle.job_report.specs.Report.{ranRecord, RecordRan}
 use Rattle.job_report.proofs.Places.{Later, call-later}
-use Rattle.job_foil.specs.Left.{noBoard, endedOf, jobEnd, JobLeft}
+use Rattle.job_foil.specs.Left.{endedOf, jobEnd, boardLeft, JobLeft}
 use Rattle.job_foil.specs.Parts.{nextIn, endedBy}
 use Rattle.job_foil.specs.declared.Ended.{Ended}
 use Rattle.job_foil.proofs.Reading.{lastOf, from, last-one, one-more, whole}
 use Rattle.job_foil.proofs.Ending.{same-end}
 
--- after so many records the next is at a place of the file, on what m lends; the file was begun on what m₀ lends
-pub record ToCome (bs : List ℕ) (m₀ : Lent) (count at : ℕ) (m : Lent) : Type 0 where
+-- after so many records the next is at a place of the file, on foil 0 of m; the file was begun on that of m₀
+pub record ToCome (bs : List ℕ) (m₀ : SheetLent) (count at : ℕ) (m : SheetLent) : Type 0 where
   -- how many may come after the next
   pub more : ℕ
   pub counted : more + count ≡ maxBytes
   pub enough : length bs ≤ maxBytes → length bs ≤ at + more
   pub comes : (a : Outcome) → lastOf a (from bs (suc more) (some at) m) ≡ jobEnd bs m₀
 
-pub all-to-come : (bs t s : List ℕ) (b : Board) → b ≡ noBoard → ToCome bs (lent noBoard t s) 0 0 (lent b t s)
+pub all-to-come : (bs t s : List ℕ) (b : Board) → b ≡ noBoard
+    → ToCome bs (onlyFoil0 noBoard t s) 0 0 (onlyFoil0 b t s)
 all-to-come bs t s b e =
-    subst (λ (x : Board). ToCome bs (lent noBoard t s) 0 0 (lent x t s)) (sym e)
-    (record { more = maxBytes; counted = refl; enough = λ h. omega arith; comes = whole bs (lent noBoard t s) })
+    subst (λ (x : Board). ToCome bs (onlyFoil0 noBoard t s) 0 0 (onlyFoil0 x t s)) (sym e)
+    (record { more = maxBytes; counted = refl; enough = λ h. omega arith; comes = whole bs t s })
 
 next-is : (on : ℕ → Bool) (o : Outcome) → nextIn (replyOf on o) ≡ nextOf (placeAfter o)
 unfolding nextIn replyOf nextOf placeAfter
@@ -54,8 +56,8 @@ unfolding nextOf
 nowhere none e = refl
 nowhere (some n) e = absurd (let z : _≡_ {A = ℕ} 0 1 = cc in omega arith)
 
-module _ (bs : List ℕ) (m₀ : Lent) (count at : ℕ) (m : Lent) (now : ToCome bs m₀ count at m) where
-  abbrev done : After Outcome Lent
+module _ (bs : List ℕ) (m₀ : SheetLent) (count at : ℕ) (m : SheetLent) (now : ToCome bs m₀ count at m) where
+  abbrev done : After Outcome SheetLent
   done = ranRecord bs at m
 
   going : (p : ℕ) → placeAfter (done .answer) ≡ some p → ToCome bs m₀ (count + 1) p (done .state)
@@ -80,27 +82,33 @@ module _ (bs : List ℕ) (m₀ : Lent) (count at : ℕ) (m : Lent) (now : ToCome
   over e = sym (last-one bs (now .more) at m atEnd e) ∙ now .comes atEnd
 
   -- a record that was run, and its reply
-  module _ (out : List ℕ) (d : Replied) (t s out′ : List ℕ) (run : Replies (has bs at) done out d t s out′)
+  module _ (out : List ℕ) (d : Replied) (t s out′ : List ℕ) (run : RecordRan bs at m out d t s out′)
       (next : Next) (told : next ≡ nextIn (d .reply)) where
     place-is : next ≡ nextOf (placeAfter (done .answer))
     place-is = told ∙ ap nextIn (run .reply) ∙ next-is (has bs at) (done .answer)
 
-    state-is : done .state ≡ lent (d .board) t s
-    state-is = sym (λ i. record { board = run .board i; table = run .table i; strips = run .strips i })
-
-    pub goes-on : (p : ℕ) → next ≡ At p → ToCome bs m₀ (count + 1) p (lent (d .board) t s)
+    pub goes-on : (p : ℕ) → next ≡ At p → ToCome bs m₀ (count + 1) p (onlyFoil0 (d .board) t s)
     goes-on p e =
-        subst (ToCome bs m₀ (count + 1) p) state-is (going p (at-place _ p (sym place-is ∙ e)))
+        subst (ToCome bs m₀ (count + 1) p) (sym (run .state)) (going p (at-place _ p (sym place-is ∙ e)))
 
-    pub stops : next ≡ Nowhere → (x : Ended) → x ≡ endedBy (d .reply) (d .board) → JobLeft bs m₀ x t s
-    stops e x q =
-        let none-is = nowhere _ (sym place-is ∙ e) in
-        let end = over none-is in
-        record {
-          ended =
-              q ∙ (λ i. endedBy (run .reply i) (run .board i))
-              ∙ same-end jobRoom bs at m (done .answer) (done .state .board) refl none-is
-              ∙ ap (λ (y : After Outcome Lent). endedOf (y .answer) (y .state .board)) end;
-          table = run .table ∙ ap (λ (y : After Outcome Lent). y .state .table) end;
-          strips = run .strips ∙ ap (λ (y : After Outcome Lent). y .state .strips) end;
-        }
+    module _ (e : next ≡ Nowhere) where
+      no-place : placeAfter (done .answer) ≡ none
+      no-place = nowhere _ (sym place-is ∙ e)
+
+      left-is : onlyFoil0 (d .board) t s ≡ jobEnd bs m₀ .state
+      left-is = run .state ∙ ap (λ (y : After Outcome SheetLent). y .state) (over no-place)
+
+      board-is : d .board ≡ boardLeft bs m₀
+      unfolding view
+      board-is = ap (λ (y : SheetLent). view 0 y .board) left-is
+
+      pub stops : (x : Ended) → x ≡ endedBy (d .reply) (d .board) → JobLeft bs m₀ x t s
+      stops x q =
+          record {
+            ended =
+                q ∙ ap (λ y. endedBy y (d .board)) (run .reply)
+                ∙ same-end jobRoom bs at m (done .answer) (d .board) refl no-place
+                ∙ ap (λ (y : After Outcome SheetLent). endedOf (y .answer) (d .board)) (over no-place)
+                ∙ ap (endedOf (jobEnd bs m₀ .answer)) board-is;
+            state = ap (λ (c : Board). onlyFoil0 c t s) (sym board-is) ∙ left-is;
+          }

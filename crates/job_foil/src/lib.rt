@@ -1,10 +1,9 @@
-// The foil that a job leaves: the records of a job file are run in turn, without their lines, for
-// programs that ask something of the foil at its end.
+// The foil that a job leaves: the records of a job file are run in turn on foil 0 of a sheet else empty, without their
+// lines, for programs that ask something of the foil at its end.
 use foil::Answer;
 use foil_spec::Board;
 use foil_spec::CORNERS_SIZE;
 use foil_spec::STRIPS_SIZE;
-use foil_spec::TABLE_SIZE;
 use io::print_decimal;
 use io::write_all;
 use job::Answers;
@@ -14,30 +13,32 @@ use job::Reply;
 use job::Told;
 use job_report::no_board;
 use job_report::run_one;
+use sheet_rows::SHEET_SIZE;
 ghost use mathlib.Core.Path.{_≡_};
-ghost use Rattle.foil_spec.specs.Lent.{lent};
-ghost use Rattle.job_foil.specs.Left.{noBoard, JobLeft};
+ghost use Rattle.foil_spec.specs.Sheet.{noBoard};
+ghost use Rattle.sheet_laws.specs.Jobs.{onlyFoil0};
+ghost use Rattle.job_foil.specs.Left.{JobLeft};
 ghost use Rattle.job_foil.specs.Parts.{nextIn, numberTold, endedBy};
 
 // More records than any file has that is not too long, and one call more for its end.
 const RECORDS: usize = 60001;
 
-// How a job ended: at its end mark, with the board's record; or by the number of its board, or of the
-// file as a whole.
+// How a job ended: at its end mark, with foil 0's record; or by the number of its board, or of the file as a whole.
 pub enum Ended {
     AtMark(Board),
     ByBoard(u8),
     ByFile(u8),
 }
 
-// Runs a job file on a foil of its own, and leaves the foil's table and strips in the lists.
+// Runs a job file on foil 0 of a sheet on which no foil is begun, and leaves the sheet's table and the foil's strips in
+// the lists.
 pub fn run_job(
-    table: &mut [u16; TABLE_SIZE],
+    table: &mut [u16; SHEET_SIZE],
     strips: &mut [u16; STRIPS_SIZE],
     bytes: &[u8],
 ) -> Ended
-    ensures { λ r. ⌜ JobLeft (now (bytes .entry)) (lent noBoard (now (table .entry)) (now (strips .entry))) r
-        (now (table .exit)) (now (strips .exit)) ⌝ }
+    ensures { λ r. ⌜ JobLeft (now (bytes .entry)) (onlyFoil0 noBoard (now (table .entry)) (now (strips .entry)))
+        r (now (table .exit)) (now (strips .exit)) ⌝ }
 {
     let mut corners = [0u16; CORNERS_SIZE];
     let mut board = no_board();

@@ -1,4 +1,5 @@
 -- What is proved of a job's lines.
+pub mod Foil0
 pub mod Places
 pub mod Output
 pub mod Answering

@@ -1,5 +1,5 @@
--- The lines of all records of a job, one after the other, are the output of its file: after the first record the
--- lists hold what the ledger holds, and each record goes as on the ledger.
+-- The lines of all records of a job, one after the other, are the output of its file: after the first record foil 0
+-- holds what the ledger holds, and each record goes as on the ledger.
 use Prim.Native.Nat.{ℕ, zero, suc, _+_, _≤_, _<_}
 use native.Mathlib.Omega.{arith}
 use mathlib.Core.Path.{_≡_, refl, sym, ap, _∙_}
@@ -12,13 +12,18 @@ use Rattle.foil_spec.specs.Foil.{Layout, noFoil}
 use Rattle.foil_spec.specs.Ledger.{Step, short, After}
 use Rattle.foil_spec.specs.Lent.{Lent, store, held, layoutOk}
 use Rattle.foil_spec.specs.Job.{jobRoom, steps}
-use Rattle.foil_spec.specs.Calls.{runRecord, Reply, answered, ran, atEnd, measured, ledgerCall, placeAfter}
+use Rattle.foil_spec.specs.Calls.{runRecord, Reply, answered, ran, atEnd, measured, ledgerCall, callOn, placeAfter}
+use Rattle.foil_spec.specs.Sheet.{SheetLent, view}
 use Rattle.ledger_laws.proofs.Stored.{held-store}
 use Rattle.ledger_laws.proofs.Kept.{call-kept}
 use Rattle.ledger_laws.proofs.Steps.{shown, call-is}
 use Rattle.ledger_laws.proofs.Opening.{Over, Opening, over, begins, opening}
+use Rattle.ledger_laws.proofs.Replies.{shownBy}
 use Rattle.lines.specs.Output.{stepLines, replyLines, outputFrom, output}
+use Rattle.sheet_laws.specs.Jobs.{onlyFoil0}
+use Rattle.sheet_laws.proofs.Views.{Stands}
 use Rattle.job_report.specs.Report.{ranRecord, recordLines, onward, reportFrom, WritesOutput}
+use Rattle.job_report.proofs.Foil0.{few-stands, as-alone}
 use Rattle.job_report.proofs.Places.{ledger-later}
 
 -- ---- the lines of a record, and those from the next place on
@@ -63,73 +68,98 @@ fuel (suc k) (suc j) bs at l h e f =
     let p = ledger-later jobRoom bs at l n q in
     fuel k j bs n (t .state) (p .within) (omega (arith, p .after)) (omega (arith, p .after)))
 
--- ---- a record on lists that hold what the ledger holds
+-- ---- a record on a sheet whose foil 0 holds what the ledger holds
 
-one-record : (k : ℕ) (bs : List ℕ) (at : ℕ) (m : Lent) (x : After Reply Lent) → ranRecord bs at m ≡ x
-    → reportFrom (suc k) bs at m
-    ≡ replyLines (steps bs at) (x .answer) (held (x .state)) (λ (n : ℕ). reportFrom k bs n (x .state))
-unfolding reportFrom recordLines
-one-record k bs at m x e =
-    lines-part (steps bs at) (ranRecord bs at m .answer) (held (ranRecord bs at m .state)) _
-    ∙ ap (λ (y : After Reply Lent).
-    replyLines (steps bs at) (y .answer) (held (y .state)) (λ (n : ℕ). reportFrom k bs n (y .state))) e
+-- one that gives y on the foil alone
+module _ (k : ℕ) (bs : List ℕ) (at : ℕ) (x : SheetLent) (w : Stands jobRoom 0 x) (y : After Reply Lent)
+    (is : callOn jobRoom (runRecord bs at) (view 0 x) ≡ y) where
+  given : shownBy (view 0) (ranRecord bs at x) ≡ y
+  given = sym (as-alone bs at x w .is) ∙ is
+
+  -- the lines from the next place on
+  abbrev later : ℕ → List ℕ
+  later n = reportFrom k bs n (ranRecord bs at x .state)
+
+  one-record : reportFrom (suc k) bs at x ≡ replyLines (steps bs at) (y .answer) (held (y .state)) later
+  unfolding reportFrom recordLines shownBy
+  one-record =
+      lines-part (steps bs at) (ranRecord bs at x .answer) (held (view 0 (ranRecord bs at x .state))) later
+      ∙ ap (λ (z : After Reply Lent). replyLines (steps bs at) (z .answer) (held (z .state)) later) given
+
+  one-left : view 0 (ranRecord bs at x .state) ≡ y .state
+  unfolding shownBy
+  one-left = ap (λ (z : After Reply Lent). z .state) given
 
 -- one that goes as on the ledger
-module _ (k : ℕ) (bs : List ℕ) (at : ℕ) (l : Layout) (m n : Lent) where
+module _ (k : ℕ) (bs : List ℕ) (at : ℕ) (l : Layout) (m : Lent) (x : SheetLent) (w : Stands jobRoom 0 x) where
   abbrev line : After Reply Layout
   line = ledgerCall jobRoom (runRecord bs at) l
 
-  shown-record : ranRecord bs at n ≡ shown m line
-      → ((p : ℕ) → reportFrom k bs p (store (line .state) m) ≡ outputFrom k bs p (line .state))
-      → reportFrom (suc k) bs at n
+  shown-record : callOn jobRoom (runRecord bs at) (view 0 x) ≡ shown m line
+      → ((p : ℕ) → view 0 (ranRecord bs at x .state) ≡ store (line .state) m
+      → reportFrom k bs p (ranRecord bs at x .state) ≡ outputFrom k bs p (line .state))
+      → reportFrom (suc k) bs at x
       ≡ replyLines (steps bs at) (line .answer) (line .state) (λ (p : ℕ). outputFrom k bs p (line .state))
   unfolding shown
-  shown-record e later =
-      one-record k bs at n (shown m line) e
+  shown-record e next =
+      one-record k bs at x w (shown m line) e
       ∙ ap (λ (s : Layout). replyLines (steps bs at) (line .answer) s
-      (λ (p : ℕ). reportFrom k bs p (store (line .state) m))) (held-store (line .state) m)
-      ∙ lines-rest (steps bs at) (line .answer) (line .state) _ _ (λ p q. later p)
+      (λ (p : ℕ). reportFrom k bs p (ranRecord bs at x .state))) (held-store (line .state) m)
+      ∙ lines-rest (steps bs at) (line .answer) (line .state) _ _
+      (λ p q. next p (one-left k bs at x w (shown m line) e))
 
-stored : (k : ℕ) (bs : List ℕ) (at : ℕ) (l : Layout) (m : Lent) → layoutOk l ≡ true
-    → reportFrom k bs at (store l m) ≡ outputFrom k bs at l
+stored : (k : ℕ) (bs : List ℕ) (at : ℕ) (l : Layout) (m : Lent) (x : SheetLent) → Stands jobRoom 0 x
+    → view 0 x ≡ store l m → layoutOk l ≡ true → reportFrom k bs at x ≡ outputFrom k bs at l
 unfolding reportFrom outputFrom
-stored zero bs at l m g = refl
-stored (suc k) bs at l m g =
-    shown-record k bs at l m (store l m) (call-is jobRoom (runRecord bs at) l m g)
-    (λ p. stored k bs p (ledgerCall jobRoom (runRecord bs at) l .state) m (call-kept jobRoom (runRecord bs at) l g))
+stored zero bs at l m x w v g = refl
+stored (suc k) bs at l m x w v g =
+    shown-record k bs at l m x w
+    (ap (callOn jobRoom (runRecord bs at)) v ∙ call-is jobRoom (runRecord bs at) l m g)
+    (λ p u.
+    stored k bs p (ledgerCall jobRoom (runRecord bs at) l .state) m (ranRecord bs at x .state)
+    (as-alone bs at x w .stands) u (call-kept jobRoom (runRecord bs at) l g))
 
 -- ---- the first record
 
-long : short jobRoom ≡ false
+long-room : short jobRoom ≡ false
 unfolding short jobRoom
-long = refl
+long-room = refl
+
+module _ (bs : List ℕ) (x : SheetLent) (w : Stands jobRoom 0 x) where
+  abbrev m : Lent
+  m = view 0 x
+
+  abbrev first-line : After Reply Layout
+  first-line = ledgerCall jobRoom (runRecord bs 0) noFoil
+
+  -- the lines from the next place on, as they are told and as they are wanted
+  abbrev told : ℕ → List ℕ
+  told n = reportFrom maxBytes bs n (ranRecord bs 0 x .state)
+
+  abbrev wanted : ℕ → List ℕ
+  wanted n = outputFrom (length bs) bs n (first-line .state)
+
+  from-first : Opening jobRoom bs noFoil m → reportFrom (suc maxBytes) bs 0 x ≡ outputFrom (suc (length bs)) bs 0 noFoil
+  unfolding outputFrom
+  from-first (over a e f o) =
+      one-record maxBytes bs 0 x w (callOn jobRoom (runRecord bs 0) m) refl
+      ∙ ap
+      (λ (y : Reply). replyLines (steps bs 0) y (held (callOn jobRoom (runRecord bs 0) m .state)) told) e
+      ∙ lines-over (steps bs 0) a o (held (callOn jobRoom (runRecord bs 0) m .state)) (first-line .state) told wanted
+      ∙ ap (λ (y : Reply). replyLines (steps bs 0) y (first-line .state) wanted) (sym f)
+  from-first (begins b) =
+      shown-record maxBytes bs 0 noFoil m x w (b .is)
+      (λ p u.
+      stored maxBytes bs p (first-line .state) m (ranRecord bs 0 x .state) (as-alone bs 0 x w .stands) u (b .kept))
+      ∙ lines-rest (steps bs 0) (first-line .answer) (first-line .state)
+      (λ (n : ℕ). outputFrom maxBytes bs n (first-line .state)) wanted
+      (λ n q.
+      let p = ledger-later jobRoom bs 0 noFoil n q in
+      fuel maxBytes (length bs) bs n (first-line .state) (p .within)
+      (omega (arith, p .after, p .few)) (omega (arith, p .after)))
 
 pub writes-output : WritesOutput
-unfolding output outputFrom
-writes-output bs m = go (opening jobRoom bs noFoil m long)
-  where
-    line : After Reply Layout
-    line = ledgerCall jobRoom (runRecord bs 0) noFoil
-
-    -- the lines from the next place on, as they are told and as they are wanted
-    told : ℕ → List ℕ
-    told n = reportFrom maxBytes bs n (ranRecord bs 0 m .state)
-
-    wanted : ℕ → List ℕ
-    wanted n = outputFrom (length bs) bs n (line .state)
-
-    go : Opening jobRoom bs noFoil m → reportFrom (suc maxBytes) bs 0 m ≡ outputFrom (suc (length bs)) bs 0 noFoil
-    go (over a e f o) =
-        one-record maxBytes bs 0 m (ranRecord bs 0 m) refl
-        ∙ ap (λ (x : Reply). replyLines (steps bs 0) x (held (ranRecord bs 0 m .state)) told) e
-        ∙ lines-over (steps bs 0) a o (held (ranRecord bs 0 m .state)) (line .state) told wanted
-        ∙ ap (λ (x : Reply). replyLines (steps bs 0) x (line .state) wanted) (sym f)
-    go (begins b) =
-        shown-record maxBytes bs 0 noFoil m m (b .is)
-        (λ p. stored maxBytes bs p (line .state) m (b .kept))
-        ∙ lines-rest (steps bs 0) (line .answer) (line .state)
-        (λ (n : ℕ). outputFrom maxBytes bs n (line .state)) wanted
-        (λ n q.
-        let p = ledger-later jobRoom bs 0 noFoil n q in
-        fuel maxBytes (length bs) bs n (line .state) (p .within)
-        (omega (arith, p .after, p .few)) (omega (arith, p .after)))
+unfolding output
+writes-output bs b t s few long =
+    let x : SheetLent = onlyFoil0 b t s in
+    from-first bs x (few-stands b t s few long) (opening jobRoom bs noFoil (view 0 x) long-room)

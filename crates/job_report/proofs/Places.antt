@@ -4,18 +4,19 @@ use native.Mathlib.Omega.{arith}
 use mathlib.Core.Path.{_≡_, refl, subst}
 use mathlib.Core.Bool.{Bool, true, false, cond, not, _&&_}
 use mathlib.Core.List.{List}
-use mathlib.Core.Option.{Option, none, some}
+use mathlib.Core.Option.{Option, none, some, Option·none-ne-some}
 use lib.Dec.{ltb}
 use lib.ListN.{length}
 use borrow.Author.Tests.{ltb-false}
 use Rattle.foil_spec.specs.Lists.{any}
 use Rattle.foil_spec.specs.Limits.{maxBytes}
 use Rattle.foil_spec.specs.Foil.{Layout}
-use Rattle.foil_spec.specs.Ledger.{Step, Answer, first, Room, After, afterLent, ledgerStep}
-use Rattle.foil_spec.specs.Lent.{Lent, sound, stepOn}
+use Rattle.foil_spec.specs.Ledger.{Step, Answer, refused, first, Room, After, afterLent, ledgerStep}
+use Rattle.foil_spec.specs.Lent.{held, sound}
 use Rattle.foil_spec.specs.Job.{mapBits, fieldCount, has, fieldsAt, recordEnd, steps, isEnd, recordChecks}
-use Rattle.foil_spec.specs.Calls.{runRecord, endsJob, actAll, actRecord, tooLarge, wholeRefusals, reply}
-use Rattle.foil_spec.specs.Calls.{ledgerCall, callOn, placeAfter}
+use Rattle.foil_spec.specs.Calls.{runRecord, Reply, answered, endsJob, actAll, actRecord, tooLarge, wholeRefusals}
+use Rattle.foil_spec.specs.Calls.{reply, ledgerCall, placeAfter}
+use Rattle.foil_spec.specs.Sheet.{SheetLent, view, sheetStep, unless, sheetCall}
 use Rattle.ledger_laws.proofs.Refusals.{none-applies}
 use Rattle.ledger_laws.proofs.Lending.{board-first, own-checks}
 
@@ -73,23 +74,44 @@ module _ {S : Type 0} (act : Step → S → After Answer S) (r : Room) (broken :
         few = ltb-false maxBytes (length bs) large;
       })
 
--- on the ledger, and on what is lent
+-- on the ledger
 pub ledger-later : (r : Room) (bs : List ℕ) (at : ℕ) (l : Layout) (n : ℕ)
     → placeAfter (ledgerCall r (runRecord bs at) l .answer) ≡ some n → Later bs at n
 unfolding ledgerCall reply
 ledger-later r bs at l n h =
     later (ledgerStep r) r false bs at l n (goes (ledgerStep r) r false bs at l n h)
 
-module _ (r : Room) (bs : List ℕ) (m : Lent) where
-  pub call-later : (at n : ℕ) → placeAfter (callOn r (runRecord bs at) m .answer) ≡ some n → Later bs at n
-  unfolding callOn reply
-  call-later at n h =
-      later (stepOn r) r (not (sound m)) bs at m n (goes (stepOn r) r (not (sound m)) bs at m n h)
+-- what holds of a reply on a sheet, and of no refusal, holds of the reply past the refusals that the call begins with
+pub past-opening : (P : Reply → Type 0) → ((n : ℕ) → P (answered (refused n)) → ⊥) → (o : Option ℕ)
+    (a : After Reply SheetLent) (x : SheetLent) → P (unless o a x .answer) → P (a .answer)
+unfolding unless
+past-opening P never (some n) a x h = absurd (never n h)
+past-opening P never none a x h = h
+
+-- on foil 0 of a sheet
+module _ (r : Room) (bs : List ℕ) (x : SheetLent) where
+  abbrev broken : Bool
+  broken = not (sound (view 0 x))
+
+  no-place : (n k : ℕ) → placeAfter (answered (refused k)) ≡ some n → ⊥
+  unfolding placeAfter
+  no-place n k h = Option·none-ne-some n h
+
+  sheet-goes : (at n : ℕ) → placeAfter (sheetCall r 0 (runRecord bs at) x .answer) ≡ some n
+      → Goes (sheetStep r 0) r broken bs at x n
+  unfolding sheetCall reply
+  sheet-goes at n h =
+      goes (sheetStep r 0) r broken bs at x n
+      (past-opening (λ a. placeAfter a ≡ some n) (no-place n) _
+      (reply (sheetStep r 0) r broken (runRecord bs at) (held (view 0 x)) x) x h)
+
+  pub call-later : (at n : ℕ) → placeAfter (sheetCall r 0 (runRecord bs at) x .answer) ≡ some n → Later bs at n
+  call-later at n h = later (sheetStep r 0) r broken bs at x n (sheet-goes at n h)
 
   -- the first record has a board
-  pub first-later : (n : ℕ) → placeAfter (callOn r (runRecord bs 0) m .answer) ≡ some n → 6 < n
-  unfolding callOn reply recordEnd
+  pub first-later : (n : ℕ) → placeAfter (sheetCall r 0 (runRecord bs 0) x .answer) ≡ some n → 6 < n
+  unfolding recordEnd
   first-later n h =
-      let g = goes (stepOn r) r (not (sound m)) bs 0 m n h in
-      let set = board-first bs (own-checks r (not (sound m)) bs 0 (g .unrefused)) in
+      let g = sheet-goes 0 n h in
+      let set = board-first bs (own-checks r broken bs 0 (g .unrefused)) in
       omega (arith, fields-board bs 0 5 set, g .place)

@@ -1,20 +1,23 @@
 -- A record that was run and reported, reply by reply.
 use Prim.Native.Nat.{ℕ, suc, _+_, _*_, _≤_}
 use native.Mathlib.Omega.{arith}
-use mathlib.Core.Path.{_≡_, refl, sym, ap, ap₂, _∙_, subst}
+use mathlib.Core.Path.{_≡_, refl, sym, ap, _∙_, subst}
 use mathlib.Core.Bool.{true}
 use mathlib.Core.List.{List, [], _∷_, append-nil}
 use mathlib.Core.Option.{Option, none, some}
 use lib.ListN.{length, drop}
 use Rattle.foil_spec.specs.Lists.{each}
-use Rattle.foil_spec.specs.Limits.{tableSize, maxStrips, stripsSize, cornerPlaces}
-use Rattle.foil_spec.specs.Ledger.{Answer, Room, stripsOf}
-use Rattle.foil_spec.specs.Lent.{Lent, held, listedStrips, roomIn, roomOf}
+use Rattle.foil_spec.specs.Limits.{maxStrips, cornerPlaces}
+use Rattle.foil_spec.specs.Ledger.{Answer, refused, After, stripsOf}
+use Rattle.foil_spec.specs.Lent.{Lent, held, sound, listedStrips}
 use Rattle.foil_spec.specs.Job.{jobRoom, stepBits, has, steps}
 use Rattle.foil_spec.specs.Calls.{runRecord, Reply as Outcome, answered, ran, atEnd, callOn, answersIn, outputAll}
 use Rattle.foil_spec.specs.Calls.{outputBy, placeAfter}
+use Rattle.foil_spec.specs.Sheet.{SheetLent, view}
+use Rattle.foil_spec.specs.declared.Board.{Board}
+use Rattle.ledger_laws.proofs.Replies.{shownBy}
 use Rattle.ledger_laws.proofs.Sound.{Sound, of-sound, strips-listed}
-use Rattle.job.specs.Contract.{setBelow, nextOf, Replies, RecordDone}
+use Rattle.job.specs.Contract.{setBelow, nextOf, replyOf}
 use Rattle.job.specs.Parts.{ranTo}
 use Rattle.job.specs.declared.Answers.{Answers}
 use Rattle.job.specs.declared.Next.{Next}
@@ -25,43 +28,40 @@ use Rattle.job.proofs.Replies.{was-refused, HasRun, has-run, Stepped, stepped, 
 use Rattle.lines.specs.Lines.{fileLine, stripLine}
 use Rattle.lines.specs.Output.{stepLines, replyLines}
 use Rattle.putting.specs.Put.{Put}
-use Rattle.job_report.specs.Report.{ranRecord, recordLines, RecordReported}
+use Rattle.sheet_laws.specs.Jobs.{onlyFoil0}
+use Rattle.job_report.specs.Report.{ranRecord, RecordRan, recordLines, RecordReported}
 use Rattle.job_report.specs.Told.{answerLines, FromBits}
 use Rattle.job_report.specs.declared.Reported.{Reported}
 use Rattle.job_report.proofs.Answering.{answers-lines, answers-from, strips-few}
+use Rattle.job_report.proofs.Foil0.{unrefused-alone}
 
--- the lists of a job have its room
-pub in-job : (bs : List ℕ) (at : ℕ) (m : Lent) (out : List ℕ) (d : Replied) (t s out′ : List ℕ)
-    → RecordDone bs at m out d t s out′ → length (m .table) ≡ tableSize → length (m .strips) ≡ stripsSize
-    → length out ≡ 2 * cornerPlaces → Replies (has bs at) (ranRecord bs at m) out d t s out′
-in-job bs at m out d t s out′ done e f g =
-    subst (λ (r : Room). Replies (has bs at) (callOn r (runRecord bs at) m) out d t s out′) room done
-  where
-    room : roomOf m (length out) ≡ jobRoom
-    room = unfold roomIn jobRoom in rw (e, f, g) refl
+module _ (bs : List ℕ) (at : ℕ) (b : Board) (t₀ s₀ out : List ℕ) (d : Replied) (t s out′ : List ℕ)
+    (done : RecordRan bs at (onlyFoil0 b t₀ s₀) out d t s out′) where
+  abbrev m : SheetLent
+  m = onlyFoil0 b t₀ s₀
 
-module _ (bs : List ℕ) (at : ℕ) (m : Lent) (out : List ℕ) (d : Replied) (t s out′ : List ℕ)
-    (done : Replies (has bs at) (ranRecord bs at m) out d t s out′) where
   abbrev reply : Outcome
   reply = ranRecord bs at m .answer
 
+  -- the foil after it
+  abbrev after : Lent
+  after = view 0 (ranRecord bs at m .state)
+
   -- the lines of a record by its reply
   lines-by : (o : Outcome) → reply ≡ o
-      → recordLines bs at m ≡ replyLines (steps bs at) o (held (ranRecord bs at m .state)) (λ (n : ℕ). [])
+      → recordLines bs at m ≡ replyLines (steps bs at) o (held after) (λ (n : ℕ). [])
   unfolding recordLines
-  lines-by o e = ap (λ (x : Outcome). replyLines (steps bs at) x (held (ranRecord bs at m .state)) (λ (n : ℕ). [])) e
+  lines-by o e = ap (λ (x : Outcome). replyLines (steps bs at) x (held after) (λ (n : ℕ). [])) e
 
   -- the bytes are the record's lines, and the next place is the reply's
   reported : (old new : List ℕ) (r : Reported) (o : Outcome) (lines : List ℕ) → reply ≡ o
       → recordLines bs at m ≡ lines → Put old 0 lines new (r .size) → r .next ≡ nextOf (placeAfter o)
       → r .board ≡ d .board → RecordReported bs at m out old new r t s out′
-  reported old new r o lines e f p n b =
+  reported old new r o lines e f p n c =
       record {
         lines = subst (λ (x : List ℕ). Put old 0 x new (r .size)) (sym f) p;
         next = n ∙ ap (λ (x : Outcome). nextOf (placeAfter x)) (sym e);
-        board = b ∙ done .board;
-        table = done .table;
-        strips = done .strips;
+        state = ap (λ (x : Board). onlyFoil0 x t s) c ∙ done .state;
         output = done .output;
       }
 
@@ -86,10 +86,24 @@ module _ (bs : List ℕ) (at : ℕ) (m : Lent) (out : List ℕ) (d : Replied) (t
     abbrev given : List Answer
     given = run .given
 
-    steps-run : Stepped jobRoom bs at m given
-    steps-run = stepped jobRoom bs at m given (run .place) (run .is)
+    -- so they were on the foil alone
+    abbrev v : Lent
+    v = view 0 m
 
-    given-is : given ≡ ranTo jobRoom bs at stepBits m .answer
+    alone-ran : callOn jobRoom (runRecord bs at) v .answer ≡ ran given (run .place)
+    unfolding shownBy
+    alone-ran =
+        ap (λ (x : After Outcome Lent). x .answer)
+        (unrefused-alone bs at b t₀ s₀ (done .places) (λ x. x ≡ ran given (run .place)) never (run .is))
+        ∙ run .is
+      where
+        never : (n : ℕ) → answered (refused n) ≡ ran given (run .place) → ⊥
+        never n h = let z : _≡_ {A = ℕ} 0 1 = cc in omega arith
+
+    steps-run : Stepped jobRoom bs at v given
+    steps-run = stepped jobRoom bs at v given (run .place) alone-ran
+
+    given-is : given ≡ ranTo jobRoom bs at stepBits v .answer
     unfolding steps
     given-is = steps-run .answers
 
@@ -100,11 +114,11 @@ module _ (bs : List ℕ) (at : ℕ) (m : Lent) (out : List ℕ) (d : Replied) (t
     tracked : (k j : ℕ) → k + suc j ≡ stepBits → (x : Answer) (rest : List Answer) → has bs at k ≡ true
         → drop (setBelow (has bs at) k) given ≡ x ∷ rest → Tracked x (jobRoom .output) out′
     tracked k j q x rest set h =
-        let same : ranTo jobRoom bs at (k + suc j) m .answer ≡ given =
-        ap (λ (n : ℕ). ranTo jobRoom bs at n m .answer) q ∙ sym given-is in
+        let same : ranTo jobRoom bs at (k + suc j) v .answer ≡ given =
+        ap (λ (n : ℕ). ranTo jobRoom bs at n v .answer) q ∙ sym given-is in
         subst (Tracked x (jobRoom .output))
         (ap (λ (l : List Answer). outputAll l out) same ∙ sym corners-are)
-        (bit-tracked jobRoom bs at m out k j x rest set (ap (drop (setBelow (has bs at) k)) same ∙ h))
+        (bit-tracked jobRoom bs at v out k j x rest set (ap (drop (setBelow (has bs at) k)) same ∙ h))
 
     room-is : jobRoom .output ≡ 2 * cornerPlaces
     unfolding jobRoom
@@ -126,38 +140,56 @@ module _ (bs : List ℕ) (at : ℕ) (m : Lent) (out : List ℕ) (d : Replied) (t
         ∙ answers-lines bs at out′ (jobRoom .output) given tracked)) p (run .next) refl
       where
         by-place : (n : Option ℕ)
-            → replyLines (steps bs at) (ran given n) (held (ranRecord bs at m .state)) (λ (k : ℕ). [])
-            ≡ stepLines (steps bs at) given
+            → replyLines (steps bs at) (ran given n) (held after) (λ (k : ℕ). []) ≡ stepLines (steps bs at) given
         by-place none = refl
         by-place (some n) = append-nil (stepLines (steps bs at) given)
 
   -- ---- the end mark
 
   module _ (e : d .reply ≡ AtEnd) where
-    end : Ended jobRoom bs at m
-    end = ended jobRoom bs at m (has bs at) (sym e ∙ done .reply)
+    alone-is : callOn jobRoom (runRecord bs at) (view 0 m) ≡ shownBy (view 0) (ranRecord bs at m)
+    unfolding replyOf
+    alone-is =
+        unrefused-alone bs at b t₀ s₀ (done .places) (λ x. AtEnd ≡ replyOf (has bs at) x) never (sym e ∙ done .reply)
+      where
+        never : (n : ℕ) → AtEnd ≡ replyOf (has bs at) (answered (refused n)) → ⊥
+        never n h = let z : _≡_ {A = ℕ} 0 1 = cc in omega arith
 
-    fine : Sound m
-    fine = of-sound m (end .fine)
+    end : Ended jobRoom bs at (view 0 m)
+    unfolding shownBy
+    end =
+        ended jobRoom bs at (view 0 m) (has bs at)
+        (sym e ∙ done .reply ∙ ap (λ (x : After Outcome Lent). replyOf (has bs at) (x .answer)) (sym alone-is))
 
-    board-is : d .board ≡ m .board
-    board-is = done .board ∙ ap (λ (n : Lent). n .board) (end .state)
+    at-end : reply ≡ atEnd
+    unfolding shownBy
+    at-end = ap (λ (x : After Outcome Lent). x .answer) (sym alone-is) ∙ end .answer
 
-    strips-are : s ≡ m .strips
-    strips-are = done .strips ∙ ap (λ (n : Lent). n .strips) (end .state)
+    -- the foil keeps the rules, and is the one that was left
+    abbrev left : Lent
+    left = view 0 (onlyFoil0 (d .board) t s)
+
+    left-is : left ≡ after
+    left-is = ap (view 0) (done .state)
+
+    fine : Sound left
+    unfolding shownBy
+    fine =
+        of-sound left
+        (ap sound (left-is ∙ ap (λ (x : After Outcome Lent). x .state) (sym alone-is) ∙ end .state) ∙ end .fine)
 
     pub count-few : d .board .strips ≤ maxStrips
-    count-few = omega (arith, ap (λ b. b .strips) board-is, strips-few m fine)
+    unfolding view
+    count-few = strips-few left fine
 
     pub strips-reported : (old new : List ℕ) (size : ℕ)
         → Put old 0 (each stripLine (listedStrips s (d .board .strips))) new size
         → (r : Reported) → r ≡ record { size = size; next = Nowhere; board = d .board }
         → RecordReported bs at m out old new r t s out′
-    unfolding replyLines placeAfter nextOf
+    unfolding replyLines placeAfter nextOf view
     strips-reported old new size p r q =
         subst (λ (x : Reported). RecordReported bs at m out old new x t s out′) (sym q)
-        (reported old new _ atEnd (each stripLine (listedStrips s (d .board .strips))) (end .answer)
-        (lines-by atEnd (end .answer) ∙ ap (each stripLine)
-        (ap (λ (n : Lent). stripsOf (held n)) (end .state)
-        ∙ sym (ap₂ (λ (l : List ℕ) (n : ℕ). listedStrips l n) strips-are (ap (λ b. b .strips) board-is)
-        ∙ strips-listed m fine))) p refl refl)
+        (reported old new _ atEnd (each stripLine (listedStrips s (d .board .strips))) at-end
+        (lines-by atEnd at-end
+        ∙ ap (each stripLine) (ap (λ (x : Lent). stripsOf (held x)) (sym left-is) ∙ sym (strips-listed left fine)))
+        p refl refl)

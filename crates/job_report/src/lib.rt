@@ -1,5 +1,6 @@
-// A job file, record by record: the record at a place is run, and its lines are written to the front of a
-// lent list of bytes. Whoever writes out what each call gave, from place 0 on, writes the job's output.
+// A job file, record by record: the record at a place is run on foil 0 of a sheet else empty, and its lines are written
+// to the front of a lent list of bytes. Whoever writes out what each call gave, from place 0 on, writes the job's
+// output.
 mod answers;
 mod strip_lines;
 
@@ -7,36 +8,39 @@ use answers::put_answers;
 use foil_spec::Board;
 use foil_spec::CORNERS_SIZE;
 use foil_spec::STRIPS_SIZE;
-use foil_spec::TABLE_SIZE;
 use job::Next;
 use job::Replied;
 use job::Reply;
-use job::run_record;
 use lines::file_line;
+use sheet::run_record;
+use sheet_rows::SHEET_SIZE;
+use sheet_rows::Sheet;
+use sheet_rows::board_at;
 use strip_lines::put_strips;
 ghost use mathlib.Core.Path.{_≡_};
+ghost use mathlib.Core.List.{_∷_};
 ghost use Prim.Native.Nat.{_≤_};
-ghost use Rattle.foil_spec.specs.Lent.{lent};
-ghost use Rattle.foil_spec.specs.Job.{has};
-ghost use Rattle.job.specs.Contract.{Replies};
+ghost use lib.ListN.{replicate};
+ghost use Rattle.foil_spec.specs.Sheet.{noBoard};
 ghost use Rattle.job.specs.declared.Next.the-variants.{Nowhere};
-ghost use Rattle.job_report.specs.Report.{ranRecord, RecordReported};
+ghost use Rattle.sheet_laws.specs.Jobs.{onlyFoil0};
+ghost use Rattle.job_report.specs.Report.{RecordRan, RecordReported};
 
 // How many bytes the lines of a record may take.
 pub const OUT_SIZE: usize = 131072;
 
-// How many bytes a record's lines take, the place of the next record, and the board's record after it.
+// How many bytes a record's lines take, the place of the next record, and foil 0's record after it.
 pub struct Reported {
     pub size: usize,
     pub next: Next,
     pub board: Board,
 }
 
-// Runs the record that begins at place `at` of the job file's bytes, on lists as long as document 01 asks
-// and with 8,192 corner places, and writes its lines to the front of `out`.
+// Runs the record that begins at place `at` of the job file's bytes on foil 0 of a sheet else empty, on lists as long
+// as documents 01 and 02 ask and with 8,192 corner places, and writes its lines to the front of `out`.
 pub fn report_record(
     out: &mut [u8; OUT_SIZE],
-    table: &mut [u16; TABLE_SIZE],
+    table: &mut [u16; SHEET_SIZE],
     strips: &mut [u16; STRIPS_SIZE],
     corners: &mut [u16; CORNERS_SIZE],
     board: Board,
@@ -44,7 +48,7 @@ pub fn report_record(
     at: usize,
 ) -> Reported
     ensures { λ r. ⌜ RecordReported (now (bytes .entry)) at
-        (lent board (now (table .entry)) (now (strips .entry))) (now (corners .entry))
+        (onlyFoil0 board (now (table .entry)) (now (strips .entry))) (now (corners .entry))
         (now (out .entry)) (now (out .exit)) r
         (now (table .exit)) (now (strips .exit)) (now (corners .exit)) ⌝ }
     ensures { λ r. ⌜ r .size ≤ 131072 ⌝ }
@@ -66,21 +70,36 @@ pub fn report_record(
     }
 }
 
-// Runs the record that begins at place `at`, on lists as long as document 01 asks and with 8,192 corner
-// places.
+// Runs the record that begins at place `at` so, without its lines.
 pub fn run_one(
-    table: &mut [u16; TABLE_SIZE],
+    table: &mut [u16; SHEET_SIZE],
     strips: &mut [u16; STRIPS_SIZE],
     corners: &mut [u16; CORNERS_SIZE],
     board: Board,
     bytes: &[u8],
     at: usize,
 ) -> Replied
-    ensures { λ r. ⌜ Replies (has (now (bytes .entry)) at)
-        (ranRecord (now (bytes .entry)) at (lent board (now (table .entry)) (now (strips .entry))))
-        (now (corners .entry)) r (now (table .exit)) (now (strips .exit)) (now (corners .exit)) ⌝ }
+    ensures { λ r. ⌜ RecordRan (now (bytes .entry)) at
+        (onlyFoil0 board (now (table .entry)) (now (strips .entry))) (now (corners .entry))
+        r (now (table .exit)) (now (strips .exit)) (now (corners .exit)) ⌝ }
 {
-    run_record(table, strips, corners, board, bytes, at)
+    let done = run_record(table, strips, corners, only_foil_0(board), 0, bytes, at);
+    let reply = done.reply;
+    let sheet = done.sheet;
+    Replied {
+        reply,
+        board: board_at(sheet, 0),
+    }
+}
+
+// The records of a sheet on which no foil is begun but foil 0, whose record is given.
+pub fn only_foil_0(board: Board) -> Sheet
+    ensures { λ r. ⌜ r .boards ≡ board ∷ replicate 7 noBoard ⌝ }
+{
+    let none = no_board();
+    let mut boards = [none; 8];
+    boards[0] = board;
+    Sheet { boards }
 }
 
 // A record after which the job has ended.
@@ -94,9 +113,9 @@ fn ended(size: usize, board: Board) -> Reported
     }
 }
 
-// The board's record before a foil is begun.
+// The record of a foil before it is begun.
 pub fn no_board() -> Board
-    ensures { λ r. ⌜ r ≡ record { width = 0; height = 0; half = 0; gap = 0; entries = 0; strips = 0 } ⌝ }
+    ensures { λ r. ⌜ r ≡ noBoard ⌝ }
 {
     Board {
         width: 0,

@@ -5,10 +5,10 @@ use Rattle.foil_ohms.proofs.write_nets.Statement.{statement}
 use Rattle.foil_ohms.proofs.write_nets.Tie as tie
 
 abbrev Inv-loop : tie.InvT-loop
-Inv-loop table strips board ink net₀ net = net ≤ 999
+Inv-loop table strips sheet ink net₀ net = net ≤ 999
 
 abbrev μ-loop : tie.MeasureT-loop
-μ-loop table strips board ink net₀ net = 999 - net
+μ-loop table strips sheet ink net₀ net = 999 - net
 
 loop-holds : tie.Need-loop-holds Inv-loop μ-loop
 loop-holds c = search needs

@@ -2,15 +2,15 @@
 use Prim.Native.Nat.{_≤_, _-_}
 use native.Mathlib.Omega.{arith}
 use borrow.Author.Needs.{needs}
-use Rattle.foil_spec.specs.Lent.{lent}
-use Rattle.job_foil.specs.Left.{noBoard}
+use Rattle.foil_spec.specs.Sheet.{noBoard}
+use Rattle.sheet_laws.specs.Jobs.{onlyFoil0}
 use Rattle.job_foil.proofs.Leaving.{ToCome, all-to-come, goes-on, stops}
 use Rattle.job_foil.proofs.run_job.Statement.{statement}
 use Rattle.job_foil.proofs.run_job.Tie as tie
 
 abbrev Inv-loop : tie.InvT-loop
 Inv-loop table₀ strips₀ bytes _ _ _ _ table strips _ board at counter =
-    (counter ≤ 60001) × ToCome bytes (lent noBoard table₀ strips₀) counter at (lent board table strips)
+    (counter ≤ 60001) × ToCome bytes (onlyFoil0 noBoard table₀ strips₀) counter at (onlyFoil0 board table strips)
 
 abbrev μ-loop : tie.MeasureT-loop
 μ-loop _ _ _ _ _ _ _ _ _ _ _ _ counter = 60001 - counter

@@ -44,7 +44,7 @@ enum-known-reply-2 c = search needs
 put-answers-requires : tie.Need-put-answers-requires
 put-answers-requires c κs = (
   omega arith,
-  from-bits _ _ _ _ _ _ _ _ (afterLeft c .before .run-one .ensures) _ _
+  from-bits _ _ _ _ _ _ _ _ _ _ (afterLeft c .before .run-one .ensures) _ _
       (afterReply2 c .reply2 .given .1) (omega arith),
 )
 
@@ -53,7 +53,7 @@ enum-told c = search needs
 
 put-strips-requires : tie.Need-put-strips-requires
 put-strips-requires c κs =
-    let few = count-few _ _ _ _ _ _ _ _ (afterRunOne c .run-one .ensures) (afterEnumTold c .enum-told .given .1) in
+    let few = count-few _ _ _ _ _ _ _ _ _ _ (afterRunOne c .run-one .ensures) (afterEnumTold c .enum-told .given .1) in
     (few, omega arith, omega (arith, few))
 
 ended-requires-2 : tie.Need-ended-requires-2
@@ -61,19 +61,19 @@ ended-requires-2 c κs = search needs
 
 returns : tie.Need-returns
 returns c =
-    let all = file-reported _ _ _ _ _ _ _ _ (atMatchKeys1 c .before .before .run-one .ensures) _
+    let all = file-reported _ _ _ _ _ _ _ _ _ _ (atMatchKeys1 c .before .before .run-one .ensures) _
     (afterReply c .reply .given .1) _ _ _ (c .before .file-line .ensures .0) _ (c .ended .ensures) in
     (all, omega (arith, all .lines .fits, all .lines .next))
 
 returns-2 : tie.Need-returns-2
 returns-2 c =
-    let all = steps-reported _ _ _ _ _ _ _ _ (afterLeft (c .before) .before .run-one .ensures) _ _
+    let all = steps-reported _ _ _ _ _ _ _ _ _ _ (afterLeft (c .before) .before .run-one .ensures) _ _
     (afterReply2 (c .before) .reply2 .given .1) _ _ _ (c .put-answers .ensures) in
     (all, omega (arith, all .lines .fits, all .lines .next))
 
 returns-3 : tie.Need-returns-3
 returns-3 c =
-    let all = strips-reported _ _ _ _ _ _ _ _ (afterRunOne (c .before .before) .run-one .ensures)
+    let all = strips-reported _ _ _ _ _ _ _ _ _ _ (afterRunOne (c .before .before) .run-one .ensures)
     (afterEnumTold (c .before .before) .enum-told .given .1) _ _ _ (c .before .put-strips .ensures .0) _
     (c .ended2 .ensures) in
     (all, omega (arith, ap (λ r. r .size) (c .ended2 .ensures), c .before .put-strips .ensures .1))

@@ -1,15 +1,26 @@
--- Lists of these lengths have the room of a job.
+-- The record is run on foil 0 of a sheet else empty, on lists that have the room of a job.
 use native.Mathlib.Omega.{arith}
+use mathlib.Core.Path.{refl}
 use borrow.Author.Needs.{needs}
-use Rattle.job_report.proofs.Reporting.{in-job}
+use Rattle.job_report.proofs.Foil0.{record-ran}
 use Rattle.job_report.proofs.run_one.Statement.{statement}
 use Rattle.job_report.proofs.run_one.Tie as tie
+
+only-foil-0-requires : tie.Need-only-foil-0-requires
+only-foil-0-requires c κs = search needs
 
 run-record-requires : tie.Need-run-record-requires
 run-record-requires c κs = search needs
 
+board-at-requires : tie.Need-board-at-requires
+board-at-requires c κs = omega arith
+
 returns : tie.Need-returns
-returns c = in-job _ _ _ _ _ _ _ _ (c .run-record .ensures) (omega arith) (omega arith) (omega arith)
+returns c =
+    let ran = c .before .before in
+    record-ran _ _ _ _ _ _ _ _ _ _ _ (ran .before .only-foil-0 .ensures) (ran .run-record .ensures) (omega arith)
+    (omega arith) (omega arith) _ refl (c .board-at .ensures)
 
 pub run-one-spec : {M : Type 1} → statement M
-run-one-spec = tie.close (tie.spec run-record-requires returns)
+run-one-spec =
+    tie.close (tie.spec only-foil-0-requires run-record-requires board-at-requires returns)

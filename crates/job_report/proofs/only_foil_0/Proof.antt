@@ -1,0 +1,17 @@
+-- Foil 0 has its record, and the other seven have that of a foil which is not begun.
+use borrow.Author.Needs.{needs}
+use Rattle.job_report.proofs.Foil0.{boards-only}
+use Rattle.job_report.proofs.only_foil_0.Statement.{statement}
+use Rattle.job_report.proofs.only_foil_0.Tie as tie
+
+no-board-requires : tie.Need-no-board-requires
+no-board-requires c κs = search needs
+
+array-set-from-boards : tie.Need-array-set-from-boards
+array-set-from-boards c = search needs
+
+returns : tie.Need-returns
+returns c = boards-only _ _ (c .no-board .ensures)
+
+pub only-foil-0-spec : {M : Type 1} → statement M
+only-foil-0-spec = tie.close (tie.spec no-board-requires array-set-from-boards returns)
