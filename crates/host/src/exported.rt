@@ -30,8 +30,8 @@ ghost use Rattle.foil_spec.specs.Ledger.{lookUp};
 ghost use Rattle.host.specs.Calls.{ToldBy, saidOf, ohmsSaid, HostDone, HostWrote, HostRead, HostOhms};
 ghost use Rattle.host.specs.Records.{recordSaidOf, HostRan};
 
-// Begins a foil of w by h with a pen of this half width and gap: an empty table, and one strip, what
-// the edge leaves, or none.
+// Begins foil k, w by h with a pen of this half width and gap: no entries, and one strip, what the edge
+// leaves, or none.
 #[no_mangle]
 pub extern "C" fn foil_new_foil(
     sheet: &mut Sheet,

@@ -56,7 +56,7 @@ pub fn store(table: &mut [Entry], f: Flat)
     }
 }
 
-// Empties the table: a foil begins.
+// Takes the foil's entries out: it begins anew.
 pub fn clear(
     s: Sheet,
     table: &mut [Entry],
@@ -77,7 +77,7 @@ pub fn clear(
     out
 }
 
-// Appends a patch: an entry of net 0 at the first unused place.
+// Appends a patch: an entry of net 0 behind those of the foil.
 pub fn append(
     s: Sheet,
     table: &mut [Entry],
@@ -175,7 +175,7 @@ pub fn lift(s: Sheet, table: &mut [Entry], strips: &mut [u16], k: usize, net: u1
     out
 }
 
-// Appends a leg as booked, at the first unused place.
+// Appends a leg as booked, behind the foil's entries.
 pub fn append_leg(s: Sheet, table: &mut [Entry], strips: &mut [u16], k: usize, leg: Entry) -> Left
     ensures { λ r. ⌜ HostDone k (putLeg leg) s (now (table .entry)) (now (strips .entry))
         (r .answer) (r .sheet) (now (table .exit)) (now (strips .exit)) ⌝ }
