@@ -191,10 +191,10 @@ see s = record { reply = called soiled s .answer; there = getD (called soiled s 
 cleared : see (lookUp (point 0 0)) ∷ see (draw 0 0 4 1) ∷ see (draw 0 0 1 1) ∷ []
     ≡ record { reply = answered (found 0); there = 7 } ∷ record { reply = answered (refused 3); there = 7 }
     ∷ record { reply = answered accepted; there = 0 } ∷ []
-unfolding see begin sheetCall sheetStep writes sheetRefusal unless opening counts putBack view tableAt parts joined total
-    reserved eachFew countsOk written boardOf store stripNumbers held layoutOf entryAt layoutOk sameNumbers sound reply
-    sizeOk reachOk penOk netOk boxOk shapeOk entryOk within blocks penRule margin nearEdge freeBy free entryNumbers
-    stopIn stop scan scanAt starts isRun isTop begun stripsFrom holds placeOf stripsOf offFoil blocked
+unfolding see begin sheetCall sheetStep writes sheetRefusal unless opening counts putBack view tableAt parts joined
+    total reserved eachFew countsOk written boardOf store stripNumbers held layoutOf entryAt layoutOk sameNumbers
+    sound reply sizeOk reachOk penOk netOk boxOk shapeOk entryOk within blocks penRule margin nearEdge freeBy free
+    entryNumbers stopIn stop scan scanAt starts isRun isTop begun stripsFrom holds placeOf stripsOf offFoil blocked
     short tooLong tooFine penOf clearanceRefusal next says first reads refusals afterLent settle refusalOf jobRoom
 cleared = refl
 
