@@ -2,6 +2,7 @@
 // and strips are worked out anew each time. A foil is at most 64 by 64, so that 4,096 strips are never passed.
 mod joins;
 mod laying;
+mod looks;
 mod records;
 mod runs;
 
@@ -10,6 +11,7 @@ pub use joins::join;
 pub use laying::book;
 pub use laying::find;
 pub use laying::lay;
+pub use looks::look_up;
 pub use records::NONE;
 pub use records::Ran;
 pub use records::record;

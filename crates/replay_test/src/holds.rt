@@ -5,7 +5,7 @@ use foil::Answer;
 use foil::look_up;
 use foil_spec::Board;
 use plain_foil::Foil;
-ghost use Prim.Native.Nat.{_<_, _≤_};
+ghost use Prim.Native.Nat.{_≤_};
 
 // Whether the first n numbers of two lists are the same.
 fn same_front(a: &[u16], b: &[u16], n: usize) -> bool {
@@ -86,28 +86,6 @@ pub(crate) fn same(
     same_front(table, row, 640) && sevens(table, 640)
 }
 
-// The place of the strip that holds a point, by the first `count` strips of the list; 4,096 where none does.
-fn place_of(list: &[u16; 16384], count: usize, x: u16, y: u16) -> usize
-    requires { ⌜ count ≤ 4096 ⌝ }
-{
-    for k in 0..count {
-        if holds(list, k, x, y) {
-            return k;
-        }
-    }
-    4096
-}
-
-// Whether strip k of the list holds a point.
-fn holds(list: &[u16; 16384], k: usize, x: u16, y: u16) -> bool
-    requires { ⌜ k < 4096 ⌝ }
-{
-    if x < list[k * 4] || list[k * 4 + 2] <= x {
-        return false;
-    }
-    list[k * 4 + 1] <= y && y < list[k * 4 + 3]
-}
-
 // Whether the answer to a look up is a number.
 fn refused(answer: Answer, number: u8) -> bool {
     let Answer::Refused(given) = answer else {
@@ -141,14 +119,9 @@ pub(crate) fn same_point(
     if foil.width == 0 {
         return refused(answer, 13);
     }
-    if foil.width <= x || foil.height <= y {
-        return refused(answer, 7);
+    let want = plain_foil::look_up(row, foil, x, y);
+    if want.number != 0 {
+        return refused(answer, want.number);
     }
-    let mut list = [0u16; 16384];
-    let count = plain_foil::strips(&mut list, row, foil);
-    let place = place_of(&list, count, x, y);
-    if place == 4096 {
-        return refused(answer, 8);
-    }
-    found(answer, place)
+    found(answer, want.corners)
 }

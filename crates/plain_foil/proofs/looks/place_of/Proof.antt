@@ -1,8 +1,8 @@
--- `replay_test::holds::place_of` is safe and ends: the loop counts up to the last strip.
+-- `plain_foil::looks::place_of` is safe and ends: the loop counts up to the last strip.
 use Prim.Native.Nat.{_≤_, _-_}
 use borrow.Author.Needs.{needs}
-use Rattle.replay_test.proofs.holds.place_of.Statement.{statement}
-use Rattle.replay_test.proofs.holds.place_of.Tie as tie
+use Rattle.plain_foil.proofs.looks.place_of.Statement.{statement}
+use Rattle.plain_foil.proofs.looks.place_of.Tie as tie
 
 abbrev Inv-loop : tie.InvT-loop
 Inv-loop list count x y k₀ k = k ≤ count
