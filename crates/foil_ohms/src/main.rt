@@ -12,10 +12,10 @@ use foil_spec::STRIPS_SIZE;
 use job_foil::Ended;
 use job_foil::run_job;
 use job_foil::tell;
-use job_report::only_foil_0;
 use sheet::ohms;
 use sheet_rows::SHEET_SIZE;
 use sheet_rows::Sheet;
+use sheet_rows::only_foil_0;
 
 // One byte more than a job file may have, so that a longer one is known.
 const BYTES: usize = 60001;

@@ -7,9 +7,9 @@ use job_foil::Ended;
 use job_foil::run_job;
 use job_foil::tell;
 use job_foil::write_answer;
-use job_report::only_foil_0;
 use sheet::slip;
 use sheet_rows::SHEET_SIZE;
+use sheet_rows::only_foil_0;
 use slips::PAGE_SIZE;
 
 // One byte more than a job file may have, so that a longer one is known.

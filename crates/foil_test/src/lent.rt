@@ -9,8 +9,8 @@ use job::Next;
 use job::Replied;
 use job::Reply;
 use job::run_record;
-use job_report::no_board;
 use laying::lay;
+use sheet_rows::no_board;
 
 pub(crate) fn all() {
     short_table();

@@ -9,9 +9,9 @@ use job::Next;
 use job::Replied;
 use job::Reply;
 use job::Told;
-use job_report::no_board;
 use job_report::run_one;
 use sheet_rows::SHEET_SIZE;
+use sheet_rows::no_board;
 ghost use Prim.Native.Nat.{_<_, _≤_};
 ghost use lib.ListN.{length};
 

@@ -6,13 +6,13 @@ use mathlib.Core.Path.{_≡_, refl, sym, ap, _∙_, subst}
 use mathlib.Core.Bool.{true, false, not}
 use mathlib.Core.List.{List, _∷_}
 use mathlib.Core.Option.{Option, none, some}
-use lib.ListN.{length, getD, set, replicate, length-replicate}
+use lib.ListN.{length, getD, replicate}
 use Rattle.foil_spec.specs.Limits.{maxEntries, stripsSize, cornerPlaces, sheetSize}
 use Rattle.foil_spec.specs.Ledger.{Room, Step, short, Answer, refused, first, After, settle, afterLent}
 use Rattle.foil_spec.specs.Lent.{Lent, held, sound}
 use Rattle.foil_spec.specs.Job.{jobRoom, has}
-use Rattle.foil_spec.specs.Calls.{runRecord, Reply, answered, tooLarge, reply, callOn, outputBy}
-use Rattle.foil_spec.specs.Sheet.{total, reserved, countsOk, limitOf, SheetLent, noBoard, counts, view, putBack}
+use Rattle.foil_spec.specs.Calls.{runRecord, Reply, answered, tooLarge, callOn, outputBy}
+use Rattle.foil_spec.specs.Sheet.{countsOk, SheetLent, noBoard, counts, view, putBack}
 use Rattle.foil_spec.specs.Sheet.{sheetRoom, writes, sheetStep, opening, sheetRefusal, unless, sheetCall}
 use Rattle.foil_spec.specs.declared.Board.{Board}
 use Rattle.list_laws.proofs.Tests.{both}
@@ -20,43 +20,28 @@ use Rattle.ledger_laws.proofs.Replies.{shownBy, reply-keeps}
 use Rattle.job.specs.Contract.{replyOf}
 use Rattle.job.specs.declared.Replied.{Replied}
 use Rattle.sheet_laws.specs.Jobs.{onlyFoil0}
-use Rattle.sheet_laws.proofs.Starting.{one-foil}
-use Rattle.sheet_laws.proofs.Views.{Stands, call-view, call-others}
-use Rattle.sheet_laws.proofs.Alone.{opened-refused, opens-with}
+use Rattle.sheet_laws.proofs.Views.{Stands, stands-in}
+use Rattle.sheet_laws.proofs.Saved.{sheet-view, sheet-stands}
+use Rattle.sheet_laws.proofs.Jobs.{all-to-one, kept-room, job-room}
 use Rattle.sheet_rows.specs.Rows.{sheetLent}
 use Rattle.sheet.specs.Contract.{onSheet, SheetRecordDone}
 use Rattle.sheet.specs.declared.SheetReplied.{SheetReplied}
 use Rattle.job_report.specs.Report.{ranRecord, RecordRan}
 
--- ---- its records
-
-pub boards-only : (n b : Board) → n ≡ noBoard → set (replicate 8 n) 0 b ≡ b ∷ replicate 7 noBoard
-boards-only n b e = rw e refl
-
--- ---- its room: beside foils that have no entries, a foil may have 128
-
-all-to-one : (n : ℕ) → limitOf (n ∷ replicate 7 0) 0 ≡ maxEntries
-unfolding limitOf reserved total
-all-to-one n = omega arith
+-- ---- its room
 
 module _ (b : Board) (t s : List ℕ) where
-  job-room : (output : ℕ) → length t ≡ sheetSize → length s ≡ stripsSize → output ≡ 2 * cornerPlaces
+  has-room : (output : ℕ) → length t ≡ sheetSize → length s ≡ stripsSize → output ≡ 2 * cornerPlaces
       → sheetRoom 0 (counts (b ∷ replicate 7 noBoard)) (onlyFoil0 b t s) output ≡ jobRoom
   unfolding sheetRoom counts jobRoom
-  job-room output e f g = rw (e, f, g, all-to-one (b .entries)) refl
+  has-room output e f g = rw (e, f, g, sym (all-to-one (b .entries))) refl
 
   kept-stands : countsOk (counts (b ∷ replicate 7 noBoard)) ≡ true → sheetSize ≤ length t
       → Stands jobRoom 0 (onlyFoil0 b t s)
-  unfolding counts jobRoom
-  kept-stands kept long =
-      record {
-        whole = record { eight = omega (arith, length-replicate 7 noBoard); limits = kept; places = long };
-        limit = sym (all-to-one (b .entries));
-      }
+  kept-stands kept long = stands-in jobRoom 0 (onlyFoil0 b t s) (kept-room b t s kept long)
 
   pub few-stands : b .entries ≤ maxEntries → sheetSize ≤ length t → Stands jobRoom 0 (onlyFoil0 b t s)
-  unfolding counts
-  few-stands few long = kept-stands (one-foil (b .entries) few) long
+  few-stands few long = stands-in jobRoom 0 (onlyFoil0 b t s) (job-room b t s few long)
 
 -- ---- it goes as on the foil alone
 
@@ -66,30 +51,12 @@ pub record Alone (bs : List ℕ) (at : ℕ) (x : SheetLent) (a : After Reply She
   pub stands : Stands jobRoom 0 (a .state)
 
 module _ (bs : List ℕ) (at : ℕ) (x : SheetLent) where
-  -- past the refusals that it begins with
-  abbrev called : After Reply SheetLent
-  called = reply (sheetStep jobRoom 0) jobRoom (not (sound (view 0 x))) (runRecord bs at) (held (view 0 x)) x
-
-  by-opening : (o : Option ℕ) → sheetRefusal jobRoom false 0 (runRecord bs at) ≡ o → Stands jobRoom 0 x
-      → Alone bs at x (unless o called x)
-  unfolding unless
-  by-opening (some n) e w =
-      record {
-        is =
-            unfold shownBy in
-            opened-refused jobRoom (runRecord bs at) (view 0 x) n
-            (opens-with jobRoom 0 (runRecord bs at) n (omega arith) e);
-        stands = w;
-      }
-  by-opening none e w =
-      record {
-        is = call-view jobRoom 0 (omega arith) (runRecord bs at) x w;
-        stands = call-others jobRoom 0 (omega arith) (runRecord bs at) x w .0;
-      }
-
   pub as-alone : Stands jobRoom 0 x → Alone bs at x (ranRecord bs at x)
-  unfolding sheetCall
-  as-alone w = rw (w .whole .limits) (by-opening (sheetRefusal jobRoom false 0 (runRecord bs at)) refl w)
+  as-alone w =
+      record {
+        is = sheet-view jobRoom 0 (omega arith) (runRecord bs at) x w;
+        stands = sheet-stands jobRoom 0 (omega arith) (runRecord bs at) x w;
+      }
 
   -- where the counts break a limit, it is refused by 18 or 13
   turned-down : countsOk (counts (x .boards)) ≡ false → (P : Reply → Type 0)
@@ -164,7 +131,7 @@ module _ (bs : List ℕ) (at : ℕ) (b : Board) (t s out : List ℕ) (d : SheetR
   record-ran bs₀ q given e f g r told is =
       let done = subst (λ (x : List Board). SheetRecordDone 0 bs at (sheetLent x t s) out d t′ s′ out′) q given in
       let same : onSheet 0 (runRecord bs at) m (length out) ≡ ranRecord bs at m =
-      ap (λ (x : Room). sheetCall x 0 (runRecord bs at) m) (job-room b t s (length out) e f g) in
+      ap (λ (x : Room). sheetCall x 0 (runRecord bs at) m) (has-room b t s (length out) e f g) in
       record {
         places = omega (arith, e);
         reply = told ∙ done .reply ∙ ap (λ (a : After Reply SheetLent). replyOf (has bs at) (a .answer)) same;

@@ -14,14 +14,11 @@ use job::Reply;
 use lines::file_line;
 use sheet::run_record;
 use sheet_rows::SHEET_SIZE;
-use sheet_rows::Sheet;
 use sheet_rows::board_at;
+use sheet_rows::only_foil_0;
 use strip_lines::put_strips;
 ghost use mathlib.Core.Path.{_≡_};
-ghost use mathlib.Core.List.{_∷_};
 ghost use Prim.Native.Nat.{_≤_};
-ghost use lib.ListN.{replicate};
-ghost use Rattle.foil_spec.specs.Sheet.{noBoard};
 ghost use Rattle.job.specs.declared.Next.the-variants.{Nowhere};
 ghost use Rattle.sheet_laws.specs.Jobs.{onlyFoil0};
 ghost use Rattle.job_report.specs.Report.{RecordRan, RecordReported};
@@ -92,16 +89,6 @@ pub fn run_one(
     }
 }
 
-// The records of a sheet on which no foil is begun but foil 0, whose record is given.
-pub fn only_foil_0(board: Board) -> Sheet
-    ensures { λ r. ⌜ r .boards ≡ board ∷ replicate 7 noBoard ⌝ }
-{
-    let none = no_board();
-    let mut boards = [none; 8];
-    boards[0] = board;
-    Sheet { boards }
-}
-
 // A record after which the job has ended.
 fn ended(size: usize, board: Board) -> Reported
     ensures { λ r. ⌜ r ≡ record { size = size; next = Nowhere; board = board } ⌝ }
@@ -110,19 +97,5 @@ fn ended(size: usize, board: Board) -> Reported
         size,
         next: Next::Nowhere,
         board,
-    }
-}
-
-// The record of a foil before it is begun.
-pub fn no_board() -> Board
-    ensures { λ r. ⌜ r ≡ noBoard ⌝ }
-{
-    Board {
-        width: 0,
-        height: 0,
-        half: 0,
-        gap: 0,
-        entries: 0,
-        strips: 0,
     }
 }

@@ -3,9 +3,9 @@ use foil_spec::CORNERS_SIZE;
 use foil_spec::STRIPS_SIZE;
 use job::Next;
 use job_report::OUT_SIZE;
-use job_report::no_board;
 use job_report::report_record;
 use sheet_rows::SHEET_SIZE;
+use sheet_rows::no_board;
 ghost use Prim.Native.Nat.{_≤_};
 ghost use lib.ListN.{length};
 

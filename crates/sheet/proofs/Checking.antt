@@ -40,21 +40,21 @@ module _ (k : ℕ) (m : SheetLent) where
   abbrev broken : Bool
   broken = not (countsOk (counts (m .boards)))
 
-  pub no-foil : 7 < k → first (sheetOpening k m) ≡ some 23
+  pub no-foil : sheetFoils ≤ k → first (sheetOpening k m) ≡ some 23
   unfolding first
-  no-foil l = rw (lt-ltb 7 k l) refl
+  no-foil l = rw (lt-ltb 7 k (omega arith)) refl
 
-  module _ (here : k ≤ 7) where
+  module _ (here : k < sheetFoils) where
     pub short-table : length (m .table) < sheetSize → first (sheetOpening k m) ≡ some 12
     unfolding first afterLent short sheetRoom
-    short-table l = rw (le-ltb 7 k here, lt-ltb (length (m .table) / 5) sheetEntries (omega arith)) refl
+    short-table l = rw (le-ltb 7 k (omega arith), lt-ltb (length (m .table) / 5) sheetEntries (omega arith)) refl
 
     module _ (places : sheetSize ≤ length (m .table)) where
       pub short-strips : length (m .strips) < stripsSize → first (sheetOpening k m) ≡ some 12
       unfolding first afterLent short sheetRoom
       short-strips l =
           rw (
-            le-ltb 7 k here,
+            le-ltb 7 k (omega arith),
             le-ltb (length (m .table) / 5) sheetEntries (omega arith),
             lt-ltb (length (m .strips) / 4) maxStrips (omega arith),
           ) refl
@@ -71,12 +71,12 @@ module _ (k : ℕ) (m : SheetLent) where
         pub bad-counts : (b : Bool) → b ≡ countsOk (counts (m .boards)) → not b ≡ true
             → first (sheetOpening k m) ≡ some 13
         unfolding first afterLent
-        bad-counts b e f = rw (le-ltb 7 k here, long-room 0, sym e ∙ not-t b f) refl
+        bad-counts b e f = rw (le-ltb 7 k (omega arith), long-room 0, sym e ∙ not-t b f) refl
 
         pub good-counts : (b : Bool) → b ≡ countsOk (counts (m .boards)) → not b ≡ false
             → first (sheetOpening k m) ≡ none
         unfolding first afterLent
-        good-counts b e f = rw (le-ltb 7 k here, long-room 0, sym e ∙ not-ff b f) refl
+        good-counts b e f = rw (le-ltb 7 k (omega arith), long-room 0, sym e ∙ not-ff b f) refl
 
   -- ---- where none of them applies
 
@@ -153,8 +153,7 @@ module _ (k : ℕ) (m : SheetLent) (rows : List ℕ) (o : TakenOut k m rows) whe
 
   pub out-long : (output : ℕ) → short (room k m output) ≡ false
   out-long output =
-      let l = o .here in
-      long-room k m (omega arith) (o .eight-foils .places) (o .strips) output
+      long-room k m (o .here) (o .eight-foils .places) (o .strips) output
 
   pub in-room : (output : ℕ) → RoomOn (room k m output) k m
   unfolding sheetRoom

@@ -9,7 +9,7 @@ use lib.ListN.{length, getD, take}
 use lib.Seq.{take-all}
 use borrow.Author.Tests.{lt-ltb, le-ltb}
 use Rattle.foil_spec.specs.Lists.{any}
-use Rattle.foil_spec.specs.Limits.{tableSize, maxBytes}
+use Rattle.foil_spec.specs.Limits.{tableSize, maxBytes, sheetFoils}
 use Rattle.foil_spec.specs.Ledger.{Room, short, Answer, numberOf, first, afterLent, After}
 use Rattle.foil_spec.specs.Lent.{Lent, lent, sound, roomIn, stepOn, outputAfter}
 use Rattle.foil_spec.specs.Job.{stepBits, has, steps, isEnd, recordEnd}
@@ -41,15 +41,15 @@ use Rattle.sheet.proofs.Closing.{accepts-taken, answers, may-close, lea
 -- ---- 23, 18, and the checks that other calls begin with too
 
 module _ (k : ℕ) (m : SheetLent) (bs : List ℕ) where
-  pub record-no-foil : 7 < k → RecordLending k m bs [] (checked.Refused 23)
+  pub record-no-foil : sheetFoils ≤ k → RecordLending k m bs [] (checked.Refused 23)
   unfolding sheetRefusal first
-  record-no-foil l at output = refused-on k m (runRecord bs at) output 23 (rw (lt-ltb 7 k l) refl)
+  record-no-foil l at output = refused-on k m (runRecord bs at) output 23 (rw (lt-ltb 7 k (omega arith)) refl)
 
-  module _ (here : k ≤ 7) where
+  module _ (here : k < sheetFoils) where
     pub record-large : maxBytes < length bs → RecordLending k m bs [] (checked.Refused 18)
     unfolding sheetRefusal opening first tooLarge
     record-large l at output =
-        refused-on k m (runRecord bs at) output 18 (rw (le-ltb 7 k here, lt-ltb maxBytes (length bs) l) refl)
+        refused-on k m (runRecord bs at) output 18 (rw (le-ltb 7 k (omega arith), lt-ltb maxBytes (length bs) l) refl)
 
     module _ (few : length bs ≤ maxBytes) where
       small : tooLarge bs ≡ false

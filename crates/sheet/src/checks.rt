@@ -4,6 +4,7 @@ use foil::Checked;
 use foil::lent_refusal;
 use foil_spec::MAX_BYTES;
 use foil_spec::STRIPS_SIZE;
+use sheet_rows::FOILS;
 use sheet_rows::SHEET_SIZE;
 use sheet_rows::Sheet;
 use sheet_rows::board_at;
@@ -21,7 +22,7 @@ fn sheet_checks(sheet: Sheet, k: usize, table: &[u16], strips: &[u16]) -> Checke
     ensures { λ r. ⌜ FirstChecked (sheetOpening k
         (sheetLent (sheet .boards) (now (table .entry)) (now (strips .entry)))) r ⌝ }
 {
-    if 7 < k {
+    if FOILS <= k {
         return Checked::Refused(23);
     }
     if table.len() < SHEET_SIZE {
@@ -89,7 +90,7 @@ pub(crate) fn lend_for_record(
     ensures { λ r. ⌜ RecordLending k (sheetLent (sheet .boards) (now (table .entry)) (now (strips .entry)))
         (now (bytes .entry)) (now (rows .exit)) r ⌝ }
 {
-    if 7 < k {
+    if FOILS <= k {
         return Checked::Refused(23);
     }
     if MAX_BYTES < bytes.len() {

@@ -30,7 +30,8 @@ module _ (r : Room) (k : ℕ) (here : k < sheetFoils) where
   called-view c x (some n) e w = unfold shownBy in opened-refused r c (view k x) n (opens-with r k c n here e)
   called-view c x none e w = call-view r k here c x w
 
-  sheet-view : (c : Call) (x : SheetLent) → Stands r k x → callOn r c (view k x) ≡ shownBy (view k) (sheetCall r k c x)
+  pub sheet-view : (c : Call) (x : SheetLent) → Stands r k x
+      → callOn r c (view k x) ≡ shownBy (view k) (sheetCall r k c x)
   unfolding sheetCall
   sheet-view c x w = rw (w .whole .limits) (called-view c x (sheetRefusal r false k c) refl w)
 
@@ -40,7 +41,7 @@ module _ (r : Room) (k : ℕ) (here : k < sheetFoils) where
   unless-stands c x (some n) w = w
   unless-stands c x none w = call-others r k here c x w .0
 
-  sheet-stands : (c : Call) (x : SheetLent) → Stands r k x → Stands r k (sheetCall r k c x .state)
+  pub sheet-stands : (c : Call) (x : SheetLent) → Stands r k x → Stands r k (sheetCall r k c x .state)
   unfolding sheetCall
   sheet-stands c x w = unless-stands c x (sheetRefusal r (not (countsOk (counts (x .boards)))) k c) w
 

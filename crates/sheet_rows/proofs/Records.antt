@@ -1,8 +1,8 @@
 -- The records of the eight foils, and their numbers of entries.
 use Prim.Native.Nat.{ℕ, _+_, _≤_, _<_}
 use native.Mathlib.Omega.{arith}
-use mathlib.Core.Path.{_≡_, sym, _∙_}
-use mathlib.Core.List.{List, append-nil}
+use mathlib.Core.Path.{_≡_, refl, sym, _∙_}
+use mathlib.Core.List.{List, _∷_, append-nil}
 use lib.ListN.{length, getD, set, replicate, length-map}
 use lib.Seq.{take-all}
 use mir.Val.{Val}
@@ -20,6 +20,10 @@ use Rattle.sheet_rows.proofs.Sheet.Laws as T′
 -- an array of the code has its length
 pub eight : (s : Sheet) {w : List Val} → Is T.the-row s w → length (s .boards) ≡ sheetFoils
 eight s is = sym (length-map (s .boards) _) ∙ LL.owed T.the-type T′.the-laws s _ is .0 .1 .0 .1
+
+-- eight records that are zero, but for that of foil 0
+pub boards-only : (n b : Board) → n ≡ noBoard → set (replicate sheetFoils n) 0 b ≡ b ∷ replicate 7 noBoard
+boards-only n b e = rw e refl
 
 -- the numbers of entries of the first i of eight records are listed
 pub record Counted (bs : List Board) (ns : List ℕ) (i : ℕ) : Type 0 where

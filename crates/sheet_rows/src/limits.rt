@@ -1,4 +1,5 @@
 // How many entries the foils of a sheet have and may have.
+use crate::FOILS;
 use crate::SHEET_ENTRIES;
 use crate::Sheet;
 use crate::counts_of;
@@ -33,7 +34,7 @@ pub fn limit(sheet: Sheet, k: usize) -> usize
 }
 
 // The same by the foils' numbers of entries.
-fn limit_by(counts: [usize; 8], k: usize) -> usize
+fn limit_by(counts: [usize; FOILS], k: usize) -> usize
     requires { ⌜ (k < sheetFoils) × (countsOk counts ≡ true) ⌝ }
     ensures { λ r. ⌜ r ≡ limitOf counts k ⌝ }
 {
@@ -45,7 +46,7 @@ fn limit_by(counts: [usize; 8], k: usize) -> usize
 }
 
 // The place in the table where foil k's numbers begin; for k = 8, where the unused places do.
-pub(crate) fn start_of(counts: [usize; 8], k: usize) -> usize
+pub(crate) fn start_of(counts: [usize; FOILS], k: usize) -> usize
     requires { ⌜ (k ≤ sheetFoils) × (countsOk counts ≡ true) ⌝ }
     ensures { λ r. ⌜ r ≡ startOf counts k ⌝ }
 {
@@ -59,11 +60,11 @@ pub(crate) fn start_of(counts: [usize; 8], k: usize) -> usize
 }
 
 // Whether no foil has more than 128 entries.
-fn each_few(counts: [usize; 8]) -> bool
+fn each_few(counts: [usize; FOILS]) -> bool
     ensures { λ r. ⌜ r ≡ eachFew counts ⌝ }
 {
     let mut i = 0;
-    while i < 8 {
+    while i < FOILS {
         if MAX_ENTRIES < counts[i] {
             return false;
         }
@@ -73,13 +74,13 @@ fn each_few(counts: [usize; 8]) -> bool
 }
 
 // The places that are kept for the foils, 32 at least for each.
-fn reserved(counts: [usize; 8]) -> usize
+fn reserved(counts: [usize; FOILS]) -> usize
     requires { ⌜ eachFew counts ≡ true ⌝ }
     ensures { λ r. ⌜ r ≡ reserved counts ⌝ }
 {
     let mut sum = 0;
     let mut i = 0;
-    while i < 8 {
+    while i < FOILS {
         sum += at_least_sure(counts[i]);
         i += 1;
     }

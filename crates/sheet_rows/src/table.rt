@@ -1,4 +1,5 @@
 // The table that the foils of a sheet share: a foil's entries taken out, and put back.
+use crate::FOILS;
 use crate::SHEET_SIZE;
 use crate::Sheet;
 use crate::counts_of;
@@ -45,7 +46,7 @@ pub fn put_back(table: &mut [u16], rows: &[u16], sheet: Sheet, k: usize, board: 
 }
 
 // Gives foil k the first n entries of the rows, where the foils have so many.
-fn put_rows(table: &mut [u16], rows: &[u16], counts: [usize; 8], k: usize, n: usize)
+fn put_rows(table: &mut [u16], rows: &[u16], counts: [usize; FOILS], k: usize, n: usize)
     requires { ⌜ (k < sheetFoils) × (countsOk counts ≡ true) × (n ≤ limitOf counts k) ⌝ }
     requires { ⌜ (sheetSize ≤ length (now table)) × (n * 5 ≤ length (now rows)) ⌝ }
     ensures { λ _. ⌜ now (table .exit) ≡ written sheetSize (before counts k (now (table .entry))
@@ -53,7 +54,7 @@ fn put_rows(table: &mut [u16], rows: &[u16], counts: [usize; 8], k: usize, n: us
 {
     let start = start_of(counts, k);
     let rest = start_of(counts, k + 1);
-    let end = start_of(counts, 8);
+    let end = start_of(counts, FOILS);
     replace(table, rows, n * 5, start, rest, end);
 }
 

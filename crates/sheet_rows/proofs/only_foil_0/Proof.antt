@@ -1,8 +1,8 @@
 -- Foil 0 has its record, and the other seven have that of a foil which is not begun.
 use borrow.Author.Needs.{needs}
-use Rattle.job_report.proofs.Foil0.{boards-only}
-use Rattle.job_report.proofs.only_foil_0.Statement.{statement}
-use Rattle.job_report.proofs.only_foil_0.Tie as tie
+use Rattle.sheet_rows.proofs.Records.{boards-only}
+use Rattle.sheet_rows.proofs.only_foil_0.Statement.{statement}
+use Rattle.sheet_rows.proofs.only_foil_0.Tie as tie
 
 no-board-requires : tie.Need-no-board-requires
 no-board-requires c κs = search needs
