@@ -9,18 +9,20 @@ use crate::count;
 use crate::count_number;
 use boards::below;
 use boards::next;
-use drawn::book;
-use finding::find;
-use foil::Done;
-use foil_spec::Board;
+use sheet::Sheet;
+use sheet::SheetDone;
+use sheet::book;
+use sheet::find;
+use sheet_rows::board_at;
 use std::num::wrapping_sub_u16;
 ghost use Prim.Native.Nat.{_<_, _≤_};
 ghost use lib.ListN.{length};
 
-// Where a strip at random begins in the list; or the place after the last one, which holds zeros.
-pub(crate) fn strip(board: Board, seed: u32) -> usize
+// Where a strip of foil 0 at random begins in the list; or the place after the last one, which holds zeros.
+pub(crate) fn strip(sheet: Sheet, seed: u32) -> usize
     ensures { λ r. ⌜ r < 16384 ⌝ }
 {
+    let board = board_at(sheet, 0);
     let last = (board.strips % 4095) as u16;
     below(seed, last * 3 + 1) as usize / 3 * 4
 }
@@ -29,7 +31,7 @@ pub(crate) fn strip(board: Board, seed: u32) -> usize
 // compared here, the lists with the next record.
 pub(crate) fn draw(
     counts: &mut [u64; COUNTS],
-    table: &mut [u16; 645],
+    table: &mut [u16; 2565],
     strips: &mut [u16; 16388],
     corners: &mut [u16; 300],
     row: &mut [u16; 640],
@@ -50,7 +52,7 @@ pub(crate) fn draw(
 // Finds a path by the call and on the plain foil; how many corners it has.
 fn find_both(
     counts: &mut [u64; COUNTS],
-    table: &[u16; 645],
+    table: &[u16; 2565],
     strips: &[u16; 16388],
     corners: &mut [u16; 300],
     row: &[u16; 640],
@@ -60,15 +62,16 @@ fn find_both(
     requires { ⌜ stood .foil .entries ≤ 128 ⌝ }
     ensures { λ r. ⌜ r ≤ 150 ⌝ }
 {
-    let a = strip(stood.board, next(stood.point));
-    let b = strip(stood.board, next(next(stood.point)));
+    let a = strip(stood.sheet, next(stood.point));
+    let b = strip(stood.sheet, next(next(stood.point)));
     let tx = wrapping_sub_u16(strips[b + 2], 1);
     let ty = wrapping_sub_u16(strips[b + 3], 1);
     let given = find(
         corners,
         table,
         strips,
-        stood.board,
+        stood.sheet,
+        0,
         strips[a],
         strips[a + 1],
         tx,
@@ -85,7 +88,7 @@ fn find_both(
 // Books a list of k corners by the call and on the plain foil, spoilt or not.
 fn book_both(
     counts: &mut [u64; COUNTS],
-    table: &mut [u16; 645],
+    table: &mut [u16; 2565],
     strips: &mut [u16; 16388],
     row: &mut [u16; 640],
     list: &mut [u16; 8192],
@@ -97,7 +100,7 @@ fn book_both(
 {
     let n = spoil(list, k * 2, stood.point);
     let net = below(stood.point / 8, 24);
-    let done = book_front(table, strips, stood.board, net, list, n);
+    let done = book_front(table, strips, stood.sheet, net, list, n);
     let want = plain_foil::book(row, stood.foil, net, list, n);
     let given = done.answer;
     if !same_laid(given, want.number, want.corners) {
@@ -108,10 +111,10 @@ fn book_both(
     if want.number == 0 {
         count(counts, BOOKED);
     }
-    let board = done.board;
+    let sheet = done.sheet;
     let foil = want.foil;
     Stood {
-        board,
+        sheet,
         foil,
         at: stood.at,
         point: stood.point,
@@ -136,14 +139,14 @@ fn spoil(list: &mut [u16; 8192], n: usize, seed: u32) -> usize
 
 // Books the first n numbers of a list by the call.
 fn book_front(
-    table: &mut [u16; 645],
+    table: &mut [u16; 2565],
     strips: &mut [u16; 16388],
-    board: Board,
+    sheet: Sheet,
     net: u16,
     list: &[u16],
     n: usize,
-) -> Done
+) -> SheetDone
     requires { ⌜ n ≤ length (now list) ⌝ }
 {
-    book(table, strips, board, net, &list[..n])
+    book(table, strips, sheet, 0, net, &list[..n])
 }

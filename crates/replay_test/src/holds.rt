@@ -1,10 +1,12 @@
-// The record and the lists after a record, and the strip of a point, compared with the plain foil.
+// Foil 0's record and the lists after a record, and the strip of a point, compared with the plain foil.
 use boards::below;
 use boards::next;
 use foil::Answer;
-use foil::look_up;
 use foil_spec::Board;
 use plain_foil::Foil;
+use sheet::Sheet;
+use sheet::look_up;
+use sheet_rows::board_at;
 ghost use Prim.Native.Nat.{_≤_};
 
 // Whether the first n numbers of two lists are the same.
@@ -23,14 +25,15 @@ fn same_front(a: &[u16], b: &[u16], n: usize) -> bool {
     true
 }
 
-// Whether the list still holds sevens from place `from` on.
-fn sevens(list: &[u16], from: usize) -> bool {
-    let mut i = from;
-    while i < list.len() {
-        if list[i] != 7 {
+// Whether the numbers of the list from place `from` up to `end` are all n.
+fn filled(list: &[u16], from: usize, end: usize, n: u16) -> bool {
+    if list.len() < end {
+        return false;
+    }
+    for i in from..end {
+        if list[i] != n {
             return false;
         }
-        i += 1;
     }
     true
 }
@@ -47,43 +50,49 @@ fn same_board(board: Board, foil: Foil, count: usize) -> bool {
 
 // Whether the strip list is this one, then sevens.
 fn same_list(strips: &[u16; 16388], list: &[u16; 16384]) -> bool {
-    same_front(strips, list, 16384) && sevens(strips, 16384)
+    same_front(strips, list, 16384) && filled(strips, 16384, 16388, 7)
 }
 
 // Whether the strip list is that of the foil, then zeros up to 4,096 places, then sevens, and the record fits to it.
-fn same_strips(strips: &[u16; 16388], board: Board, row: &[u16; 640], foil: Foil) -> bool
+fn same_strips(strips: &[u16; 16388], sheet: Sheet, row: &[u16; 640], foil: Foil) -> bool
     requires { ⌜ foil .entries ≤ 128 ⌝ }
 {
     if foil.width == 0 {
-        return sevens(strips, 0);
+        return filled(strips, 0, 16388, 7);
     }
     let mut list = [0u16; 16384];
     let count = plain_foil::strips(&mut list, row, foil);
+    let board = board_at(sheet, 0);
     same_board(board, foil, count) && same_list(strips, &list)
+}
+
+// Whether the table is the foil's row, then zeros up to 512 places, then sevens.
+fn same_table(table: &[u16; 2565], row: &[u16; 640]) -> bool {
+    same_front(table, row, 640) && filled(table, 640, 2560, 0) && filled(table, 2560, 2565, 7)
 }
 
 // Whether the record and all lists are as they should be.
 pub(crate) fn same(
-    table: &[u16; 645],
+    table: &[u16; 2565],
     strips: &[u16; 16388],
     corners: &[u16; 300],
-    board: Board,
+    sheet: Sheet,
     row: &[u16; 640],
     path: &[u16; 8192],
     foil: Foil,
 ) -> bool
     requires { ⌜ foil .entries ≤ 128 ⌝ }
 {
-    if !same_strips(strips, board, row, foil) {
+    if !same_strips(strips, sheet, row, foil) {
         return false;
     }
     if !same_front(corners, path, 300) {
         return false;
     }
     if foil.width == 0 {
-        return sevens(table, 0);
+        return filled(table, 0, 2565, 7);
     }
-    same_front(table, row, 640) && sevens(table, 640)
+    same_table(table, row)
 }
 
 // Whether the answer to a look up is a number.
@@ -104,9 +113,9 @@ fn found(answer: Answer, place: usize) -> bool {
 
 // Whether a point at random, on the foil or just off it, is looked up as it should be.
 pub(crate) fn same_point(
-    table: &[u16; 645],
+    table: &[u16; 2565],
     strips: &[u16; 16388],
-    board: Board,
+    sheet: Sheet,
     row: &[u16; 640],
     foil: Foil,
     seed: u32,
@@ -115,7 +124,7 @@ pub(crate) fn same_point(
 {
     let x = below(seed, 42);
     let y = below(next(seed), 42);
-    let answer = look_up(table, strips, board, x, y);
+    let answer = look_up(table, strips, sheet, 0, x, y);
     if foil.width == 0 {
         return refused(answer, 13);
     }

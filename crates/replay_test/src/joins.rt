@@ -15,9 +15,9 @@ use crate::jobs::net;
 use crate::jobs::room;
 use boards::below;
 use boards::next;
-use foil::Done;
-use foil_spec::Board;
-use joining::join;
+use sheet::Sheet;
+use sheet::SheetDone;
+use sheet::join;
 use std::num::wrapping_sub_u16;
 ghost use Prim.Native.Nat.{_+_, _<_, _≤_};
 ghost use lib.ListN.{length};
@@ -73,7 +73,7 @@ fn choose_spot(strips: &[u16; 16388], row: &[u16; 640], stood: Stood, k: usize) 
             x: coordinate(stood.foil.width % 64 + 1, a),
             y: coordinate(stood.foil.height % 64 + 1, next(a)),
         },
-        2 | 3 | 4 => first_of(strips, strip(stood.board, a)),
+        2 | 3 | 4 => first_of(strips, strip(stood.sheet, a)),
         5 => Spot {
             x: row[k * 5 + 1],
             y: row[k * 5 + 2],
@@ -118,7 +118,7 @@ fn choose(strips: &[u16; 16388], row: &[u16; 640], stood: Stood) -> Asked
 // Joins a point by the call and on the plain foil, and compares the answers, the records and the lists.
 pub(crate) fn join_point(
     counts: &mut [u64; COUNTS],
-    table: &mut [u16; 645],
+    table: &mut [u16; 2565],
     strips: &mut [u16; 16388],
     corners: &mut [u16; 300],
     row: &mut [u16; 640],
@@ -129,7 +129,7 @@ pub(crate) fn join_point(
     ensures { λ r. ⌜ r .foil .entries ≤ 128 ⌝ }
 {
     let asked = choose(strips, row, stood);
-    let given = join_one(table, strips, corners, stood.board, asked);
+    let given = join_one(table, strips, corners, stood.sheet, asked);
     let want = plain_foil::join(
         row,
         path,
@@ -141,15 +141,15 @@ pub(crate) fn join_point(
     );
     count_join(counts, want.number);
     let answer = given.answer;
-    let board = given.board;
+    let sheet = given.sheet;
     let foil = want.foil;
     if !same_laid(answer, want.number, want.corners)
-        || !same(table, strips, corners, board, row, path, foil)
+        || !same(table, strips, corners, sheet, row, path, foil)
     {
         count(counts, DIFFERENT);
     }
     Stood {
-        board,
+        sheet,
         foil,
         at: stood.at,
         point: stood.point,
@@ -167,15 +167,15 @@ fn count_join(counts: &mut [u64; COUNTS], number: u8) {
 
 // Joins a point by the call, with so many corner places lent.
 fn join_one(
-    table: &mut [u16; 645],
+    table: &mut [u16; 2565],
     strips: &mut [u16; 16388],
     corners: &mut [u16; 300],
-    board: Board,
+    sheet: Sheet,
     asked: Asked,
-) -> Done
+) -> SheetDone
     requires { ⌜ asked .room ≤ 150 ⌝ }
 {
-    join_front(table, strips, corners, asked.room * 2, board, asked)
+    join_front(table, strips, corners, asked.room * 2, sheet, asked)
 }
 
 // Joins a point with the first n numbers of the corner list lent.
@@ -184,16 +184,17 @@ fn join_front(
     strips: &mut [u16],
     corners: &mut [u16],
     n: usize,
-    board: Board,
+    sheet: Sheet,
     asked: Asked,
-) -> Done
+) -> SheetDone
     requires { ⌜ n ≤ length (now corners) ⌝ }
 {
     join(
         table,
         strips,
         &mut corners[..n],
-        board,
+        sheet,
+        0,
         asked.net,
         asked.x,
         asked.y,

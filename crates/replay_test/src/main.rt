@@ -1,6 +1,7 @@
-// Replays random job files beside a plain foil, with a find and a book or a join now and then, and writes how many
-// records there were, how many steps were accepted and refused by each number, and how often the two differ: in an
-// answer, in the record, in the table, the strips or the corner list, or in the strip of a point that is looked up.
+// Replays random job files on foil 0 of a sheet else empty beside a plain foil, with a find and a book or a join now and
+// then, and writes how many records there were, how many steps were accepted and refused by each number, and how often
+// the two differ: in an answer, in the record, in the table, the strips or the corner list, or in the strip of a point
+// that is looked up.
 mod compare;
 mod drawings;
 mod holds;
@@ -8,12 +9,13 @@ mod jobs;
 mod joins;
 
 use boards::next;
-use foil_spec::Board;
-use job::Replied;
-use job::run_record;
 use jobs::Made;
 use plain_foil::Foil;
 use plain_foil::Ran;
+use sheet::Sheet;
+use sheet::SheetReplied;
+use sheet::run_record;
+use sheet_rows::no_foils;
 ghost use Prim.Native.Nat.{_<_, _≤_};
 ghost use lib.ListN.{length};
 
@@ -56,10 +58,10 @@ fn count_number(counts: &mut [u64; COUNTS], number: u8) {
     }
 }
 
-// Where a job stands: the record by the calls, the plain foil, the place of the next record, and the number for a
-// point.
+// Where a job stands: the sheet's records by the calls, the plain foil, the place of the next record, and the number
+// for a point.
 struct Stood {
-    board: Board,
+    sheet: Sheet,
     foil: Foil,
     at: usize,
     point: u32,
@@ -70,14 +72,7 @@ fn unbegun(seed: u32) -> Stood
     ensures { λ r. ⌜ (r .foil .entries ≤ 128) × (r .at ≤ 60000) ⌝ }
 {
     Stood {
-        board: Board {
-            width: 0,
-            height: 0,
-            half: 0,
-            gap: 0,
-            entries: 0,
-            strips: 0,
-        },
+        sheet: no_foils(),
         foil: Foil {
             width: 0,
             height: 0,
@@ -111,17 +106,17 @@ fn count_record(counts: &mut [u64; COUNTS], want: Ran) {
 
 // Runs a record by the call, with so many corner places lent.
 fn run_one(
-    table: &mut [u16; 645],
+    table: &mut [u16; 2565],
     strips: &mut [u16; 16388],
     corners: &mut [u16; 300],
     room: usize,
-    board: Board,
+    sheet: Sheet,
     bytes: &[u8],
     at: usize,
-) -> Replied
+) -> SheetReplied
     requires { ⌜ room ≤ 150 ⌝ }
 {
-    run_front(table, strips, corners, room * 2, board, bytes, at)
+    run_front(table, strips, corners, room * 2, sheet, bytes, at)
 }
 
 // Runs a record with the first n numbers of the corner list lent.
@@ -130,21 +125,21 @@ fn run_front(
     strips: &mut [u16],
     corners: &mut [u16],
     n: usize,
-    board: Board,
+    sheet: Sheet,
     bytes: &[u8],
     at: usize,
-) -> Replied
+) -> SheetReplied
     requires { ⌜ n ≤ length (now corners) ⌝ }
 {
-    run_record(table, strips, &mut corners[..n], board, bytes, at)
+    run_record(table, strips, &mut corners[..n], sheet, 0, bytes, at)
 }
 
 // Whether the foil by the calls and the plain one agree, also in the strip of a point at random.
 fn agree(
-    table: &[u16; 645],
+    table: &[u16; 2565],
     strips: &[u16; 16388],
     corners: &[u16; 300],
-    given: Replied,
+    given: SheetReplied,
     row: &[u16; 640],
     path: &[u16; 8192],
     want: Ran,
@@ -156,16 +151,16 @@ fn agree(
     if !compare::same_reply(reply, want) {
         return false;
     }
-    if !holds::same(table, strips, corners, given.board, row, path, want.foil) {
+    if !holds::same(table, strips, corners, given.sheet, row, path, want.foil) {
         return false;
     }
-    holds::same_point(table, strips, given.board, row, want.foil, point)
+    holds::same_point(table, strips, given.sheet, row, want.foil, point)
 }
 
 // Runs a record on both foils, and counts what came of it.
 fn replay_one(
     counts: &mut [u64; COUNTS],
-    table: &mut [u16; 645],
+    table: &mut [u16; 2565],
     strips: &mut [u16; 16388],
     corners: &mut [u16; 300],
     row: &mut [u16; 640],
@@ -177,16 +172,16 @@ fn replay_one(
     requires { ⌜ (stood .foil .entries ≤ 128) × (stood .at ≤ 60000) × (room ≤ 150) ⌝ }
     ensures { λ r. ⌜ r .foil .entries ≤ 128 ⌝ }
 {
-    let given = run_one(table, strips, corners, room, stood.board, bytes, stood.at);
+    let given = run_one(table, strips, corners, room, stood.sheet, bytes, stood.at);
     let want = plain_foil::record(row, path, stood.foil, room, bytes, stood.at);
     let point = next(stood.point);
     let foil = want.foil;
-    let board = given.board;
+    let sheet = given.sheet;
     count_record(counts, want);
     if !agree(table, strips, corners, given, row, path, want, point) {
         count(counts, DIFFERENT);
         return Stood {
-            board,
+            sheet,
             foil,
             at: compare::NOWHERE,
             point,
@@ -194,7 +189,7 @@ fn replay_one(
     }
     let reply = given.reply;
     let after = Stood {
-        board,
+        sheet,
         foil,
         at: compare::next_place(reply),
         point,
@@ -206,7 +201,7 @@ fn replay_one(
 // join.
 fn between(
     counts: &mut [u64; COUNTS],
-    table: &mut [u16; 645],
+    table: &mut [u16; 2565],
     strips: &mut [u16; 16388],
     corners: &mut [u16; 300],
     row: &mut [u16; 640],
@@ -230,7 +225,7 @@ fn between(
 fn replay(counts: &mut [u64; COUNTS], bytes: &[u8], room: usize, seed: u32)
     requires { ⌜ room ≤ 150 ⌝ }
 {
-    let mut table = [7u16; 645];
+    let mut table = [7u16; 2565];
     let mut strips = [7u16; 16388];
     let mut corners = [7u16; 300];
     let mut row = [0u16; 640];

@@ -13,11 +13,6 @@ pub(crate) fn square(side: u16, half: u16, gap: u16, entries: usize, strips: usi
     }
 }
 
-// A record of zeros, to begin a foil on.
-pub(crate) fn no_board() -> Board {
-    square(0, 0, 0, 0, 0)
-}
-
 // Whether the records are the same.
 pub(crate) fn same_board(a: Board, b: Board) -> bool {
     a.width == b.width

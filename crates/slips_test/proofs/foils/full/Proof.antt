@@ -5,13 +5,13 @@ use Rattle.slips_test.proofs.foils.full.Statement.{statement}
 use Rattle.slips_test.proofs.foils.full.Tie as tie
 
 abbrev Inv-loop : tie.InvT-loop
-Inv-loop table₀ strips₀ board₀ k₀ table strips board k = k ≤ 128
+Inv-loop table₀ strips₀ sheet₀ k₀ table strips sheet k = k ≤ 128
 
 abbrev μ-loop : tie.MeasureT-loop
-μ-loop table₀ strips₀ board₀ k₀ table strips board k = 128 - k
+μ-loop table₀ strips₀ sheet₀ k₀ table strips sheet k = 128 - k
 
-no-board-requires : tie.Need-no-board-requires Inv-loop μ-loop
-no-board-requires c κs = search needs
+no-foils-requires : tie.Need-no-foils-requires Inv-loop μ-loop
+no-foils-requires c κs = search needs
 
 new-foil-requires : tie.Need-new-foil-requires Inv-loop μ-loop
 new-foil-requires c κs = search needs
@@ -49,7 +49,7 @@ full-spec =
     (tie.spec
     Inv-loop
     μ-loop
-    no-board-requires
+    no-foils-requires
     new-foil-requires
     loop-holds
     sub-with-leg

@@ -5,13 +5,13 @@ use Rattle.slips_test.proofs.foils.widest.Statement.{statement}
 use Rattle.slips_test.proofs.foils.widest.Tie as tie
 
 abbrev Inv-loop : tie.InvT-loop
-Inv-loop table₀ strips₀ board₀ counter₀ table strips board counter = counter ≤ 128
+Inv-loop table₀ strips₀ sheet₀ counter₀ table strips sheet counter = counter ≤ 128
 
 abbrev μ-loop : tie.MeasureT-loop
-μ-loop table₀ strips₀ board₀ counter₀ table strips board counter = 128 - counter
+μ-loop table₀ strips₀ sheet₀ counter₀ table strips sheet counter = 128 - counter
 
-no-board-requires : tie.Need-no-board-requires Inv-loop μ-loop
-no-board-requires c κs = search needs
+no-foils-requires : tie.Need-no-foils-requires Inv-loop μ-loop
+no-foils-requires c κs = search needs
 
 new-foil-requires : tie.Need-new-foil-requires Inv-loop μ-loop
 new-foil-requires c κs = search needs
@@ -43,7 +43,7 @@ widest-spec =
     (tie.spec
     Inv-loop
     μ-loop
-    no-board-requires
+    no-foils-requires
     new-foil-requires
     with-leg-requires
     loop-holds

@@ -13,8 +13,8 @@ Inv-loop table₀ strips₀ last₀ k₀ table strips last k =
 abbrev μ-loop : tie.MeasureT-loop
 μ-loop table₀ strips₀ last₀ k₀ table strips last k = 128 - k
 
-no-board-requires : tie.Need-no-board-requires Inv-loop μ-loop
-no-board-requires c κs = search needs
+no-foils-requires : tie.Need-no-foils-requires Inv-loop μ-loop
+no-foils-requires c κs = search needs
 
 new-foil-requires : tie.Need-new-foil-requires Inv-loop μ-loop
 new-foil-requires c κs = search needs
@@ -49,7 +49,7 @@ equal-patches-spec =
     (tie.spec
     Inv-loop
     μ-loop
-    no-board-requires
+    no-foils-requires
     new-foil-requires
     loop-holds
     draw-requires
