@@ -1,5 +1,5 @@
-// The call book: takes a way over as a track, whoever drew it. Like the other calls it has no `requires`: it is its
-// refusals by 12 and 13, and then a body (`book_in`). What it books by is open to calls that search a path first.
+// The body of the call book (`book_in`): takes a way over as a track, whoever drew it. What it books by is open to
+// calls that search a path first.
 mod tracks;
 mod way;
 
@@ -11,12 +11,9 @@ use booking::in_use;
 use booking::leg_count;
 use booking::take_over;
 use foil::Answer;
-use foil::Checked;
 use foil::Done;
-use foil::lent_refusal;
 use foil::refuse;
 use foil_spec::Board;
-use foil_spec::MAX_ENTRIES;
 use foil_spec::TABLE_SIZE;
 use state::net_ok;
 pub use tracks::PATH_SIZE;
@@ -35,23 +32,11 @@ ghost use Rattle.foil_spec.specs.Ledger.{book as books};
 ghost use Rattle.foil_spec.specs.Lent.{lent, layoutOf, penIn, held, sound};
 ghost use Rattle.zones.specs.Table.{Table};
 ghost use Rattle.booking.specs.Booked.{Booking};
-ghost use Rattle.foil.specs.Contract.{StepDone, StepIn};
+ghost use Rattle.foil.specs.Contract.{StepIn};
 ghost use Rattle.drawn.specs.Booking.{withLegs, MayBook};
 
-// Books the way that the lent list draws, all of it, as a track of the net: appends an entry for each leg. The list is
-// only read.
-pub fn book(table: &mut [u16], strips: &mut [u16], board: Board, net: u16, corners: &[u16]) -> Done
-    ensures { λ r. ⌜ StepDone (books net (now (corners .entry)))
-        (lent board (now (table .entry)) (now (strips .entry))) r (now (table .exit)) (now (strips .exit)) ⌝ }
-{
-    let checked = lent_refusal(table, strips, board);
-    if let Checked::Refused(number) = checked {
-        return refuse(number, board);
-    }
-    book_in(table, strips, board, MAX_ENTRIES, net, corners)
-}
-
-// Books a way on a foil that keeps the rules and may have so many entries.
+// Books the way that the lent list draws, all of it, as a track of the net, on a foil that keeps the rules and may have
+// so many entries: appends an entry for each leg. The list is only read.
 pub fn book_in(
     table: &mut [u16],
     strips: &mut [u16],

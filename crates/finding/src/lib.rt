@@ -1,9 +1,8 @@
-// The call find: writes the corners of the first path of fewest bends, and changes nothing else. Like the other calls
-// it has no `requires`: it is its refusals by 12 and 13, and then a body (`find_in`). What it seeks by is open to lay.
+// The body of the call find (`find_in`): writes the corners of the first path of fewest bends, and changes nothing
+// else. What it seeks by is open to lay.
 use booking::bend_count;
 use foil::Answer;
 use foil::Checked;
-use foil::lent_refusal;
 use foil_spec::Board;
 use search::first_path;
 use strips::Place;
@@ -16,32 +15,12 @@ ghost use mathlib.Core.Bool.{true};
 ghost use Rattle.foil_spec.specs.Foil.{point};
 ghost use Rattle.foil_spec.specs.Ledger.{find as finds, blocked};
 ghost use Rattle.foil_spec.specs.Lent.{lent, layoutOf, penIn, held, sound};
-ghost use Rattle.foil.specs.Contract.{WriteDone};
+ghost use Rattle.foil.specs.Contract.{ReadIn};
 ghost use Rattle.finding.specs.Points.{OffFoil, PointsChecked};
 ghost use Rattle.finding.specs.Found.{Posed, Found};
 
-// Finds the track from (sx, sy) to (tx, ty): writes its corners to the front of the corner list.
-pub fn find(
-    corners: &mut [u16],
-    table: &[u16],
-    strips: &[u16],
-    board: Board,
-    sx: u16,
-    sy: u16,
-    tx: u16,
-    ty: u16,
-) -> Answer
-    ensures { λ r. ⌜ WriteDone (finds (point sx sy) (point tx ty))
-        (lent board (now (table .entry)) (now (strips .entry))) (now (corners .entry)) r (now (corners .exit)) ⌝ }
-{
-    let checked = lent_refusal(table, strips, board);
-    if let Checked::Refused(number) = checked {
-        return Answer::Refused(number);
-    }
-    find_in(corners, table, strips, board, sx, sy, tx, ty)
-}
-
-// Finds a track on a foil that keeps the rules.
+// Finds the track from (sx, sy) to (tx, ty) on a foil that keeps the rules: writes its corners to the front of the
+// corner list.
 pub fn find_in(
     corners: &mut [u16],
     table: &[u16],
@@ -53,7 +32,7 @@ pub fn find_in(
     ty: u16,
 ) -> Answer
     requires { ⌜ sound (lent board (now table) (now strips)) ≡ true ⌝ }
-    ensures { λ r. ⌜ WriteDone (finds (point sx sy) (point tx ty))
+    ensures { λ r. ⌜ ReadIn (finds (point sx sy) (point tx ty))
         (lent board (now (table .entry)) (now (strips .entry))) (now (corners .entry)) r (now (corners .exit)) ⌝ }
 {
     let checked = points_refusal(table, strips, board, sx, sy, tx, ty);

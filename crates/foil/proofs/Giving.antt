@@ -2,7 +2,7 @@
 use Prim.Native.Nat.{ℕ, _/_, _≤_, _<_}
 use native.Mathlib.Omega.{arith}
 use mathlib.Core.Path.{_≡_, refl, sym, ap, _∙_, subst}
-use mathlib.Core.Bool.{Bool, true, false, not, and-true}
+use mathlib.Core.Bool.{Bool, true, false, not}
 use mathlib.Core.List.{List}
 use mathlib.Core.Logic.{⊎-elim}
 use mathlib.Core.Option.{Option, none, some}
@@ -11,7 +11,7 @@ use borrow.Author.Tests.{lt-ltb, le-ltb, not-true}
 use lib.ListN.{length}
 use Rattle.foil_spec.specs.Limits.{maxEntries, tableSize, maxStrips, stripsSize}
 use Rattle.foil_spec.specs.Foil.{Layout}
-use Rattle.foil_spec.specs.Ledger.{Room, short, Step, says, next, Refusal, first, reads, refusals, afterLent}
+use Rattle.foil_spec.specs.Ledger.{Room, short, Step, says, next, Refusal, first, refusals, afterLent}
 use Rattle.foil_spec.specs.Ledger.{After, settle, refusalOf}
 use Rattle.foil_spec.specs.Ledger.{Answer as Outcome}
 use Rattle.foil_spec.specs.Lent.{Lent, lent, held, store, sound, roomIn, stepOn, outputAfter}
@@ -19,7 +19,6 @@ use Rattle.foil_spec.specs.declared.Board.{Board}
 use Rattle.list_laws.proofs.Tests.{lt-or-le}
 use Rattle.ledger_laws.proofs.Refusals.{own-refused}
 use Rattle.ledger_laws.proofs.Stored.{Long}
-use Rattle.ledger_laws.proofs.Sound.{sound-long}
 use Rattle.ledger_laws.proofs.Lending.{long-lists}
 use Rattle.booking.specs.Booked.{Stored, Unchanged}
 use Rattle.foil.specs.declared.Answer.the-variants.{Accepted}
@@ -57,19 +56,6 @@ long-room m n limit output =
       le-ltb (length (m .table) / 5) maxEntries (omega (arith, n .table)),
       le-ltb (length (m .strips) / 4) maxStrips (omega (arith, n .strips)),
     )
-
--- lists that keep the rules are long enough
-pub sound-room : (m : Lent) → sound m ≡ true → (limit output : ℕ) → short (roomIn limit m output) ≡ false
-sound-room m g = long-room m (sound-long m g)
-
--- what has passed the checks for what is lent keeps the rules
-pub passed-sound : (m : Lent) (k : Checked) → LentChecked m k → k ≡ checked.Passed → sound m ≡ true
-passed-sound m k f e = subst (LentChecked m) e f
-
--- what has not is refused by the number that they gave
-pub checked-by : (m : Lent) (k : Checked) → LentChecked m k → (n : ℕ) → k ≡ checked.Refused n
-    → LentChecked m (checked.Refused n)
-checked-by m k f n e = subst (LentChecked m) e f
 
 -- refusals of which none applies, and of which the first has a number
 module _ (rs : List Refusal) (k : Checked) (f : FirstChecked rs k) where
@@ -109,19 +95,8 @@ module _ (c : Step) (m : Lent) (n : ℕ) (d : Done) (q : d ≡ refusedBy n (m .b
   unfolding stepOn
   step-refused r e = gave-refused _ _ m n d e q
 
-  -- a call that reads what is lent, refused by 12 or 13
-  lent-first : reads c ≡ true → (limit output : ℕ) → LentChecked m (checked.Refused n)
-      → refusalOf (roomIn limit m output) (not (sound m)) c (held m) ≡ some n
-  unfolding refusalOf
-  lent-first f limit output k =
-      rw (f, and-true (not (sound m))) (k limit output (refusals c (roomIn limit m output) (held m)))
-
-  pub lent-refused : reads c ≡ true → (limit output : ℕ) → LentChecked m (checked.Refused n)
-      → Gave (stepOn (roomIn limit m output) c m) d (m .table) (m .strips)
-  lent-refused f limit output k = step-refused (roomIn limit m output) (lent-first f limit output k)
-
   -- the same with an output list, which stays as it is
-  pub wrote-refused : (r : Room) (out : List ℕ) → refusalOf r (not (sound m)) c (held m) ≡ some n
+  wrote-refused : (r : Room) (out : List ℕ) → refusalOf r (not (sound m)) c (held m) ≡ some n
       → Wrote c r m out d (m .table) (m .strips) out
   unfolding stepOn settle outputAfter
   wrote-refused r out e = record { gave = step-refused r e; output = rw e refl }
@@ -139,10 +114,6 @@ module _ (c : Step) (m : Lent) (n : ℕ) (d : Done) (q : d ≡ refusedBy n (m .b
       wrote-refused r out
       (ap (λ (b : Bool). refusalOf r (not b) c (held m)) g ∙ own-refused r c (held m) false long refl ∙ e)
 
-  pub lent-wrote : reads c ≡ true → (limit : ℕ) (out : List ℕ) → LentChecked m (checked.Refused n)
-      → Wrote c (roomIn limit m (length out)) m out d (m .table) (m .strips) out
-  lent-wrote f limit out k = wrote-refused (roomIn limit m (length out)) out (lent-first f limit (length out) k)
-
 -- ---- 12 and 13
 
 module _ (b : Board) (t s : List ℕ) (k : Bool) (k-is : TooShort t s k) where
@@ -157,13 +128,6 @@ module _ (b : Board) (t s : List ℕ) (k : Bool) (k-is : TooShort t s k) where
       → LentChecked (lent b t s) (checked.Refused 13)
   unfolding afterLent first
   broken e g g-is y limit output rs = rw (sym (k-is .is b limit output) ∙ e, sym g-is ∙ not-true g y) refl
-
-  pub new-short : (c : Step) (d : Done) → k ≡ true → d ≡ refusedBy 12 b → (limit output : ℕ)
-      → Gave (stepOn (roomIn limit (lent b t s) output) c (lent b t s)) d t s
-  unfolding refusalOf afterLent first
-  new-short c d e q limit output =
-      step-refused c (lent b t s) 12 d q (roomIn limit (lent b t s) output)
-      (rw (sym (k-is .is b limit output) ∙ e) refl)
 
 -- ---- a step that is accepted
 

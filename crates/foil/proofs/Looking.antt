@@ -2,70 +2,55 @@
 use Prim.Native.Nat.{ℕ, _*_, _≤_, _<_}
 use native.Mathlib.Omega.{arith}
 use mathlib.Core.Path.{_≡_, refl, sym, ap, _∙_, subst}
-use mathlib.Core.Bool.{Bool, true, false, not, and-true, or-true}
-use mathlib.Core.List.{List}
-use mathlib.Core.Option.{Option, none, some}
+use mathlib.Core.Bool.{true, false, not, or-true}
+use mathlib.Core.List.{List, []}
+use mathlib.Core.Option.{none}
 use lib.ListN.{length}
 use borrow.Author.Tests.{lt-leb, le-leb}
-use Rattle.foil_spec.specs.Limits.{maxEntries}
 use Rattle.foil_spec.specs.Foil.{Point, free}
 use Rattle.foil_spec.specs.Strips.{placeOf}
-use Rattle.foil_spec.specs.Ledger.{lookUp, stripsOf, offFoil, blocked, next, says, first, reads, refusals, settle}
+use Rattle.foil_spec.specs.Ledger.{Room, lookUp, stripsOf, offFoil, blocked, next, says, first, refusals, settle}
 use Rattle.foil_spec.specs.Ledger.{refusalOf}
-use Rattle.foil_spec.specs.Lent.{Lent, lent, layoutOf, held, sound, roomOf, listedStrips, stepOn}
+use Rattle.foil_spec.specs.Lent.{Lent, lent, layoutOf, held, sound, listedStrips, stepOn, outputAfter}
 use Rattle.foil_spec.specs.declared.Board.{Board}
 use Rattle.list_laws.proofs.Tests.{both}
-use Rattle.ledger_laws.proofs.Refusals.{own-refused}
 use Rattle.ledger_laws.proofs.Stored.{strips-fit, length-strips}
 use Rattle.ledger_laws.proofs.Sound.{Sound, of-sound, sound-long, sound-store-is, strips-listed}
 use Rattle.strips.specs.Places.{placeIn}
 use Rattle.strips.specs.declared.Place.the-variants.{At, Nowhere}
 use Rattle.strips.proofs.Placing.{place-free, place-blocked}
-use Rattle.foil.specs.Contract.{answerOf, Looked, LentChecked}
+use Rattle.foil.specs.Contract.{answerOf, Read, ReadIn}
+use Rattle.foil.specs.declared.Answer.{Answer}
 use Rattle.foil.specs.declared.Answer.the-variants.{Refused, Found}
-use Rattle.foil.specs.declared.lent.Checked.the-variants as checked
-use Rattle.foil.proofs.Giving.{sound-room}
+use Rattle.foil.proofs.Writing.{own, own-unwritten}
 
 module _ (b : Board) (t s : List ℕ) (p : Point) where
   abbrev m : Lent
   m = lent b t s
 
-  -- the number that the call is refused by
-  abbrev refusal : Option ℕ
-  refusal = refusalOf (roomOf m 0) (not (sound m)) (lookUp p) (held m)
+  -- what a look up is to answer, in each room that is long enough
+  abbrev Looked : Answer → Type 0
+  Looked a = ReadIn (lookUp p) m [] a []
 
-  -- a look up leaves all as it is
-  looked-refused : (n : ℕ) → refusal ≡ some n → Looked p m (Refused n)
-  unfolding stepOn settle answerOf
-  looked-refused n e = record { answer = rw e refl; state = rw e refl }
-
-  looked-found : Sound m → refusal ≡ none → Looked p m (Found (placeOf p (stripsOf (held m))))
-  unfolding stepOn settle answerOf says next
-  looked-found k e = record { answer = rw e refl; state = rw e (sym (sound-store-is m k)) }
-
-  pub look-refused : (n : ℕ) → LentChecked m (checked.Refused n) → Looked p m (Refused n)
-  unfolding refusalOf reads
-  look-refused n k =
-      looked-refused n (rw (and-true (not (sound m))) (k maxEntries 0 (refusals (lookUp p) (roomOf m 0) (held m))))
+  looked-found : (room : Room) → Sound m → refusalOf room (not (sound m)) (lookUp p) (held m) ≡ none
+      → Read (lookUp p) room m [] (Found (placeOf p (stripsOf (held m)))) []
+  unfolding stepOn settle answerOf says next outputAfter
+  looked-found room k e =
+      record { answer = rw e refl; state = rw e (sym (sound-store-is m k)); output = rw e refl }
 
   module _ (g : sound m ≡ true) where
     facts : Sound m
     facts = of-sound m g
 
-    from-7 : refusal ≡ first (refusals (lookUp p) (roomOf m 0) (held m))
-    from-7 =
-        ap (λ (x : Bool). refusalOf (roomOf m 0) (not x) (lookUp p) (held m)) g
-        ∙ own-refused (roomOf m 0) (lookUp p) (held m) false (sound-room m g maxEntries 0) refl
-
-    off : offFoil (held m) p ≡ true → Looked p m (Refused 7)
+    off : offFoil (held m) p ≡ true → Looked (Refused 7)
     unfolding first refusals
-    off e = looked-refused 7 (from-7 ∙ rw e refl)
+    off e room long none-lent = own-unwritten (lookUp p) m [] room g long 7 (rw e refl)
 
-    pub off-right : b .width ≤ p .x → Looked p m (Refused 7)
+    pub off-right : b .width ≤ p .x → Looked (Refused 7)
     unfolding offFoil held layoutOf
     off-right l = off (simp (le-leb (b .width) (p .x) l))
 
-    pub off-below : b .height ≤ p .y → Looked p m (Refused 7)
+    pub off-below : b .height ≤ p .y → Looked (Refused 7)
     unfolding offFoil held layoutOf
     off-below l = off (simp (le-leb (b .height) (p .y) l, or-true))
 
@@ -112,16 +97,18 @@ module _ (b : Board) (t s : List ℕ) (p : Point) where
           (λ f. rw f refl)
           (λ f. let h = at-blocked f in absurd (let z : _≡_ {A = ℕ} 0 1 = cc in omega arith))
 
-      pub nowhere : placeIn p (listedStrips s (b .strips)) ≡ Nowhere → Looked p m (Refused 8)
+      pub nowhere : placeIn p (listedStrips s (b .strips)) ≡ Nowhere → Looked (Refused 8)
       unfolding first refusals
-      nowhere e = looked-refused 8 (from-7 ∙ rw (on-foil, sym (nowhere-blocked e)) refl)
+      nowhere e room long none-lent =
+          own-unwritten (lookUp p) m [] room g long 8 (rw (on-foil, sym (nowhere-blocked e)) refl)
 
-      pub somewhere : (k : ℕ) → placeIn p (listedStrips s (b .strips)) ≡ At k → Looked p m (Found k)
+      pub somewhere : (k : ℕ) → placeIn p (listedStrips s (b .strips)) ≡ At k → Looked (Found k)
       unfolding first refusals blocked
-      somewhere k e =
+      somewhere k e room long none-lent =
           both (free (held m) (p .x) (p .y))
           (λ f.
           let h = at-free f in
           let q : placeOf p (stripsOf (held m)) ≡ k = cc in
-          subst (λ (i : ℕ). Looked p m (Found i)) q (looked-found facts (from-7 ∙ rw (on-foil, f) refl)))
+          subst (λ (i : ℕ). Read (lookUp p) room m [] (Found i) []) q
+          (looked-found room facts (own (lookUp p) m [] room g long ∙ rw (on-foil, f) refl)))
           (λ f. let h = at-blocked f in absurd (let z : _≡_ {A = ℕ} 0 1 = cc in omega arith))

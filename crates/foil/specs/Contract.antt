@@ -1,15 +1,15 @@
--- What the contracts of the calls say: answer, record and lists are what the definitions give.
+-- What the contracts of the steps say: answer, record and lists are what the definitions give.
 use Prim.Native.Nat.{ℕ}
 use mathlib.Core.Path.{_≡_}
 use mathlib.Core.Bool.{Bool, true, false, not}
 use mathlib.Core.List.{List, [], _∷_, _++_}
 use mathlib.Core.Option.{none, some}
 use lib.ListN.{length}
-use Rattle.foil_spec.specs.Foil.{Point, Entry, pen, Layout}
-use Rattle.foil_spec.specs.Ledger.{withEntries, Room, short, tooLong, tooFine, Step, lookUp, Refusal, _⇒_, first}
+use Rattle.foil_spec.specs.Foil.{Entry, pen, Layout}
+use Rattle.foil_spec.specs.Ledger.{withEntries, Room, short, tooLong, tooFine, Step, Refusal, _⇒_, first}
 use Rattle.foil_spec.specs.Ledger.{Clearance, byPen, byReach, afterLent, After, settle}
 use Rattle.foil_spec.specs.Ledger.{Answer as Outcome, refused, accepted, laid, found, wrote, booked}
-use Rattle.foil_spec.specs.Lent.{Lent, lent, held, store, sound, roomIn, roomOf, stepOn, outputAfter}
+use Rattle.foil_spec.specs.Lent.{Lent, lent, held, store, sound, roomIn, stepOn, outputAfter}
 use Rattle.foil_spec.specs.declared.Board.{Board}
 use Rattle.foil.specs.declared.Answer.{Answer}
 use Rattle.foil.specs.declared.Answer.the-variants.{Refused, Accepted, Laid, Found, Wrote as WroteBytes}
@@ -40,10 +40,6 @@ pub record Gave (a : After Outcome Lent) (d : Done) (t s : List ℕ) : Type 0 wh
   pub table : t ≡ a .state .table
   pub strips : s ≡ a .state .strips
 
--- a call that is one step, lent m and no output list, on a foil that may fill its table
-abbrev pub StepDone : Step → Lent → Done → List ℕ → List ℕ → Type 0
-StepDone c m d t s = Gave (stepOn (roomOf m 0) c m) d t s
-
 -- a step that is lent m, in any room that is long enough, on a foil of so many entries at most
 abbrev pub StepIn : Step → ℕ → Lent → Done → List ℕ → List ℕ → Type 0
 StepIn c limit m d t s = (r : Room) → short r ≡ false → r .limit ≡ limit → Gave (stepOn r c m) d t s
@@ -53,25 +49,21 @@ pub record Wrote (c : Step) (r : Room) (m : Lent) (out : List ℕ) (d : Done) (t
   pub gave : Gave (stepOn r c m) d t s
   pub output : out′ ≡ outputAfter (stepOn r c m .answer) out
 
--- a call that is one step, lent m and an output list
-abbrev pub OutputDone : Step → Lent → List ℕ → Done → List ℕ → List ℕ → List ℕ → Type 0
-OutputDone c m out d t s out′ = Wrote c (roomOf m (length out)) m out d t s out′
-
 -- the same in any room that is long enough, with so many places of output, on a foil of so many entries at most
 abbrev pub OutputIn : Step → ℕ → Lent → List ℕ → Done → List ℕ → List ℕ → List ℕ → Type 0
 OutputIn c limit m out d t s out′ =
     (r : Room) → short r ≡ false → r .limit ≡ limit → r .output ≡ length out → Wrote c r m out d t s out′
 
--- a look up of p was lent m, which it only reads, and answered r
-pub record Looked (p : Point) (m : Lent) (r : Answer) : Type 0 where
-  pub answer : r ≡ answerOf (stepOn (roomOf m 0) (lookUp p) m .answer)
-  pub state : m ≡ stepOn (roomOf m 0) (lookUp p) m .state
+-- a step in the room r that only reads what it is lent of the foil, m: it answered a, and left its output list out as
+-- out′
+pub record Read (c : Step) (r : Room) (m : Lent) (out : List ℕ) (a : Answer) (out′ : List ℕ) : Type 0 where
+  pub answer : a ≡ answerOf (stepOn r c m .answer)
+  pub state : m ≡ stepOn r c m .state
+  pub output : out′ ≡ outputAfter (stepOn r c m .answer) out
 
--- a step that only reads what it was lent of the foil, m, answered r and left its output list out as out′
-pub record WriteDone (c : Step) (m : Lent) (out : List ℕ) (r : Answer) (out′ : List ℕ) : Type 0 where
-  pub answer : r ≡ answerOf (stepOn (roomOf m (length out)) c m .answer)
-  pub state : m ≡ stepOn (roomOf m (length out)) c m .state
-  pub output : out′ ≡ outputAfter (stepOn (roomOf m (length out)) c m .answer) out
+-- the same in any room that is long enough, with so many places of output
+abbrev pub ReadIn : Step → Lent → List ℕ → Answer → List ℕ → Type 0
+ReadIn c m out a out′ = (r : Room) → short r ≡ false → r .output ≡ length out → Read c r m out a out′
 
 -- a refusal by its number
 abbrev pub refusedBy : ℕ → Board → Done
@@ -86,7 +78,7 @@ abbrev pub FirstChecked : List Refusal → Checked → Type 0
 FirstChecked rs checked.Passed = first rs ≡ none
 FirstChecked rs (checked.Refused n) = first rs ≡ some n
 
--- what is lent keeps the rules; or a call that reads it is refused by this number, whatever its own refusals are
+-- what is lent keeps the rules; or a step that reads it is refused by this number, whatever its own refusals are
 abbrev pub LentChecked : Lent → Checked → Type 0
 LentChecked m checked.Passed = sound m ≡ true
 LentChecked m (checked.Refused n) =

@@ -1,8 +1,7 @@
-// The calls on a foil that need no search, over slices of numbers: the table has five numbers a place,
-// the strip list four. None has a `requires`: whatever is lent, each answers, and changes only what
-// document 01 says. Each is its refusals by 12 and 13, and then a body (`.._in`) for a state that is
-// known to keep the rules, which takes the number of entries that the foil may have. Lay is in the
-// crate `laying`.
+// The steps on a foil that need no search, over slices of numbers: the table has five numbers a place,
+// the strip list four. Each is the body of a call (`.._in`): the crate `sheet` has taken the foil out of
+// its sheet and has tried 12 and 13 by `lent_refusal`, and the body is told how many entries the foil may
+// have. Lay is in the crate `laying`.
 mod lent;
 mod pens;
 
@@ -14,7 +13,6 @@ use booking::take_over;
 use booking::without;
 use foil_spec::Board;
 use foil_spec::Entry;
-use foil_spec::MAX_ENTRIES;
 use foil_spec::TABLE_SIZE;
 pub use lent::Checked;
 pub use lent::lent_refusal;
@@ -31,16 +29,16 @@ use strips::locate;
 ghost use mathlib.Core.Path.{_≡_};
 ghost use Prim.Native.Nat.{_≤_};
 ghost use mathlib.Core.Bool.{true, false};
-ghost use mathlib.Core.List.{map};
+ghost use mathlib.Core.List.{[], map};
 ghost use lib.ListN.{length};
 ghost use Rattle.foil_spec.specs.Lists.{range};
 ghost use Rattle.foil_spec.specs.Limits.{maxEntries, tableSize, stripsSize};
-ghost use Rattle.foil_spec.specs.Foil.{point, pen, entryOk, penRule};
-ghost use Rattle.foil_spec.specs.Ledger.{byPen, newFoil, draw as draws, lift as lifts, putLeg, Room, short};
+ghost use Rattle.foil_spec.specs.Foil.{point, entryOk, penRule};
+ghost use Rattle.foil_spec.specs.Ledger.{newFoil, draw as draws, lift as lifts, lookUp, putLeg, Room, short};
 ghost use Rattle.foil_spec.specs.Lent.{lent, entryAt, layoutOf, penIn, sound, stepOn};
 ghost use Rattle.zones.specs.Table.{Table};
 ghost use Rattle.booking.specs.Rows.{rowsOf};
-ghost use Rattle.foil.specs.Contract.{clearanceOf, Gave, StepDone, StepIn, Looked, takenOver};
+ghost use Rattle.foil.specs.Contract.{clearanceOf, Gave, StepIn, ReadIn, takenOver};
 ghost use Rattle.foil.specs.Contract.{entryAdded, refusedBy};
 
 // What a call answers: the number of a refusal, or that it is accepted, with the numbers of corners
@@ -60,27 +58,8 @@ pub struct Done {
     pub board: Board,
 }
 
-// Begins a foil of w by h with a pen of this half width and gap: an empty table, and one strip, what
-// the edge leaves, or none.
-pub fn new_foil(
-    table: &mut [u16],
-    strips: &mut [u16],
-    board: Board,
-    w: u16,
-    h: u16,
-    half: u16,
-    gap: u16,
-) -> Done
-    ensures { λ r. ⌜ StepDone (newFoil w h (byPen (pen half gap)))
-        (lent board (now (table .entry)) (now (strips .entry))) r (now (table .exit)) (now (strips .exit)) ⌝ }
-{
-    if lists_short(table, strips) {
-        return refuse(12, board);
-    }
-    new_foil_in(table, strips, board, w, h, Clearance::Pen(half, gap))
-}
-
-// Begins a foil on lists that are long enough, whatever they hold.
+// Begins a foil of w by h on lists that are long enough, whatever they hold: an empty table, and one
+// strip, what the edge leaves, or none.
 pub fn new_foil_in(
     table: &mut [u16],
     strips: &mut [u16],
@@ -117,27 +96,7 @@ pub fn new_foil_in(
     settle(table, strips, &rows, 0, bare)
 }
 
-// Draws a patch: appends an entry of net 0.
-pub fn draw(
-    table: &mut [u16],
-    strips: &mut [u16],
-    board: Board,
-    x0: u16,
-    y0: u16,
-    x1: u16,
-    y1: u16,
-) -> Done
-    ensures { λ r. ⌜ StepDone (draws x0 y0 x1 y1) (lent board (now (table .entry)) (now (strips .entry)))
-        r (now (table .exit)) (now (strips .exit)) ⌝ }
-{
-    let checked = lent_refusal(table, strips, board);
-    if let Checked::Refused(number) = checked {
-        return refuse(number, board);
-    }
-    draw_in(table, strips, board, MAX_ENTRIES, x0, y0, x1, y1)
-}
-
-// Draws a patch on a foil that keeps the rules and may have so many entries.
+// Draws a patch on a foil that keeps the rules and may have so many entries: appends an entry of net 0.
 pub fn draw_in(
     table: &mut [u16],
     strips: &mut [u16],
@@ -166,19 +125,8 @@ pub fn draw_in(
     add_entry(table, strips, board, limit, patch)
 }
 
-// Puts a leg as booked: appends an entry of its net, without a search.
-pub fn put_leg(table: &mut [u16], strips: &mut [u16], board: Board, leg: Entry) -> Done
-    ensures { λ r. ⌜ StepDone (putLeg leg) (lent board (now (table .entry)) (now (strips .entry)))
-        r (now (table .exit)) (now (strips .exit)) ⌝ }
-{
-    let checked = lent_refusal(table, strips, board);
-    if let Checked::Refused(number) = checked {
-        return refuse(number, board);
-    }
-    put_leg_in(table, strips, board, MAX_ENTRIES, leg)
-}
-
-// Puts a leg on a foil that keeps the rules and may have so many entries.
+// Puts a leg as booked on a foil that keeps the rules and may have so many entries: appends an entry
+// of its net, without a search.
 pub fn put_leg_in(
     table: &mut [u16],
     strips: &mut [u16],
@@ -233,19 +181,8 @@ fn add_entry(
     settle(table, strips, &rows, n + 1, board)
 }
 
-// Lifts a net: takes out all its entries, the rest keeping their order.
-pub fn lift(table: &mut [u16], strips: &mut [u16], board: Board, net: u16) -> Done
-    ensures { λ r. ⌜ StepDone (lifts net) (lent board (now (table .entry)) (now (strips .entry)))
-        r (now (table .exit)) (now (strips .exit)) ⌝ }
-{
-    let checked = lent_refusal(table, strips, board);
-    if let Checked::Refused(number) = checked {
-        return refuse(number, board);
-    }
-    lift_in(table, strips, board, net)
-}
-
-// Lifts a net from a foil that keeps the rules, however many entries it may have.
+// Lifts a net from a foil that keeps the rules, however many entries it may have: takes out all its
+// entries, the rest keeping their order.
 pub fn lift_in(table: &mut [u16], strips: &mut [u16], board: Board, net: u16) -> Done
     requires { ⌜ sound (lent board (now table) (now strips)) ≡ true ⌝ }
     ensures { λ r. ⌜ ((room : Room) → short room ≡ false
@@ -264,21 +201,11 @@ pub fn lift_in(table: &mut [u16], strips: &mut [u16], board: Board, net: u16) ->
     settle(table, strips, &rows, left, board)
 }
 
-// Looks a point up: the place of the one strip that holds it. Nothing is changed.
-pub fn look_up(table: &[u16], strips: &[u16], board: Board, x: u16, y: u16) -> Answer
-    ensures { λ r. ⌜ Looked (point x y) (lent board (now (table .entry)) (now (strips .entry))) r ⌝ }
-{
-    let checked = lent_refusal(table, strips, board);
-    if let Checked::Refused(number) = checked {
-        return Answer::Refused(number);
-    }
-    look_up_in(table, strips, board, x, y)
-}
-
-// Looks a point up on a foil that keeps the rules.
+// Looks a point up on a foil that keeps the rules: the place of the one strip that holds it. Nothing
+// is changed.
 pub fn look_up_in(table: &[u16], strips: &[u16], board: Board, x: u16, y: u16) -> Answer
     requires { ⌜ sound (lent board (now table) (now strips)) ≡ true ⌝ }
-    ensures { λ r. ⌜ Looked (point x y) (lent board (now (table .entry)) (now (strips .entry))) r ⌝ }
+    ensures { λ r. ⌜ ReadIn (lookUp (point x y)) (lent board (now (table .entry)) (now (strips .entry))) [] r [] ⌝ }
 {
     if board.width <= x {
         return Answer::Refused(7);

@@ -5,7 +5,6 @@ use mathlib.Core.Bool.{Bool, cond}
 use mathlib.Core.List.{List, [], _∷_}
 use mathlib.Core.Option.{Option, none, some}
 use lib.ListN.{length}
-use Rattle.foil_spec.specs.Limits.{maxEntries}
 use Rattle.foil_spec.specs.Ledger.{Answer, numberOf, After}
 use Rattle.foil_spec.specs.Lent.{Lent, roomIn}
 use Rattle.foil_spec.specs.Job.{has}
@@ -77,7 +76,3 @@ pub record Replies (on : ℕ → Bool) (a : After Outcome Lent) (out : List ℕ)
 abbrev pub RecordIn : ℕ → List ℕ → ℕ → Lent → List ℕ → Replied → List ℕ → List ℕ → List ℕ → Type 0
 RecordIn limit bs at m out r t s out′ =
     Replies (has bs at) (callOn (roomIn limit m (length out)) (runRecord bs at) m) out r t s out′
-
--- the same on a foil that may fill its table
-abbrev pub RecordDone : List ℕ → ℕ → Lent → List ℕ → Replied → List ℕ → List ℕ → List ℕ → Type 0
-RecordDone bs at m out r t s out′ = RecordIn maxEntries bs at m out r t s out′

@@ -10,14 +10,13 @@ use fields::field;
 use foil::Answer;
 use foil::Checked;
 use foil_spec::Board;
-use foil_spec::MAX_ENTRIES;
 use running::run_steps;
 ghost use mathlib.Core.Path.{_≡_};
 ghost use Prim.Native.Nat.{_≤_, _<_};
 ghost use Rattle.foil_spec.specs.Limits.{maxEntries};
 ghost use Rattle.foil_spec.specs.Lent.{lent};
 ghost use Rattle.foil_spec.specs.Job.{stepBits, field as fieldOf};
-ghost use Rattle.job.specs.Contract.{toldIn, RecordIn, RecordDone};
+ghost use Rattle.job.specs.Contract.{toldIn, RecordIn};
 ghost use Rattle.job.specs.Parts.{Given, refusedBy};
 
 // What a step of a record answered, if the record has that step and it was run.
@@ -80,24 +79,8 @@ pub struct Replied {
     pub board: Board,
 }
 
-// Runs the record that begins at place `at` of the job file's bytes.
-pub fn run_record(
-    table: &mut [u16],
-    strips: &mut [u16],
-    corners: &mut [u16],
-    board: Board,
-    bytes: &[u8],
-    at: usize,
-) -> Replied
-    ensures { λ r. ⌜ RecordDone (now (bytes .entry)) at
-        (lent board (now (table .entry)) (now (strips .entry))) (now (corners .entry))
-        r (now (table .exit)) (now (strips .exit)) (now (corners .exit)) ⌝ }
-{
-    run_record_in(table, strips, corners, board, MAX_ENTRIES, bytes, at)
-}
-
-// Runs the record on a foil that may have so many entries. What is lent is checked once, before its
-// steps.
+// Runs the record that begins at place `at` of the job file's bytes, on a foil that may have so many
+// entries. What is lent is checked once, before its steps.
 pub fn run_record_in(
     table: &mut [u16],
     strips: &mut [u16],

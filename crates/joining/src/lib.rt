@@ -1,18 +1,14 @@
-// The call join: finds the first path of fewest bends from a point to a net, over points that are free for the net, and
-// books it under the same net. Like the other calls it has no `requires`: it is its refusals by 12 and 13, and then a
-// body (`join_in`).
+// The body of the call join (`join_in`): finds the first path of fewest bends from a point to a net, over points that
+// are free for the net, and books it under the same net.
 use booking::append;
 use booking::in_use;
 use booking::without;
 use drawn::PATH_SIZE;
 use drawn::book_found;
 use drawn::is_way;
-use foil::Checked;
 use foil::Done;
-use foil::lent_refusal;
 use foil::refuse;
 use foil_spec::Board;
-use foil_spec::MAX_ENTRIES;
 use foil_spec::TABLE_SIZE;
 use foil_spec::entry_at;
 use search::first_path_to;
@@ -30,35 +26,14 @@ ghost use Rattle.foil_spec.specs.Limits.{maxEntries};
 ghost use Rattle.foil_spec.specs.Foil.{point};
 ghost use Rattle.foil_spec.specs.Ledger.{join as joins, freeFor, joinOf};
 ghost use Rattle.foil_spec.specs.Lent.{lent, layoutOf, penIn, sound};
-ghost use Rattle.foil.specs.Contract.{OutputDone, OutputIn};
+ghost use Rattle.foil.specs.Contract.{OutputIn};
 ghost use Rattle.booking.specs.Rows.{rowsOf};
 ghost use Rattle.search.specs.Search.{Found};
 ghost use Rattle.joining.specs.Sought.{Own, Known, Asked};
 ghost use Rattle.joining.specs.Ready.{ReadyToJoin};
 
-// Joins the point (sx, sy) to the net: writes the corners of the way to the front of the corner list, and appends an
-// entry of the same net for each leg.
-pub fn join(
-    table: &mut [u16],
-    strips: &mut [u16],
-    corners: &mut [u16],
-    board: Board,
-    net: u16,
-    sx: u16,
-    sy: u16,
-) -> Done
-    ensures { λ r. ⌜ OutputDone (joins net (point sx sy))
-        (lent board (now (table .entry)) (now (strips .entry))) (now (corners .entry))
-        r (now (table .exit)) (now (strips .exit)) (now (corners .exit)) ⌝ }
-{
-    let checked = lent_refusal(table, strips, board);
-    if let Checked::Refused(number) = checked {
-        return refuse(number, board);
-    }
-    join_in(table, strips, corners, board, MAX_ENTRIES, net, sx, sy)
-}
-
-// Joins a point on a foil that keeps the rules and may have so many entries.
+// Joins the point (sx, sy) to the net on a foil that keeps the rules and may have so many entries: writes the corners
+// of the way to the front of the corner list, and appends an entry of the same net for each leg.
 pub fn join_in(
     table: &mut [u16],
     strips: &mut [u16],

@@ -1,5 +1,5 @@
-// The call lay: finds the first path of fewest bends as `finding` does, and books it as `drawn` does. Like the other
-// calls it has no `requires`: it is its refusals by 12 and 13, and then a body (`lay_in`).
+// The body of the call lay (`lay_in`): finds the first path of fewest bends as `finding` does, and books it as `drawn`
+// does.
 use booking::in_use;
 use drawn::PATH_SIZE;
 use drawn::book_found;
@@ -7,10 +7,8 @@ use finding::path_between;
 use finding::points_refusal;
 use foil::Checked;
 use foil::Done;
-use foil::lent_refusal;
 use foil::refuse;
 use foil_spec::Board;
-use foil_spec::MAX_ENTRIES;
 use state::net_ok;
 ghost use mathlib.Core.Path.{_≡_};
 ghost use Prim.Native.Nat.{_≤_};
@@ -19,45 +17,11 @@ ghost use Rattle.foil_spec.specs.Limits.{maxEntries};
 ghost use Rattle.foil_spec.specs.Foil.{point};
 ghost use Rattle.foil_spec.specs.Ledger.{lay as lays};
 ghost use Rattle.foil_spec.specs.Lent.{lent, sound};
-ghost use Rattle.foil.specs.Contract.{OutputDone, OutputIn};
+ghost use Rattle.foil.specs.Contract.{OutputIn};
 ghost use Rattle.laying.specs.Ready.{ReadyToLay};
 
-// Lays a track of the net from (sx, sy) to (tx, ty): writes its corners to the front of the corner
-// list, and appends an entry for each leg.
-pub fn lay(
-    table: &mut [u16],
-    strips: &mut [u16],
-    corners: &mut [u16],
-    board: Board,
-    net: u16,
-    sx: u16,
-    sy: u16,
-    tx: u16,
-    ty: u16,
-) -> Done
-    ensures { λ r. ⌜ OutputDone (lays net (point sx sy) (point tx ty))
-        (lent board (now (table .entry)) (now (strips .entry))) (now (corners .entry))
-        r (now (table .exit)) (now (strips .exit)) (now (corners .exit)) ⌝ }
-{
-    let checked = lent_refusal(table, strips, board);
-    if let Checked::Refused(number) = checked {
-        return refuse(number, board);
-    }
-    lay_in(
-        table,
-        strips,
-        corners,
-        board,
-        MAX_ENTRIES,
-        net,
-        sx,
-        sy,
-        tx,
-        ty,
-    )
-}
-
-// Lays a track on a foil that keeps the rules and may have so many entries.
+// Lays a track of the net from (sx, sy) to (tx, ty) on a foil that keeps the rules and may have so many entries: writes
+// its corners to the front of the corner list, and appends an entry for each leg.
 pub fn lay_in(
     table: &mut [u16],
     strips: &mut [u16],

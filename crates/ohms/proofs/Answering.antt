@@ -1,4 +1,4 @@
--- The call, return by return.
+-- A net's resistance, return by return.
 use Prim.Native.Nat.{ℕ, _-_, _<_}
 use native.Mathlib.Omega.{arith}
 use mathlib.Core.Path.{_≡_, refl, sym, ap, ap₂, _∙_}
@@ -8,23 +8,17 @@ use mathlib.Core.Option.{none, some}
 use lib.Ieee.{Float}
 use borrow.Author.Tests.{not-true, not-false}
 use Rattle.foil_spec.specs.Lists.{range}
-use Rattle.foil_spec.specs.Limits.{maxEntries}
 use Rattle.foil_spec.specs.Foil.{Entry, Layout, netOk}
-use Rattle.foil_spec.specs.Ledger.{numberOf, first, afterLent}
-use Rattle.foil_spec.specs.Lent.{Lent, lent, entryAt, layoutOf, held, sound}
-use Rattle.foil_spec.specs.declared.Board.{Board}
+use Rattle.foil_spec.specs.Ledger.{numberOf, first}
+use Rattle.foil_spec.specs.Lent.{entryAt}
 use Rattle.foil_spec.specs.Nets.{inUse, netLength, netBends}
 use Rattle.foil_spec.specs.Ohms.{inkOk, formula, ohmsRefusals, ohmsOf}
 use Rattle.foil_spec.specs.declared.Ink.{Ink}
-use Rattle.foil_spec.specs.Calls.{ohmsReply, reply, callOn}
-use Rattle.foil.specs.Contract.{LentChecked}
-use Rattle.foil.specs.declared.lent.Checked.the-variants as checked
-use Rattle.foil.proofs.Giving.{sound-room}
+use Rattle.foil_spec.specs.Calls.{ohmsReply}
 use Rattle.nets.specs.Measured.{legsTo, Measured}
 use Rattle.nets.specs.declared.Track.{Track}
 use Rattle.nets.proofs.Measuring.{used-leg}
-use Rattle.ohms.specs.Contract.{resistanceOf, OhmsAnswered, NetAnswered}
-use Rattle.ohms.specs.declared.Resistance.{Resistance}
+use Rattle.ohms.specs.Contract.{resistanceOf, NetAnswered}
 use Rattle.ohms.specs.declared.Resistance.the-variants.{Refused, Ohms}
 
 -- ---- the net's refusals, and its ohms
@@ -76,24 +70,3 @@ pub has-leg : (net : ℕ) (t : List ℕ) (n : ℕ) (u : Bool) → u ≡ inUse ne
 unfolding legsTo
 has-leg net t n u u-is used r m =
     omega (arith, m .legs, used-leg net (map (entryAt t) (range 0 n)) (sym u-is ∙ not-false u used))
-
--- ---- the call
-
-module _ (b : Board) (t s : List ℕ) where
-  abbrev m : Lent
-  m = lent b t s
-
-  module _ (net : ℕ) (i : Ink) where
-    pub lent-refused : (k : ℕ) → LentChecked m (checked.Refused k) → OhmsAnswered net i m (Refused k)
-    unfolding callOn reply ohmsReply resistanceOf numberOf
-    lent-refused k h = record { answer = rw (h maxEntries 0 (ohmsRefusals net i (held m))) refl; state = refl }
-
-    pub answered-by : sound m ≡ true → (r : Resistance) → NetAnswered net i t (b .entries) r → OhmsAnswered net i m r
-    unfolding callOn reply afterLent first
-    answered-by g r h =
-        record {
-          answer =
-              h .answer (held m) (unfold held layoutOf in refl)
-              ∙ rw (sound-room m g maxEntries 0, g) refl;
-          state = refl;
-        }

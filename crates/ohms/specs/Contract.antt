@@ -1,13 +1,13 @@
--- What the contract of the call says: the answer is what the definitions give, and nothing is changed.
+-- What the contract of a net's resistance says: the answer is what the definitions give.
 use Prim.Native.Nat.{ℕ}
 use mathlib.Core.Path.{_≡_}
 use mathlib.Core.List.{List, map}
 use Rattle.foil_spec.specs.Lists.{range}
 use Rattle.foil_spec.specs.Foil.{Layout}
 use Rattle.foil_spec.specs.Ledger.{numberOf, first}
-use Rattle.foil_spec.specs.Lent.{Lent, entryAt, roomOf}
+use Rattle.foil_spec.specs.Lent.{entryAt}
 use Rattle.foil_spec.specs.Ohms.{ohmsRefusals, ohmsOf}
-use Rattle.foil_spec.specs.Calls.{ohms, Reply, answered, ran, atEnd, measured, ohmsReply, callOn}
+use Rattle.foil_spec.specs.Calls.{Reply, answered, ran, atEnd, measured, ohmsReply}
 use Rattle.foil_spec.specs.declared.Ink.{Ink}
 use Rattle.ohms.specs.declared.Resistance.{Resistance}
 use Rattle.ohms.specs.declared.Resistance.the-variants.{Refused, Ohms}
@@ -18,11 +18,6 @@ resistanceOf (answered a) = Refused (numberOf a)
 resistanceOf (measured x) = Ohms x
 resistanceOf (ran given n) = Refused 0
 resistanceOf atEnd = Refused 0
-
--- the ohms of a net were asked of what is lent, which is only read, and r was answered
-pub record OhmsAnswered (net : ℕ) (i : Ink) (m : Lent) (r : Resistance) : Type 0 where
-  pub answer : r ≡ resistanceOf (callOn (roomOf m 0) (ohms net i) m .answer)
-  pub state : m ≡ callOn (roomOf m 0) (ohms net i) m .state
 
 -- r was answered for a net among the first n entries of a table, where 12 and 13 do not apply
 pub record NetAnswered (net : ℕ) (i : Ink) (t : List ℕ) (n : ℕ) (r : Resistance) : Type 0 where

@@ -1,17 +1,13 @@
-// The resistance of a laid net, from the ink's three figures. A call that only reads: it has no
-// `requires`, and changes nothing.
+// The resistance of a laid net, from the ink's three figures: `net_ohms` is the body of the call. Nothing is
+// changed.
 use booking::in_use;
-use foil::Checked;
-use foil::lent_refusal;
-use foil_spec::Board;
 use foil_spec::Ink;
 use nets::measure;
 use state::net_ok;
 ghost use mathlib.Core.Path.{_≡_};
-ghost use Rattle.foil_spec.specs.Lent.{lent};
 ghost use Rattle.foil_spec.specs.Ohms.{inkOk, formula as formulaOf};
 ghost use Rattle.nets.specs.Measured.{Boxes};
-ghost use Rattle.ohms.specs.Contract.{OhmsAnswered, NetAnswered};
+ghost use Rattle.ohms.specs.Contract.{NetAnswered};
 
 // What the call answers: the number of a refusal, or the ohms.
 pub enum Resistance {
@@ -19,18 +15,8 @@ pub enum Resistance {
     Ohms(f64),
 }
 
-// The resistance of a net: (L / w + c * B) * R, for L steps and B bends.
-pub fn ohms(table: &[u16], strips: &[u16], board: Board, net: u16, ink: Ink) -> Resistance
-    ensures { λ r. ⌜ OhmsAnswered net ink (lent board (now (table .entry)) (now (strips .entry))) r ⌝ }
-{
-    let checked = lent_refusal(table, strips, board);
-    if let Checked::Refused(number) = checked {
-        return Resistance::Refused(number);
-    }
-    net_ohms(table, board.entries, net, ink)
-}
-
-// The same for a net of the first n entries of a table, once 12 and 13 do not apply.
+// The resistance of a net of the first n entries of a table, (L / w + c * B) * R for L steps and B bends, once 12 and
+// 13 do not apply.
 pub fn net_ohms(table: &[u16], n: usize, net: u16, ink: Ink) -> Resistance
     requires { ⌜ Boxes (now table) n ⌝ }
     ensures { λ r. ⌜ NetAnswered net ink (now (table .entry)) n r ⌝ }

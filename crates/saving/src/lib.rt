@@ -1,12 +1,9 @@
-// Saving a foil as a job file. Like the other calls it has no `requires`: it is its refusals by 12 and
-// 13, and then a body (`save_in`).
+// Saving a foil as a job file: `save_in` is the body of the call.
 mod file;
 
 use file::FILE_SIZE;
 use file::write_file;
 use foil::Answer;
-use foil::Checked;
-use foil::lent_refusal;
 use foil_spec::Board;
 use foil_spec::STRIPS_SIZE;
 use putting::put_bytes;
@@ -18,26 +15,14 @@ ghost use Rattle.foil_spec.specs.Foil.{penRule};
 ghost use Rattle.foil_spec.specs.Ledger.{tooFine, beginningTooFine, save as saves};
 ghost use Rattle.foil_spec.specs.Lent.{lent, layoutOf, penIn, sound};
 ghost use Rattle.zones.specs.Table.{Table};
-ghost use Rattle.foil.specs.Contract.{WriteDone};
+ghost use Rattle.foil.specs.Contract.{ReadIn};
 
-// Writes the foil as a job file to the front of `out`: the board, the entries in table order, the end
-// mark. Answers the number of bytes. Where it is refused, `out` stays as it is.
-pub fn save(out: &mut [u8], table: &[u16], strips: &[u16], board: Board) -> Answer
-    ensures { λ r. ⌜ WriteDone saves (lent board (now (table .entry)) (now (strips .entry)))
-        (now (out .entry)) r (now (out .exit)) ⌝ }
-{
-    let checked = lent_refusal(table, strips, board);
-    if let Checked::Refused(number) = checked {
-        return Answer::Refused(number);
-    }
-    save_in(out, table, strips, board)
-}
-
-// Saves a foil that keeps the rules. The file is made apart, so that its size is known before any byte
-// of it is written to `out`.
+// Writes a foil that keeps the rules as a job file to the front of `out`: the board, the entries in table
+// order, the end mark. Answers the number of bytes. Where it is refused, `out` stays as it is: the file is
+// made apart, so that its size is known before any byte of it is written to `out`.
 pub fn save_in(out: &mut [u8], table: &[u16], strips: &[u16], board: Board) -> Answer
     requires { ⌜ sound (lent board (now table) (now strips)) ≡ true ⌝ }
-    ensures { λ r. ⌜ WriteDone saves (lent board (now (table .entry)) (now (strips .entry)))
+    ensures { λ r. ⌜ ReadIn saves (lent board (now (table .entry)) (now (strips .entry)))
         (now (out .entry)) r (now (out .exit)) ⌝ }
 {
     if beginning_too_fine(table, board) {

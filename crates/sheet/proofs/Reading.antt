@@ -1,89 +1,32 @@
 -- The end of a call that only reads a foil of a sheet: one law for all such steps, and one for the ohms.
 use Prim.Native.Nat.{ℕ}
 use mathlib.Core.Path.{_≡_, refl, sym, ap, _∙_, subst}
-use mathlib.Core.Bool.{Bool, false, not, _&&_}
-use mathlib.Core.List.{List, []}
-use mathlib.Core.Option.{Option, none, some}
+use mathlib.Core.Bool.{false}
+use mathlib.Core.List.{List}
 use lib.ListN.{length, getD}
-use Rattle.foil_spec.specs.Limits.{maxEntries}
-use Rattle.foil_spec.specs.Foil.{Point, Layout}
-use Rattle.foil_spec.specs.Ledger.{Room, short, cornerRoom, Step, newFoil, draw, lay, lift, lookUp, putLeg, save, find}
-use Rattle.foil_spec.specs.Ledger.{book, slip, join, Refusal, refused, found, numberOf, says, next, first, reads}
-use Rattle.foil_spec.specs.Ledger.{refusals, afterLent, After, settle, refusalOf}
+use Rattle.foil_spec.specs.Ledger.{Step}
+use Rattle.foil_spec.specs.Ledger.{refused, numberOf, first}
+use Rattle.foil_spec.specs.Ledger.{afterLent}
 use Rattle.foil_spec.specs.Ledger.{Answer as Outcome}
-use Rattle.foil_spec.specs.Lent.{Lent, lent, store, layoutOf, held, sound, roomIn, roomOf, stepOn}
+use Rattle.foil_spec.specs.Lent.{Lent, lent, layoutOf, held, stepOn}
 use Rattle.foil_spec.specs.Lent.{outputAfter}
 use Rattle.foil_spec.specs.Ohms.{ohmsRefusals, ohmsOf}
 use Rattle.foil_spec.specs.Calls.{step, ohms, Reply, answered, ohmsReply, reply, callOn, outputAll, answersIn}
 use Rattle.foil_spec.specs.Calls.{outputBy}
-use Rattle.foil_spec.specs.Sheet.{limitOf, SheetLent, noBoard, counts, view, writes}
+use Rattle.foil_spec.specs.Sheet.{SheetLent, noBoard, view, sheetRoom, writes}
 use Rattle.foil_spec.specs.declared.Board.{Board}
 use Rattle.foil_spec.specs.declared.Ink.{Ink}
-use Rattle.foil.specs.Contract.{answerOf, Looked, WriteDone}
+use Rattle.foil.specs.Contract.{answerOf, ReadIn}
 use Rattle.foil.specs.declared.Answer.{Answer}
 use Rattle.foil.specs.declared.Answer.the-variants.{Refused}
-use Rattle.list_laws.proofs.Tests.{clash}
 use Rattle.ohms.specs.Contract.{resistanceOf, NetAnswered}
 use Rattle.ohms.specs.declared.Resistance.{Resistance}
 use Rattle.ohms.specs.declared.Resistance.the-variants.{Refused as ohmsRefused}
 use Rattle.sheet_laws.specs.Back.{writing, rewrote}
-use Rattle.sheet_laws.proofs.Alone.{room-view}
 use Rattle.sheet.specs.Contract.{onSheet, SheetReadDone, SheetOhmsDone}
 use Rattle.sheet.specs.Parts.{TakenOut, Opened, refusedOn}
 use Rattle.sheet.proofs.Checking.{room, out-long, foil-is, step-goes, ohms-goes}
 use Rattle.sheet.proofs.Closing.{answers, unchanged}
-
--- ---- a step that only reads does not depend on how many entries the foil may have
-
-module _ (v : Lent) (a b output : ℕ) where
-  same-refusals : (c : Step) → writes c ≡ false → (l : Layout)
-      → refusals c (roomIn a v output) l ≡ refusals c (roomIn b v output) l
-  unfolding writes refusals cornerRoom roomIn
-  same-refusals (newFoil W H c) w l = clash refl w
-  same-refusals (draw x0 y0 x1 y1) w l = clash refl w
-  same-refusals (lay net S T) w l = clash refl w
-  same-refusals (lift net) w l = clash refl w
-  same-refusals (lookUp p) w l = refl
-  same-refusals (putLeg e) w l = clash refl w
-  same-refusals save w l = refl
-  same-refusals (find S T) w l = refl
-  same-refusals (book net ks) w l = clash refl w
-  same-refusals slip w l = refl
-  same-refusals (join net S) w l = clash refl w
-
-  same-short : (x : Bool) (rs : List Refusal)
-      → first (afterLent (roomIn a v output) x rs) ≡ first (afterLent (roomIn b v output) x rs)
-  unfolding afterLent short roomIn
-  same-short x rs = refl
-
-  same-refusal : (c : Step) → writes c ≡ false → (x : Bool) (l : Layout)
-      → refusalOf (roomIn a v output) x c l ≡ refusalOf (roomIn b v output) x c l
-  unfolding refusalOf
-  same-refusal c w x l =
-      ap (λ (rs : List Refusal). first (afterLent (roomIn a v output) (x && reads c) rs)) (same-refusals c w l)
-      ∙ same-short (x && reads c) (refusals c (roomIn b v output) l)
-
-  same-step : (c : Step) → writes c ≡ false → stepOn (roomIn a v output) c v ≡ stepOn (roomIn b v output) c v
-  unfolding stepOn
-  same-step c w =
-      ap
-      (λ (o : Option ℕ). settle o (record { answer = says c (held v); state = store (next c (held v)) v }) v)
-      (same-refusal c w (not (sound v)) (held v))
-
--- a look up is a read without an output list
-look-output : (o : Option ℕ) (i : ℕ) (x y : Lent)
-    → [] ≡ outputAfter (settle o (record { answer = found i; state = x }) y .answer) []
-unfolding settle outputAfter
-look-output none i x y = refl
-look-output (some n) i x y = refl
-
-pub looked : (p : Point) (v : Lent) (r : Answer) → Looked p v r → WriteDone (lookUp p) v [] r []
-looked p v r h =
-    record {
-      answer = h .answer;
-      state = h .state;
-      output = unfold stepOn says in look-output _ _ _ _;
-    }
 
 -- ---- a step that only reads
 
@@ -104,27 +47,22 @@ module _ (k : ℕ) (m : SheetLent) (c : Step) (out : List ℕ) where
     n = length out
 
     abbrev said : Outcome
-    said = stepOn (roomOf (view k m) n) c (view k m) .answer
-
-    on-view : stepOn (room k m n) c (view k m) ≡ stepOn (roomOf (view k m) n) c (view k m)
-    on-view =
-        ap (λ (r : Room). stepOn r c (view k m)) (room-view k m n (o .eight-foils) (o .here))
-        ∙ same-step (view k m) (limitOf (counts (m .boards)) k) maxEntries n c w
+    said = stepOn (room k m n) c (view k m) .answer
 
     reply-is : onSheet k (step c) m n .answer ≡ answered said
-    reply-is =
-        answers k m rows o (step c) n (step-goes k m rows o c n)
-        ∙ unfold callOn reply in ap (λ (a : After Outcome Lent). answered (a .answer)) on-view
+    reply-is = answers k m rows o (step c) n (step-goes k m rows o c n) ∙ unfold callOn reply in refl
 
     no-writing : (a : Reply) → rewrote (step c) a ≡ false
     unfolding rewrote writing
     no-writing a = rw w refl
 
-    pub read-done : (r : Answer) (out′ : List ℕ) → WriteDone c (lent b rows (m .strips)) out r out′
+    pub read-done : (r : Answer) (out′ : List ℕ) → ReadIn c (lent b rows (m .strips)) out r out′
         → SheetReadDone k c m out r out′
     unfolding outputBy answersIn outputAll
     read-done r out′ h =
-        let d = subst (λ (v : Lent). WriteDone c v out r out′) (foil-is k m rows o b is) h in
+        let d =
+        subst (λ (v : Lent). ReadIn c v out r out′) (foil-is k m rows o b is) h (room k m n) (out-long k m rows o n)
+        (unfold sheetRoom in refl) in
         record {
           tells = record { said = said; is = reply-is; answer = d .answer };
           state = sym (unchanged k m rows o (step c) n (step-goes k m rows o c n) no-writing);

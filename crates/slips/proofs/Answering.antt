@@ -9,8 +9,8 @@ use borrow.Author.Tests.{eq-eqb, lt-ltb, le-ltb}
 use Rattle.foil_spec.specs.Foil.{entryOk}
 use Rattle.foil_spec.specs.Nets.{ofNet, netLength}
 use Rattle.foil_spec.specs.Slip.{slipOf}
-use Rattle.foil_spec.specs.Ledger.{slip, next, says, first, reads, refusals}
-use Rattle.foil_spec.specs.Lent.{Lent, lent, entryAt, layoutOf, penIn, held, sound, roomIn}
+use Rattle.foil_spec.specs.Ledger.{slip, next, says, first, refusals}
+use Rattle.foil_spec.specs.Lent.{Lent, lent, entryAt, layoutOf, penIn, held, sound}
 use Rattle.foil_spec.specs.declared.Board.{Board}
 use Rattle.list_laws.proofs.Members.{at-place}
 use Rattle.ledger_laws.proofs.Rules.{of-ok}
@@ -19,10 +19,9 @@ use Rattle.nets.specs.Measured.{Boxes, legsTo}
 use Rattle.nets.proofs.Measuring.{sound-boxes}
 use Rattle.slip_laws.proofs.Wide.{net-most, none-too-wide}
 use Rattle.slip_laws.proofs.Pages.{slip-small}
-use Rattle.foil.specs.Contract.{WriteDone, LentChecked}
+use Rattle.foil.specs.Contract.{Read, ReadIn}
 use Rattle.foil.specs.declared.Answer.the-variants.{Refused, Wrote}
-use Rattle.foil.specs.declared.lent.Checked.the-variants as checked
-use Rattle.foil.proofs.Writing.{lent-unwritten, own-unwritten, written}
+use Rattle.foil.proofs.Writing.{own-unwritten, written}
 use Rattle.putting.specs.Put.{Put}
 use Rattle.putting.proofs.Putting.{front-over}
 use Rattle.slips.specs.Writing.{linesTo, Tracks}
@@ -31,10 +30,6 @@ use Rattle.slips.proofs.Rising.{slip-lines}
 module _ (b : Board) (t s : List ℕ) where
   abbrev m : Lent
   m = lent b t s
-
-  pub lent-refused : (o : List ℕ) (n : ℕ) → LentChecked m (checked.Refused n) → WriteDone slip m o (Refused n) o
-  unfolding reads
-  lent-refused o n = lent-unwritten slip m o refl n
 
   module _ (g : sound m ≡ true) where
     facts : Sound m
@@ -74,17 +69,17 @@ module _ (b : Board) (t s : List ℕ) where
       long : length (slipOf (held m)) ≡ size
       long = ap (λ (bs : List ℕ). length bs) slip-is ∙ omega (arith, page .next)
 
-      pub no-room : length o < size → WriteDone slip m o (Refused 12) o
-      unfolding refusals first roomIn
-      no-room l =
-          let small = lt-ltb (length o) (length (slipOf (held m))) (omega (arith, long)) in
-          own-unwritten slip m o g 12 (rw small refl)
+      pub no-room : length o < size → ReadIn slip m o (Refused 12) o
+      unfolding refusals first
+      no-room l room roomy lent-out =
+          let small = lt-ltb (room .output) (length (slipOf (held m))) (omega (arith, long, lent-out)) in
+          own-unwritten slip m o room g roomy 12 (rw small refl)
 
       pub slipped : size ≤ length o → {o₁ : List ℕ} {p : ℕ} → Put o 0 (take size f₁) o₁ p
-          → WriteDone slip m o (Wrote size) o₁
-      unfolding refusals first roomIn says next
-      slipped l {o₁} {p} out =
-          let large = le-ltb (length o) (length (slipOf (held m))) (omega (arith, long)) in
-          subst (λ (k : ℕ). WriteDone slip m o (Wrote k) o₁) long
-          (written slip m o g (slipOf (held m)) o₁ (rw large refl) refl refl
+          → ReadIn slip m o (Wrote size) o₁
+      unfolding refusals first says next
+      slipped l {o₁} {p} out room roomy lent-out =
+          let large = le-ltb (room .output) (length (slipOf (held m))) (omega (arith, long, lent-out)) in
+          subst (λ (k : ℕ). Read slip room m o (Wrote k) o₁) long
+          (written slip m o room g roomy (slipOf (held m)) o₁ (rw large refl) refl refl
           (front-over (subst (λ (bs : List ℕ). Put f 0 bs f₁ size) (sym slip-is) page) out))

@@ -5,7 +5,7 @@ use Rattle.foil_spec.specs.Sheet.{writes}
 use Rattle.foil.proofs.Beginning.{no-rows}
 use Rattle.sheet.specs.Parts.{readsFoil}
 use Rattle.sheet.proofs.Checking.{opened, not-opened, keeps-rules}
-use Rattle.sheet.proofs.Reading.{looked, read-refused, read-done}
+use Rattle.sheet.proofs.Reading.{read-refused, read-done}
 use borrow.Author.Needs.{needs}
 use Rattle.sheet.proofs.queries.look_up.Statement.{statement}
 use Rattle.sheet.proofs.queries.look_up.Tie as tie
@@ -55,7 +55,7 @@ returns-2 c =
     let board = body .before .before in
     let told = board .before in
     let o = opened _ _ _ _ (atPassed told .open-foil .ensures) (told .enum-told .given .1) in
-    read-done _ _ _ _ _ (o .out) _ (board .board-at .ensures) refl _ _ (looked _ _ _ (body .look-up-in .ensures))
+    read-done _ _ _ _ _ (o .out) _ (board .board-at .ensures) refl _ _ (body .look-up-in .ensures)
 
 pub look-up-spec : {M : Type 1} → statement M
 look-up-spec =
