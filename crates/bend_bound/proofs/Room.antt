@@ -30,7 +30,7 @@ use Rattle.foil_spec.specs.Sequence.{Lending, roomFor, told, Left, leaves, runL
 use Rattle.list_laws.proofs.Tests.{clash, both, not-ff, parts}
 use Rattle.list_laws.proofs.Members.{of-all}
 use Rattle.ledger_laws.specs.Line.{but, ownNumbers, Lacks, corners, joint, bytes, page}
-use Rattle.ledger_laws.specs.Numbers.{stepsIn, numbersOf}
+use Rattle.ledger_laws.specs.Numbers.{stepsIn, numbersOf, among}
 use Rattle.ledger_laws.proofs.Refusals.{first-passes, broken-refused, own-refused, unrefused-own}
 use Rattle.ledger_laws.proofs.Rules.{of-ok}
 use Rattle.ledger_laws.proofs.Line.{line, settled-refused}
@@ -40,9 +40,11 @@ use Rattle.ledger_laws.proofs.Lending.{step-short, begins-anew}
 use Rattle.ledger_laws.proofs.Demand3.{behaves-as-ledger}
 use Rattle.ledger_laws.proofs.FileSize.{file-small}
 use Rattle.ledger_laws.proofs.Numbers.{call-passes, Passes, run-passes, not-among, lent-passes, own-passes}
+use Rattle.sheet_laws.specs.Alone.{foilOf}
+use Rattle.sheet_laws.proofs.Alone.{foils-alone}
 use Rattle.slip_laws.proofs.Pages.{slip-small}
 use Rattle.bend_bound.specs.Bound.{bendBound}
-use Rattle.bend_bound.specs.Room.{TrackCorners, EnoughCorners, noJoin, lentEnough, NeverShort}
+use Rattle.bend_bound.specs.Room.{TrackCorners, EnoughCorners, noJoin, lentEnough, NeverShort, SheetNeverShort}
 use Rattle.bend_bound.proofs.Bound.{track-bends, join-bound}
 
 -- ---- corners
@@ -221,3 +223,9 @@ never-short m l c cs h enough =
     (ap (λ (os : List Left). all (but 12) (numbersOf os)) a
     ∙ run-passes (but 12) Fine m (c ∷ cs) noFoil no-foil-fine
     (λ d i. fine-passes m d (of-all (lentEnough m) d (c ∷ cs) enough i)))
+
+pub sheet-never-short : SheetNeverShort
+sheet-never-short m cs k l c later whole here on-foil begins enough =
+    ap (λ (os : List Left). among 12 (numbersOf os))
+    (foils-alone m cs k whole here ∙ ap (runLent (foilOf k m)) on-foil)
+    ∙ never-short (foilOf k m) l c later begins enough

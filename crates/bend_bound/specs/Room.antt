@@ -1,6 +1,6 @@
 -- With 8,192 corner places lent no track lacks room for its corners, as it is stated: K is at most 4,096. So many
--- places are room for the bytes of any foil's file too.
-use Prim.Native.Nat.{ℕ, _*_, _≤_, max}
+-- places are room for the bytes of any foil's file too. On a sheet it is so for each foil.
+use Prim.Native.Nat.{ℕ, _*_, _≤_, _<_, max}
 use mathlib.Core.Path.{_≡_}
 use mathlib.Core.Bool.{Bool, true, false, not, _&&_}
 use mathlib.Core.Logic.{_↔_}
@@ -9,13 +9,15 @@ use mathlib.Core.Option.{some}
 use lib.Dec.{leb}
 use lib.ListN.{length}
 use Rattle.foil_spec.specs.Lists.{all}
-use Rattle.foil_spec.specs.Limits.{cornerPlaces}
+use Rattle.foil_spec.specs.Limits.{cornerPlaces, sheetFoils}
 use Rattle.foil_spec.specs.Foil.{Point, Layout}
 use Rattle.foil_spec.specs.Ledger.{stripsOf, pathOf, without, Room, short, cornerRoom, tooFine, refused}
 use Rattle.foil_spec.specs.Ledger.{Step, newFoil, draw, lay, lift, lookUp, putLeg, save, find, book, slip, join}
 use Rattle.foil_spec.specs.Lent.{Lent, held, stepOn}
 use Rattle.foil_spec.specs.Sequence.{Lending, Begins, roomFor, runLent, told}
+use Rattle.foil_spec.specs.Sheet.{Sheet, SheetLending}
 use Rattle.ledger_laws.specs.Numbers.{stepsIn, numbersOf, among}
+use Rattle.sheet_laws.specs.Alone.{EightFoils, foilOf, aloneCalls, leftOf}
 
 -- the track found has two corners for each strip at most, and three where there is one strip
 abbrev pub TrackCorners : Type 0
@@ -56,3 +58,12 @@ abbrev pub NeverShort : Type 0
 NeverShort =
     (m : Lent) (l : Layout) (c : Lending) (cs : List Lending) → Begins (c .call) (told m c l .answer)
     → all (lentEnough m) (c ∷ cs) ≡ true → among 12 (numbersOf (runLent m (c ∷ cs))) ≡ false
+
+-- the same on a sheet: in any list of calls on its foils, those on foil k, from one that begins it on, if they are no
+-- joins and all lent enough
+abbrev pub SheetNeverShort : Type 0
+SheetNeverShort =
+    (m : Sheet) (cs : List SheetLending) (k : ℕ) (l : Layout) (c : Lending) (later : List Lending)
+    → EightFoils (m .boards) (m .table) → k < sheetFoils → aloneCalls k m cs ≡ c ∷ later
+    → Begins (c .call) (told (foilOf k m) c l .answer) → all (lentEnough (foilOf k m)) (c ∷ later) ≡ true
+    → among 12 (numbersOf (leftOf k m cs)) ≡ false
