@@ -1,0 +1,33 @@
+-- `plain_sheet::wants::put_entries` meets its contract: each record takes 11 bytes at most.
+use Prim.Native.Nat.{_+_, _*_, _≤_, _-_}
+use borrow.Author.Needs.{needs}
+use Rattle.plain_sheet.proofs.wants.put_entries.Statement.{statement}
+use Rattle.plain_sheet.proofs.wants.put_entries.Tie as tie
+
+abbrev Inv-loop : tie.InvT-loop
+Inv-loop path₀ at row n end₀ i₀ path end i = (i ≤ n) × (end ≤ 11 + 11 * i)
+
+abbrev μ-loop : tie.MeasureT-loop
+μ-loop path₀ at row n end₀ i₀ path end i = n - i
+
+loop-holds : tie.Need-loop-holds Inv-loop μ-loop
+loop-holds c = search needs
+
+put-entry-requires : tie.Need-put-entry-requires Inv-loop μ-loop
+put-entry-requires c κs = search needs
+
+add-i : tie.Need-add-i Inv-loop μ-loop
+add-i c = search needs
+
+loop-less : tie.Need-loop-less Inv-loop μ-loop
+loop-less c = search needs
+
+loop-again : tie.Need-loop-again Inv-loop μ-loop
+loop-again c = search needs
+
+returns : tie.Need-returns Inv-loop μ-loop
+returns c = search needs
+
+pub put-entries-spec : {M : Type 1} → statement M
+put-entries-spec =
+    tie.close (tie.spec Inv-loop μ-loop loop-holds put-entry-requires add-i loop-less loop-again returns)
