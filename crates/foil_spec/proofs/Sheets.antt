@@ -8,7 +8,7 @@ use lib.ListN.{getD, set, replicate}
 use Rattle.foil_spec.specs.Limits.{sheetFoils}
 use Rattle.foil_spec.specs.Foil.{point, Entry, entry, entryNumbers, pen, Layout, noFoil, sizeOk, reachOk, penOk}
 use Rattle.foil_spec.specs.Foil.{netOk, boxOk, shapeOk, entryOk, penRule, margin, nearEdge, freeBy, within}
-use Rattle.foil_spec.specs.Foil.{blocks, free}
+use Rattle.foil_spec.specs.Foil.{blocks, meets, crosses, overLeg, noCrossing, patchMargin, free}
 use Rattle.foil_spec.specs.Strips.{stopIn, stop, scan, scanAt, starts, isRun, isTop, begun, stripsFrom, holds}
 use Rattle.foil_spec.specs.Strips.{placeOf}
 use Rattle.foil_spec.specs.Paths.{after, between, levelFree, uprightFree, segment, bends, points, goings, leads}
@@ -111,8 +111,8 @@ eight-foils :
     ∷ []
 unfolding rowsFrom roomAt begin
     total reserved limitOf opening sheetRefusal unless blank rowStep rowCall sheetLedgerCall rowCounts
-    sizeOk reachOk penOk netOk boxOk shapeOk entryOk within blocks penRule margin nearEdge freeBy free
-    stopIn stop scan scanAt starts isRun isTop begun stripsFrom
+    sizeOk reachOk penOk netOk boxOk shapeOk entryOk within blocks meets crosses overLeg patchMargin
+    penRule margin nearEdge freeBy free stopIn stop scan scanAt starts isRun isTop begun stripsFrom
     after between levelFree uprightFree segment leads isPathTo isWay bends points goings stepsFrom shortest firstFrom
     firstPathTo stripsOf pathOf noPath cornersOf leg legsFrom legs ofNet inUse offFoil blocked
     short cornerRoom tooLong tooFine penOf clearanceRefusal next says first reads refusals afterLent settle refusalOf
@@ -193,9 +193,10 @@ cleared : see (lookUp (point 0 0)) ∷ see (draw 0 0 4 1) ∷ see (draw 0 0 1 1)
     ∷ record { reply = answered accepted; there = 0 } ∷ []
 unfolding see begin sheetCall sheetStep writes sheetRefusal unless opening counts putBack view tableAt parts joined
     total reserved eachFew countsOk written boardOf store stripNumbers held layoutOf entryAt layoutOk sameNumbers
-    sound reply sizeOk reachOk penOk netOk boxOk shapeOk entryOk within blocks penRule margin nearEdge freeBy free
-    entryNumbers stopIn stop scan scanAt starts isRun isTop begun stripsFrom holds placeOf stripsOf offFoil blocked
-    short tooLong tooFine penOf clearanceRefusal next says first reads refusals afterLent settle refusalOf jobRoom
+    sound reply sizeOk reachOk penOk netOk boxOk shapeOk entryOk within blocks overLeg noCrossing penRule margin
+    nearEdge freeBy free entryNumbers stopIn stop scan scanAt starts isRun isTop begun stripsFrom holds placeOf
+    stripsOf offFoil blocked short tooLong tooFine penOf clearanceRefusal next says first reads refusals afterLent
+    settle refusalOf jobRoom
 cleared = refl
 
 -- ---- how many entries a foil may have

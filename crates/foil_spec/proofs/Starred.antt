@@ -1,5 +1,6 @@
 -- The starred test foils of document 01, the ohms of its track, legs as booked with the file of their foil, drawn ways,
--- the slip of two tracks, pens, foils that the edge blocks, and joins: one list of cases, and one fact over it.
+-- the slip of two tracks, pens, foils that the edge blocks, joins, and patches across tracks: one list of cases, and
+-- one fact over it.
 use Prim.Native.Nat.{ℕ}
 use mathlib.Core.Path.{_≡_, refl}
 use mathlib.Core.Bool.{true, false, xor}
@@ -10,7 +11,7 @@ use lib.Ieee.{Float, nan, inf, fin, binary64, ofInt, ofBits, add, mul, div, lt, 
 use Rattle.foil_spec.specs.Foil.{Point, point, Entry, entry, Layout, noFoil}
 use Rattle.foil_spec.specs.Foil.{entryNumbers, sizeOk, reachOk, penOk, netOk, boxOk}
 use Rattle.foil_spec.specs.Foil.{shapeOk, entryOk, pen, penRule, margin, nearEdge, freeBy}
-use Rattle.foil_spec.specs.Foil.{within, blocks, free}
+use Rattle.foil_spec.specs.Foil.{within, blocks, meets, crosses, overLeg, underPatch, patchMargin, free}
 use Rattle.foil_spec.specs.Strips.{Strip, stopIn, stop, scan, scanAt, starts, isRun, isTop, begun}
 use Rattle.foil_spec.specs.Strips.{stripsFrom, holds, placeOf}
 use Rattle.foil_spec.specs.Paths.{after, between, levelFree, uprightFree, segment, bends, points, goings}
@@ -62,6 +63,14 @@ unfoldable pub jobBytes : List ℕ
 jobBytes =
     0x03 ∷ 0x06 ∷ 0x00 ∷ 0x04 ∷ 0x00 ∷ 0x00 ∷ 0x00 ∷ 0x02 ∷ 0x00 ∷ 0x00 ∷ 0x00 ∷ 0x03 ∷ 0x00 ∷ 0x03 ∷ 0x00
     ∷ 0x04 ∷ 0x05 ∷ 0x00 ∷ 0x00 ∷ 0x00 ∷ 0x00 ∷ 0x00 ∷ 0x04 ∷ 0x00 ∷ 0x00 ∷ 0x00 ∷ 0x00 ∷ []
+
+-- the same with a patch over the track, and a leg under the first patch, before its end mark
+unfoldable pub crossingBytes : List ℕ
+crossingBytes =
+    0x03 ∷ 0x06 ∷ 0x00 ∷ 0x04 ∷ 0x00 ∷ 0x00 ∷ 0x00 ∷ 0x02 ∷ 0x00 ∷ 0x00 ∷ 0x00 ∷ 0x03 ∷ 0x00 ∷ 0x03 ∷ 0x00
+    ∷ 0x04 ∷ 0x05 ∷ 0x00 ∷ 0x00 ∷ 0x00 ∷ 0x00 ∷ 0x00 ∷ 0x04 ∷ 0x00 ∷ 0x00 ∷ 0x00
+    ∷ 0x02 ∷ 0x01 ∷ 0x00 ∷ 0x03 ∷ 0x00 ∷ 0x02 ∷ 0x00 ∷ 0x04 ∷ 0x00
+    ∷ 0x10 ∷ 0x07 ∷ 0x00 ∷ 0x02 ∷ 0x00 ∷ 0x00 ∷ 0x00 ∷ 0x03 ∷ 0x00 ∷ 0x03 ∷ 0x00 ∷ 0x00 ∷ []
 
 -- the track of the job
 abbrev jobCorners : List Point
@@ -462,12 +471,12 @@ cases =
             strips = strip 1 1 8 3 ∷ strip 1 3 3 6 ∷ strip 6 3 8 6 ∷ [];
           };
     }
-    -- of the points on two legs the nearest; a leg's point that a patch blocks is no end, though nearer
+    -- of the points on two legs the nearest; a leg's point that another net blocks is no end, though nearer
     ∷ record {
       calls =
           step (begin 8 3 0) ∷ step (putLeg (entry 5 0 0 1 3)) ∷ step (putLeg (entry 5 7 0 8 3))
           ∷ step (join 5 (point 3 1)) ∷ step (join 5 (point 4 0)) ∷ step (begin 3 3 0)
-          ∷ step (putLeg (entry 5 0 0 3 1)) ∷ step (draw 0 0 2 1) ∷ step (join 5 (point 0 0))
+          ∷ step (putLeg (entry 5 0 0 3 1)) ∷ step (putLeg (entry 6 0 0 2 1)) ∷ step (join 5 (point 0 0))
           ∷ step (join 5 (point 0 2)) ∷ [];
       outcome =
           record {
@@ -476,27 +485,84 @@ cases =
                 ∷ answered (laid (point 3 1 ∷ point 0 1 ∷ []) 0) ∷ answered (laid (point 4 0 ∷ point 7 0 ∷ []) 0)
                 ∷ answered accepted ∷ answered accepted ∷ answered accepted ∷ answered (refused 8)
                 ∷ answered (laid (point 0 2 ∷ point 2 2 ∷ point 2 0 ∷ []) 1) ∷ [];
-            entries = entry 5 0 0 3 1 ∷ entry 0 0 0 2 1 ∷ entry 5 0 2 3 3 ∷ entry 5 2 0 3 3 ∷ [];
+            entries = entry 5 0 0 3 1 ∷ entry 6 0 0 2 1 ∷ entry 5 0 2 3 3 ∷ entry 5 2 0 3 3 ∷ [];
             strips = strip 0 1 2 2 ∷ [];
           };
     }
     -- where all of the net's points are blocked there is no way
     ∷ record {
       calls =
-          step (begin 2 2 0) ∷ step (putLeg (entry 5 0 0 2 1)) ∷ step (draw 0 0 2 1) ∷ step (join 5 (point 0 1)) ∷ [];
+          step (begin 2 2 0) ∷ step (putLeg (entry 5 0 0 2 1)) ∷ step (putLeg (entry 6 0 0 2 1))
+          ∷ step (join 5 (point 0 1)) ∷ [];
       outcome =
           record {
             replies = answered accepted ∷ answered accepted ∷ answered accepted ∷ answered (refused 9) ∷ [];
-            entries = entry 5 0 0 2 1 ∷ entry 0 0 0 2 1 ∷ [];
+            entries = entry 5 0 0 2 1 ∷ entry 6 0 0 2 1 ∷ [];
             strips = strip 0 1 2 2 ∷ [];
+          };
+    }
+    -- a patch may not block a point of a leg, nor a leg be put where a patch blocks: 21, after 4 and 3; legs over legs
+    -- are no matter, and after a lift the patch is drawn
+    ∷ record {
+      calls =
+          step (begin 12 5 1) ∷ step (lay 3 (point 1 3) (point 10 3)) ∷ step (draw 4 1 6 2) ∷ step (draw 4 2 6 3)
+          ∷ step (draw 4 0 6 2) ∷ step (putLeg (entry 4 7 1 8 2)) ∷ step (putLeg (entry 4 6 1 7 2))
+          ∷ step (putLeg (entry 4 9 3 9 4)) ∷ step (putLeg (entry 4 4 1 5 2)) ∷ step (putLeg (entry 1000 4 1 4 2))
+          ∷ step (putLeg (entry 4 4 1 6 3)) ∷ step (draw 4 2 6 6) ∷ step (putLeg (entry 3 2 3 9 4)) ∷ step (lift 3)
+          ∷ step (draw 4 2 6 3) ∷ [];
+      outcome =
+          record {
+            replies =
+                answered accepted ∷ answered (laid (point 1 3 ∷ point 10 3 ∷ []) 0) ∷ answered accepted
+                ∷ answered (refused 21) ∷ answered accepted ∷ answered accepted ∷ answered (refused 21)
+                ∷ answered (refused 3) ∷ answered (refused 21) ∷ answered (refused 4) ∷ answered (refused 3)
+                ∷ answered (refused 3) ∷ answered accepted
+                ∷ answered accepted ∷ answered accepted ∷ [];
+            entries = entry 0 4 1 6 2 ∷ entry 0 4 0 6 2 ∷ entry 4 7 1 8 2 ∷ entry 0 4 2 6 3 ∷ [];
+            strips = strip 1 1 3 4 ∷ strip 9 1 11 3 ∷ strip 7 3 11 4 ∷ [];
+          };
+    }
+    -- the same in a job
+    ∷ record {
+      calls =
+          runRecord crossingBytes 0 ∷ runRecord crossingBytes 15 ∷ runRecord crossingBytes 26
+          ∷ runRecord crossingBytes 35 ∷ runRecord crossingBytes 46 ∷ [];
+      outcome =
+          record {
+            replies =
+                ran (accepted ∷ accepted ∷ []) (some 15) ∷ ran (laid jobCorners 2 ∷ []) (some 26)
+                ∷ ran (refused 21 ∷ []) (some 35) ∷ ran (refused 21 ∷ []) (some 46) ∷ atEnd ∷ [];
+            entries = jobEntries;
+            strips = jobStrips;
+          };
+    }
+    -- a patch to the left of a leg, one above it, one to the right, each as near as it may be, and one point nearer; a
+    -- pen of half width 1 keeps patches from legs by h + g and not by 2h + g
+    ∷ record {
+      calls =
+          step (newFoil 12 12 (byPen (pen 1 1))) ∷ step (putLeg (entry 7 5 5 6 8))
+          ∷ step (draw 0 6 4 7) ∷ step (draw 0 6 3 7) ∷ step (draw 5 0 6 4) ∷ step (draw 5 0 6 3)
+          ∷ step (draw 7 6 9 7) ∷ step (draw 8 6 9 7) ∷ step (draw 5 9 6 10) ∷ step (draw 5 10 6 11)
+          ∷ step (putLeg (entry 7 8 8 9 9)) ∷ step (putLeg (entry 7 8 9 9 10)) ∷ [];
+      outcome =
+          record {
+            replies =
+                answered accepted ∷ answered accepted ∷ answered (refused 21) ∷ answered accepted
+                ∷ answered (refused 21) ∷ answered accepted ∷ answered (refused 21) ∷ answered accepted
+                ∷ answered (refused 21) ∷ answered accepted ∷ answered (refused 21) ∷ answered accepted ∷ [];
+            entries =
+                entry 7 5 5 6 8 ∷ entry 0 0 6 3 7 ∷ entry 0 5 0 6 3 ∷ entry 0 8 6 9 7 ∷ entry 0 5 10 6 11
+                ∷ entry 7 8 9 9 10 ∷ [];
+            strips = strip 9 2 10 4 ∷ [];
           };
     }
     ∷ []
 
 -- every case comes out as document 01 says
 starred : map (λ (c : Case). outcomeFrom noFoil [] (c .calls)) cases ≡ map (λ (c : Case). c .outcome) cases
-unfolding outcomeFrom cases jobBytes legJob savedBytes jobSlip penJob widePenJob latePenJob
+unfolding outcomeFrom cases jobBytes crossingBytes legJob savedBytes jobSlip penJob widePenJob latePenJob
     entryNumbers sizeOk reachOk penOk netOk boxOk shapeOk entryOk within blocks
+    meets crosses overLeg underPatch patchMargin
     penRule margin nearEdge freeBy free
     stopIn stop scan scanAt starts isRun isTop begun stripsFrom holds placeOf
     after between levelFree uprightFree segment leads isPathTo isWay bends points goings stepsFrom shortest firstFrom

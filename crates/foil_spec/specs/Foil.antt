@@ -3,7 +3,7 @@ use Prim.Native.Nat.{ℕ, suc, _+_}
 use mathlib.Core.Bool.{Bool, cond, not, _&&_, _||_}
 use mathlib.Core.List.{List, [], _∷_}
 use lib.Dec.{leb, ltb, eqb}
-use Rattle.foil_spec.specs.Lists.{all}
+use Rattle.foil_spec.specs.Lists.{all, any}
 use Rattle.foil_spec.specs.declared.Point as declaredPoint
 use Rattle.foil_spec.specs.declared.Entry as declaredEntry
 use Rattle.foil_spec.specs.declared.Pen as declaredPen
@@ -88,6 +88,27 @@ within lo hi d v = leb lo (v + d) && ltb v (hi + d)
 unfoldable pub blocks : ℕ → Entry → ℕ → ℕ → Bool
 blocks d e x y = within (e .x0) (e .x1) d x && within (e .y0) (e .y1) d y
 
+-- the box of p, widened by m, has a point of the box of e
+unfoldable pub meets : ℕ → Entry → Entry → Bool
+meets m p e =
+    ltb (e .x0) (p .x1 + m) && ltb (p .x0) (e .x1 + m) && ltb (e .y0) (p .y1 + m) && ltb (p .y0) (e .y1 + m)
+
+-- p is a patch, which blocks up to m away, and blocks a point of e, a leg
+unfoldable pub crosses : ℕ → Entry → Entry → Bool
+crosses m p e = eqb (p .net) 0 && not (eqb (e .net) 0) && meets m p e
+
+-- p is a patch that blocks a point of one of the legs of the row es
+unfoldable pub overLeg : ℕ → List Entry → Entry → Bool
+overLeg m es p = any (crosses m p) es
+
+-- one of the patches of the row es blocks a point of e, a leg
+unfoldable pub underPatch : ℕ → List Entry → Entry → Bool
+underPatch m es e = any (λ (p : Entry). crosses m p e) es
+
+-- no patch of the row blocks a point of one of its legs
+unfoldable pub noCrossing : ℕ → List Entry → Bool
+noCrossing m es = all (λ (e : Entry). not (underPatch m es e)) es
+
 -- a rule of blocking: how far away a patch, a leg and the foil's edge block
 abbrev pub Rule : Type 0
 Rule = declaredRule.Rule
@@ -95,6 +116,10 @@ Rule = declaredRule.Rule
 -- the rule of a pen: a patch and the edge block up to h + g away, a leg up to 2h + g
 unfoldable pub penRule : Pen → Rule
 penRule p = record { patch = p .half + p .gap; leg = p .half + (p .half + p .gap); edge = p .half + p .gap }
+
+-- how far away a patch blocks by the pen
+unfoldable pub patchMargin : Pen → ℕ
+patchMargin p = penRule p .patch
 
 -- document 01's rule: patches and legs block up to the reach away, the edge nothing
 unfoldable pub reachRule : ℕ → Rule

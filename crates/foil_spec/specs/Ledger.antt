@@ -8,7 +8,8 @@ use lib.ListN.{length, take}
 use Rattle.foil_spec.specs.Lists.{range, keep, any}
 use Rattle.foil_spec.specs.Limits.{maxEntries, maxStrips}
 use Rattle.foil_spec.specs.Foil.{Point, Entry, entry, Pen, pen, Layout}
-use Rattle.foil_spec.specs.Foil.{sizeOk, reachOk, penOk, netOk, boxOk, entryOk, blocks, free}
+use Rattle.foil_spec.specs.Foil.{sizeOk, reachOk, penOk, netOk, boxOk, entryOk, blocks, overLeg, underPatch}
+use Rattle.foil_spec.specs.Foil.{patchMargin, free}
 use Rattle.foil_spec.specs.Strips.{Strip, strips, placeOf}
 use Rattle.foil_spec.specs.Paths.{firstPath, firstPathTo, isWay, bends}
 use Rattle.foil_spec.specs.Corners.{drawn}
@@ -225,6 +226,7 @@ unfoldable pub refusals : Step → Room → Layout → List Refusal
 refusals (newFoil W H c) r l = (not (sizeOk W && sizeOk H) ⇒ 1) ∷ clearanceRefusal c ∷ []
 refusals (draw x0 y0 x1 y1) r l =
     (not (boxOk (l .width) (l .height) (entry 0 x0 y0 x1 y1)) ⇒ 3)
+    ∷ (overLeg (patchMargin (l .pen)) (l .entries) (entry 0 x0 y0 x1 y1) ⇒ 21)
     ∷ (tooLong r (next (draw x0 y0 x1 y1) l) ⇒ 10)
     ∷ (tooFine (next (draw x0 y0 x1 y1) l) ⇒ 11)
     ∷ []
@@ -247,6 +249,7 @@ refusals (lookUp p) r l = (offFoil l p ⇒ 7) ∷ (blocked l p ⇒ 8) ∷ []
 refusals (putLeg e) r l =
     (not (netOk (e .net)) ⇒ 4)
     ∷ (not (entryOk (l .width) (l .height) e) ⇒ 3)
+    ∷ (underPatch (patchMargin (l .pen)) (l .entries) e ⇒ 21)
     ∷ (tooLong r (next (putLeg e) l) ⇒ 10)
     ∷ (tooFine (next (putLeg e) l) ⇒ 11)
     ∷ []

@@ -7,6 +7,7 @@ use lib.ListN.{length, getD, drop, replicate}
 use Rattle.foil_spec.specs.Lists.{range, all, each}
 use Rattle.foil_spec.specs.Limits.{maxEntries, tableSize, stripsSize}
 use Rattle.foil_spec.specs.Foil.{Entry, entry, entryNumbers, Pen, pen, Layout, sizeOk, penOk, entryOk}
+use Rattle.foil_spec.specs.Foil.{noCrossing, patchMargin}
 use Rattle.foil_spec.specs.Strips.{Strip}
 use Rattle.foil_spec.specs.Corners.{pointNumbers}
 use Rattle.foil_spec.specs.Ledger.{stripsOf, tooFine, Room, Step, says, next, After, settle, refusalOf}
@@ -91,7 +92,8 @@ held m = layoutOf (m .board .width) (m .board .height) (penIn (m .board)) (m .bo
 unfoldable pub layoutOk : Layout → Bool
 layoutOk l =
     sizeOk (l .width) && sizeOk (l .height) && penOk (l .pen)
-    && all (entryOk (l .width) (l .height)) (l .entries) && leb (length (l .entries)) maxEntries && not (tooFine l)
+    && all (entryOk (l .width) (l .height)) (l .entries) && leb (length (l .entries)) maxEntries
+    && noCrossing (patchMargin (l .pen)) (l .entries) && not (tooFine l)
 
 -- the lists are equal
 unfoldable pub sameNumbers : List ℕ → List ℕ → Bool

@@ -3,76 +3,29 @@
 use Prim.Native.Nat.{ℕ, _+_, _*_, _<_}
 use native.Mathlib.Omega.{arith}
 use mathlib.Core.Path.{_≡_, refl, sym, ap, _∙_, subst}
-use mathlib.Core.Bool.{Bool, true, false, not}
-use mathlib.Core.List.{List, [], _∷_, _++_}
+use mathlib.Core.Bool.{true, false}
+use mathlib.Core.List.{List, _++_}
 use mathlib.Core.Logic.{inl, inr, ⊎-elim}
 use mathlib.Core.Option.{Option, none, some}
-use borrow.Author.Tests.{eq-eqb, ne-eqb}
-use Rattle.foil_spec.specs.Lists.{all}
-use Rattle.foil_spec.specs.Foil.{Point, Entry, Layout, blocks, penRule, margin, freeBy, free}
-use Rattle.foil_spec.specs.Paths.{gap, at, anywhere, Heading, either, after, segment, leads, isPathTo, isWay}
+use borrow.Author.Tests.{ne-eqb}
+use Rattle.foil_spec.specs.Foil.{Point, Entry, Layout, blocks, penRule, margin, free}
+use Rattle.foil_spec.specs.Paths.{gap, at, isWay}
 use Rattle.foil_spec.specs.Corners.{drawn}
-use Rattle.foil_spec.specs.Ledger.{leg, legsFrom, legs, Room, Step, lay, book, laid, booked, reads, next, says}
+use Rattle.foil_spec.specs.Ledger.{legs, Room, Step, lay, book, laid, booked, reads, next, says}
 use Rattle.foil_spec.specs.Ledger.{first, refusals, settle, refusalOf, ledgerStep}
 use Rattle.foil_spec.specs.Lent.{Lent}
-use Rattle.list_laws.proofs.Tests.{clash, and-l, and-r, and-i, not-t, not-ff, lt-or-le, parts}
-use Rattle.list_laws.proofs.Members.{In, of-all}
-use Rattle.path_laws.proofs.Segments.{Level, Upright, between-at, of-segment}
+use Rattle.list_laws.proofs.Tests.{clash, and-i, not-ff, lt-or-le}
+use Rattle.list_laws.proofs.Members.{In}
 use Rattle.path_laws.proofs.Ways.{path-way}
 use Rattle.zones.proofs.Free.{within-yes, free-far}
 use Rattle.ledger_laws.specs.Moments.{Moment}
 use Rattle.ledger_laws.specs.Apart.{Has, Apart, KeepsApart, TracksApart}
 use Rattle.ledger_laws.proofs.Refusals.{none-applies, unrefused-own}
+use Rattle.ledger_laws.proofs.Legs.{legs-free}
+use Rattle.ledger_laws.proofs.Crossing.{free-unblocked, patch-margin}
 use Rattle.ledger_laws.proofs.Lay.{lay-seeks, of-laid, first-laid}
 use Rattle.ledger_laws.proofs.Moments.{Goes, at-every}
 use Rattle.ledger_laws.proofs.Demand3.{goes-on, answer-is}
-
--- ---- the points of a way
-
-module _ (f : ℕ → ℕ → Bool) (net : ℕ) where
-  -- those of a segment
-  leg-free : (h : Heading) (p q : Point) → segment f h p q ≡ true → (r : Point) → Has (leg net p q) r
-      → f (r .x) (r .y) ≡ true
-  unfolding leg
-  leg-free h p q s r on = ⊎-elim level upright (of-segment f h p q s)
-    where
-      level : Level f p q → f (r .x) (r .y) ≡ true
-      level a =
-          let e : p .y ≡ r .y = omega (arith, a .row, on .from-y, on .to-y) in
-          subst (λ (y : ℕ). f (r .x) y ≡ true) e
-          (between-at (λ (x : ℕ). f x (p .y)) (p .x) (q .x) (r .x) (a .clear) (omega (arith, on .from-x))
-          (omega (arith, on .to-x)))
-
-      upright : Upright f p q → f (r .x) (r .y) ≡ true
-      upright a =
-          let e : p .x ≡ r .x = omega (arith, a .column, on .from-x, on .to-x) in
-          subst (λ (x : ℕ). f x (r .y) ≡ true) e
-          (between-at (λ (y : ℕ). f (p .x) y) (p .y) (q .y) (r .y) (a .clear) (omega (arith, on .from-y))
-          (omega (arith, on .to-y)))
-
-  legs-from-free : (h : Heading) (p : Point) (cs : List Point) → leads f anywhere h p cs ≡ true
-      → (e : Entry) → In e (legsFrom net p cs) → (r : Point) → Has e r → f (r .x) (r .y) ≡ true
-  unfolding leads legsFrom
-  legs-from-free h p [] l e i r on = absurd i
-  legs-from-free h p (q ∷ cs) l e (inl is) r on =
-      leg-free h p q (and-l (segment f h p q) _ l) r (subst (λ (x : Entry). Has x r) is on)
-  legs-from-free h p (q ∷ cs) l e (inr i) r on =
-      legs-from-free (after p q) q cs (and-r (segment f h p q) _ l) e i r on
-
-  legs-free : (cs : List Point) → isWay f cs ≡ true → (e : Entry) → In e (legs net cs) → (r : Point) → Has e r
-      → f (r .x) (r .y) ≡ true
-  unfolding isWay isPathTo legs leg
-  legs-free [] w e i r on = absurd i
-  legs-free (p ∷ []) w e (inl is) r on =
-      let here : f (p .x) (p .y) ≡ true = search parts in
-      let o = subst (λ (x : Entry). Has x r) is on in
-      let ex : p .x ≡ r .x = omega (arith, o .from-x, o .to-x) in
-      let ey : p .y ≡ r .y = omega (arith, o .from-y, o .to-y) in
-      subst (λ (y : ℕ). f (r .x) y ≡ true) ey (subst (λ (x : ℕ). f x (p .y) ≡ true) ex here)
-  legs-free (p ∷ []) w e (inr i) r on = absurd i
-  legs-free (p ∷ q ∷ cs) w e i r on =
-      let l : leads f anywhere either p (q ∷ cs) ≡ true = search parts in
-      legs-from-free either p (q ∷ cs) l e i r on
 
 -- ---- what is not blocked is apart
 
@@ -92,30 +45,16 @@ unblocked-apart d e p q b on =
     (lt-or-le d (gap (p .x) (q .x)))
 
 module _ (l : Layout) where
-  free-unblocked : (p : Point) → free l (p .x) (p .y) ≡ true → (e : Entry) → In e (l .entries)
-      → blocks (margin (penRule (l .pen)) e) e (p .x) (p .y) ≡ false
-  unfolding free freeBy
-  free-unblocked p f e i =
-      let none-blocks : all (λ (x : Entry). not (blocks (margin (penRule (l .pen)) x) x (p .x) (p .y))) (l .entries)
-      ≡ true = search parts in
-      not-t _
-      (of-all (λ (x : Entry). not (blocks (margin (penRule (l .pen)) x) x (p .x) (p .y))) e (l .entries)
-      none-blocks i)
-
   leg-margin : (e : Entry) → 0 < e .net → margin (penRule (l .pen)) e ≡ 2 * l .pen .half + l .pen .gap
   unfolding margin penRule
   leg-margin e n = rw (ne-eqb (e .net) 0 (λ z. omega arith)) (omega arith)
-
-  patch-margin : (e : Entry) → e .net ≡ 0 → margin (penRule (l .pen)) e ≡ l .pen .half + l .pen .gap
-  unfolding margin penRule
-  patch-margin e n = rw (eq-eqb (e .net) 0 n) refl
 
   -- the legs of a way over free points keep apart from all entries and from the edge
   pub way-apart : (net : ℕ) (cs : List Point) → isWay (free l) cs ≡ true → KeepsApart l (legs net cs)
   way-apart net cs w =
       record {
         from-legs = λ e i n part j p q on-part on-e. clears e i (leg-margin e n) part j p q on-part on-e;
-        from-patches = λ e i n part j p q on-part on-e. clears e i (patch-margin e n) part j p q on-part on-e;
+        from-patches = λ e i n part j p q on-part on-e. clears e i (patch-margin l e n) part j p q on-part on-e;
         from-edge = λ part j p on.
             let (left, right, above, below) = free-far l (p .x) (p .y) (legs-free (free l) net cs w part j p on) in
             record { left = left; right = right; above = above; below = below };
@@ -126,7 +65,7 @@ module _ (l : Layout) where
       clears e i m part j p q on-part on-e =
           subst (λ (d : ℕ). Apart d p q) m
           (unblocked-apart (margin (penRule (l .pen)) e) e p q
-          (free-unblocked p (legs-free (free l) net cs w part j p on-part) e i) on-e)
+          (free-unblocked l p (legs-free (free l) net cs w part j p on-part) e i) on-e)
 
 -- ---- in a list of calls
 

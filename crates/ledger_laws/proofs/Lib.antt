@@ -3,6 +3,7 @@ pub mod Stored
 pub mod CornerLists
 pub mod Refusals
 pub mod Legs
+pub mod Crossing
 pub mod Rules
 pub mod Line
 pub mod Replies
@@ -20,6 +21,7 @@ pub mod Drawn
 pub mod Apart
 pub mod Join
 pub mod Joins
+pub mod Crossed
 pub mod OldJobs
 pub mod Opening
 pub mod Numbers

@@ -3,15 +3,15 @@ use Prim.Native.Nat.{ℕ, _+_, _-_, _/_, min, _≤_, _<_}
 use native.Mathlib.Omega.{arith}
 use mathlib.Core.Path.{_≡_, refl, sym, ap, _∙_}
 use mathlib.Core.Bool.{Bool, true, false, cond, not, _&&_, _||_, or-true, true≢false}
-use mathlib.Core.List.{List, [], _∷_, _++_}
+use mathlib.Core.List.{List, [], _∷_, _++_, append-nil}
 use mathlib.Core.Option.{Option, none, some, Option·getD}
-use lib.Dec.{leb, ltb}
+use lib.Dec.{leb, ltb, eqb}
 use borrow.Author.Tests.{lt-ltb, ltb-true, ltb-false, leb-true, le-leb}
 use lib.ListN.{length}
 use Rattle.foil_spec.specs.Lists.{all, keep}
 use Rattle.foil_spec.specs.Limits.{maxEntries}
 use Rattle.foil_spec.specs.Foil.{Point, Entry, entry, Pen, pen, Layout, noFoil, sizeOk, reachOk, penOk, netOk}
-use Rattle.foil_spec.specs.Foil.{boxOk, shapeOk, entryOk, free}
+use Rattle.foil_spec.specs.Foil.{boxOk, shapeOk, entryOk, noCrossing, patchMargin, free}
 use Rattle.foil_spec.specs.Strips.{Strip}
 use Rattle.foil_spec.specs.Paths.{at, anywhere, either, leads, isWay, firstPathTo}
 use Rattle.foil_spec.specs.Corners.{drawn}
@@ -24,8 +24,8 @@ use Rattle.foil_spec.specs.Ledger.{lay, lift, lookUp, putLeg, save, find, book,
 use Rattle.foil_spec.specs.Ledger.{without, freeFor, joinOf, joinCorners}
 use Rattle.foil_spec.specs.Ledger.{numberOf, next, says, refused, Refusal, first, reads, refusals, settle}
 use Rattle.foil_spec.specs.Lent.{layoutOk}
-use Rattle.list_laws.proofs.Tests.{clash, and-l, and-r, and-i, or-l, not-ff, both, parts, all-append, all-keep}
-use Rattle.list_laws.proofs.Members.{length-keep}
+use Rattle.list_laws.proofs.Tests.{clash, and-l, and-r, and-i, or-l, not-f, not-ff, both, parts, all-append, all-keep}
+use Rattle.list_laws.proofs.Members.{In, in-keep, length-keep}
 use Rattle.path_laws.proofs.Laws.{gives-first}
 use Rattle.path_laws.proofs.Ways.{path-way, way-is}
 use Rattle.strip_laws.proofs.Strips.{Held}
@@ -34,7 +34,9 @@ use Rattle.ledger_laws.specs.Line.{Line, Lacks, corners, joint, bytes, p
 use Rattle.ledger_laws.proofs.Refusals.{no-rule, no-more, none-applies, first-passes}
 use Rattle.zones.proofs.Free.{free-inside, free-far, bare-free}
 use Rattle.ledger_laws.proofs.Legs.{legs-ok}
-use Rattle.ledger_laws.proofs.Rules.{of-ok, to-ok}
+use Rattle.ledger_laws.proofs.Crossing.{bare-uncrossed, keep-uncrossed, patch-uncrossed, leg-uncrossed}
+use Rattle.ledger_laws.proofs.Crossing.{net-not-zero, patch-not-of, way-uncrossed}
+use Rattle.ledger_laws.proofs.Rules.{Keeps, of-ok, to-ok}
 
 -- ---- what the steps leave
 
@@ -112,6 +114,39 @@ joined-ok : (l : Layout) (net : ℕ) (S : Point) → netOk net ≡ true
 unfolding joinCorners joinOf freeFor
 joined-ok l net S h = first-ok (without net l) net S _ (joinOf net l S) refl h
 
+-- no patch of the row es crosses the legs of a first path over points that none of them blocks
+first-uncrossed : (l : Layout) (net : ℕ) (S : Point) (T : Point → Bool) (o : Option (List Point)) (es : List Entry)
+    → firstPathTo (free l) (l .width) (l .height) S T ≡ o → netOk net ≡ true
+    → all (entryOk (l .width) (l .height)) (l .entries) ≡ true
+    → ((p : Entry) → In p es → eqb (p .net) 0 ≡ true → In p (l .entries))
+    → noCrossing (patchMargin (l .pen)) es ≡ true
+    → noCrossing (patchMargin (l .pen)) (es ++ legs net (Option·getD o [])) ≡ true
+unfolding legs
+first-uncrossed l net S T none es e h ok patches clear = rw (append-nil es) clear
+first-uncrossed l net S T (some cs) es e h ok patches clear =
+    let p = gives-first (free l) (l .width) (l .height) (free-inside l) S T cs e .path in
+    way-uncrossed l ok net h cs (path-way (free l) S T cs p) es patches clear
+
+laid-uncrossed : (l : Layout) (net : ℕ) (S T : Point) → netOk net ≡ true → Keeps l
+    → noCrossing (patchMargin (l .pen)) (l .entries ++ legs net (cornersOf l S T)) ≡ true
+unfolding cornersOf pathOf
+laid-uncrossed l net S T h k =
+    first-uncrossed l net S (at T) (pathOf l S T) (l .entries) refl h (k .entries) (λ p i t. i) (k .uncrossed)
+
+-- the entries of a net that is left out are no patches
+joined-uncrossed : (l : Layout) (net : ℕ) (S : Point) → netOk net ≡ true → Keeps l
+    → noCrossing (patchMargin (l .pen)) (l .entries ++ legs net (joinCorners net l S)) ≡ true
+unfolding joinCorners joinOf freeFor
+joined-uncrossed l net S h k =
+    first-uncrossed (without net l) net S _ (joinOf net l S) (l .entries) refl h
+    (all-keep (entryOk (l .width) (l .height)) (λ (e : Entry). not (ofNet net e)) (l .entries) (k .entries))
+    patches (k .uncrossed)
+  where
+    patches : (p : Entry) → In p (l .entries) → eqb (p .net) 0 ≡ true
+        → In p (keep (λ (e : Entry). not (ofNet net e)) (l .entries))
+    patches p i t =
+        in-keep (λ (e : Entry). not (ofNet net e)) p (l .entries) i (not-f (patch-not-of net h p t))
+
 -- no more entries than a foil may have are no more than a table has places
 few-after : (r : Room) (l : Layout) → tooLong r l ≡ false → length (l .entries) ≤ maxEntries
 unfolding tooLong
@@ -120,9 +155,10 @@ few-after r l h = omega (arith, ltb-false (min maxEntries (r .limit)) (length (l
 -- ---- the rules are kept by entries that are appended, or taken out
 
 appended : (r : Room) (l : Layout) (es : List Entry) → layoutOk l ≡ true
-    → all (entryOk (l .width) (l .height)) es ≡ true → tooLong r (withEntries l (l .entries ++ es)) ≡ false
+    → all (entryOk (l .width) (l .height)) es ≡ true
+    → noCrossing (patchMargin (l .pen)) (l .entries ++ es) ≡ true → tooLong r (withEntries l (l .entries ++ es)) ≡ false
     → tooFine (withEntries l (l .entries ++ es)) ≡ false → layoutOk (withEntries l (l .entries ++ es)) ≡ true
-appended r l es g ok long fine =
+appended r l es g ok clear long fine =
     let k = of-ok l g in
     to-ok _
     (record {
@@ -131,6 +167,7 @@ appended r l es g ok long fine =
       pen = k .pen;
       entries = all-append (entryOk (l .width) (l .height)) (l .entries) es (k .entries) ok;
       long = le-leb (length (l .entries ++ es)) maxEntries (few-after r _ long);
+      uncrossed = clear;
       fine = fine;
     })
 
@@ -146,6 +183,7 @@ taken-out l p g fine =
       pen = k .pen;
       entries = all-keep (entryOk (l .width) (l .height)) p (l .entries) (k .entries);
       long = le-leb (length (keep p (l .entries))) maxEntries (omega (arith, few, length-keep p (l .entries)));
+      uncrossed = keep-uncrossed (patchMargin (l .pen)) p (l .entries) (k .uncrossed);
       fine = fine;
     })
 
@@ -250,6 +288,7 @@ module _ (W H : ℕ) (c : Clearance) where
           pen = s .2;
           entries = refl;
           long = refl;
+          uncrossed = bare-uncrossed (patchMargin (penOf c));
           fine = new-fine W H (penOf c);
         });
     unbegun = λ z. clash z refl;
@@ -269,7 +308,9 @@ draw-line x0 y0 x1 y1 = record {
       patch-ok (l .width) (l .height) x0 y0 x1 y1 (not-ff _ (search none-applies)) in
       appended r l (entry 0 x0 y0 x1 y1 ∷ []) (g refl)
       (and-i {a = entryOk (l .width) (l .height) (entry 0 x0 y0 x1 y1)} e refl)
-      (search none-applies) (search none-applies depth 9);
+      (patch-uncrossed (patchMargin (l .pen)) (l .entries) (entry 0 x0 y0 x1 y1) refl (of-ok l (g refl) .uncrossed)
+      (search none-applies))
+      (search none-applies depth 9) (search none-applies depth 9);
   unbegun = λ t r h. absurd (no-box (entry 0 x0 y0 x1 y1) (not-ff _ (search none-applies)));
   accepts = λ l. refl;
   numbers = λ r l. refl;
@@ -285,6 +326,7 @@ lay-line net S T = record {
   kept = λ r l g h.
       appended r l (legs net (cornersOf l S T)) (g refl)
       (laid-ok l net S T (not-ff (netOk net) (search none-applies)))
+      (laid-uncrossed l net S T (not-ff (netOk net) (search none-applies)) (of-ok l (g refl)))
       (search none-applies depth 12) (search none-applies depth 12);
   unbegun = λ t r h. clash (all-off S) (or-l (offFoil noFoil S) (offFoil noFoil T) (search none-applies));
   accepts = λ l. refl;
@@ -327,6 +369,9 @@ leg-line e = record {
   kept = λ r l g h.
       appended r l (e ∷ []) (g refl)
       (and-i {a = entryOk (l .width) (l .height) e} (not-ff _ (search none-applies)) refl)
+      (leg-uncrossed (patchMargin (l .pen)) (l .entries) e
+      (net-not-zero (e .net) (not-ff (netOk (e .net)) (search none-applies))) (of-ok l (g refl) .uncrossed)
+      (search none-applies depth 9))
       (search none-applies depth 9) (search none-applies depth 9);
   unbegun = λ t r h. absurd (no-box e (and-l (boxOk 0 0 e) (shapeOk e) (not-ff _ (search none-applies))));
   accepts = λ l. refl;
@@ -369,6 +414,8 @@ book-line net ks = record {
   kept = λ r l g h.
       appended r l (legs net (drawn ks)) (g refl)
       (booked-ok l net (drawn ks) (not-ff (netOk net) (search none-applies)) (not-ff _ (search none-applies)))
+      (way-uncrossed l (of-ok l (g refl) .entries) net (not-ff (netOk net) (search none-applies)) (drawn ks)
+      (not-ff _ (search none-applies)) (l .entries) (λ p i t. i) (of-ok l (g refl) .uncrossed))
       (search none-applies depth 9) (search none-applies depth 9);
   unbegun = λ t r h. absurd (no-drawing (drawn ks) (not-ff _ (search none-applies)));
   accepts = λ l. refl;
@@ -398,6 +445,7 @@ join-line net S = record {
   kept = λ r l g h.
       appended r l (legs net (joinCorners net l S)) (g refl)
       (joined-ok l net S (not-ff (netOk net) (search none-applies)))
+      (joined-uncrossed l net S (not-ff (netOk net) (search none-applies)) (of-ok l (g refl)))
       (search none-applies depth 12) (search none-applies depth 12);
   unbegun = λ t r h. unfold inUse in clash (not-ff (inUse net []) (search none-applies)) refl;
   accepts = λ l. refl;

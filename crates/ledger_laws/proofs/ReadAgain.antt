@@ -11,7 +11,7 @@ use lib.ListN.{length, take, length-append}
 use lib.Seq.{take-append-add}
 use Rattle.foil_spec.specs.Lists.{range, all, any, each}
 use Rattle.foil_spec.specs.Limits.{maxEntries, maxBytes}
-use Rattle.foil_spec.specs.Foil.{Entry, Layout, entryOk}
+use Rattle.foil_spec.specs.Foil.{Entry, Layout, entryOk, noCrossing, patchMargin}
 use Rattle.foil_spec.specs.Saving.{twoBytes, boardBytes, entryBytes, jobOf}
 use Rattle.foil_spec.specs.Ledger.{withEntries, tooLong, tooFine, beginningTooFine, Room, short, Answer, refused}
 use Rattle.foil_spec.specs.Ledger.{accepted, numberOf, After}
@@ -21,6 +21,7 @@ use Rattle.foil_spec.specs.Calls.{readJob}
 use Rattle.list_laws.proofs.Tests.{clash, both, or-l, or-r}
 use Rattle.list_laws.proofs.Members.{in-left, in-right, of-all, to-all}
 use Rattle.ledger_laws.specs.Saved.{entryReplies, allAccepted, lastPlace, refusal}
+use Rattle.ledger_laws.proofs.Crossing.{front-uncrossed}
 use Rattle.ledger_laws.proofs.Rules.{of-ok, to-ok}
 use Rattle.ledger_laws.proofs.Line.{new-fine}
 use Rattle.ledger_laws.proofs.FileSize.{entry-size, file-size, file-small}
@@ -128,6 +129,9 @@ module _ (r : Room) (long : short r ≡ false) (l : Layout) (g : layoutOk l ≡ 
               of-all is e (front ++ rest) (subst (λ (es : List Entry). all is es ≡ true) (s .entries) (k .entries))
               (in-left e front rest h));
           long = le-leb (length front) maxEntries (omega (arith, few, stage-count));
+          uncrossed =
+              front-uncrossed (patchMargin (l .pen)) front rest
+              (subst (λ (es : List Entry). noCrossing (patchMargin (l .pen)) es ≡ true) (s .entries) (k .uncrossed));
           fine = s .fine;
         })
 
@@ -158,6 +162,9 @@ module _ (r : Room) (long : short r ≡ false) (l : Layout) (g : layoutOk l ≡ 
         ∙ entry-call r long m done rest (part front) e t (s .later) (stage-ok done front (e ∷ es) s)
         (of-all is e (front ++ e ∷ es) (subst (λ (u : List Entry). all is u ≡ true) (s .entries) (of-ok l g .entries))
         (in-right e front (e ∷ es) (inl refl)))
+        (front-uncrossed (patchMargin (l .pen)) (front ++ e ∷ []) es
+        (subst (λ (u : List Entry). noCrossing (patchMargin (l .pen)) u ≡ true)
+        (s .entries ∙ sym (append-assoc front (e ∷ []) es)) (of-ok l g .uncrossed)))
         (not-long (front ++ e ∷ [])
         (omega (arith, stage-count done front (e ∷ es) s, length-append front (e ∷ []))))
         fine

@@ -8,7 +8,8 @@ use mathlib.Core.Option.{none, some}
 use lib.Dec.{eqb}
 use borrow.Author.Tests.{eqb-true, ne-eqb}
 use lib.ListN.{length}
-use Rattle.foil_spec.specs.Foil.{Entry, entry, Layout, netOk, boxOk, shapeOk, entryOk}
+use Rattle.foil_spec.specs.Foil.{Entry, entry, Layout, netOk, boxOk, shapeOk, entryOk, noCrossing}
+use Rattle.foil_spec.specs.Foil.{patchMargin}
 use Rattle.foil_spec.specs.Saving.{twoBytes, boardBytes, entryBytes}
 use Rattle.foil_spec.specs.Ledger.{withEntries, tooLong, tooFine, next, says, first, Room, short, refusals, afterLent}
 use Rattle.foil_spec.specs.Ledger.{byPen, Step, newFoil, draw, putLeg, Answer, refused, accepted, After, settle}
@@ -17,6 +18,7 @@ use Rattle.foil_spec.specs.Lent.{Lent, store, layoutOk}
 use Rattle.foil_spec.specs.Calls.{runRecord, Reply, ran, atEnd, endsJob, andThen, actAll, actRecord, tooLarge}
 use Rattle.foil_spec.specs.Calls.{wholeRefusals, reply, ledgerCall, callOn}
 use Rattle.list_laws.proofs.Tests.{both, and-l, and-r, parts}
+use Rattle.ledger_laws.proofs.Crossing.{last-over, last-under}
 use Rattle.ledger_laws.proofs.Rules.{of-ok}
 use Rattle.ledger_laws.proofs.Refusals.{own-refused}
 use Rattle.ledger_laws.proofs.Steps.{shown, call-is}
@@ -27,6 +29,10 @@ use Rattle.ledger_laws.proofs.RecordBytes.{goes-on-there, does-there, e
 -- the layout with one more entry
 abbrev pub plus : Layout → Entry → Layout
 plus l e = withEntries l (l .entries ++ e ∷ [])
+
+-- with it no patch blocks a point of a leg
+abbrev pub Clear : Layout → Entry → Type 0
+Clear l e = noCrossing (patchMargin (l .pen)) (l .entries ++ e ∷ []) ≡ true
 
 -- an entry that would leave too many strips is refused by 11, and all stays as it is
 abbrev pub saidOf : Bool → Answer
@@ -65,36 +71,52 @@ module _ (r : Room) (long : short r ≡ false) where
 
   module _ (l : Layout) where
     patch-step : (x0 y0 x1 y1 : ℕ) (t : Bool) → entryOk (l .width) (l .height) (entry 0 x0 y0 x1 y1) ≡ true
-        → tooLong r (plus l (entry 0 x0 y0 x1 y1)) ≡ false → tooFine (plus l (entry 0 x0 y0 x1 y1)) ≡ t
+        → Clear l (entry 0 x0 y0 x1 y1) → tooLong r (plus l (entry 0 x0 y0 x1 y1)) ≡ false
+        → tooFine (plus l (entry 0 x0 y0 x1 y1)) ≡ t
         → ledgerStep r (draw x0 y0 x1 y1) l ≡ record { answer = saidOf t; state = leftOf t l (entry 0 x0 y0 x1 y1) }
     unfolding ledgerStep refusals first next says settle entryOk
-    patch-step x0 y0 x1 y1 t ok few fine =
+    patch-step x0 y0 x1 y1 t ok clear few fine =
         let box : boxOk (l .width) (l .height) (entry 0 x0 y0 x1 y1) ≡ true = search parts in
-        rw (own-refused r (draw x0 y0 x1 y1) l false long refl, box, few, fine) (settled t l (entry 0 x0 y0 x1 y1))
+        rw (
+          own-refused r (draw x0 y0 x1 y1) l false long refl,
+          box,
+          last-over _ (l .entries) (entry 0 x0 y0 x1 y1) clear,
+          few,
+          fine,
+        )
+        (settled t l (entry 0 x0 y0 x1 y1))
 
     leg-step : (e : Entry) (t : Bool) → eqb (e .net) 0 ≡ false → entryOk (l .width) (l .height) e ≡ true
-        → tooLong r (plus l e) ≡ false → tooFine (plus l e) ≡ t
+        → Clear l e → tooLong r (plus l e) ≡ false → tooFine (plus l e) ≡ t
         → ledgerStep r (putLeg e) l ≡ record { answer = saidOf t; state = leftOf t l e }
     unfolding ledgerStep refusals clearanceRefusal first next penOf says settle
-    leg-step e t leg ok few fine =
-        rw (own-refused r (putLeg e) l false long refl, leg-net (l .width) (l .height) e leg ok, ok, few, fine)
+    leg-step e t leg ok clear few fine =
+        rw (
+          own-refused r (putLeg e) l false long refl,
+          leg-net (l .width) (l .height) e leg ok,
+          ok,
+          last-under _ (l .entries) e clear,
+          few,
+          fine,
+        )
         (settled t l e)
 
-    entry-step : (e : Entry) (t : Bool) → entryOk (l .width) (l .height) e ≡ true → tooLong r (plus l e) ≡ false
-        → tooFine (plus l e) ≡ t → ledgerStep r (stepOf e) l ≡ record { answer = saidOf t; state = leftOf t l e }
+    entry-step : (e : Entry) (t : Bool) → entryOk (l .width) (l .height) e ≡ true → Clear l e
+        → tooLong r (plus l e) ≡ false → tooFine (plus l e) ≡ t
+        → ledgerStep r (stepOf e) l ≡ record { answer = saidOf t; state = leftOf t l e }
     unfolding stepOf
-    entry-step e t ok few fine =
+    entry-step e t ok clear few fine =
         both (eqb (e .net) 0)
-        (λ n. rw n (patch (eqb-true (e .net) 0 n) ok few fine))
-        (λ n. rw n (leg-step e t n ok few fine))
+        (λ n. rw n (patch (eqb-true (e .net) 0 n) ok clear few fine))
+        (λ n. rw n (leg-step e t n ok clear few fine))
       where
-        patch : e .net ≡ 0 → entryOk (l .width) (l .height) e ≡ true → tooLong r (plus l e) ≡ false
+        patch : e .net ≡ 0 → entryOk (l .width) (l .height) e ≡ true → Clear l e → tooLong r (plus l e) ≡ false
             → tooFine (plus l e) ≡ t
             → ledgerStep r (draw (e .x0) (e .y0) (e .x1) (e .y1)) l ≡ record { answer = saidOf t; state = leftOf t l e }
         patch n =
             subst
             (λ (k : Entry).
-            entryOk (l .width) (l .height) k ≡ true → tooLong r (plus l k) ≡ false → tooFine (plus l k) ≡ t
+            entryOk (l .width) (l .height) k ≡ true → Clear l k → tooLong r (plus l k) ≡ false → tooFine (plus l k) ≡ t
             → ledgerStep r (draw (k .x0) (k .y0) (k .x1) (k .y1)) l
             ≡ record { answer = saidOf t; state = leftOf t l k })
             (λ i. entry (sym n i) (e .x0) (e .y0) (e .x1) (e .y1))
@@ -145,7 +167,7 @@ module _ (r : Room) (long : short r ≡ false) where
 
     -- an entry's record where a layout is stored
     pub entry-call : (done rest : List ℕ) (l : Layout) (e : Entry) (t : Bool) → 0 < length done → layoutOk l ≡ true
-        → entryOk (l .width) (l .height) e ≡ true → tooLong r (plus l e) ≡ false → tooFine (plus l e) ≡ t
+        → entryOk (l .width) (l .height) e ≡ true → Clear l e → tooLong r (plus l e) ≡ false → tooFine (plus l e) ≡ t
         → tooLarge (done ++ (entryBytes e ++ rest)) ≡ false
         → callOn r (runRecord (done ++ (entryBytes e ++ rest)) (length done)) (store l m)
         ≡ record {
@@ -153,13 +175,13 @@ module _ (r : Room) (long : short r ≡ false) where
           state = store (leftOf t l e) m;
         }
     unfolding shown xor
-    entry-call done rest l e t later g ok few fine large =
+    entry-call done rest l e t later g ok clear few fine large =
         let bs : List ℕ = entryBytes e ++ rest in
         call-is r (runRecord (done ++ bs) (length done)) l m g
         ∙ ap (shown m)
         (one-step done bs false (stepOf e) (length (entryBytes e)) (entry-begins e rest) l (leftOf t l e)
         (saidOf t) large (rw (ne-eqb (length done) 0 (λ z. omega arith)) refl)
-        (entry-step l e t ok few fine) (ends-not t))
+        (entry-step l e t ok clear few fine) (ends-not t))
 
     -- the end mark there
     pub mark-call : (done : List ℕ) (l : Layout) → 0 < length done → layoutOk l ≡ true

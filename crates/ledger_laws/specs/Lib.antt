@@ -6,6 +6,7 @@ pub mod Demand3
 pub mod Drawn
 pub mod Apart
 pub mod Joins
+pub mod Crossed
 pub mod OldJobs
 pub mod Numbers
 pub mod Saved

@@ -26,6 +26,7 @@ use Rattle.ledger_laws.specs.Demand2.{StripsRight}
 use Rattle.ledger_laws.specs.Demand3.{NoWayAt, LaysFirstAt, LiftsBackAt}
 use Rattle.ledger_laws.specs.Drawn.{FindsNoWayAt, FindsFirstAt, BooksWaysAt}
 use Rattle.ledger_laws.specs.Apart.{TracksApartAt}
+use Rattle.ledger_laws.specs.Crossed.{NoneCrossedAt, TurnsPatchDownAt, TurnsLegDownAt}
 use Rattle.ledger_laws.specs.Joins.{NoJoinAt, JoinsFirstAt, JoinsApartAt, JoinBendsAt, LiftsWholeAt}
 use Rattle.ledger_laws.specs.Moments.{Started, begins as by-call, carried as carried-alone}
 use Rattle.ledger_laws.proofs.Lending.{step-short, back-front as lists-back}
@@ -34,12 +35,14 @@ use Rattle.ledger_laws.proofs.Demand2.{strips-stay-right}
 use Rattle.ledger_laws.proofs.Demand3.{no-way, lays-first, lifts-back}
 use Rattle.ledger_laws.proofs.Drawn.{finds-no-way, finds-first, books-ways}
 use Rattle.ledger_laws.proofs.Apart.{tracks-apart}
+use Rattle.ledger_laws.proofs.Crossed.{none-crossed, turns-patch-down, turns-leg-down}
 use Rattle.ledger_laws.proofs.Joins.{no-join, joins-first, joins-apart, join-bends, lifts-whole-after}
 use Rattle.ledger_laws.proofs.Replies.{shownBy}
 use Rattle.sheet_laws.specs.Alone.{EightFoils, foilOf, aloneCall, aloneCalls, leftOf, FoilsAlone, LeavesOthers}
 use Rattle.sheet_laws.specs.Alone.{SheetNoWay, SheetLaysFirst, SheetLiftsBack, SheetNoJoin, SheetJoinsFirst}
 use Rattle.sheet_laws.specs.Alone.{SheetStripsRight, SheetTracksApart, SheetJoinsApart, SheetJoinBends}
 use Rattle.sheet_laws.specs.Alone.{SheetLiftsWhole, SheetFindsNoWay, SheetFindsFirst, SheetBooksWays, OthersStay}
+use Rattle.sheet_laws.specs.Alone.{SheetNoneCrossed, SheetTurnsPatchDown, SheetTurnsLegDown}
 use Rattle.sheet_laws.specs.Alone.{StartedOn, begins, carried, AlsoOnSheet}
 use Rattle.sheet_laws.proofs.Counts.{ok-total, ok-at}
 use Rattle.sheet_laws.proofs.Parts.{part-few, parts-append}
@@ -446,6 +449,15 @@ sheet-tracks-apart = also-on-sheet TracksApartAt tracks-apart
 
 pub sheet-joins-apart : SheetJoinsApart
 sheet-joins-apart = also-on-sheet JoinsApartAt joins-apart
+
+pub sheet-none-crossed : SheetNoneCrossed
+sheet-none-crossed = also-on-sheet NoneCrossedAt none-crossed
+
+pub sheet-turns-patch-down : SheetTurnsPatchDown
+sheet-turns-patch-down = also-on-sheet TurnsPatchDownAt turns-patch-down
+
+pub sheet-turns-leg-down : SheetTurnsLegDown
+sheet-turns-leg-down = also-on-sheet TurnsLegDownAt turns-leg-down
 
 pub sheet-join-bends : SheetJoinBends
 sheet-join-bends = also-on-sheet JoinBendsAt join-bends

@@ -20,6 +20,7 @@ use Rattle.ledger_laws.specs.Demand2.{StripsRight}
 use Rattle.ledger_laws.specs.Demand3.{NoWayAt, LaysFirstAt, LiftsBackAt}
 use Rattle.ledger_laws.specs.Drawn.{FindsNoWayAt, FindsFirstAt, BooksWaysAt}
 use Rattle.ledger_laws.specs.Apart.{TracksApartAt}
+use Rattle.ledger_laws.specs.Crossed.{NoneCrossedAt, TurnsPatchDownAt, TurnsLegDownAt}
 use Rattle.ledger_laws.specs.Joins.{NoJoinAt, JoinsFirstAt, JoinsApartAt, JoinBendsAt, LiftsWholeAt}
 use Rattle.ledger_laws.specs.Moments.{Moment, moments, AtEvery}
 
@@ -131,6 +132,16 @@ SheetTracksApart = OnSheet TracksApartAt
 
 abbrev pub SheetJoinsApart : Type 0
 SheetJoinsApart = OnSheet JoinsApartAt
+
+-- no patch of a foil blocks a point of a leg of the same foil, and 21 is about these alone
+abbrev pub SheetNoneCrossed : Type 0
+SheetNoneCrossed = OnSheet NoneCrossedAt
+
+abbrev pub SheetTurnsPatchDown : Type 0
+SheetTurnsPatchDown = OnSheet TurnsPatchDownAt
+
+abbrev pub SheetTurnsLegDown : Type 0
+SheetTurnsLegDown = OnSheet TurnsLegDownAt
 
 -- a join's bends and steps count for its net, and a lift of the net as the next step on the foil takes it whole
 abbrev pub SheetJoinBends : Type 0
