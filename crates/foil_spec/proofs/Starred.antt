@@ -1,6 +1,6 @@
 -- The starred test foils of document 01, the ohms of its track, legs as booked with the file of their foil, drawn ways,
 -- the slip of two tracks, pens, foils that the edge blocks, joins, and patches across tracks: one list of cases, and
--- one fact over it.
+-- one fact over it. Then 21 before 10.
 use Prim.Native.Nat.{ℕ}
 use mathlib.Core.Path.{_≡_, refl}
 use mathlib.Core.Bool.{true, false, xor}
@@ -22,7 +22,7 @@ use Rattle.foil_spec.specs.Text.{ascii, digitsIn, decimal}
 use Rattle.foil_spec.specs.Saving.{twoBytes, boardBytes, patchBytes, legBytes, entryBytes, jobOf}
 use Rattle.foil_spec.specs.Slip.{setRight, column, slipLine, netLine, slipOf}
 use Rattle.foil_spec.specs.Ledger.{stripsOf, pathOf, noPath, cornersOf, leg, legsFrom, legs}
-use Rattle.foil_spec.specs.Ledger.{offFoil, blocked, short, cornerRoom, tooLong, tooFine, beginningTooFine}
+use Rattle.foil_spec.specs.Ledger.{offFoil, blocked, Room, short, cornerRoom, tooLong, tooFine, beginningTooFine}
 use Rattle.foil_spec.specs.Ledger.{next, says, first, reads, refusals, afterLent, settle, refusalOf, ledgerStep}
 use Rattle.foil_spec.specs.Ledger.{byPen, penOf, clearanceRefusal, Step, newFoil, draw, lay, lift, lookUp}
 use Rattle.foil_spec.specs.Ledger.{putLeg, save, find, book, slip, join}
@@ -578,3 +578,18 @@ unfolding outcomeFrom cases jobBytes crossingBytes legJob savedBytes jobSlip pen
     legsOf legSteps stepsOf netLength netBends whole sheetOk widthOk bendOk inkOk formula ohmsRefusals ohmsOf half bits
     ofInt ofBits add mul div lt le eq
 starred = refl
+
+-- a foil of a leg and a patch, and a room in which it may have no entry more
+abbrev fullFoil : Layout
+fullFoil = record { width = 12; height = 5; pen = pen 0 1; entries = entry 3 1 3 11 4 ∷ entry 0 4 0 6 1 ∷ [] }
+
+abbrev noMore : Room
+noMore = record { table = jobRoom .table; strips = jobRoom .strips; output = jobRoom .output; limit = 2 }
+
+-- there a patch over the leg and a leg under the patch are 21, and others 10
+full : map (λ (s : Step). ledgerStep noMore s fullFoil .answer)
+    (draw 4 2 6 3 ∷ draw 4 1 6 2 ∷ putLeg (entry 4 4 1 5 2) ∷ putLeg (entry 4 8 1 9 2) ∷ [])
+    ≡ refused 21 ∷ refused 10 ∷ refused 21 ∷ refused 10 ∷ []
+unfolding netOk boxOk shapeOk entryOk meets crosses overLeg underPatch penRule patchMargin
+    short tooLong next says first reads refusals afterLent settle refusalOf ledgerStep jobRoom
+full = refl
