@@ -6,7 +6,7 @@ use native.Mathlib.Numerals.{add-one}
 use mathlib.Core.Path.{_≡_, refl, sym, ap, _∙_, subst}
 use mathlib.Core.Bool.{not}
 use mathlib.Core.List.{List, [], _∷_, _++_, map, append-assoc, append-nil}
-use lib.ListN.{length, set, replicate, length-set, length-append, length-replicate}
+use lib.ListN.{length, set, drop, replicate, length-set, length-append, length-replicate}
 use borrow.Author.Tests.{eq-eqb, ne-eqb}
 use Rattle.foil_spec.specs.Lists.{range, keep, each}
 use Rattle.foil_spec.specs.Limits.{maxEntries, tableSize}
@@ -14,7 +14,7 @@ use Rattle.foil_spec.specs.Foil.{Entry, entry, entryNumbers}
 use Rattle.foil_spec.specs.Nets.{ofNet}
 use Rattle.foil_spec.specs.Lent.{written, entryAt}
 use Rattle.list_laws.proofs.Members.{each-append, keep-append, map-last}
-use Rattle.ledger_laws.proofs.Stored.{length-entries}
+use Rattle.ledger_laws.proofs.Stored.{length-entries, read-back}
 use Rattle.booking.specs.Rows.{rowsOf, Appended, otherNets, Kept}
 
 set-later : (xs ys : List ℕ) (i v : ℕ) → set (xs ++ ys) (length xs + i) v ≡ xs ++ set ys i v
@@ -26,6 +26,20 @@ set-later (x ∷ xs) ys i v =
 pub length-rows : (es : List Entry) → length es ≤ maxEntries → tableSize ≡ length (rowsOf es)
 unfolding rowsOf written
 length-rows es l = simp (length-append, length-replicate) (omega (arith, length-entries es))
+
+-- zeros are rows of no entry
+pub no-rows : replicate {A = ℕ} tableSize 0 ≡ rowsOf []
+unfolding rowsOf written
+no-rows = refl
+
+-- rows of some entries, read by place
+pub read-rows : (rows : List ℕ) (es : List Entry) (n : ℕ) → length es ≡ n → rows ≡ rowsOf es
+    → map (entryAt rows) (range 0 n) ≡ es
+unfolding rowsOf written
+read-rows rows es n count is =
+    ap (λ (x : List ℕ). map (entryAt x) (range 0 n)) is
+    ∙ ap (λ (k : ℕ). map (entryAt (rowsOf es)) (range 0 k)) (sym count)
+    ∙ read-back es (replicate (tableSize - length (each entryNumbers es)) 0 ++ drop tableSize [])
 
 module _ (net x0 y0 x1 y1 : ℕ) where
   -- five stores, one after the other

@@ -11,21 +11,17 @@ use Rattle.foil_spec.specs.Limits.{tableSize}
 use Rattle.foil_spec.specs.Foil.{Pen, sizeOk, penOk, penRule}
 use Rattle.foil_spec.specs.Ledger.{Room, short, Clearance, penOf, clearanceRefusal, newFoil, next, says, first, reads}
 use Rattle.foil_spec.specs.Ledger.{refusals, afterLent, settle, refusalOf}
-use Rattle.foil_spec.specs.Lent.{lent, store, written, layoutOf, sound, held, stepOn}
+use Rattle.foil_spec.specs.Lent.{lent, store, layoutOf, sound, held, stepOn}
 use Rattle.foil_spec.specs.declared.Board.{Board}
 use Rattle.ledger_laws.proofs.Refusals.{no-rule}
 use Rattle.ledger_laws.proofs.Line.{new-fine, pen-allowed}
 use Rattle.zones.specs.Table.{Table}
 use Rattle.zones.proofs.Tables.{pen-small, foil-sized}
-use Rattle.booking.specs.Rows.{rowsOf}
+use Rattle.booking.proofs.Filling.{no-rows}
 use Rattle.foil.specs.Contract.{Gave, refusedBy, takenOver}
 use Rattle.foil.specs.declared.Done.{Done}
 use Rattle.foil.proofs.Giving.{step-refused}
 use Rattle.foil.proofs.Making.{rows-table}
-
-pub no-rows : replicate {A = ℕ} tableSize 0 ≡ rowsOf []
-unfolding rowsOf written
-no-rows = refl
 
 -- the pen of a clearance that passes is within its limits
 pub passed-pen : (c : Clearance) → first (clearanceRefusal c ∷ []) ≡ none → penOk (penOf c) ≡ true

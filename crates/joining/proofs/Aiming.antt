@@ -22,7 +22,8 @@ use Rattle.zones.specs.Boxes.{boxFree, Boxes, Zoned}
 use Rattle.zones.specs.Table.{Table}
 use Rattle.zones.proofs.Zoning.{zoned-free}
 use Rattle.booking.specs.Rows.{otherNets, Kept}
-use Rattle.foil.proofs.Making.{read-rows, rows-layout, rows-table}
+use Rattle.booking.proofs.Filling.{read-rows}
+use Rattle.foil.proofs.Making.{rows-layout, rows-table}
 use Rattle.grid.specs.Targets.{target}
 use Rattle.search.specs.Grid.{Aimed}
 use Rattle.search.specs.Search.{Found}

@@ -9,7 +9,7 @@ use lib.ListN.{length, getD, take}
 use borrow.Author.Tests.{le-leb, leb-true, ltb-false, le-ltb, not-true, not-false}
 use Rattle.foil_spec.specs.Lists.{range, all, each}
 use Rattle.foil_spec.specs.Limits.{maxEntries, tableSize, maxStrips, stripsSize}
-use Rattle.foil_spec.specs.Foil.{entryNumbers, Layout, entryOk, penRule}
+use Rattle.foil_spec.specs.Foil.{entryNumbers, Layout, entryOk, noCrossing, penRule, patchMargin}
 use Rattle.foil_spec.specs.Ledger.{stripsOf, tooFine}
 use Rattle.foil_spec.specs.Lent.{Lent, lent, stripNumbers, written, store, entryAt, layoutOf, penIn, held}
 use Rattle.foil_spec.specs.Lent.{layoutOk, sound}
@@ -95,6 +95,14 @@ module _ (b : Board) (t s : List ℕ) where
   unfolding held layoutOf
   bad-entries r e n = not-sound (λ k. clash (of-ok (held m) (k .kept) .entries) (sym e ∙ not-true r n))
 
+  pub bad-crossing : (r : Bool) (d : ℕ) → d ≡ patchMargin (penIn b)
+      → r ≡ noCrossing d (map (entryAt t) (range 0 (b .entries))) → not r ≡ true → false ≡ sound m
+  unfolding held layoutOf
+  bad-crossing r d is e n =
+      not-sound (λ k.
+      clash (of-ok (held m) (k .kept) .uncrossed)
+      (ap (λ (x : ℕ). noCrossing x (map (entryAt t) (range 0 (b .entries)))) (sym is) ∙ sym e ∙ not-true r n))
+
   zeros-after : Sound m → Zeros t (b .entries * 5) tableSize
   unfolding store held layoutOf
   zeros-after k =
@@ -138,6 +146,7 @@ module _ (b : Board) (t s : List ℕ) where
     pub board : BoardFits
     pub entries : all (entryOk (b .width) (b .height)) (map (entryAt t) (range 0 (b .entries))) ≡ true
     pub rest : Zeros t (b .entries * 5) tableSize
+    pub uncrossed : noCrossing (patchMargin (penIn b)) (map (entryAt t) (range 0 (b .entries))) ≡ true
 
   abbrev l : Layout
   l = layoutOf (b .width) (b .height) (penIn b) (b .entries) t
@@ -155,6 +164,7 @@ module _ (b : Board) (t s : List ℕ) where
         long =
             le-leb (length (map (entryAt t) (range 0 (b .entries)))) maxEntries
             (omega (arith, length-read t (b .entries), h .board .few));
+        uncrossed = h .uncrossed;
         fine = le-ltb maxStrips (length (stripsOf l)) f;
       })
 
@@ -166,9 +176,19 @@ module _ (b : Board) (t s : List ℕ) where
 
   pub shown : tableSize ≤ length t → BoardFits
       → (r : Bool) → r ≡ all (entryOk (b .width) (b .height)) (map (entryAt t) (range 0 (b .entries))) → not r ≡ false
-      → (q : Bool) → Told (Zeros t (b .entries * 5) tableSize) q → not q ≡ false → Shown
-  shown len fits r e n true z k = record { long = len; board = fits; entries = sym e ∙ not-false r n; rest = z }
-  shown len fits r e n false z k = clash refl k
+      → (q : Bool) → Told (Zeros t (b .entries * 5) tableSize) q → not q ≡ false
+      → (d : ℕ) → d ≡ patchMargin (penIn b)
+      → (c : Bool) → c ≡ noCrossing d (map (entryAt t) (range 0 (b .entries))) → not c ≡ false → Shown
+  shown len fits r e n true z k d is c f g =
+      record {
+        long = len;
+        board = fits;
+        entries = sym e ∙ not-false r n;
+        rest = z;
+        uncrossed =
+            ap (λ (x : ℕ). noCrossing x (map (entryAt t) (range 0 (b .entries)))) (sym is) ∙ sym f ∙ not-false c g;
+      }
+  shown len fits r e n false z k d is c f g = clash refl k
 
   pub all-right : (r : Bool) → Shown → Told (StripsRight l (b .strips) s) r → r ≡ sound m
   unfolding held store layoutOf

@@ -2,5 +2,6 @@
 pub mod Shapes
 pub mod Entries
 pub mod Fronts
+pub mod Crossings
 pub mod Checking
 pub mod Rising

@@ -1,6 +1,11 @@
 // The state check: whether the record, the table and the strips keep document 01's rules (13).
+mod crossing;
 mod limits;
 
+pub use crossing::no_crossing;
+pub use crossing::over_leg;
+pub use crossing::patch_margin;
+pub use crossing::under_patch;
 use foil_spec::Board;
 use foil_spec::Entry;
 use foil_spec::MAX_ENTRIES;
@@ -48,6 +53,9 @@ pub fn is_sound(table: &[u16], strips: &[u16], board: Board) -> bool
         return false;
     }
     if !zeros(table, n * 5, TABLE_SIZE) {
+        return false;
+    }
+    if !no_crossing(table, n, patch_margin(board)) {
         return false;
     }
     strips_ok(table, strips, board)

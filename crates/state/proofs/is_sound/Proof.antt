@@ -4,6 +4,7 @@ use mathlib.Core.Path.{sym, _∙_}
 use borrow.Author.Tests.{not-false}
 use Rattle.zones.proofs.Tables.{table-of}
 use Rattle.state.proofs.Checking.{short-table, short-strips, bad-board, bad-entries, bad-rest}
+use Rattle.state.proofs.Checking.{bad-crossing}
 use Rattle.state.proofs.Checking.{BoardFits, board-fits, shown, all-right}
 use borrow.Author.Needs.{needs}
 use Rattle.state.proofs.is_sound.Statement.{statement}
@@ -15,6 +16,10 @@ atStart c = c .before .before .before .before .before .before
 
 abbrev entriesOk : tie.Else5 → tie.Else4
 entriesOk c = c .before .before
+
+-- and to where the rest of the table is zero
+abbrev beforeCrossing : tie.Else6 → tie.Else5
+beforeCrossing c = c .before .before .before
 
 -- what the test of the record has shown
 fits : (c : tie.Else3)
@@ -48,21 +53,34 @@ zeros-requires c κs = omega (arith, fits (c .before .before) .few)
 returns-5 : tie.Need-returns-5
 returns-5 c = bad-rest _ _ _ (c .before .zeros .result) (c .before .zeros .ensures) (c .if5 .taken)
 
+patch-margin-requires : tie.Need-patch-margin-requires
+patch-margin-requires c κs = fits (entriesOk c .before .before) .small
+
+no-crossing-requires : tie.Need-no-crossing-requires
+no-crossing-requires c κs = omega (arith, fits (entriesOk (c .before) .before .before) .few)
+
+returns-6 : tie.Need-returns-6
+returns-6 c =
+    bad-crossing _ _ _ _ _ (c .before .before .patch-margin .ensures) (c .before .no-crossing .ensures) (c .if6 .taken)
+
 strips-ok-requires : tie.Need-strips-ok-requires
 strips-ok-requires c κs =
-    let e = entriesOk c in
+    let e = entriesOk (beforeCrossing c) in
     let b = fits (e .before .before) in (
       table-of _ _ _ _ _ (b .few) (omega (arith, b .few)) (b .small) (b .sized)
           (sym (e .before .entries-ok .ensures) ∙ not-false _ (e .if4 .left)),
       omega arith,
     )
 
-returns-6 : tie.Need-returns-6
-returns-6 c =
-    let e = entriesOk (c .before) in
+returns-7 : tie.Need-returns-7
+returns-7 c =
+    let f = beforeCrossing (c .before) in
+    let e = entriesOk f in
+    let crossing = c .before .before in
     all-right _ _ _ (c .strips-ok .result)
     (shown _ _ _ (omega arith) (fits (e .before .before)) _ (e .before .entries-ok .ensures) (e .if4 .left)
-    (c .before .before .zeros .result) (c .before .before .zeros .ensures) (c .before .if5 .left))
+    (f .before .zeros .result) (f .before .zeros .ensures) (f .if5 .left) _
+    (crossing .before .patch-margin .ensures) _ (crossing .no-crossing .ensures) (c .before .if6 .left))
     (c .strips-ok .ensures)
 
 pub is-sound-spec : {M : Type 1} → statement M
@@ -78,5 +96,8 @@ is-sound-spec =
     mul-zeros
     zeros-requires
     returns-5
+    patch-margin-requires
+    no-crossing-requires
+    returns-6
     strips-ok-requires
-    returns-6)
+    returns-7)
