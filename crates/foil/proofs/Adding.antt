@@ -1,7 +1,7 @@
 -- An entry more, and with it a patch that is drawn and a leg as booked, return by return.
 use Prim.Native.Nat.{ℕ, _+_, min, _≤_, _<_}
 use native.Mathlib.Omega.{arith}
-use mathlib.Core.Path.{_≡_, refl, sym, _∙_, subst}
+use mathlib.Core.Path.{_≡_, refl, sym, ap, _∙_, subst}
 use mathlib.Core.Bool.{Bool, true, false, not}
 use mathlib.Core.List.{List, [], _∷_, _++_, map}
 use lib.ListN.{length, replicate, length-append}
@@ -9,7 +9,8 @@ use lib.Seq.{paste}
 use borrow.Author.Tests.{lt-ltb, le-ltb, not-true, not-false}
 use Rattle.foil_spec.specs.Lists.{range, all}
 use Rattle.foil_spec.specs.Limits.{maxEntries, tableSize}
-use Rattle.foil_spec.specs.Foil.{Entry, entry, Layout, netOk, boxOk, entryOk, penRule}
+use Rattle.foil_spec.specs.Foil.{Entry, entry, Layout, netOk, boxOk, entryOk, overLeg, underPatch, penRule}
+use Rattle.foil_spec.specs.Foil.{patchMargin}
 use Rattle.foil_spec.specs.Ledger.{Room, tooLong, Step, draw, putLeg, next, says, first, refusals, After, settle}
 use Rattle.foil_spec.specs.Ledger.{Answer as Outcome}
 use Rattle.foil_spec.specs.Lent.{Lent, lent, store, entryAt, layoutOf, penIn, held, sound}
@@ -115,13 +116,26 @@ module _ (b : Board) (t s : List ℕ) (g : sound (lent b t s) ≡ true) (limit :
       pub is-entry : entryOk (b .width) (b .height) (entry 0 x0 y0 x1 y1) ≡ true
       is-entry = patch-ok (b .width) (b .height) x0 y0 x1 y1 (sym o-is ∙ not-false o box)
 
-      past-3 : PastOwn (draw x0 y0 x1 y1) (entry 0 x0 y0 x1 y1)
-      unfolding refusals first says next held layoutOf
-      past-3 room = rw (sym o-is ∙ not-false o box) refl
+      module _ (d : ℕ) (d-is : d ≡ patchMargin (penIn b)) (v : Bool)
+          (v-is : v ≡ overLeg d (map (entryAt t) (range 0 (b .entries))) (entry 0 x0 y0 x1 y1)) where
+        over-is : overLeg (patchMargin (penIn b)) (map (entryAt t) (range 0 (b .entries))) (entry 0 x0 y0 x1 y1) ≡ v
+        over-is =
+            ap (λ (x : ℕ). overLeg x (map (entryAt t) (range 0 (b .entries))) (entry 0 x0 y0 x1 y1)) (sym d-is)
+            ∙ sym v-is
 
-      pub drawn : (r : Done) (t′ s′ : List ℕ) → Added (entry 0 x0 y0 x1 y1) r t′ s′
-          → StepIn (draw x0 y0 x1 y1) limit m r t′ s′
-      drawn = step-added (draw x0 y0 x1 y1) (entry 0 x0 y0 x1 y1) past-3
+        pub patch-across : v ≡ true → (r : Done) → r ≡ refusedBy 21 b → StepIn (draw x0 y0 x1 y1) limit m r t s
+        unfolding first refusals held layoutOf
+        patch-across y r q room long is =
+            own-done (draw x0 y0 x1 y1) m 21 r q g room long (rw (sym o-is ∙ not-false o box, over-is ∙ y) refl)
+
+        module _ (clear : v ≡ false) where
+          past-21 : PastOwn (draw x0 y0 x1 y1) (entry 0 x0 y0 x1 y1)
+          unfolding refusals first says next held layoutOf
+          past-21 room = rw (sym o-is ∙ not-false o box, over-is ∙ clear) refl
+
+          pub drawn : (r : Done) (t′ s′ : List ℕ) → Added (entry 0 x0 y0 x1 y1) r t′ s′
+              → StepIn (draw x0 y0 x1 y1) limit m r t′ s′
+          drawn = step-added (draw x0 y0 x1 y1) (entry 0 x0 y0 x1 y1) past-21
 
   -- ---- a leg
 
@@ -137,9 +151,23 @@ module _ (b : Board) (t s : List ℕ) (g : sound (lent b t s) ≡ true) (limit :
           own-done (putLeg e) m 3 r q g room long (rw (sym n-is ∙ not-false n named, sym o-is ∙ not-true o f) refl)
 
       module _ (ok : not o ≡ false) where
-        past-4-and-3 : PastOwn (putLeg e) e
-        unfolding refusals first says next held layoutOf
-        past-4-and-3 room = rw (sym n-is ∙ not-false n named, sym o-is ∙ not-false o ok) refl
+        module _ (d : ℕ) (d-is : d ≡ patchMargin (penIn b)) (v : Bool)
+            (v-is : v ≡ underPatch d (map (entryAt t) (range 0 (b .entries))) e) where
+          under-is : underPatch (patchMargin (penIn b)) (map (entryAt t) (range 0 (b .entries))) e ≡ v
+          under-is =
+              ap (λ (x : ℕ). underPatch x (map (entryAt t) (range 0 (b .entries))) e) (sym d-is) ∙ sym v-is
 
-        pub leg-put : (r : Done) (t′ s′ : List ℕ) → Added e r t′ s′ → StepIn (putLeg e) limit m r t′ s′
-        leg-put = step-added (putLeg e) e past-4-and-3
+          pub leg-across : v ≡ true → (r : Done) → r ≡ refusedBy 21 b → StepIn (putLeg e) limit m r t s
+          unfolding first refusals held layoutOf
+          leg-across y r q room long is =
+              own-done (putLeg e) m 21 r q g room long
+              (rw (sym n-is ∙ not-false n named, sym o-is ∙ not-false o ok, under-is ∙ y) refl)
+
+          module _ (clear : v ≡ false) where
+            past-4-3-and-21 : PastOwn (putLeg e) e
+            unfolding refusals first says next held layoutOf
+            past-4-3-and-21 room =
+                rw (sym n-is ∙ not-false n named, sym o-is ∙ not-false o ok, under-is ∙ clear) refl
+
+            pub leg-put : (r : Done) (t′ s′ : List ℕ) → Added e r t′ s′ → StepIn (putLeg e) limit m r t′ s′
+            leg-put = step-added (putLeg e) e past-4-3-and-21

@@ -23,7 +23,10 @@ use pens::pen_of;
 use state::box_ok;
 use state::entry_ok;
 use state::net_ok;
+use state::over_leg;
+use state::patch_margin;
 use state::size_ok;
+use state::under_patch;
 use strips::Place;
 use strips::locate;
 ghost use mathlib.Core.Path.{_≡_};
@@ -122,6 +125,9 @@ pub fn draw_in(
         x1,
         y1,
     };
+    if over_leg(table, board.entries, patch_margin(board), patch) {
+        return refuse(21, board);
+    }
     add_entry(table, strips, board, limit, patch)
 }
 
@@ -144,6 +150,9 @@ pub fn put_leg_in(
     }
     if !entry_ok(leg, board.width, board.height) {
         return refuse(3, board);
+    }
+    if under_patch(table, board.entries, patch_margin(board), leg) {
+        return refuse(21, board);
     }
     add_entry(table, strips, board, limit, leg)
 }

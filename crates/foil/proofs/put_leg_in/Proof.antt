@@ -1,20 +1,25 @@
--- `foil::put_leg_in` tests the net, then box and shape, and adds the leg.
+-- `foil::put_leg_in` tests the net, then box and shape, then the patches over it, and adds the leg.
+use native.Mathlib.Omega.{arith}
 use mathlib.Core.Path.{sym, _∙_}
 use borrow.Author.Tests.{not-false}
-use Rattle.foil.proofs.Adding.{no-net, no-leg, leg-put}
+use Rattle.foil.proofs.Limits.{held-table}
+use Rattle.foil.proofs.Adding.{no-net, no-leg, leg-across, leg-put}
 use borrow.Author.Needs.{needs}
 use Rattle.foil.proofs.put_leg_in.Statement.{statement}
 use Rattle.foil.proofs.put_leg_in.Tie as tie
 
--- back to the start, net_ok, where the leg is known to be one, and add_entry
+-- back to the start, net_ok, where the leg is known to be one, to where no patch is over it, and add_entry
 abbrev atStart : tie.After-net-ok → tie.Start
 atStart c = c .before .before .before
 
 abbrev afterNetOk : tie.After-entry-ok → tie.After-net-ok
 afterNetOk c = c .before .before
 
-abbrev isLeg : tie.After-add-entry-arg2 → tie.Else2
-isLeg c = c .before .before
+abbrev isLeg : tie.After-under-patch → tie.Else2
+isLeg c = c .before .before .before
+
+abbrev noPatch : tie.After-add-entry-arg2 → tie.Else3
+noPatch c = c .before .before
 
 abbrev afterAddEntry : tie.After-slice-known4 → tie.After-add-entry
 afterAddEntry c = c .before .before .before .before
@@ -44,29 +49,54 @@ returns-2 c =
     no-leg _ _ _ (atStart net .pre .0) _ (atStart net .pre .1) _ _ (net .net-ok .ensures) (leg .before .if1 .left) _
     (leg .entry-ok .ensures) (c .before .if2 .taken) _ (c .refuse2 .ensures)
 
-add-entry-requires : tie.Need-add-entry-requires
-add-entry-requires c κs =
-    let leg = isLeg c .before in
-    let net = afterNetOk leg in (
-      atStart net .pre .0,
-      (atStart net .pre .1, sym (leg .entry-ok .ensures) ∙ not-false _ (isLeg c .if2 .left)),
-    )
+patch-margin-requires : tie.Need-patch-margin-requires
+patch-margin-requires c κs = held-table _ _ _ (atStart (afterNetOk (c .before .before)) .pre .0) .small
+
+under-patch-requires : tie.Need-under-patch-requires
+under-patch-requires c κs =
+    omega (arith, held-table _ _ _ (atStart (afterNetOk (c .before .before .before)) .pre .0) .len)
+
+refuse-requires-3 : tie.Need-refuse-requires-3
+refuse-requires-3 c κs = search needs
 
 same-length : tie.Need-same-length
 same-length c = search needs
 
+returns-3 : tie.Need-returns-3
+returns-3 c =
+    let under = c .before .before in
+    let leg = isLeg under .before in
+    let net = afterNetOk leg in
+    leg-across _ _ _ (atStart net .pre .0) _ (atStart net .pre .1) _ _ (net .net-ok .ensures) (leg .before .if1 .left)
+    _ (leg .entry-ok .ensures) (isLeg under .if2 .left) _ (under .before .patch-margin .ensures) _
+    (under .under-patch .ensures) (c .before .if3 .taken) _ (c .refuse3 .ensures)
+
+add-entry-requires : tie.Need-add-entry-requires
+add-entry-requires c κs =
+    let is = isLeg (noPatch c .before) in
+    let net = afterNetOk (is .before) in (
+      atStart net .pre .0,
+      (atStart net .pre .1, sym (is .before .entry-ok .ensures) ∙ not-false _ (is .if2 .left)),
+    )
+
 same-length-2 : tie.Need-same-length-2
 same-length-2 c = search needs
 
-returns-3 : tie.Need-returns-3
-returns-3 c =
+same-length-3 : tie.Need-same-length-3
+same-length-3 c = search needs
+
+returns-4 : tie.Need-returns-4
+returns-4 c =
     let added = afterAddEntry c in
-    let leg = isLeg (added .before) .before in
+    let under = noPatch (added .before) .before in
+    let leg = isLeg under .before in
     let net = afterNetOk leg in
     leg-put _ _ _ (atStart net .pre .0) _ (atStart net .pre .1) _ _ (net .net-ok .ensures) (leg .before .if1 .left) _
-    (leg .entry-ok .ensures) (isLeg (added .before) .if2 .left) _ _ _ (added .add-entry .ensures)
+    (leg .entry-ok .ensures) (isLeg under .if2 .left) _ (under .before .patch-margin .ensures) _
+    (under .under-patch .ensures) (noPatch (added .before) .if3 .left) _ _ _ (added .add-entry .ensures)
 
 pub put-leg-in-spec : {M : Type 1} → statement M
 put-leg-in-spec =
     tie.close (tie.spec net-ok-requires refuse-requires returns entry-ok-requires refuse-requires-2 returns-2
-    add-entry-requires same-length same-length-2 returns-3)
+    patch-margin-requires under-patch-requires refuse-requires-3 same-length returns-3
+    add-entry-requires same-length-2 same-length-3 returns-4)
