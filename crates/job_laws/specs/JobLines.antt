@@ -40,11 +40,11 @@ bytesOf (file n) = fileLine n
 -- the line has a number that the program writes there; a track that was laid has 1 to 8,192 corners and their bends
 unfoldable pub possible : Line → Bool
 possible (board n) = among n (0 ∷ 1 ∷ 2 ∷ 20 ∷ [])
-possible (patch n) = among n (0 ∷ 3 ∷ 10 ∷ 11 ∷ [])
+possible (patch n) = among n (0 ∷ 3 ∷ 10 ∷ 11 ∷ 21 ∷ [])
 possible (refusedTrack net n) = among n (4 ∷ 5 ∷ 7 ∷ 8 ∷ 9 ∷ 10 ∷ 11 ∷ [])
 possible (laidTrack net n cs) = leb 1 (length cs) && leb (length cs) cornerPlaces && eqb n (bends cs)
 possible (lifted net n) = among n (0 ∷ 4 ∷ 6 ∷ 11 ∷ [])
-possible (leg net n) = among n (0 ∷ 3 ∷ 4 ∷ 10 ∷ 11 ∷ [])
+possible (leg net n) = among n (0 ∷ 3 ∷ 4 ∷ 10 ∷ 11 ∷ 21 ∷ [])
 possible (strip s) = true
 possible (file n) = among n (14 ∷ 15 ∷ 16 ∷ 17 ∷ 18 ∷ [])
 
