@@ -1,7 +1,8 @@
 /* One call by its name, `times` times, on foil 0 of a sheet, which is made first: calls NAME TIMES, and then a point
-   for a look up, or a foil by its name for a lay and a join. Where `full` stands before the name, the other foils have 378
-   entries. The difference of the instructions of two runs, with one call and with two, is the cost of a call: what is
-   made first, and the first touch of the stack, is in both. */
+   for a look up, a foil by its name for a lay and a join, or how many entries are legs, for a look up of a point that is
+   blocked, which is the check of the state. Where `full` stands before the name, the other foils have 378 entries. The
+   difference of the instructions of two runs, with one call and with two, is the cost of a call: what is made first, and
+   the first touch of the stack, is in both. */
 #include <stdio.h>
 #include <stdlib.h>
 #include <string.h>
@@ -95,6 +96,21 @@ static void long_legs(unsigned n)
     }
 }
 
+/* so many level legs from the top on, and 128 entries with the level bars below, none of which is over a leg by its y
+   alone */
+static void above_bars(unsigned legs)
+{
+    unsigned k;
+    foil_new_foil(LENT, called, 4096, 4096, 0, 0);
+    for (k = 0; k < FOIL_ENTRIES; k++) {
+        struct foil_entry leg = {1 + k, 10, 9 * k, 4000, 9 * k + 1};
+        if (k < legs)
+            foil_put_leg(LENT, called, leg);
+        else
+            foil_draw(LENT, called, 10, 9 * k, 4000, 9 * k + 1);
+    }
+}
+
 /* from where to where a lay goes; a join goes the same way, to a net that has a leg there */
 struct pair {
     uint16_t sx, sy, tx, ty;
@@ -171,6 +187,9 @@ int main(int argc, char **argv)
     if (strcmp(name, "look") == 0) {
         for (finest(); times > 0; times--)
             said = foil_look_up(LENT, called, x, y);
+    } else if (strcmp(name, "check") == 0) {
+        for (above_bars(x); times > 0; times--)
+            said = foil_look_up(LENT, called, 10, 0);
     } else if (strcmp(name, "save") == 0) {
         for (bars(128); times > 0; times--)
             said = foil_save(LENT, bytes, sizeof bytes, called);

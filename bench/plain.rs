@@ -104,12 +104,25 @@ impl Foil {
         0
     }
 
+    // Whether p is a patch that blocks a point of e, a leg: one of its columns and one of its rows are near enough.
+    fn crosses(&self, p: &Entry, e: &Entry) -> bool {
+        let m = self.margin(p);
+        p.net == 0
+            && e.net != 0
+            && (e.x0..e.x1).any(|x| p.x0 <= x + m && x < p.x1 + m)
+            && (e.y0..e.y1).any(|y| p.y0 <= y + m && y < p.y1 + m)
+    }
+
     fn draw(&mut self, x0: usize, y0: usize, x1: usize, y1: usize) -> usize {
         if !(x0 < x1 && x1 <= self.w && y0 < y1 && y1 <= self.h) {
             return 3;
         }
+        let patch = Entry { net: 0, x0, y0, x1, y1 };
+        if self.row.iter().any(|e| self.crosses(&patch, e)) {
+            return 21;
+        }
         let mut row = self.row.clone();
-        row.push(Entry { net: 0, x0, y0, x1, y1 });
+        row.push(patch);
         self.book(row)
     }
 
@@ -133,8 +146,12 @@ impl Foil {
         if !on || (x1 - x0 > 1 && y1 - y0 > 1) {
             return 3;
         }
+        let leg = Entry { net, x0, y0, x1, y1 };
+        if self.row.iter().any(|p| self.crosses(p, &leg)) {
+            return 21;
+        }
         let mut row = self.row.clone();
-        row.push(Entry { net, x0, y0, x1, y1 });
+        row.push(leg);
         self.book(row)
     }
 
