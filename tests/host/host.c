@@ -1,8 +1,8 @@
 /* A host program. On foil 0 of a sheet: the foil of document 01's job, by calls and then as the job's bytes, as a
    customer's program would make it; a track found and a drawing booked, with the slip of both; the foil saved, and read
-   on other lists; tracks of a wider pen; points joined to nets; and lists in protected pages, which show what a call
-   does not touch: if it did, the program would die. Then eight foils on one sheet: what they share, what each is sure
-   of, and what is refused for all of them. */
+   on other lists; tracks of a wider pen; points joined to nets; patches across tracks; and lists in protected pages,
+   which show what a call does not touch: if it did, the program would die. Then eight foils on one sheet: what they
+   share, what each is sure of, and what is refused for all of them. */
 #define _DEFAULT_SOURCE
 #include <stdio.h>
 #include <stdlib.h>
@@ -15,6 +15,12 @@
 /* document 01's job */
 static const uint8_t job[] = {0x03, 0x06, 0x00, 0x04, 0x00, 0x00, 0x00, 0x02, 0x00, 0x00, 0x00, 0x03, 0x00, 0x03,
                               0x00, 0x04, 0x05, 0x00, 0x00, 0x00, 0x00, 0x00, 0x04, 0x00, 0x00, 0x00, 0x00};
+
+/* the same with a patch over the track, and a leg under the first patch, before its end mark */
+static const uint8_t crossing_job[] = {0x03, 0x06, 0x00, 0x04, 0x00, 0x00, 0x00, 0x02, 0x00, 0x00, 0x00, 0x03,
+                                       0x00, 0x03, 0x00, 0x04, 0x05, 0x00, 0x00, 0x00, 0x00, 0x00, 0x04, 0x00,
+                                       0x00, 0x00, 0x02, 0x01, 0x00, 0x03, 0x00, 0x02, 0x00, 0x04, 0x00, 0x10,
+                                       0x07, 0x00, 0x02, 0x00, 0x00, 0x00, 0x03, 0x00, 0x03, 0x00, 0x00};
 
 /* a sheet, the foil that is called, and the lists that are lent for it, with their lengths */
 static struct foil_sheet sheet;
@@ -344,6 +350,28 @@ static void joined_apart(void)
     show_join(5, 1, 2, corner_numbers);
 }
 
+/* patches over legs and legs under patches, by record and by call, as near as the pen lets them be; then a table in
+   which a leg over another has become a patch, with the same strips */
+static void crossed(void)
+{
+    run_job(crossing_job, sizeof crossing_job);
+    printf("board %u\n", foil_new_foil(LENT, foil, 12, 5, 0, 1).number);
+    show_lay(3, foil_lay(LENT, CORNERS, foil, 3, 1, 3, 10, 3));
+    printf("patch %u\n", foil_draw(LENT, foil, 4, 1, 6, 2).number);
+    printf("patch %u\n", foil_draw(LENT, foil, 4, 2, 6, 3).number);
+    show_leg(4, 7, 1, 8, 2);
+    show_leg(4, 6, 1, 7, 2);
+    printf("lift 3 %u\n", foil_lift(LENT, foil, 3).number);
+    printf("patch %u\n", foil_draw(LENT, foil, 4, 2, 6, 3).number);
+    printf("board %u\n", foil_new_foil(LENT, foil, 6, 4, 0, 0).number);
+    show_leg(5, 0, 0, 1, 4);
+    show_leg(6, 0, 0, 1, 4);
+    table[1].net = 0;
+    show_place(2, 2);
+    table[1].net = 6;
+    show_place(2, 2);
+}
+
 /* pages with a border among them: the first part of a list ends there, and its other places lie behind it */
 struct pages {
     unsigned char *first, *border;
@@ -471,6 +499,7 @@ static void refused_calls(struct pages t, struct pages s, struct pages c, struct
     read_only(s);
     read_only(c);
     printf("patch %u\n", foil_draw(LENT, foil, 0, 125, 129, 126).number);
+    printf("patch %u\n", foil_draw(LENT, foil, 1, 125, 129, 126).number);
     show_lay(6, foil_lay(LENT, CORNERS, foil, 6, 2, 125, 2, 125));
     show_leg(6, 2, 125, 3, 126);
     /* a line drawn once more is the foil's last entry */
@@ -782,6 +811,7 @@ int main(void)
     wider_pen();
     joined();
     joined_apart();
+    crossed();
     longer_lists(t, s, b);
     refused_calls(t, s, c, b);
     refused_joins(t, s, c);
