@@ -96,7 +96,7 @@ fn blocks_at(table: &[u16; 640], i: usize, d: u32, x: u16, y: u16) -> bool
 }
 
 // Whether lo - d <= v < hi + d.
-fn within(lo: u16, hi: u16, d: u32, v: u16) -> bool
+pub fn within(lo: u16, hi: u16, d: u32, v: u16) -> bool
     requires { ⌜ d ≤ 196605 ⌝ }
     ensures { λ r. ⌜ r ≡ within lo hi d v ⌝ }
 {

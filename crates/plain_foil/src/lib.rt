@@ -1,11 +1,13 @@
 // Document 01's foil, kept plainly, for the calls to be compared with: a row of entries, from which free points, paths
 // and strips are worked out anew each time. A foil is at most 64 by 64, so that 4,096 strips are never passed.
+mod crossing;
 mod joins;
 mod laying;
 mod looks;
 mod records;
 mod runs;
 
+use foil_spec::Entry;
 use foil_spec::Pen;
 pub use joins::join;
 pub use laying::book;
@@ -101,6 +103,16 @@ pub fn draw(row: &mut [u16; 640], foil: Foil, x0: u16, y0: u16, x1: u16, y1: u16
     if y1 <= y0 || foil.height < y1 {
         return refuse(3, foil);
     }
+    let patch = Entry {
+        net: 0,
+        x0,
+        y0,
+        x1,
+        y1,
+    };
+    if crossing::crosses(row, foil, patch) {
+        return refuse(21, foil);
+    }
     if 128 <= n {
         return refuse(10, foil);
     }
@@ -135,6 +147,16 @@ pub fn put_leg(
     }
     if !thin(x0, y0, x1, y1) {
         return refuse(3, foil);
+    }
+    let leg = Entry {
+        net,
+        x0,
+        y0,
+        x1,
+        y1,
+    };
+    if crossing::crosses(row, foil, leg) {
+        return refuse(21, foil);
     }
     if 128 <= n {
         return refuse(10, foil);
