@@ -107,26 +107,26 @@ pub(crate) fn dots(bytes: &mut [u8; 60001], at: usize, n: usize, x: u16, y: u16)
     place
 }
 
-// Records that draw n upright lines of a foil h high, one point wide, at x = 1, 3, ..
-pub(crate) fn upright_lines(bytes: &mut [u8; 60001], at: usize, n: u16, h: u16) -> usize
-    requires { ⌜ (at < 2000) × (n ≤ 64) ⌝ }
+// Records that draw n upright lines of a foil h high, one point wide, at x = first, first + 2, ..
+pub(crate) fn upright_lines(bytes: &mut [u8; 60001], at: usize, n: u16, first: u16, h: u16) -> usize
+    requires { ⌜ (at < 2000) × (n ≤ 64) × (first < 4) ⌝ }
     ensures { λ r. ⌜ r ≡ at + 9 * n ⌝ }
 {
     let mut place = at;
     for i in 0..n {
-        place = patch(bytes, place, 2 * i + 1, 0, 2 * i + 2, h);
+        place = patch(bytes, place, 2 * i + first, 0, 2 * i + first + 1, h);
     }
     place
 }
 
-// Records that draw n level lines of a foil w wide, one point wide, at y = 1, 3, ..
-pub(crate) fn level_lines(bytes: &mut [u8; 60001], at: usize, n: u16, w: u16) -> usize
+// Records that draw n level lines from x = begin on, of a foil w wide, one point wide, at y = 1, 3, ..
+pub(crate) fn level_lines(bytes: &mut [u8; 60001], at: usize, n: u16, begin: u16, w: u16) -> usize
     requires { ⌜ (at < 2000) × (n ≤ 64) ⌝ }
     ensures { λ r. ⌜ r ≡ at + 9 * n ⌝ }
 {
     let mut place = at;
     for i in 0..n {
-        place = patch(bytes, place, 0, 2 * i + 1, w, 2 * i + 2);
+        place = patch(bytes, place, begin, 2 * i + 1, w, 2 * i + 2);
     }
     place
 }

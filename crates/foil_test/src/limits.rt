@@ -52,18 +52,19 @@ fn fill(bytes: &mut [u8; 60001]) -> usize
     file::track(bytes, b, 7, 3, 3, 3, 3)
 }
 
-// On a full table 3 comes before 10, a patch and a track are refused by 10, and once the track is lifted a patch can be
-// drawn again.
+// On a full table 3 and, for a patch on the track, 21 come before 10, a patch and a track are refused by 10, and once
+// the track is lifted a patch can be drawn again.
 fn full_table() {
     let mut bytes = [0u8; 60001];
     let c = fill(&mut bytes);
     let d = file::patch(&mut bytes, c, 1, 1, 1, 1);
-    let e = file::patch(&mut bytes, d, 1, 1, 2, 2);
-    let f = file::track(&mut bytes, e, 8, 0, 0, 0, 0);
-    let g = file::track(&mut bytes, f, 8, 0, 0, 2, 0);
-    let h = file::lift(&mut bytes, g, 7);
-    let i = file::patch(&mut bytes, h, 1, 1, 2, 2);
-    let n = file::end(&mut bytes, i);
+    let e = file::patch(&mut bytes, d, 3, 3, 4, 4);
+    let f = file::patch(&mut bytes, e, 1, 1, 2, 2);
+    let g = file::track(&mut bytes, f, 8, 0, 0, 0, 0);
+    let h = file::track(&mut bytes, g, 8, 0, 0, 2, 0);
+    let i = file::lift(&mut bytes, h, 7);
+    let j = file::patch(&mut bytes, i, 1, 1, 2, 2);
+    let n = file::end(&mut bytes, j);
     show::job(b"full table: ", &bytes, n);
 }
 
@@ -87,8 +88,8 @@ fn no_room() {
 fn too_fine() {
     let mut bytes = [0u8; 60001];
     let a = file::board(&mut bytes, 0, 129, 127, 0);
-    let b = file::upright_lines(&mut bytes, a, 64, 127);
-    let c = file::level_lines(&mut bytes, b, 62, 129);
+    let b = file::upright_lines(&mut bytes, a, 64, 1, 127);
+    let c = file::level_lines(&mut bytes, b, 62, 0, 129);
     let d = file::patch(&mut bytes, c, 0, 125, 129, 126);
     let e = file::track(&mut bytes, d, 1, 0, 125, 0, 125);
     let f = file::track(&mut bytes, e, 2, 2, 125, 2, 125);
@@ -96,16 +97,15 @@ fn too_fine() {
     show::job(b"4095 strips: ", &bytes, n);
 }
 
-// The same lines over a track at y = 124, and the line at y = 125: lifting the track would uncover too many
-// strips (11).
+// 129 by 129 with a track at x = 0, and lines beside it at x = 3, 5, .. 127 and y = 1, 3, .. 125: 4,096 strips. Lifting
+// the track would make one more (11).
 fn hidden() {
     let mut bytes = [0u8; 60001];
-    let a = file::board(&mut bytes, 0, 129, 127, 0);
-    let b = file::track(&mut bytes, a, 1, 0, 124, 128, 124);
-    let c = file::upright_lines(&mut bytes, b, 64, 127);
-    let d = file::level_lines(&mut bytes, c, 62, 129);
-    let e = file::patch(&mut bytes, d, 0, 125, 129, 126);
-    let f = file::lift(&mut bytes, e, 1);
-    let n = file::end(&mut bytes, f);
-    show::job(b"a pattern under a track: ", &bytes, n);
+    let a = file::board(&mut bytes, 0, 129, 129, 0);
+    let b = file::track(&mut bytes, a, 1, 0, 0, 0, 128);
+    let c = file::upright_lines(&mut bytes, b, 63, 3, 129);
+    let d = file::level_lines(&mut bytes, c, 63, 1, 129);
+    let e = file::lift(&mut bytes, d, 1);
+    let n = file::end(&mut bytes, e);
+    show::job(b"a pattern beside a track: ", &bytes, n);
 }

@@ -6,10 +6,10 @@ use Rattle.foil_test.proofs.file.level_lines.Statement.{statement}
 use Rattle.foil_test.proofs.file.level_lines.Tie as tie
 
 abbrev Inv-loop : tie.InvT-loop
-Inv-loop bytes₀ at n w place₀ i₀ bytes place i = (i ≤ n) × (place ≡ at + 9 * i)
+Inv-loop bytes₀ at n begin w place₀ i₀ bytes place i = (i ≤ n) × (place ≡ at + 9 * i)
 
 abbrev μ-loop : tie.MeasureT-loop
-μ-loop bytes₀ at n w place₀ i₀ bytes place i = n - i
+μ-loop bytes₀ at n begin w place₀ i₀ bytes place i = n - i
 
 loop-holds : tie.Need-loop-holds Inv-loop μ-loop
 loop-holds c = search needs

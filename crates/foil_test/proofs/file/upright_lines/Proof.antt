@@ -6,10 +6,10 @@ use Rattle.foil_test.proofs.file.upright_lines.Statement.{statement}
 use Rattle.foil_test.proofs.file.upright_lines.Tie as tie
 
 abbrev Inv-loop : tie.InvT-loop
-Inv-loop bytes₀ at n h place₀ i₀ bytes place i = (i ≤ n) × (place ≡ at + 9 * i)
+Inv-loop bytes₀ at n first h place₀ i₀ bytes place i = (i ≤ n) × (place ≡ at + 9 * i)
 
 abbrev μ-loop : tie.MeasureT-loop
-μ-loop bytes₀ at n h place₀ i₀ bytes place i = n - i
+μ-loop bytes₀ at n first h place₀ i₀ bytes place i = n - i
 
 loop-holds : tie.Need-loop-holds Inv-loop μ-loop
 loop-holds c = search needs
@@ -25,6 +25,9 @@ mul-patch-2 c = search needs
 
 add-patch-2 : tie.Need-add-patch-2 Inv-loop μ-loop
 add-patch-2 c = search needs
+
+add-patch-3 : tie.Need-add-patch-3 Inv-loop μ-loop
+add-patch-3 c = search needs
 
 patch-requires : tie.Need-patch-requires Inv-loop μ-loop
 patch-requires c κs = search needs
@@ -52,6 +55,7 @@ upright-lines-spec =
     add-patch
     mul-patch-2
     add-patch-2
+    add-patch-3
     patch-requires
     add-i
     loop-less
