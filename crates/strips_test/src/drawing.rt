@@ -9,31 +9,41 @@ use sheet_rows::board_at;
 use sheet_rows::no_foils;
 ghost use Prim.Native.Nat.{_≤_};
 
-// Draws a line over the whole foil, one point wide: the level one at y = at, or the upright one at x = at.
+// Draws a line up to the foil's end, one point wide: the level one at y = at from x = begin on, or the upright one at
+// x = at from y = begin on.
 pub(crate) fn line(
     table: &mut [u16],
     strips: &mut [u16],
     sheet: Sheet,
     level: bool,
+    begin: u16,
     at: u16,
 ) -> SheetDone
     requires { ⌜ at ≤ 4096 ⌝ }
 {
     let board = board_at(sheet, 0);
     if level {
-        return draw(table, strips, sheet, 0, 0, at, board.width, at + 1);
+        return draw(table, strips, sheet, 0, begin, at, board.width, at + 1);
     }
-    draw(table, strips, sheet, 0, at, 0, at + 1, board.height)
+    draw(table, strips, sheet, 0, at, begin, at + 1, board.height)
 }
 
-// Draws such lines at 1, 3, .. below `end`. The records after them.
-fn lines(table: &mut [u16], strips: &mut [u16], sheet: Sheet, level: bool, end: u16) -> Sheet
+// Draws such lines at first, first + 2, .. below `end`. The records after them.
+fn lines(
+    table: &mut [u16],
+    strips: &mut [u16],
+    sheet: Sheet,
+    level: bool,
+    begin: u16,
+    first: u16,
+    end: u16,
+) -> Sheet
     requires { ⌜ end ≤ 4096 ⌝ }
 {
     let mut last = sheet;
-    let mut at: u16 = 1;
+    let mut at = first;
     while at < end {
-        let done = line(table, strips, last, level, at);
+        let done = line(table, strips, last, level, begin, at);
         last = done.sheet;
         at += 2;
     }
@@ -45,8 +55,22 @@ pub(crate) fn lined(table: &mut [u16], strips: &mut [u16], w: u16, h: u16, x: u1
     requires { ⌜ (x ≤ 4096) × (y ≤ 4096) ⌝ }
 {
     let begun = new_foil(table, strips, no_foils(), 0, w, h, 0, 0);
-    let upright = lines(table, strips, begun.sheet, false, x);
-    lines(table, strips, upright, true, y)
+    let upright = lines(table, strips, begun.sheet, false, 0, 1, x);
+    lines(table, strips, upright, true, 0, 1, y)
+}
+
+// A foil of 129 by 129 with a leg of net 5 at x = 0, and beside it upright lines at 3, 5, .. 127 and level ones, from
+// x = 1 on, at 1, 3, .. 125.
+pub(crate) fn beside_track(table: &mut [u16], strips: &mut [u16]) -> Sheet {
+    let track = tall_track(table, strips);
+    let upright = lines(table, strips, track, false, 0, 3, 129);
+    lines(table, strips, upright, true, 1, 1, 127)
+}
+
+// Such a foil with its leg alone.
+fn tall_track(table: &mut [u16], strips: &mut [u16]) -> Sheet {
+    let begun = new_foil(table, strips, no_foils(), 0, 129, 129, 0, 0);
+    leg(table, strips, begun.sheet, 0, 0, 1, 129)
 }
 
 // A foil of 4 by 4 with the patch 1,1,2,2 drawn 128 times.

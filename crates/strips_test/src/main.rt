@@ -142,26 +142,22 @@ fn too_fine_foil() {
     show::foil(sheet);
     let old_table = table;
     let old_strips = strips;
-    let done = drawing::line(&mut table, &mut strips, sheet, true, 125);
+    let done = drawing::line(&mut table, &mut strips, sheet, true, 0, 125);
     show::done(b"line at y = 125: ", done);
     show::kept(&table, &old_table, &strips, &old_strips, done.sheet, sheet);
     show::tails(&table, &strips);
 }
 
-// The same foil with a track at y = 124: now the line at y = 125 is accepted, and lifting the track
-// would make too many strips.
+// A track at x = 0 beside 4,096 strips: lifting it would make one more.
 fn hidden_pattern() {
     let mut table = [7u16; 2565];
     let mut strips = [7u16; 16388];
-    let lined = drawing::lined(&mut table, &mut strips, 129, 127, 129, 125);
-    let track = drawing::leg(&mut table, &mut strips, lined, 0, 124, 129, 125);
-    let line = drawing::line(&mut table, &mut strips, track, true, 125);
-    let sheet = line.sheet;
+    let sheet = drawing::beside_track(&mut table, &mut strips);
     show::foil(sheet);
     let old_table = table;
     let old_strips = strips;
     let done = lift(&mut table, &mut strips, sheet, 0, 5);
-    show::done(b"lift of the track at y = 124: ", done);
+    show::done(b"lift of the track at x = 0: ", done);
     show::kept(&table, &old_table, &strips, &old_strips, done.sheet, sheet);
 }
 

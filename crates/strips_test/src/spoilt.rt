@@ -1,5 +1,6 @@
 // A foil of 3 by 3 with the patch 1,0,2,3, and one number of its state set anew: 13, unless the number
-// is the one that it was. Unused numbers of the table are not its state.
+// is the one that it was. Unused numbers of the table are not its state. Then one with legs.
+use crate::drawing;
 use crate::lists;
 use crate::show;
 use sheet::Sheet;
@@ -19,6 +20,7 @@ pub(crate) fn states() {
     table_number(3, 1);
     table_number(5, 1);
     unused_number();
+    crossing();
     record(3, 0, 0, 1, 2);
     record(4, 0, 0, 1, 2);
     record(3, 8, 0, 1, 2);
@@ -86,6 +88,18 @@ fn unused_number() {
 fn drew(words: &[u8], done: SheetDone, n: u16) {
     show::done(words, done);
     show::count(b", then it is ", n as u64);
+}
+
+// Of two equal legs the second is made a patch: the strips are still those of the table, and the patch is over a leg.
+fn crossing() {
+    let mut table = [7u16; 2560];
+    let mut strips = [7u16; 16384];
+    let begun = new_foil(&mut table, &mut strips, no_foils(), 0, 3, 3, 0, 0);
+    let first = drawing::leg(&mut table, &mut strips, begun.sheet, 1, 0, 2, 3);
+    let sheet = drawing::leg(&mut table, &mut strips, first, 1, 0, 2, 3);
+    table[5] = 0;
+    io::write_all(1, b"a leg made a patch over another, ");
+    show::point(&table, &strips, sheet, 2, 2);
 }
 
 // Looks a point up by a record of these numbers.

@@ -1,8 +1,4 @@
 use mathlib.Core.Path.{_≡_, refl}
-use lib.ListN.{length}
-use Prim.Native.Nat.{_-_}
-use native.Mathlib.Omega.{arith}
-use mathlib.Core.Path.{_≡_, refl}
 use Prim.Native.Nat.{_-_}
 use lib.ListN.{length}
 use native.Mathlib.Omega.{arith}
@@ -10,11 +6,11 @@ use Rattle.strips_test.proofs.drawing.lines.Statement.{statement}
 use Rattle.strips_test.proofs.drawing.lines.Tie as tie
 
 abbrev Inv-loop : tie.InvT-loop
-Inv-loop table₀ strips₀ level end last₀ at₀ table strips last at =
+Inv-loop table₀ strips₀ level begin first end last₀ at₀ table strips last at =
     (length table ≡ length table₀) × (length strips ≡ length strips₀)
 
 abbrev μ-loop : tie.MeasureT-loop
-μ-loop table₀ strips₀ level end last₀ at₀ table strips last at = end - at
+μ-loop table₀ strips₀ level begin first end last₀ at₀ table strips last at = end - at
 
 loop-holds : tie.Need-loop-holds Inv-loop μ-loop
 loop-holds c = (refl, refl)
