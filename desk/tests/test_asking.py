@@ -71,10 +71,11 @@ class Asking(unittest.TestCase):
     def test_each_of_many_refused_steps_is_said(self):
         status, out, err = self.ask(asking.SLIP, [], "refusals", SLIP_LINES)
         self.assertEqual((status, out), (1, SLIP_LINES))
-        self.assertTrue(err.startswith("./foil-slip: 17 of 24 steps were refused, and what is printed is of the "))
+        self.assertTrue(err.startswith("./foil-slip: 19 of 26 steps were refused, and what is printed is of the "))
         told = re.findall(r"(?m)^ .{4}  (\w+ [\d ]*\d) +refused \((\d+)\)", err)
         self.assertEqual(told, [
             ("patch 40 8 40 20", "3"), ("patch 56 30 44 38", "3"), ("patch 50 30 61 38", "3"),
+            ("patch 30 0 32 40", "21"), ("leg 3 27 9 28 10", "21"),
             ("track 0 2 2 50 2", "4"), ("track 1000 2 2 50 2", "4"), ("track 1 2 2 4 2", "5"),
             ("track 2 60 2 2 2", "7"), ("track 2 11 9 60 2", "7"), ("track 2 11 9 50 2", "8"),
             ("track 2 27 9 50 2", "8"), ("track 2 1 9 50 2", "8"), ("track 2 2 2 50 2", "9"), ("lift 0", "4"),
