@@ -20,6 +20,7 @@ use Rattle.foil_spec.specs.Ledger.{refusals, afterLent, settle, refusalO
 use Rattle.foil_spec.specs.Ledger.{newFoil, draw, lay, lift, lookUp, refused, accepted, laid, found, After}
 use Rattle.foil_spec.specs.Lent.{stripNumbers, written, boardOf, store, entryAt, layoutOf, held, layoutOk}
 use Rattle.foil_spec.specs.Lent.{sameNumbers, sound}
+use Rattle.foil_spec.specs.Sound.{today, stripsBy, keepsAsked, listedIn, soundBy}
 use Rattle.foil_spec.specs.Job.{number, fieldCount, mapByte, has, fieldsAt, recordEnd, field, stepAt, jobRoom}
 use Rattle.foil_spec.specs.Job.{stepsAt, steps, isEnd, recordChecks}
 use Rattle.foil_spec.specs.Calls.{Call, step, runRecord, Reply, answered, ran, atEnd, endsJob, andThen, actAll}
@@ -193,7 +194,7 @@ cleared : see (lookUp (point 0 0)) ∷ see (draw 0 0 4 1) ∷ see (draw 0 0 1 1)
     ∷ record { reply = answered accepted; there = 0 } ∷ []
 unfolding see begin sheetCall sheetStep writes sheetRefusal unless opening counts putBack view tableAt parts joined
     total reserved eachFew countsOk written boardOf store stripNumbers held layoutOf entryAt layoutOk sameNumbers
-    sound reply sizeOk reachOk penOk netOk boxOk shapeOk entryOk within blocks overLeg noCrossing penRule margin
+    sound today stripsBy keepsAsked listedIn soundBy reply sizeOk reachOk penOk netOk boxOk shapeOk entryOk within blocks overLeg noCrossing penRule margin
     nearEdge freeBy free entryNumbers stopIn stop scan scanAt starts isRun isTop begun stripsFrom holds placeOf
     stripsOf offFoil blocked short tooLong tooFine penOf clearanceRefusal next says first reads refusals afterLent
     settle refusalOf jobRoom

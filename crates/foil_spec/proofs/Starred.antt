@@ -1,6 +1,6 @@
 -- The starred test foils of document 01, the ohms of its track, legs as booked with the file of their foil, drawn ways,
--- the slip of two tracks, pens, foils that the edge blocks, joins, and patches across tracks: one list of cases, and
--- one fact over it. Then 21 before 10.
+-- the slip of two tracks, pens, foils that the edge blocks, joins, patches across tracks, and foils carried over: one
+-- list of cases, and one fact over it. Then 21 before 10.
 use Prim.Native.Nat.{ℕ}
 use mathlib.Core.Path.{_≡_, refl}
 use mathlib.Core.Bool.{true, false, xor}
@@ -8,10 +8,14 @@ use mathlib.Core.List.{List, [], _∷_, _++_, map, reverse}
 use mathlib.Core.Option.{none, some}
 use lib.IntN.{pos, negsuc}
 use lib.Ieee.{Float, nan, inf, fin, binary64, ofInt, ofBits, add, mul, div, lt, le, eq}
+use lib.ListN.{length, replicate}
+use Rattle.foil_spec.specs.Lists.{each}
+use Rattle.foil_spec.specs.Limits.{tableSize, stripsSize}
 use Rattle.foil_spec.specs.Foil.{Point, point, Entry, entry, Layout, noFoil}
 use Rattle.foil_spec.specs.Foil.{entryNumbers, sizeOk, reachOk, penOk, netOk, boxOk}
 use Rattle.foil_spec.specs.Foil.{shapeOk, entryOk, pen, penRule, margin, nearEdge, freeBy}
-use Rattle.foil_spec.specs.Foil.{within, blocks, meets, crosses, overLeg, underPatch, patchMargin, free}
+use Rattle.foil_spec.specs.Foil.{within, blocks, meets, crosses, overLeg, underPatch, patchMargin, reachRule}
+use Rattle.foil_spec.specs.Foil.{free}
 use Rattle.foil_spec.specs.Strips.{Strip, stopIn, stop, scan, scanAt, starts, isRun, isTop, begun}
 use Rattle.foil_spec.specs.Strips.{stripsFrom, holds, placeOf}
 use Rattle.foil_spec.specs.Paths.{after, between, levelFree, uprightFree, segment, bends, points, goings}
@@ -21,11 +25,15 @@ use Rattle.foil_spec.specs.Nets.{ofNet, inUse, netsOf, legsOf, legSteps,
 use Rattle.foil_spec.specs.Text.{ascii, digitsIn, decimal}
 use Rattle.foil_spec.specs.Saving.{twoBytes, boardBytes, patchBytes, legBytes, entryBytes, jobOf}
 use Rattle.foil_spec.specs.Slip.{setRight, column, slipLine, netLine, slipOf}
+use Rattle.foil_spec.specs.Sound.{entryAt, stripNumbers, written, sameNumbers, formerly, stripsBy, keepsAsked}
+use Rattle.foil_spec.specs.Sound.{listedIn, soundBy}
+use Rattle.foil_spec.specs.Carrying.{Old, old, oldShort, oldSound, oldEntries, netBlocked, blockedNets, unblocked}
+use Rattle.foil_spec.specs.Carrying.{liftedNets, carried}
 use Rattle.foil_spec.specs.Ledger.{stripsOf, pathOf, noPath, cornersOf, leg, legsFrom, legs}
 use Rattle.foil_spec.specs.Ledger.{offFoil, blocked, Room, short, cornerRoom, tooLong, tooFine, beginningTooFine}
 use Rattle.foil_spec.specs.Ledger.{next, says, first, reads, refusals, afterLent, settle, refusalOf, ledgerStep}
 use Rattle.foil_spec.specs.Ledger.{byPen, penOf, clearanceRefusal, Step, newFoil, draw, lay, lift, lookUp}
-use Rattle.foil_spec.specs.Ledger.{putLeg, save, find, book, slip, join}
+use Rattle.foil_spec.specs.Ledger.{putLeg, save, find, book, slip, join, carry}
 use Rattle.foil_spec.specs.Ledger.{freeFor, onLegs, onNet, joinOf, joinCorners}
 use Rattle.foil_spec.specs.Ledger.{refused, accepted, laid, found, wrote, booked}
 use Rattle.foil_spec.specs.Job.{number, fieldCount, mapByte, has, fieldsAt, recordEnd, field, stepAt}
@@ -133,6 +141,12 @@ jobSlip = ascii "  3    1       2     1     0    \n" ++ ascii "  5    3      10 
 -- the ohms of a net for R, w and c
 abbrev asked : ℕ → Float → Float → Float → Call
 asked net R w c = ohms net (record { sheet = R; width = w; bend = c })
+
+-- a foil as document 01's calls leave it, with its strips by document 01
+abbrev formerFoil : ℕ → ℕ → ℕ → List Entry → List Strip → Old
+formerFoil W H d es ss =
+    old (record { width = W; height = H; reach = d; entries = length es; strips = length ss })
+    (written tableSize (each entryNumbers es) []) (written stripsSize (each stripNumbers ss) [])
 
 -- a half
 half : Float
@@ -556,13 +570,74 @@ cases =
             strips = strip 9 2 10 4 ∷ [];
           };
     }
+    -- carried over: 3 and 7 are lifted for points that a patch blocks, whichever stands first in the table
+    ∷ record {
+      calls =
+          step
+          (carry
+          (formerFoil 12 5 1
+          (entry 0 0 0 2 1 ∷ entry 3 1 3 11 4 ∷ entry 0 4 3 6 4 ∷ entry 7 2 1 3 5 ∷ []) (strip 4 0 12 2 ∷ [])))
+          ∷ [];
+      outcome =
+          record {
+            replies = answered (wrote (3 ∷ 7 ∷ [])) ∷ [];
+            entries = entry 0 0 0 2 1 ∷ entry 0 4 3 6 4 ∷ [];
+            strips = strip 3 1 11 2 ∷ strip 1 2 3 4 ∷ strip 7 2 11 4 ∷ [];
+          };
+    }
+    -- nets rising, though 9 stands first in the table; then a reach of 16, a leg two points wide, and strips that count
+    -- the edge are no state of document 01; too short a table is told first
+    ∷ record {
+      calls =
+          step
+          (carry
+          (formerFoil 6 4 0
+          (entry 0 2 0 3 3 ∷ entry 9 2 0 3 3 ∷ entry 5 0 0 6 1 ∷ entry 9 5 3 6 4 ∷ [])
+          (strip 0 1 2 3 ∷ strip 3 1 6 3 ∷ strip 0 3 5 4 ∷ [])))
+          ∷ step (carry (formerFoil 12 5 16 [] (strip 0 0 12 5 ∷ [])))
+          ∷ step (carry (formerFoil 12 5 1 (entry 5 0 0 2 2 ∷ []) (strip 3 0 12 3 ∷ strip 0 3 12 5 ∷ [])))
+          ∷ step (carry (formerFoil 12 5 1 [] (strip 1 1 11 4 ∷ [])))
+          ∷ step
+          (carry
+          (old (record { width = 0; height = 0; reach = 0; entries = 0; strips = 0 }) (replicate 639 0)
+          (replicate stripsSize 0)))
+          ∷ [];
+      outcome =
+          record {
+            replies =
+                answered (wrote (5 ∷ 9 ∷ [])) ∷ answered (refused 13) ∷ answered (refused 13) ∷ answered (refused 13)
+                ∷ answered (refused 12) ∷ [];
+            entries = entry 0 2 0 3 3 ∷ [];
+            strips = strip 0 0 2 3 ∷ strip 3 0 6 3 ∷ strip 0 3 6 4 ∷ [];
+          };
+    }
+    -- a net that lies in the edge's zone stays; the carried foil goes on with today's calls
+    ∷ record {
+      calls =
+          step
+          (carry
+          (formerFoil 12 5 1
+          (entry 0 4 3 6 4 ∷ entry 3 1 3 11 4 ∷ entry 7 1 1 2 5 ∷ entry 3 8 1 9 2 ∷ [])
+          (strip 3 0 7 2 ∷ strip 10 0 12 2 ∷ [])))
+          ∷ step (draw 1 2 2 3) ∷ step (lay 3 (point 8 3) (point 10 1)) ∷ step (lift 7) ∷ [];
+      outcome =
+          record {
+            replies =
+                answered (wrote (3 ∷ [])) ∷ answered (refused 21)
+                ∷ answered (laid (point 8 3 ∷ point 8 1 ∷ point 10 1 ∷ []) 1) ∷ answered accepted ∷ [];
+            entries = entry 0 4 3 6 4 ∷ entry 3 8 1 9 4 ∷ entry 3 8 1 11 2 ∷ [];
+            strips = strip 1 1 7 2 ∷ strip 1 2 3 4 ∷ strip 10 3 11 4 ∷ [];
+          };
+    }
     ∷ []
 
 -- every case comes out as document 01 says
 starred : map (λ (c : Case). outcomeFrom noFoil [] (c .calls)) cases ≡ map (λ (c : Case). c .outcome) cases
 unfolding outcomeFrom cases jobBytes crossingBytes legJob savedBytes jobSlip penJob widePenJob latePenJob
     entryNumbers sizeOk reachOk penOk netOk boxOk shapeOk entryOk within blocks
-    meets crosses overLeg underPatch patchMargin
+    meets crosses overLeg underPatch patchMargin reachRule
+    entryAt stripNumbers written sameNumbers formerly stripsBy keepsAsked listedIn soundBy
+    oldShort oldSound oldEntries netBlocked blockedNets unblocked liftedNets carried
     penRule margin nearEdge freeBy free
     stopIn stop scan scanAt starts isRun isTop begun stripsFrom holds placeOf
     after between levelFree uprightFree segment leads isPathTo isWay bends points goings stepsFrom shortest firstFrom

@@ -6,7 +6,7 @@ use mathlib.Core.Option.{Option, none, some, Option·getD}
 use lib.Dec.{leb, ltb}
 use lib.ListN.{length, take}
 use Rattle.foil_spec.specs.Lists.{range, keep, any}
-use Rattle.foil_spec.specs.Limits.{maxEntries, maxStrips}
+use Rattle.foil_spec.specs.Limits.{maxEntries, maxStrips, reportPlaces}
 use Rattle.foil_spec.specs.Foil.{Point, Entry, entry, Pen, pen, Layout}
 use Rattle.foil_spec.specs.Foil.{sizeOk, reachOk, penOk, netOk, boxOk, entryOk, blocks, overLeg, underPatch}
 use Rattle.foil_spec.specs.Foil.{patchMargin, free}
@@ -16,6 +16,7 @@ use Rattle.foil_spec.specs.Corners.{drawn}
 use Rattle.foil_spec.specs.Nets.{ofNet, inUse, legsOf}
 use Rattle.foil_spec.specs.Saving.{jobOf}
 use Rattle.foil_spec.specs.Slip.{slipOf}
+use Rattle.foil_spec.specs.Carrying.{Old, oldShort, oldSound, liftedNets, carried}
 
 -- the strips of a layout
 unfoldable pub stripsOf : Layout → List Strip
@@ -138,10 +139,11 @@ pub data Step : Type 0 where
   book : ℕ → List ℕ → Step
   slip : Step
   join : ℕ → Point → Step
+  carry : Old → Step
 
 -- a refusal number; or accepted, with corners and bends after a lay, a find or a join, with a strip's place after a
--- look up, with the bytes that were written after a save or a slip, with the numbers of corners and bends after a
--- booking
+-- look up, with the bytes that were written after a save or a slip and the nets after a carry, with the numbers of
+-- corners and bends after a booking
 pub data Answer : Type 0 where
   refused : ℕ → Answer
   accepted : Answer
@@ -172,6 +174,7 @@ next (find S T) l = l
 next (book net ks) l = withEntries l (l .entries ++ legs net (drawn ks))
 next slip l = l
 next (join net S) l = withEntries l (l .entries ++ legs net (joinCorners net l S))
+next (carry o) l = carried o
 
 -- what an accepted step answers
 unfoldable pub says : Step → Layout → Answer
@@ -186,6 +189,7 @@ says (find S T) l = laid (cornersOf l S T) (bends (cornersOf l S T))
 says (book net ks) l = booked (length (drawn ks)) (bends (drawn ks))
 says slip l = wrote (slipOf l)
 says (join net S) l = laid (joinCorners net l S) (bends (joinCorners net l S))
+says (carry o) l = wrote (liftedNets o)
 
 -- a refusal: when it applies, and its number
 pub record Refusal : Type 0 where
@@ -207,7 +211,7 @@ unfoldable pub clearanceRefusal : Clearance → Refusal
 clearanceRefusal (byPen p) = not (penOk p) ⇒ 20
 clearanceRefusal (byReach d) = not (reachOk d) ⇒ 2
 
--- the step reads what the foil holds; a new foil does not
+-- the step reads what the foil holds; a new foil and a foil that is carried over do not
 unfoldable pub reads : Step → Bool
 reads (newFoil W H c) = false
 reads (draw x0 y0 x1 y1) = true
@@ -220,8 +224,10 @@ reads (find S T) = true
 reads (book net ks) = true
 reads slip = true
 reads (join net S) = true
+reads (carry o) = false
 
--- a step's own refusals in their order
+-- a step's own refusals in their order; the 13 of a carry is about the old foil, and its 10 for a sheet, as the entries
+-- that it leaves always fit a table
 unfoldable pub refusals : Step → Room → Layout → List Refusal
 refusals (newFoil W H c) r l = (not (sizeOk W && sizeOk H) ⇒ 1) ∷ clearanceRefusal c ∷ []
 refusals (draw x0 y0 x1 y1) r l =
@@ -277,6 +283,13 @@ refusals (join net S) r l =
     ∷ (ltb (cornerRoom r) (length (joinCorners net l S)) ⇒ 12)
     ∷ (tooLong r (next (join net S) l) ⇒ 10)
     ∷ (tooFine (next (join net S) l) ⇒ 11)
+    ∷ []
+refusals (carry o) r l =
+    (oldShort o ⇒ 12)
+    ∷ (ltb (r .output) reportPlaces ⇒ 12)
+    ∷ (not (oldSound o) ⇒ 13)
+    ∷ (tooLong r (next (carry o) l) ⇒ 10)
+    ∷ (tooFine (next (carry o) l) ⇒ 11)
     ∷ []
 
 -- a call's own refusals after those for what is lent, which every call begins with; `broken` says that the call reads a

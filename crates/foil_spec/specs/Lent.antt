@@ -1,16 +1,16 @@
 -- The foil as it is lent, a record and flat lists of numbers, and what each step does to it and to an output list.
-use Prim.Native.Nat.{ℕ, _+_, _*_, _-_, _/_}
-use mathlib.Core.Bool.{Bool, true, false, not, _&&_}
-use mathlib.Core.List.{List, [], _∷_, _++_, map}
-use lib.Dec.{leb, eqb}
-use lib.ListN.{length, getD, drop, replicate}
-use Rattle.foil_spec.specs.Lists.{range, all, each}
+use Prim.Native.Nat.{ℕ, _+_, _*_, _/_}
+use mathlib.Core.Bool.{Bool, not}
+use mathlib.Core.List.{List, _++_, map}
+use lib.ListN.{length, getD, drop}
+use Rattle.foil_spec.specs.Lists.{range, each}
 use Rattle.foil_spec.specs.Limits.{maxEntries, tableSize, stripsSize}
-use Rattle.foil_spec.specs.Foil.{Entry, entry, entryNumbers, Pen, pen, Layout, sizeOk, penOk, entryOk}
-use Rattle.foil_spec.specs.Foil.{noCrossing, patchMargin}
+use Rattle.foil_spec.specs.Foil.{entryNumbers, Pen, pen, Layout}
 use Rattle.foil_spec.specs.Strips.{Strip}
 use Rattle.foil_spec.specs.Corners.{pointNumbers}
-use Rattle.foil_spec.specs.Ledger.{stripsOf, tooFine, Room, Step, says, next, After, settle, refusalOf}
+use Rattle.foil_spec.specs.Sound.{today, keepsAsked, soundBy}
+unfoldable pub use Rattle.foil_spec.specs.Sound.{entryAt, stripNumbers, written, sameNumbers}
+use Rattle.foil_spec.specs.Ledger.{stripsOf, Room, Step, says, next, After, settle, refusalOf}
 use Rattle.foil_spec.specs.Ledger.{Answer, refused, accepted, laid, found, wrote, booked}
 use Rattle.foil_spec.specs.declared.Board.{Board}
 
@@ -23,14 +23,6 @@ pub record Lent : Type 0 where
 -- the same from its three parts
 abbrev pub lent : Board → List ℕ → List ℕ → Lent
 lent b t s = record { board = b; table = t; strips = s }
-
--- a place of the strip list is four numbers
-unfoldable pub stripNumbers : Strip → List ℕ
-stripNumbers s = s .x0 ∷ s .y0 ∷ s .x1 ∷ s .y1 ∷ []
-
--- the numbers in front, zeros up to n numbers in all, and after them what stood there
-unfoldable pub written : ℕ → List ℕ → List ℕ → List ℕ
-written n ns old = ns ++ (replicate (n - length ns) 0 ++ drop n old)
 
 -- the numbers in front, and after them what stood there
 unfoldable pub overFront : List ℕ → List ℕ → List ℕ
@@ -56,11 +48,6 @@ store l m =
       table = written tableSize (each entryNumbers (l .entries)) (m .table);
       strips = written stripsSize (each stripNumbers (stripsOf l)) (m .strips);
     }
-
--- the entry at place k of a table
-unfoldable pub entryAt : List ℕ → ℕ → Entry
-entryAt t k =
-    entry (getD t (k * 5) 0) (getD t (k * 5 + 1) 0) (getD t (k * 5 + 2) 0) (getD t (k * 5 + 3) 0) (getD t (k * 5 + 4) 0)
 
 -- the strip at place k of a strip list
 unfoldable pub listedStrip : List ℕ → ℕ → Strip
@@ -90,23 +77,13 @@ held m = layoutOf (m .board .width) (m .board .height) (penIn (m .board)) (m .bo
 
 -- the layout keeps the rules of the sections on the foil and the strips
 unfoldable pub layoutOk : Layout → Bool
-layoutOk l =
-    sizeOk (l .width) && sizeOk (l .height) && penOk (l .pen)
-    && all (entryOk (l .width) (l .height)) (l .entries) && leb (length (l .entries)) maxEntries
-    && noCrossing (patchMargin (l .pen)) (l .entries) && not (tooFine l)
-
--- the lists are equal
-unfoldable pub sameNumbers : List ℕ → List ℕ → Bool
-sameNumbers [] [] = true
-sameNumbers [] (n ∷ ns) = false
-sameNumbers (m ∷ ms) [] = false
-sameNumbers (m ∷ ms) (n ∷ ns) = eqb m n && sameNumbers ms ns
+layoutOk l = keepsAsked (today (l .pen)) (l .width) (l .height) (l .entries)
 
 -- 13 does not apply: what is lent is what it says stored, and that keeps the rules
 unfoldable pub sound : Lent → Bool
 sound m =
-    layoutOk (held m) && eqb (m .board .strips) (store (held m) m .board .strips)
-    && sameNumbers (m .table) (store (held m) m .table) && sameNumbers (m .strips) (store (held m) m .strips)
+    soundBy (today (penIn (m .board))) (m .board .width) (m .board .height) (m .board .entries) (m .board .strips)
+    (m .table) (m .strips)
 
 -- the whole places of the lists that are lent, with so many numbers of output, for a foil of so many entries at most
 unfoldable pub roomIn : ℕ → Lent → ℕ → Room
@@ -123,8 +100,8 @@ stepOn r s m =
     settle (refusalOf r (not (sound m)) s (held m))
     (record { answer = says s (held m); state = store (next s (held m)) m }) m
 
--- an output list after an answer: the corners of a track that was laid or found, or the bytes that were written, at its
--- front
+-- an output list after an answer: the corners of a track that was laid or found, or the bytes or nets that were written,
+-- at its front
 unfoldable pub outputAfter : Answer → List ℕ → List ℕ
 outputAfter (refused n) out = out
 outputAfter accepted out = out

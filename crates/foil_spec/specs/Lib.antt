@@ -9,6 +9,8 @@ pub mod Nets
 pub mod Text
 pub mod Saving
 pub mod Slip
+pub mod Sound
+pub mod Carrying
 pub mod Ledger
 pub mod Lent
 pub mod Job

@@ -15,6 +15,10 @@ maxStrips = 4096
 abbrev pub stripsSize : ℕ
 stripsSize = 16384
 
+-- a report of nets has so many places at least
+abbrev pub reportPlaces : ℕ
+reportPlaces = 128
+
 -- a job file has at most so many bytes
 abbrev pub maxBytes : ℕ
 maxBytes = 60000

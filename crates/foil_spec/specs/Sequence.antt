@@ -6,7 +6,8 @@ use mathlib.Core.List.{List, [], _∷_, _++_}
 use mathlib.Core.Option.{Option}
 use lib.ListN.{length, take, drop}
 use Rattle.foil_spec.specs.Foil.{Pen, Layout}
-use Rattle.foil_spec.specs.Ledger.{byPen, newFoil, Answer, accepted, Room, After}
+use Rattle.foil_spec.specs.Carrying.{Old}
+use Rattle.foil_spec.specs.Ledger.{byPen, newFoil, carry, Answer, accepted, wrote, Room, After}
 use Rattle.foil_spec.specs.Lent.{Lent, store, roomIn}
 use Rattle.foil_spec.specs.Calls.{Call, step, runRecord, Reply, answered, ran, ledgerCall, callOn, outputBy}
 
@@ -74,8 +75,10 @@ runLedger m l [] = []
 runLedger m l (c ∷ cs) =
     leaves c (told m c l .answer) (store (told m c l .state) m) ∷ runLedger m (told m c l .state) cs
 
--- the call begins a foil: a new foil that is accepted, by call or as the board of a record at place 0
+-- the call begins a foil: a new foil that is accepted, by call or as the board of a record at place 0; or a foil that is
+-- carried over
 abbrev pub Begins : Call → Reply → Type 0
 Begins c r =
     ((W : ℕ) × (H : ℕ) × (p : Pen) × (c ≡ step (newFoil W H (byPen p))) × (r ≡ answered accepted))
     ⊎ ((bs : List ℕ) × (given : List Answer) × (n : Option ℕ) × (c ≡ runRecord bs 0) × (r ≡ ran (accepted ∷ given) n))
+    ⊎ ((o : Old) × (nets : List ℕ) × (c ≡ step (carry o)) × (r ≡ answered (wrote nets)))

@@ -10,7 +10,7 @@ use Rattle.foil_spec.specs.Lists.{all, each}
 use Rattle.foil_spec.specs.Limits.{maxEntries, tableSize, stripsSize, sheetEntries, sheetSize, sureEntries}
 use Rattle.foil_spec.specs.Foil.{entryNumbers, Layout, noFoil}
 use Rattle.foil_spec.specs.Ledger.{stripsOf, Room, Step, newFoil, draw, lay, lift, lookUp, putLeg, save, find}
-use Rattle.foil_spec.specs.Ledger.{book, slip, join, Answer, refused, says, next, Refusal, _⇒_, first, afterLent}
+use Rattle.foil_spec.specs.Ledger.{book, slip, join, carry, Answer, refused, says, next, Refusal, _⇒_, first, afterLent}
 use Rattle.foil_spec.specs.Ledger.{After, settle, refusalOf}
 use Rattle.foil_spec.specs.Lent.{Lent, lent, stripNumbers, written, boardOf, store, held, sound}
 use Rattle.foil_spec.specs.Calls.{Call, step, runRecord, ohms, Reply, answered, tooLarge, reply, outputBy}
@@ -96,7 +96,7 @@ sheetRoom k ns m output =
 
 -- ---- the calls on what is lent
 
--- the step, where it is accepted, is a new foil, or adds or takes entries
+-- the step, where it is accepted, begins a foil, or adds or takes entries
 unfoldable pub writes : Step → Bool
 writes (newFoil W H c) = true
 writes (draw x0 y0 x1 y1) = true
@@ -109,6 +109,7 @@ writes (find S T) = false
 writes (book net ks) = true
 writes slip = false
 writes (join net S) = true
+writes (carry o) = true
 
 -- what a step on foil k does: what it does to the foil alone; the table is written anew, or left as it is
 unfoldable pub sheetStep : Room → ℕ → Step → SheetLent → After Answer SheetLent

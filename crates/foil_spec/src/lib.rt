@@ -1,6 +1,6 @@
 // The definitions of document 01, in specs/, and what they and the calls share: the limits, the structs
-// (the board's record, an entry of the patch table, a strip, a point, the figures of an ink), and the
-// places of flat lists read as such structs.
+// (the board's record and that of document 01, an entry of the patch table, a strip, a point, the figures
+// of an ink), and the places of flat lists read as such structs.
 ghost use mathlib.Core.Path.{_≡_};
 ghost use Prim.Native.Nat.{_+_, _*_, _≤_};
 ghost use lib.ListN.{length};
@@ -11,6 +11,9 @@ ghost use Rattle.foil_spec.specs.Lent.{entryAt, listedStrip};
 pub const MAX_ENTRIES: usize = 128;
 
 pub const TABLE_SIZE: usize = 640;
+
+// How many places a report of nets has at least.
+pub const REPORT_PLACES: usize = 128;
 
 // How many strips a strip list holds, and how many numbers they are in a flat list.
 pub const MAX_STRIPS: usize = 4096;
@@ -33,6 +36,16 @@ pub struct Board {
     pub height: u16,
     pub half: u16,
     pub gap: u16,
+    pub entries: usize,
+    pub strips: usize,
+}
+
+// The board's record of document 01: its width and height, its reach, and the two counts.
+#[repr(C)]
+pub struct OldBoard {
+    pub width: u16,
+    pub height: u16,
+    pub reach: u16,
     pub entries: usize,
     pub strips: usize,
 }
