@@ -18,7 +18,7 @@ use Rattle.foil_spec.specs.Ledger.{stripsOf, pathOf, noPath, cornersOf, 
 use Rattle.foil_spec.specs.Ledger.{blocked, short, cornerRoom, tooLong, tooFine, next, says, first, reads}
 use Rattle.foil_spec.specs.Ledger.{refusals, afterLent, settle, refusalOf, byPen, penOf, clearanceRefusal, Step}
 use Rattle.foil_spec.specs.Ledger.{newFoil, draw, lay, lift, lookUp, refused, accepted, laid, found, After}
-use Rattle.foil_spec.specs.Lent.{stripNumbers, written, boardOf, store, entryAt, layoutOf, held, layoutOk}
+use Rattle.foil_spec.specs.Lent.{stripNumbers, written, boardOf, store, entryAt, layoutOf, held}
 use Rattle.foil_spec.specs.Lent.{sameNumbers, sound}
 use Rattle.foil_spec.specs.Sound.{today, stripsBy, keepsAsked, listedIn, soundBy}
 use Rattle.foil_spec.specs.Job.{number, fieldCount, mapByte, has, fieldsAt, recordEnd, field, stepAt, jobRoom}
@@ -193,8 +193,9 @@ cleared : see (lookUp (point 0 0)) ∷ see (draw 0 0 4 1) ∷ see (draw 0 0 1 1)
     ≡ record { reply = answered (found 0); there = 7 } ∷ record { reply = answered (refused 3); there = 7 }
     ∷ record { reply = answered accepted; there = 0 } ∷ []
 unfolding see begin sheetCall sheetStep writes sheetRefusal unless opening counts putBack view tableAt parts joined
-    total reserved eachFew countsOk written boardOf store stripNumbers held layoutOf entryAt layoutOk sameNumbers
-    sound today stripsBy keepsAsked listedIn soundBy reply sizeOk reachOk penOk netOk boxOk shapeOk entryOk within blocks overLeg noCrossing penRule margin
+    total reserved eachFew countsOk written boardOf store stripNumbers held layoutOf entryAt sameNumbers
+    today stripsBy keepsAsked listedIn soundBy sound reply sizeOk reachOk penOk netOk boxOk shapeOk entryOk within
+    blocks overLeg noCrossing penRule margin
     nearEdge freeBy free entryNumbers stopIn stop scan scanAt starts isRun isTop begun stripsFrom holds placeOf
     stripsOf offFoil blocked short tooLong tooFine penOf clearanceRefusal next says first reads refusals afterLent
     settle refusalOf jobRoom

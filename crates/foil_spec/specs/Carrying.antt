@@ -1,5 +1,5 @@
--- Carrying over a foil that was begun under document 01's rules (document 02, P9): its state, which is only read, whether
--- it keeps those rules, the nets that are lifted, and the foil by today's rules.
+-- Carrying over a foil that was begun under document 01's rules (document 02, P9): its state, which is only read,
+-- whether it keeps those rules, the nets that are lifted, and the foil by today's rules.
 use Prim.Native.Nat.{ℕ, _/_}
 use mathlib.Core.Bool.{Bool, not, _&&_, _||_}
 use mathlib.Core.List.{List, map}

@@ -100,8 +100,8 @@ stepOn r s m =
     settle (refusalOf r (not (sound m)) s (held m))
     (record { answer = says s (held m); state = store (next s (held m)) m }) m
 
--- an output list after an answer: the corners of a track that was laid or found, or the bytes or nets that were written,
--- at its front
+-- an output list after an answer: the corners of a track that was laid or found, or the bytes or nets that were
+-- written, at its front
 unfoldable pub outputAfter : Answer → List ℕ → List ℕ
 outputAfter (refused n) out = out
 outputAfter accepted out = out

@@ -75,8 +75,8 @@ runLedger m l [] = []
 runLedger m l (c ∷ cs) =
     leaves c (told m c l .answer) (store (told m c l .state) m) ∷ runLedger m (told m c l .state) cs
 
--- the call begins a foil: a new foil that is accepted, by call or as the board of a record at place 0; or a foil that is
--- carried over
+-- the call begins a foil: a new foil that is accepted, by call or as the board of a record at place 0; or a foil that
+-- is carried over
 abbrev pub Begins : Call → Reply → Type 0
 Begins c r =
     ((W : ℕ) × (H : ℕ) × (p : Pen) × (c ≡ step (newFoil W H (byPen p))) × (r ≡ answered accepted))

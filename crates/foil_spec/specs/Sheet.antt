@@ -10,8 +10,8 @@ use Rattle.foil_spec.specs.Lists.{all, each}
 use Rattle.foil_spec.specs.Limits.{maxEntries, tableSize, stripsSize, sheetEntries, sheetSize, sureEntries}
 use Rattle.foil_spec.specs.Foil.{entryNumbers, Layout, noFoil}
 use Rattle.foil_spec.specs.Ledger.{stripsOf, Room, Step, newFoil, draw, lay, lift, lookUp, putLeg, save, find}
-use Rattle.foil_spec.specs.Ledger.{book, slip, join, carry, Answer, refused, says, next, Refusal, _⇒_, first, afterLent}
-use Rattle.foil_spec.specs.Ledger.{After, settle, refusalOf}
+use Rattle.foil_spec.specs.Ledger.{book, slip, join, carry, Answer, refused, says, next, Refusal, _⇒_, first}
+use Rattle.foil_spec.specs.Ledger.{afterLent, After, settle, refusalOf}
 use Rattle.foil_spec.specs.Lent.{Lent, lent, stripNumbers, written, boardOf, store, held, sound}
 use Rattle.foil_spec.specs.Calls.{Call, step, runRecord, ohms, Reply, answered, tooLarge, reply, outputBy}
 use Rattle.foil_spec.specs.declared.Board.{Board}

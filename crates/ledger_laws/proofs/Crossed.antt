@@ -21,7 +21,7 @@ use Rattle.ledger_laws.proofs.Rules.{Keeps, of-ok}
 use Rattle.ledger_laws.proofs.Refusals.{own-refused}
 use Rattle.ledger_laws.proofs.Crossing.{Full, ok-full, point-meets, meets-point, of-no-crossing}
 use Rattle.ledger_laws.proofs.Line.{patch-ok, settled-refused}
-use Rattle.ledger_laws.proofs.Moments.{Shows, Standing, opens, runs-on, at-every}
+use Rattle.ledger_laws.proofs.Moments.{Shows, at-every, after-step}
 use Rattle.ledger_laws.proofs.Demand3.{goes-on, answer-is}
 
 -- ---- a patch and a leg
@@ -56,10 +56,6 @@ module _ (w : Pen) (p e : Entry) where
       not-zero n h = omega (arith, (let z : n ≡ 0 → ⊥ = λ e. clash (eq-eqb n 0 e) h in z))
 
 -- ---- in a list of calls
-
-after-step : (m : Lent) (k : Moment) (later : List Moment) → Standing m k later → Shows m (k .ledgerAfter) (k .after)
-after-step m k later (opens W H d new after) = after
-after-step m k later (runs-on g o) = g .after
 
 pub none-crossed : NoneCrossed
 none-crossed m l cs b earlier k later e p x i j cross =

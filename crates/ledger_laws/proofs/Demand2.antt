@@ -23,7 +23,7 @@ use Rattle.ledger_laws.specs.Moments.{Moment}
 use Rattle.ledger_laws.specs.Demand2.{StripsRight, StripsStayRight}
 use Rattle.ledger_laws.proofs.Stored.{length-strips, strips-fit}
 use Rattle.zones.proofs.Free.{free-inside}
-use Rattle.ledger_laws.proofs.Moments.{Shows, Standing, opens, runs-on, at-every}
+use Rattle.ledger_laws.proofs.Moments.{Shows, at-every, after-step}
 
 -- a free point is on the foil
 on-foil : (l : Layout) (p : Point)
@@ -93,10 +93,6 @@ module _ (m : Lent) (l : Layout) (n : Lent) (s : Shows m l n) where
             ∙ ap (λ (b : Bool). cond b 1 0) (on-foil l p);
         zeros = zero-at;
       }
-
-after-step : (m : Lent) (k : Moment) (later : List Moment) → Standing m k later → Shows m (k .ledgerAfter) (k .after)
-after-step m k later (opens W H d new after) = after
-after-step m k later (runs-on g o) = g .after
 
 pub strips-stay-right : StripsStayRight
 strips-stay-right m l cs b earlier k later e =

@@ -56,7 +56,7 @@ behaves-as-ledger m l c cs h =
 pub goes-on : (m : Lent) (k : Moment) (later : List Moment) (s : Step) → Standing m k later → k .step ≡ s
     → reads s ≡ true → Goes m k × Onward m (k .ledgerAfter) later
 unfolding reads
-goes-on m k later s (opens W H d new after) e r = clash r (ap reads (sym e ∙ new))
+goes-on m k later s (opens o) e r = clash r (ap reads (sym e) ∙ o .blind)
 goes-on m k later s (runs-on g o) e r = (g, o)
 
 -- what it answers

@@ -13,8 +13,9 @@ use Rattle.foil_spec.specs.Lists.{each, consIf}
 use Rattle.foil_spec.specs.Limits.{maxEntries, tableSize, maxStrips, stripsSize}
 use Rattle.foil_spec.specs.Foil.{entryNumbers, Layout}
 use Rattle.foil_spec.specs.Ledger.{stripsOf, says, next, Refusal, _⇒_, first, Room, short, reads, refusals, afterLent}
-use Rattle.foil_spec.specs.Ledger.{After, settle, refusalOf, ledgerStep, Clearance, byPen, Step, newFoil, Answer}
-use Rattle.foil_spec.specs.Ledger.{refused, accepted}
+use Rattle.foil_spec.specs.Carrying.{Old}
+use Rattle.foil_spec.specs.Ledger.{After, settle, refusalOf, ledgerStep, Clearance, byPen, Step, newFoil, carry}
+use Rattle.foil_spec.specs.Ledger.{Answer, refused, accepted, wrote}
 use Rattle.foil_spec.specs.Lent.{Lent, lent, stripNumbers, store, held, layoutOk, sound, roomIn, stepOn}
 use Rattle.foil_spec.specs.Job.{has, stepAt, stepsAt, steps, isEnd, recordEnd, recordChecks}
 use Rattle.foil_spec.specs.Calls.{Call, step, runRecord, ohms, Reply, answered, ran, endsJob, andThen, actAll}
@@ -153,19 +154,18 @@ module _ (m : Lent) (long : Long m) (c : Lending) (l : Layout) (g : layoutOk l �
 
 -- ---- the call that begins a foil
 
--- it is not short, it goes as on the ledger, and leaves a layout that keeps the rules; the steps that it runs are a new
--- foil that is not refused, and others
+-- it is not short, it goes as on the ledger, and leaves a layout that keeps the rules; the steps that it runs are one
+-- that reads nothing of what is lent and is not refused, and others
 pub record Begun (r : Room) (c : Call) (l : Layout) (m : Lent) : Type 0 where
   pub long : short r ≡ false
   pub kept : layoutOk (ledgerCall r c l .state) ≡ true
   pub is : callOn r c m ≡ shown m (ledgerCall r c l)
-  pub W : ℕ
-  pub H : ℕ
-  pub d : Clearance
+  pub opening : Step
+  pub blind : reads opening ≡ false
   pub later : List Step
-  pub runs : stepsRun c (ledgerCall r c l .answer) ≡ newFoil W H d ∷ later
-  pub unrefused : refusalOf r false (newFoil W H d) l ≡ none
-  pub ends : ledgerCall r c l .state ≡ actAll (ledgerStep r) (newFoil W H d ∷ later) l .state
+  pub runs : stepsRun c (ledgerCall r c l .answer) ≡ opening ∷ later
+  pub unrefused : refusalOf r false opening l ≡ none
+  pub ends : ledgerCall r c l .state ≡ actAll (ledgerStep r) (opening ∷ later) l .state
 
 -- one step alone
 pub step-alone : (r : Room) (s : Step) (l : Layout)
@@ -181,71 +181,99 @@ step-alone r s l = go (endsJob (ledgerStep r s l .answer)) (ledgerStep r s l)
     go true a = refl
     go false a = refl
 
-module _ (W H : ℕ) (d : Clearance) (r : Room) (l : Layout) where
-  settled-new : (o : Option ℕ) (done : After Answer Layout) → settle o done l .answer ≡ accepted → o ≡ none
-  unfolding settle
-  settled-new none done e = refl
-  settled-new (some n) done e = absurd (let z : _≡_ {A = ℕ} 0 1 = cc in omega arith)
+-- a step that answers a, which is no refusal, is not refused
+settled-taken : {S : Type 0} (o : Option ℕ) (done : After Answer S) (old : S) (a : Answer)
+    → ((n : ℕ) → refused n ≡ a → ⊥) → settle o done old .answer ≡ a → o ≡ none
+unfolding settle
+settled-taken none done old a never e = refl
+settled-taken (some n) done old a never e = absurd (never n e)
 
-  new-unrefused : ledgerStep r (newFoil W H d) l .answer ≡ accepted → refusalOf r false (newFoil W H d) l ≡ none
-  unfolding ledgerStep
-  new-unrefused e = settled-new (refusalOf r false (newFoil W H d) l) _ e
+pub step-taken : (r : Room) (s : Step) (l : Layout) (a : Answer) → ((n : ℕ) → refused n ≡ a → ⊥)
+    → ledgerStep r s l .answer ≡ a → refusalOf r false s l ≡ none
+unfolding ledgerStep
+step-taken r s l a never e = settled-taken (refusalOf r false s l) _ l a never e
 
-  -- a new foil reads nothing of what is lent
-  pub new-refusal : (b : Bool) (l′ : Layout) → refusalOf r b (newFoil W H d) l′ ≡ refusalOf r false (newFoil W H d) l
-  unfolding refusalOf afterLent reads refusals
-  new-refusal true l′ = refl
-  new-refusal false l′ = refl
+pub taken-on : (r : Room) (s : Step) (m : Lent) (a : Answer) → ((n : ℕ) → refused n ≡ a → ⊥)
+    → stepOn r s m .answer ≡ a → refusalOf r (not (sound m)) s (held m) ≡ none
+unfolding stepOn
+taken-on r s m a never e = settled-taken (refusalOf r (not (sound m)) s (held m)) _ m a never e
 
-  -- where it is refused, the lists being long enough, it ends the job
-  pub new-ends : (k : ℕ) → refusalOf r false (newFoil W H d) l ≡ some k → short r ≡ false → endsJob (refused k) ≡ true
-  unfolding refusals endsJob
-  new-ends k e long =
-      let ends : ℕ → Bool = λ n. endsJob (refused n) in
-      first-passes ends (refusals (newFoil W H d) r l) (simp (clearance-number ends d refl refl, or-true)) k
-      (sym (own-refused r (newFoil W H d) l false long refl) ∙ e)
+pub no-accepted : (n : ℕ) → refused n ≡ accepted → ⊥
+no-accepted n e = let z : _≡_ {A = ℕ} 0 1 = cc in omega arith
 
-  module _ (e : refusalOf r false (newFoil W H d) l ≡ none) where
-    pub new-is : (m : Lent) → stepOn r (newFoil W H d) m ≡ shown m (ledgerStep r (newFoil W H d) l)
-    unfolding stepOn settle says next shown ledgerStep
-    new-is m = rw (new-refusal (not (sound m)) (held m), e) refl
+pub no-wrote : (ns : List ℕ) (n : ℕ) → refused n ≡ wrote ns → ⊥
+no-wrote ns n e = let z : _≡_ {A = ℕ} 0 1 = cc in omega arith
 
-    pub new-state : layoutOk (ledgerStep r (newFoil W H d) l .state) ≡ true
-    unfolding ledgerStep settle reads
-    new-state =
-        rw e (line (newFoil W H d) .kept r l (λ f. clash f refl) (unrefused-own r (newFoil W H d) l false e))
+-- a step that reads nothing of what is lent
+module _ (s : Step) (blind : reads s ≡ false) (r : Room) (l : Layout) where
+  pub blind-refusal : (b : Bool) (l′ : Layout) → refusalOf r b s l′ ≡ refusalOf r false s l
+  unfolding refusalOf afterLent
+  blind-refusal b l′ = rw (blind, and-false b, line s .blind blind r l′ l .0) refl
 
-    -- the steps of a record whose first one is a new foil that is accepted
+  module _ (e : refusalOf r false s l ≡ none) where
+    pub blind-is : (m : Lent) → stepOn r s m ≡ shown m (ledgerStep r s l)
+    unfolding stepOn settle shown ledgerStep
+    blind-is m =
+        let same = line s .blind blind r (held m) l in
+        rw (blind-refusal (not (sound m)) (held m), e, same .1, same .2) refl
+
+    pub blind-state : layoutOk (ledgerStep r s l .state) ≡ true
+    unfolding ledgerStep settle
+    blind-state = rw e (line s .kept r l (λ f. clash f blind) (unrefused-own r s l false e))
+
+    pub blind-answer : ledgerStep r s l .answer ≡ says s l
+    unfolding ledgerStep settle
+    blind-answer = rw e refl
+
+    -- what the ledger held before makes no difference
+    pub blind-anew : (l′ : Layout) → ledgerStep r s l ≡ ledgerStep r s l′
+    unfolding ledgerStep settle
+    blind-anew l′ =
+        let same = line s .blind blind r l l′ in
+        rw (blind-refusal false l′, e, same .1, same .2) refl
+
+    -- the steps of a call whose first one it is
     begun-steps : (ss : List Step) (m : Lent)
-        → actAll (stepOn r) (newFoil W H d ∷ ss) m ≡ shown m (actAll (ledgerStep r) (newFoil W H d ∷ ss) l)
+        → actAll (stepOn r) (s ∷ ss) m ≡ shown m (actAll (ledgerStep r) (s ∷ ss) l)
     begun-steps ss m =
-        cons-are r m m (newFoil W H d) ss l (new-is m)
-        (steps-are r ss (ledgerStep r (newFoil W H d) l .state) m new-state)
+        cons-are r m m s ss l (blind-is m) (steps-are r ss (ledgerStep r s l .state) m blind-state)
 
-    begun-state : (ss : List Step) → layoutOk (actAll (ledgerStep r) (newFoil W H d ∷ ss) l .state) ≡ true
+    begun-state : (ss : List Step) → layoutOk (actAll (ledgerStep r) (s ∷ ss) l .state) ≡ true
     unfolding actAll
     begun-state ss =
-        then-kept (ledgerStep r (newFoil W H d) l) _ new-state
-        (steps-kept r ss (ledgerStep r (newFoil W H d) l .state) new-state)
+        then-kept (ledgerStep r s l) _ blind-state (steps-kept r ss (ledgerStep r s l .state) blind-state)
 
-  begun-call : (m : Lent) → ledgerCall r (step (newFoil W H d)) l .answer ≡ answered accepted
-      → Begun r (step (newFoil W H d)) l m
-  unfolding ledgerCall callOn reply stepsRun
-  begun-call m e =
-      let a : ledgerStep r (newFoil W H d) l .answer ≡ accepted = cc in
-      let n = new-unrefused a in
-      record {
-        long = unrefused-long r (newFoil W H d) l false n;
-        kept = new-state n;
-        is = unfold shown in rw (new-is n m) refl;
-        W = W;
-        H = H;
-        d = d;
-        later = [];
-        runs = refl;
-        unrefused = n;
-        ends = sym (step-alone r (newFoil W H d) l);
-      }
+    begun-call : (m : Lent) → Begun r (step s) l m
+    unfolding ledgerCall callOn reply stepsRun
+    begun-call m =
+        record {
+          long = unrefused-long r s l false e;
+          kept = blind-state;
+          is = unfold shown in rw (blind-is m) refl;
+          opening = s;
+          blind = blind;
+          later = [];
+          runs = refl;
+          unrefused = e;
+          ends = sym (step-alone r s l);
+        }
+
+pub new-blind : (W H : ℕ) (d : Clearance) → reads (newFoil W H d) ≡ false
+unfolding reads
+new-blind W H d = refl
+
+pub carry-blind : (o : Old) → reads (carry o) ≡ false
+unfolding reads
+carry-blind o = refl
+
+-- where a new foil is refused, the lists being long enough, it ends the job
+pub new-ends : (W H : ℕ) (d : Clearance) (r : Room) (l : Layout) (k : ℕ)
+    → refusalOf r false (newFoil W H d) l ≡ some k → short r ≡ false → endsJob (refused k) ≡ true
+unfolding refusals endsJob
+new-ends W H d r l k e long =
+    let ends : ℕ → Bool = λ n. endsJob (refused n) in
+    first-passes ends (refusals (newFoil W H d) r l) (simp (clearance-number ends d refl refl, or-true)) k
+    (sym (own-refused r (newFoil W H d) l false long refl) ∙ e)
 
 -- what a reply of steps says of the record's checks and of its first step
 record RanFirst (o : Option ℕ) (e : Bool) (r : Room) (ss : List Step) (l : Layout) (x : Answer) : Type 0 where
@@ -344,7 +372,7 @@ opened r bs xs n l e =
       unrefused = a .unrefused;
       not-end = a .not-end;
       board = b;
-      taken = new-unrefused (b .W) (b .H) (b .d) r l h;
+      taken = step-taken r (newFoil (b .W) (b .H) (b .d)) l accepted no-accepted h;
     }
 
 pub begun-record : (r : Room) (bs : List ℕ) (xs : List Answer) (n : Option ℕ) (l : Layout) (m : Lent)
@@ -354,6 +382,7 @@ begun-record r bs xs n l m e =
     let a = opened r bs xs n l e in
     let b = a .board in
     let new : Step = newFoil (b .W) (b .H) (b .d) in
+    let blind = new-blind (b .W) (b .H) (b .d) in
     let u = a .taken in
     let o : Option ℕ = first (wholeRefusals r false bs 0) in
     let ends : actRecord (ledgerStep r) o (isEnd bs 0) (steps bs 0) (recordEnd bs 0) l .state
@@ -364,7 +393,7 @@ begun-record r bs xs n l m e =
     ∙ ap (λ (ss : List Step). actAll (ledgerStep r) ss l .state) (b .is) in
     record {
       long = unrefused-long r new l false u;
-      kept = ap layoutOk ends ∙ begun-state (b .W) (b .H) (b .d) r l u (b .later);
+      kept = ap layoutOk ends ∙ begun-state new blind r l u (b .later);
       is =
           rw (whole-at-0 r (not (sound m)) bs)
           (subst₂
@@ -373,23 +402,37 @@ begun-record r bs xs n l m e =
           (sym (a .unrefused)) (sym (a .not-end))
           (ran-is r (steps bs 0) (recordEnd bs 0) l m m
           (subst (λ (ss : List Step). actAll (stepOn r) ss m ≡ shown m (actAll (ledgerStep r) ss l)) (sym (b .is))
-          (begun-steps (b .W) (b .H) (b .d) r l u (b .later) m))));
-      W = b .W;
-      H = b .H;
-      d = b .d;
+          (begun-steps new blind r l u (b .later) m))));
+      opening = new;
+      blind = blind;
       later = b .later;
       runs = ap (stepsRun (runRecord bs 0)) e ∙ b .is;
       unrefused = u;
       ends = ends;
     }
 
+module _ (r : Room) (l : Layout) where
+  -- what is known where a call begins a foil by a new foil, or by one that is carried over
+  new-taken : (W H : ℕ) (d : Clearance) → ledgerCall r (step (newFoil W H d)) l .answer ≡ answered accepted
+      → refusalOf r false (newFoil W H d) l ≡ none
+  unfolding ledgerCall reply
+  new-taken W H d e = step-taken r (newFoil W H d) l accepted no-accepted cc
+
+  carry-taken : (o : Old) (ns : List ℕ) → ledgerCall r (step (carry o)) l .answer ≡ answered (wrote ns)
+      → refusalOf r false (carry o) l ≡ none
+  unfolding ledgerCall reply
+  carry-taken o ns e = step-taken r (carry o) l (wrote ns) (no-wrote ns) cc
+
 pub begun : (r : Room) (c : Call) (l : Layout) (m : Lent) → Begins c (ledgerCall r c l .answer) → Begun r c l m
 begun r c l m (inl (W, H, p, e, h)) =
     subst (λ (x : Call). ledgerCall r x l .answer ≡ answered accepted → Begun r x l m) (sym e)
-    (begun-call W H (byPen p) r l m) h
-begun r c l m (inr (bs, xs, n, e, h)) =
+    (λ q. begun-call (newFoil W H (byPen p)) (new-blind W H (byPen p)) r l (new-taken r l W H (byPen p) q) m) h
+begun r c l m (inr (inl (bs, xs, n, e, h))) =
     subst (λ (x : Call). ledgerCall r x l .answer ≡ ran (accepted ∷ xs) n → Begun r x l m) (sym e)
     (begun-record r bs xs n l m) h
+begun r c l m (inr (inr (o, ns, e, h))) =
+    subst (λ (x : Call). ledgerCall r x l .answer ≡ answered (wrote ns) → Begun r x l m) (sym e)
+    (λ q. begun-call (carry o) (carry-blind o) r l (carry-taken r l o ns q) m) h
 
 pub lend-begun : (c : Lending) (l : Layout) (m : Lent) → Begun (roomFor c m) (c .call) l (front c m)
     → lend c m ≡ shown m (told m c l)
@@ -400,27 +443,13 @@ lend-begun c l m b =
     (back-new c m (omega (arith, n .table)) (omega (arith, n .strips)) (ledgerCall (roomFor c m) (c .call) l .state)
     (b .kept))
 
-taken-answer : (W H : ℕ) (d : Clearance) (r : Room) (l : Layout) → refusalOf r false (newFoil W H d) l ≡ none
-    → ledgerStep r (newFoil W H d) l .answer ≡ accepted
-unfolding ledgerStep settle says
-taken-answer W H d r l e = rw e refl
-
 -- ---- what the ledger held before a foil is begun makes no difference
 
 module _ (r : Room) (l l′ : Layout) where
-  new-anew : (W H : ℕ) (d : Clearance) → ledgerStep r (newFoil W H d) l .answer ≡ accepted
-      → ledgerStep r (newFoil W H d) l ≡ ledgerStep r (newFoil W H d) l′
-  unfolding ledgerStep settle says next
-  new-anew W H d e =
-      let u = new-unrefused W H d r l e in
-      rw (new-refusal W H d r l false l′, u) refl
-
-  call-anew : (W H : ℕ) (d : Clearance) → ledgerCall r (step (newFoil W H d)) l .answer ≡ answered accepted
-      → ledgerCall r (step (newFoil W H d)) l ≡ ledgerCall r (step (newFoil W H d)) l′
+  call-anew : (s : Step) → reads s ≡ false → refusalOf r false s l ≡ none
+      → ledgerCall r (step s) l ≡ ledgerCall r (step s) l′
   unfolding ledgerCall reply
-  call-anew W H d e =
-      let a : ledgerStep r (newFoil W H d) l .answer ≡ accepted = cc in
-      rw (new-anew W H d a) refl
+  call-anew s blind e = rw (blind-anew s blind r l e l′) refl
 
   record-anew : (bs : List ℕ) (xs : List Answer) (n : Option ℕ)
       → ledgerCall r (runRecord bs 0) l .answer ≡ ran (accepted ∷ xs) n
@@ -429,13 +458,16 @@ module _ (r : Room) (l l′ : Layout) where
   record-anew bs xs n e =
       let a = opened r bs xs n l e in
       let b = a .board in
-      let new = new-anew (b .W) (b .H) (b .d) (taken-answer (b .W) (b .H) (b .d) r l (a .taken)) in
+      let new = blind-anew (newFoil (b .W) (b .H) (b .d)) (new-blind (b .W) (b .H) (b .d)) r l (a .taken) l′ in
       rw (a .unrefused, a .not-end, b .is, new) refl
 
   pub begins-anew : (c : Call) → Begins c (ledgerCall r c l .answer) → ledgerCall r c l ≡ ledgerCall r c l′
   begins-anew c (inl (W, H, p, e, h)) =
       subst (λ (x : Call). ledgerCall r x l .answer ≡ answered accepted → ledgerCall r x l ≡ ledgerCall r x l′) (sym e)
-      (call-anew W H (byPen p)) h
-  begins-anew c (inr (bs, xs, n, e, h)) =
+      (λ q. call-anew (newFoil W H (byPen p)) (new-blind W H (byPen p)) (new-taken r l W H (byPen p) q)) h
+  begins-anew c (inr (inl (bs, xs, n, e, h))) =
       subst (λ (x : Call). ledgerCall r x l .answer ≡ ran (accepted ∷ xs) n → ledgerCall r x l ≡ ledgerCall r x l′)
       (sym e) (record-anew bs xs n) h
+  begins-anew c (inr (inr (o, ns, e, h))) =
+      subst (λ (x : Call). ledgerCall r x l .answer ≡ answered (wrote ns) → ledgerCall r x l ≡ ledgerCall r x l′)
+      (sym e) (λ q. call-anew (carry o) (carry-blind o) (carry-taken r l o ns q)) h

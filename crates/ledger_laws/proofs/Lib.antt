@@ -5,6 +5,7 @@ pub mod Refusals
 pub mod Legs
 pub mod Crossing
 pub mod Rules
+pub mod Carried
 pub mod Line
 pub mod Replies
 pub mod Kept
@@ -25,6 +26,7 @@ pub mod Crossed
 pub mod OldJobs
 pub mod Opening
 pub mod Numbers
+pub mod Carrying
 pub mod FileSize
 pub mod RecordBytes
 pub mod SavedReplies

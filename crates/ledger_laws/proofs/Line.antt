@@ -4,12 +4,13 @@ use native.Mathlib.Omega.{arith}
 use mathlib.Core.Path.{_≡_, refl, sym, ap, _∙_}
 use mathlib.Core.Bool.{Bool, true, false, cond, not, _&&_, _||_, or-true, true≢false}
 use mathlib.Core.List.{List, [], _∷_, _++_, append-nil}
+use mathlib.Core.Logic.{inl, inr}
 use mathlib.Core.Option.{Option, none, some, Option·getD}
 use lib.Dec.{leb, ltb, eqb}
 use borrow.Author.Tests.{lt-ltb, ltb-true, ltb-false, leb-true, le-leb}
 use lib.ListN.{length}
 use Rattle.foil_spec.specs.Lists.{all, keep}
-use Rattle.foil_spec.specs.Limits.{maxEntries}
+use Rattle.foil_spec.specs.Limits.{maxEntries, reportPlaces}
 use Rattle.foil_spec.specs.Foil.{Point, Entry, entry, Pen, pen, Layout, noFoil, sizeOk, reachOk, penOk, netOk}
 use Rattle.foil_spec.specs.Foil.{boxOk, shapeOk, entryOk, noCrossing, patchMargin, free}
 use Rattle.foil_spec.specs.Strips.{Strip}
@@ -18,25 +19,28 @@ use Rattle.foil_spec.specs.Corners.{drawn}
 use Rattle.foil_spec.specs.Saving.{jobOf}
 use Rattle.foil_spec.specs.Slip.{slipOf}
 use Rattle.foil_spec.specs.Nets.{ofNet, inUse}
+use Rattle.foil_spec.specs.Carrying.{Old, oldShort, oldSound, carried}
 use Rattle.foil_spec.specs.Ledger.{stripsOf, pathOf, cornersOf, legs, withEntries, offFoil, Room, cornerRoom, tooLong}
 use Rattle.foil_spec.specs.Ledger.{tooFine, Clearance, byPen, byReach, penOf, clearanceRefusal, Step, newFoil, draw}
-use Rattle.foil_spec.specs.Ledger.{lay, lift, lookUp, putLeg, save, find, book, slip, join}
+use Rattle.foil_spec.specs.Ledger.{lay, lift, lookUp, putLeg, save, find, book, slip, join, carry}
 use Rattle.foil_spec.specs.Ledger.{without, freeFor, joinOf, joinCorners}
 use Rattle.foil_spec.specs.Ledger.{numberOf, next, says, refused, Refusal, first, reads, refusals, settle}
 use Rattle.foil_spec.specs.Lent.{layoutOk}
-use Rattle.list_laws.proofs.Tests.{clash, and-l, and-r, and-i, or-l, not-f, not-ff, both, parts, all-append, all-keep}
+use Rattle.list_laws.proofs.Tests.{clash, and-l, and-r, and-i, or-l, or-r, not-f, not-ff, both, parts, all-append, all-keep}
 use Rattle.list_laws.proofs.Members.{In, in-keep, length-keep}
 use Rattle.path_laws.proofs.Laws.{gives-first}
 use Rattle.path_laws.proofs.Ways.{path-way, way-is}
 use Rattle.strip_laws.proofs.Strips.{Held}
 use Rattle.strip_laws.proofs.Laws.{one-strip, no-strip}
-use Rattle.ledger_laws.specs.Line.{Line, Lacks, corners, joint, bytes, page, but, numbersFrom, ownNumbers}
+use Rattle.ledger_laws.specs.Line.{Line, Lacks, corners, joint, bytes, page, LacksOld, but, numbersFrom}
+use Rattle.ledger_laws.specs.Line.{ownNumbers, noCarry}
 use Rattle.ledger_laws.proofs.Refusals.{no-rule, no-more, none-applies, first-passes}
 use Rattle.zones.proofs.Free.{free-inside, free-far, bare-free}
 use Rattle.ledger_laws.proofs.Legs.{legs-ok}
 use Rattle.ledger_laws.proofs.Crossing.{bare-uncrossed, keep-uncrossed, patch-uncrossed, leg-uncrossed}
 use Rattle.ledger_laws.proofs.Crossing.{net-not-zero, patch-not-of, way-uncrossed}
 use Rattle.ledger_laws.proofs.Rules.{Keeps, of-ok, to-ok}
+use Rattle.ledger_laws.proofs.Carried.{carried-ok}
 
 -- ---- what the steps leave
 
@@ -294,7 +298,7 @@ module _ (W H : ℕ) (c : Clearance) where
     unbegun = λ z. clash z refl;
     accepts = λ l. refl;
     numbers = λ r l. refl;
-    unbroken = clearance-number (λ n. all (but 13) (keep (but 12) (1 ∷ n ∷ []))) c refl refl;
+    unbroken = λ z. clearance-number (λ n. all (but 13) (keep (but 12) (1 ∷ n ∷ []))) c refl refl;
     of-room = λ r r′ l e f. refl;
     blind = λ z r l l′. (refl, refl, refl);
     output = λ r l h. absurd (no-12 _ (simp (clearance-number (but 12) c refl refl, or-true)) h);
@@ -314,7 +318,7 @@ draw-line x0 y0 x1 y1 = record {
   unbegun = λ t r h. absurd (no-box (entry 0 x0 y0 x1 y1) (not-ff _ (search none-applies)));
   accepts = λ l. refl;
   numbers = λ r l. refl;
-  unbroken = refl;
+  unbroken = λ n. refl;
   of-room = λ r r′ l e f. rw (same-long r r′ _ f) refl;
   blind = λ z. absurd (true≢false z);
   output = λ r l h. absurd (no-12 _ (simp or-true) h);
@@ -331,10 +335,11 @@ lay-line net S T = record {
   unbegun = λ t r h. clash (all-off S) (or-l (offFoil noFoil S) (offFoil noFoil T) (search none-applies));
   accepts = λ l. refl;
   numbers = λ r l. refl;
-  unbroken = refl;
+  unbroken = λ n. refl;
   of-room = λ r r′ l e f. rw (same-long r r′ _ f, same-corners r r′ e) refl;
   blind = λ z. absurd (true≢false z);
-  output = λ r l h. (refl, corners-12 (cornersOf l S T) (lay net S T) r l _ (corners S T) (λ t. simp (t, or-true)) h);
+  output = λ r l h.
+      inl (refl, corners-12 (cornersOf l S T) (lay net S T) r l _ (corners S T) (λ t. simp (t, or-true)) h);
 }
 
 lift-line : (net : ℕ) → Line (lift net)
@@ -344,7 +349,7 @@ lift-line net = record {
   unbegun = λ t r h. refl;
   accepts = λ l. refl;
   numbers = λ r l. refl;
-  unbroken = refl;
+  unbroken = λ n. refl;
   of-room = λ r r′ l e f. refl;
   blind = λ z. absurd (true≢false z);
   output = λ r l h. absurd (no-12 _ (simp or-true) h);
@@ -357,7 +362,7 @@ look-line p = record {
   unbegun = λ t r h. refl;
   accepts = λ l. refl;
   numbers = λ r l. refl;
-  unbroken = refl;
+  unbroken = λ n. refl;
   of-room = λ r r′ l e f. refl;
   blind = λ z. absurd (true≢false z);
   output = λ r l h. absurd (no-12 _ (simp or-true) h);
@@ -376,7 +381,7 @@ leg-line e = record {
   unbegun = λ t r h. absurd (no-box e (and-l (boxOk 0 0 e) (shapeOk e) (not-ff _ (search none-applies))));
   accepts = λ l. refl;
   numbers = λ r l. refl;
-  unbroken = refl;
+  unbroken = λ n. refl;
   of-room = λ r r′ l e f. rw (same-long r r′ _ f) refl;
   blind = λ z. absurd (true≢false z);
   output = λ r l h. absurd (no-12 _ (simp or-true) h);
@@ -389,10 +394,10 @@ save-line = record {
   unbegun = λ t r h. refl;
   accepts = λ l. refl;
   numbers = λ r l. refl;
-  unbroken = refl;
+  unbroken = λ n. refl;
   of-room = λ r r′ l e f. rw e refl;
   blind = λ z. absurd (true≢false z);
-  output = λ r l h. (refl, save-12 r l h);
+  output = λ r l h. inl (refl, save-12 r l h);
 }
 
 find-line : (S T : Point) → Line (find S T)
@@ -402,10 +407,11 @@ find-line S T = record {
   unbegun = λ t r h. refl;
   accepts = λ l. refl;
   numbers = λ r l. refl;
-  unbroken = refl;
+  unbroken = λ n. refl;
   of-room = λ r r′ l e f. rw (same-corners r r′ e) refl;
   blind = λ z. absurd (true≢false z);
-  output = λ r l h. (refl, corners-12 (cornersOf l S T) (find S T) r l _ (corners S T) (λ t. simp (t, or-true)) h);
+  output = λ r l h.
+      inl (refl, corners-12 (cornersOf l S T) (find S T) r l _ (corners S T) (λ t. simp (t, or-true)) h);
 }
 
 book-line : (net : ℕ) (ks : List ℕ) → Line (book net ks)
@@ -420,7 +426,7 @@ book-line net ks = record {
   unbegun = λ t r h. absurd (no-drawing (drawn ks) (not-ff _ (search none-applies)));
   accepts = λ l. refl;
   numbers = λ r l. refl;
-  unbroken = refl;
+  unbroken = λ n. refl;
   of-room = λ r r′ l e f. rw (same-long r r′ _ f) refl;
   blind = λ z. absurd (true≢false z);
   output = λ r l h. absurd (no-12 _ (simp or-true) h);
@@ -433,10 +439,10 @@ slip-line = record {
   unbegun = λ t r h. refl;
   accepts = λ l. refl;
   numbers = λ r l. refl;
-  unbroken = refl;
+  unbroken = λ n. refl;
   of-room = λ r r′ l e f. rw e refl;
   blind = λ z. absurd (true≢false z);
-  output = λ r l h. (refl, slip-12 r l h);
+  output = λ r l h. inl (refl, slip-12 r l h);
 }
 
 join-line : (net : ℕ) (S : Point) → Line (join net S)
@@ -450,11 +456,40 @@ join-line net S = record {
   unbegun = λ t r h. unfold inUse in clash (not-ff (inUse net []) (search none-applies)) refl;
   accepts = λ l. refl;
   numbers = λ r l. refl;
-  unbroken = refl;
+  unbroken = λ n. refl;
   of-room = λ r r′ l e f. rw (same-long r r′ _ f, same-corners r r′ e) refl;
   blind = λ z. absurd (true≢false z);
   output = λ r l h.
-      (refl, corners-12 (joinCorners net l S) (join net S) r l _ (joint net S refl) (λ t. simp (t, or-true)) h);
+      inl (refl, corners-12 (joinCorners net l S) (join net S) r l _ (joint net S refl) (λ t. simp (t, or-true)) h);
+}
+
+-- a carry that is refused by 12 of its own is lent too little
+carry-12 : (o : Old) (r : Room) (l : Layout) → first (refusals (carry o) r l) ≡ some 12 → LacksOld (carry o) r
+unfolding refusals but
+carry-12 o r l e =
+    both (oldShort o || ltb (r .output) reportPlaces)
+    (λ t. record { from = o; is = refl; lacks = t })
+    (λ t.
+    absurd
+    (no-12 _
+    (simp (
+      or-l (oldShort o) (ltb (r .output) reportPlaces) t,
+      or-r (oldShort o) (ltb (r .output) reportPlaces) t,
+      or-true,
+    ))
+    e))
+
+carry-line : (o : Old) → Line (carry o)
+unfolding next says numberOf numbersFrom ownNumbers but refusals reads noCarry
+carry-line o = record {
+  kept = λ r l g h. carried-ok o (not-ff (oldSound o) (search none-applies)) (search none-applies depth 9);
+  unbegun = λ z. clash z refl;
+  accepts = λ l. refl;
+  numbers = λ r l. refl;
+  unbroken = λ n. clash n refl;
+  of-room = λ r r′ l e f. rw (same-long r r′ (carried o) f, e) refl;
+  blind = λ z r l l′. (refl, refl, refl);
+  output = λ r l h. inr (carry-12 o r l h);
 }
 
 -- what every step keeps
@@ -470,6 +505,7 @@ line (find S T) = find-line S T
 line (book net ks) = book-line net ks
 line slip = slip-line
 line (join net S) = join-line net S
+line (carry o) = carry-line o
 
 -- a step that answers a refusal was refused by its number
 pub settled-refused : {A : Type 0} (o : Option ℕ) (s : Step) (l : Layout) (new old : A) (n : ℕ) → 0 < n

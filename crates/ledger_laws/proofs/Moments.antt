@@ -7,7 +7,7 @@ use mathlib.Core.List.{List, [], _∷_, _++_}
 use mathlib.Core.Option.{Option, none, some}
 use Rattle.foil_spec.specs.Limits.{tableSize, stripsSize}
 use Rattle.foil_spec.specs.Foil.{Layout}
-use Rattle.foil_spec.specs.Ledger.{Clearance, Step, newFoil, Answer, Room, short, After, ledgerStep}
+use Rattle.foil_spec.specs.Ledger.{Step, Answer, Room, short, reads, After, refusalOf, ledgerStep}
 use Rattle.foil_spec.specs.Lent.{Lent, store, held, layoutOk, sound, stepOn, outputAfter}
 use Rattle.foil_spec.specs.Job.{steps}
 use Rattle.foil_spec.specs.Calls.{Call, step, runRecord, ohms, Reply, endsJob, andThen, actAll, actRecord}
@@ -20,7 +20,7 @@ use Rattle.ledger_laws.proofs.Kept.{step-kept, call-kept}
 use Rattle.ledger_laws.proofs.Steps.{shown, step-is}
 use Rattle.ledger_laws.proofs.Sound.{of-sound, sound-store-is, sound-long}
 use Rattle.ledger_laws.proofs.Lending.{step-short, ledger-short, told-short, LongFront, long-front, long-whole}
-use Rattle.ledger_laws.proofs.Lending.{back-front, room-front, lend-is, Begun, new-is, new-state, begun}
+use Rattle.ledger_laws.proofs.Lending.{back-front, room-front, lend-is, Begun, blind-is, blind-state, begun}
 use Rattle.ledger_laws.proofs.Lending.{lend-begun, step-alone}
 
 -- ---- what is known of a step
@@ -35,6 +35,16 @@ pub record Goes (m : Lent) (k : Moment) : Type 0 where
   pub answer : k .answer ≡ ledgerStep (k .room) (k .step) (k .ledgerBefore) .answer
   pub left : k .ledgerAfter ≡ ledgerStep (k .room) (k .step) (k .ledgerBefore) .state
   pub before : Shows m (k .ledgerBefore) (k .before)
+  pub after : Shows m (k .ledgerAfter) (k .after)
+  pub given : List ℕ
+  pub output : k .output ≡ outputAfter (k .answer) given
+
+-- the step that begins a foil, which reads nothing of what is lent, goes so on lists that hold anything
+pub record Opens (m : Lent) (k : Moment) : Type 0 where
+  pub blind : reads (k .step) ≡ false
+  pub unrefused : refusalOf (k .room) false (k .step) (k .ledgerBefore) ≡ none
+  pub answer : k .answer ≡ ledgerStep (k .room) (k .step) (k .ledgerBefore) .answer
+  pub left : k .ledgerAfter ≡ ledgerStep (k .room) (k .step) (k .ledgerBefore) .state
   pub after : Shows m (k .ledgerAfter) (k .after)
   pub given : List ℕ
   pub output : k .output ≡ outputAfter (k .answer) given
@@ -255,26 +265,22 @@ onward m long (c ∷ cs) l g =
 
 -- ---- a whole list
 
--- the first step is the new foil that begins it, and the others go as on the ledger
+-- the first step begins it, and the others go as on the ledger
 record Opened (m : Lent) (ks : List Moment) : Type 0 where
-  W : ℕ
-  H : ℕ
-  d : Clearance
   opening : Moment
   others : List Moment
   are : ks ≡ opening ∷ others
-  new : opening .step ≡ newFoil W H d
-  after : Shows m (opening .ledgerAfter) (opening .after)
+  begins-it : Opens m opening
   onward : Onward m (opening .ledgerAfter) others
 
 module _ (m : Lent) (l : Layout) (c : Lending) (b : Begun (roomFor c m) (c .call) l (front c m)) where
   abbrev new : Step
-  new = newFoil (b .W) (b .H) (b .d)
+  new = b .opening
 
   abbrev room : Room
   room = roomFor c m
 
-  -- the ledger's line for the new foil
+  -- the ledger's line for the step that begins the foil
   abbrev line : After Answer Layout
   line = ledgerStep room new l
 
@@ -285,12 +291,12 @@ module _ (m : Lent) (l : Layout) (c : Lending) (b : Begun (roomFor c m) (c .call
   whole-new l′ g = let n = long-first in back-new c m (omega (arith, n .table)) (omega (arith, n .strips)) l′ g
 
   new-on : stepOn room new (front c m) ≡ shown (front c m) line
-  new-on = new-is (b .W) (b .H) (b .d) room l (b .unrefused) (front c m)
+  new-on = blind-is new (b .blind) room l (b .unrefused) (front c m)
 
   new-left : layoutOk (line .state) ≡ true
-  new-left = new-state (b .W) (b .H) (b .d) room l (b .unrefused)
+  new-left = blind-state new (b .blind) room l (b .unrefused)
 
-  -- the steps of the opening call after the new foil
+  -- the steps of the opening call after it
   rest : List Moment
   rest =
       cond (endsJob (stepOn room new (front c m) .answer)) []
@@ -341,22 +347,26 @@ module _ (m : Lent) (l : Layout) (c : Lending) (b : Begun (roomFor c m) (c .call
   opened cs =
       let js : List Moment = moments (lend c m .state) (told m c l .state) cs in
       record {
-        W = b .W;
-        H = b .H;
-        d = b .d;
         opening = momentOf c m new (front c m) (c .output) l;
         others = rest ++ js;
         are = ap (λ (ks : List Moment). ks ++ js) first-are;
-        new = refl;
-        after = first-left;
+        begins-it = record {
+          blind = b .blind;
+          unrefused = b .unrefused;
+          answer = ap (λ (z : After Answer Lent). z .answer) new-on ∙ unfold shown in refl;
+          left = refl;
+          after = first-left;
+          given = c .output;
+          output = refl;
+        };
         onward = onward-append m (line .state) (told m c l .state) rest js rest-goes (later-on cs);
       }
 
 -- ---- at every step
 
--- a step is the opening new foil, or goes as on the ledger, and so do those after it
+-- a step begins the foil, or goes as on the ledger, and so do those after it
 pub data Standing (m : Lent) (k : Moment) (later : List Moment) : Type 0 where
-  opens : (W H : ℕ) (d : Clearance) → k .step ≡ newFoil W H d → Shows m (k .ledgerAfter) (k .after) → Standing m k later
+  opens : Opens m k → Standing m k later
   runs-on : Goes m k → Onward m (k .ledgerAfter) later → Standing m k later
 
 found : (m : Lent) (l : Layout) (earlier : List Moment) (k : Moment) (later : List Moment) (end : Layout)
@@ -368,7 +378,7 @@ stands : (m : Lent) (ks : List Moment) → Opened m ks → (earlier : List Momen
     → ks ≡ earlier ++ (k ∷ later) → Standing m k later
 stands m ks o [] k later e =
     let q : o .opening ≡ k = cc in
-    subst (λ (x : Moment). Standing m x later) q (opens (o .W) (o .H) (o .d) (o .new) (o .after))
+    subst (λ (x : Moment). Standing m x later) q (opens (o .begins-it))
 stands m ks o (j ∷ earlier) k later e =
     let q : o .others ≡ earlier ++ (k ∷ later) = cc in
     found m (o .opening .ledgerAfter) earlier k later (o .onward .end)
@@ -393,3 +403,9 @@ at-every _ _ _ (begins m l c cs h) earlier k later e =
     let b = begun (roomFor c m) (c .call) l (front c m) (unfold told in h) in
     stands m (moments m l (c ∷ cs)) (opened m l c b cs) earlier k later e
 at-every _ _ _ (carried m cs g) earlier k later e = stands-on m cs g earlier k later e
+
+-- the record and the lists after a step hold the ledger's layout after it
+pub after-step : (m : Lent) (k : Moment) (later : List Moment) → Standing m k later
+    → Shows m (k .ledgerAfter) (k .after)
+after-step m k later (opens o) = o .after
+after-step m k later (runs-on g o) = g .after

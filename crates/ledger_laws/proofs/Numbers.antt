@@ -1,5 +1,5 @@
 -- A test that the numbers of all steps and records pass is passed by all numbers that a list of calls answers.
-use Prim.Native.Nat.{ℕ}
+use Prim.Native.Nat.{ℕ, zero, suc}
 use native.Mathlib.Decide.{ℕ-discrete}
 use mathlib.Core.Path.{_≡_, refl, sym, ap, _∙_, subst}
 use mathlib.Core.Bool.{Bool, true, false, not, cond, or-true}
@@ -9,21 +9,22 @@ use mathlib.Core.Option.{Option, none, some, Option·some-injective}
 use lib.Dec.{eqb}
 use lib.Ieee.{Float}
 use borrow.Author.Tests.{ne-eqb}
-use Rattle.foil_spec.specs.Lists.{all}
+use Rattle.foil_spec.specs.Lists.{range, consIf, all}
 use Rattle.foil_spec.specs.Foil.{Layout}
 use Rattle.foil_spec.specs.Ledger.{Room, short, Step, Answer, numberOf, says, next, Refusal, first, refusals, afterLent}
 use Rattle.foil_spec.specs.Ledger.{After, settle, refusalOf, ledgerStep}
 use Rattle.foil_spec.specs.Lent.{Lent}
-use Rattle.foil_spec.specs.Job.{isEnd, steps, recordEnd, recordChecks}
+use Rattle.foil_spec.specs.Job.{has, stepBits, stepAt, stepsAt, steps, isEnd, recordEnd, recordChecks}
 use Rattle.foil_spec.specs.Calls.{Call, step, runRecord, ohms, endsJob, andThen, actAll, actRecord}
 use Rattle.foil_spec.specs.Calls.{wholeRefusals, ohmsReply, reply, ledgerCall, answersIn}
 use Rattle.foil_spec.specs.Ohms.{ohmsRefusals}
 use Rattle.foil_spec.specs.declared.Ink.{Ink}
 use Rattle.foil_spec.specs.Sequence.{Lending, roomFor, told, Left, leaves, runLedger}
-use Rattle.list_laws.proofs.Tests.{both, and-l, and-r, and-i, not-t, all-append}
-use Rattle.list_laws.proofs.Members.{In, of-all, to-all, none-of, in-keep}
-use Rattle.ledger_laws.specs.Line.{but, numbersFrom, ownNumbers}
-use Rattle.ledger_laws.specs.Numbers.{stepsIn, numbersIn, numbersOf, among, NeverBroken}
+use Rattle.list_laws.proofs.Tests.{both, and-l, and-r, and-i, not-t, not-ff, all-append}
+use Rattle.list_laws.proofs.Members.{In, of-all, none-of, in-keep}
+use Rattle.ledger_laws.specs.Line.{but, numbersFrom, ownNumbers, noCarry}
+use Rattle.ledger_laws.specs.Numbers.{stepsIn, numbersIn, numbersOf, among, carriesOver, besidesCarries}
+use Rattle.ledger_laws.specs.Numbers.{NeverBroken}
 use Rattle.ledger_laws.proofs.Refusals.{first-passes, first-in}
 use Rattle.ledger_laws.proofs.Line.{line}
 use Rattle.ledger_laws.proofs.Kept.{step-keeps}
@@ -142,10 +143,11 @@ own-passes p s r l h twelve n e =
     (subst (In n) (line s .numbers r l)
     (in-keep (but 12) n (numbersFrom (refusals s r l)) (first-in (refusals s r l) n e) (ap not (ne-eqb 12 n q)))))
 
-step-but-13 : (r : Room) (s : Step) (l : Layout) (n : ℕ) → refusalOf r false s l ≡ some n → but 13 n ≡ true
+step-but-13 : (r : Room) (s : Step) → noCarry s ≡ true → (l : Layout) (n : ℕ) → refusalOf r false s l ≡ some n
+    → but 13 n ≡ true
 unfolding refusalOf but
-step-but-13 r s l =
-    lent-passes (but 13) r (refusals s r l) (λ _. refl) (own-passes (but 13) s r l (line s .unbroken) (λ _. refl))
+step-but-13 r s c l =
+    lent-passes (but 13) r (refusals s r l) (λ _. refl) (own-passes (but 13) s r l (line s .unbroken c) (λ _. refl))
 
 file-but-13 : (r : Room) (bs : List ℕ) (at n : ℕ) → first (wholeRefusals r false bs at) ≡ some n → but 13 n ≡ true
 unfolding wholeRefusals afterLent recordChecks but
@@ -156,16 +158,56 @@ ohms-but-13 : (r : Room) (net : ℕ) (i : Ink) (l : Layout) (n : ℕ)
 unfolding afterLent ohmsRefusals but
 ohms-but-13 r net i l = first-passes (but 13) _ (simp or-true)
 
-pub call-but-13 : (r : Room) (c : Call) (l : Layout) → all (but 13) (numbersIn (ledgerCall r c l .answer)) ≡ true
+-- a test that the step of each bit of a record passes
+pub steps-all : (p : Step → Bool) (bs : List ℕ) (at : ℕ) → ((k : ℕ) → p (stepAt bs at k) ≡ true)
+    → all p (steps bs at) ≡ true
+unfolding steps stepsAt
+steps-all p bs at each-passes = go (range 0 stepBits)
+  where
+    put : (b : Bool) (s : Step) (ss : List Step) → p s ≡ true → all p ss ≡ true → all p (consIf b s ss) ≡ true
+    put true s ss e h = and-i {a = p s} e h
+    put false s ss e h = h
+
+    go : (ks : List ℕ) → all p (stepsAt bs at ks) ≡ true
+    go [] = refl
+    go (k ∷ ks) = put (has bs at k) (stepAt bs at k) (stepsAt bs at ks) (each-passes k) (go ks)
+
+no-carry-at : (bs : List ℕ) (at k : ℕ) → noCarry (stepAt bs at k) ≡ true
+unfolding stepAt noCarry
+no-carry-at bs at zero = refl
+no-carry-at bs at (suc zero) = refl
+no-carry-at bs at (suc (suc zero)) = refl
+no-carry-at bs at (suc (suc (suc zero))) = refl
+no-carry-at bs at (suc (suc (suc (suc k)))) = refl
+
+-- no record carries a foil over
+none-carried : (c : Call) → not (carriesOver c) ≡ true → all noCarry (stepsIn c) ≡ true
+unfolding carriesOver stepsIn
+none-carried (step s) h = and-i {a = noCarry s} (not-ff (noCarry s) (not-t (not (noCarry s)) h)) refl
+none-carried (runRecord bs at) h = steps-all noCarry bs at (no-carry-at bs at)
+none-carried (ohms net i) h = refl
+
+pub call-but-13 : (r : Room) (c : Call) (l : Layout) → not (carriesOver c) ≡ true
+    → all (but 13) (numbersIn (ledgerCall r c l .answer)) ≡ true
 unfolding but
-call-but-13 r c l =
-    call-passes (but 13) refl (λ s. true) (λ k. Unit {0}) r (λ s a k g. step-but-13 r s k) (λ s k g e. tt)
-    (file-but-13 r) (ohms-but-13 r) c (to-all (λ s. true) (stepsIn c) (λ s i. refl)) l tt
+call-but-13 r c l h =
+    call-passes (but 13) refl noCarry (λ k. Unit {0}) r (λ s a k g. step-but-13 r s a k) (λ s k g e. tt)
+    (file-but-13 r) (ohms-but-13 r) c (none-carried c h) l tt
+
+run-but-13 : (m : Lent) (cs : List Lending) (l : Layout)
+    → all (but 13) (numbersOf (besidesCarries cs (runLedger m l cs))) ≡ true
+unfolding numbersOf besidesCarries runLedger leaves
+run-but-13 m [] l = refl
+run-but-13 m (c ∷ cs) l =
+    both (not (carriesOver (c .call)))
+    (λ t.
+    rw t
+    (all-append (but 13) (numbersIn (told m c l .answer)) _ (unfold told in call-but-13 (roomFor c m) (c .call) l t)
+    (run-but-13 m cs (told m c l .state))))
+    (λ t. rw t (run-but-13 m cs (told m c l .state)))
 
 pub never-broken : NeverBroken
-unfolding told
 never-broken m l c cs h =
     not-among 13 _
-    (ap (λ (os : List Left). all (but 13) (numbersOf os)) (behaves-as-ledger m l c cs h)
-    ∙ run-passes (but 13) (λ k. Unit {0}) m (c ∷ cs) l tt
-    (λ d i. record { answers = λ k g. call-but-13 (roomFor d m) (d .call) k; keeps = λ k g. tt }))
+    (ap (λ (os : List Left). all (but 13) (numbersOf (besidesCarries (c ∷ cs) os))) (behaves-as-ledger m l c cs h)
+    ∙ run-but-13 m (c ∷ cs) l)

@@ -11,7 +11,7 @@ use borrow.Author.Tests.{le-leb, lt-leb, eqb-false, ltb-true}
 use Rattle.foil_spec.specs.Lists.{all}
 use Rattle.foil_spec.specs.Foil.{Entry, pen, Rule, reachOk, blocks, penRule, reachRule, margin, nearEdge, freeBy, free}
 use Rattle.foil_spec.specs.Ledger.{byPen, byReach, penOf, clearanceRefusal, newFoil, draw, lay, lift, lookUp}
-use Rattle.foil_spec.specs.Ledger.{putLeg, save, find, book, slip, join, next, _⇒_, refusals}
+use Rattle.foil_spec.specs.Ledger.{putLeg, save, find, book, slip, join, carry, next, _⇒_, refusals}
 use Rattle.foil_spec.specs.Job.{mapByte, has, fieldsAt, recordEnd, stepAt, isEnd, recordChecks}
 use Rattle.foil_spec.specs.Calls.{endsJob}
 use Rattle.list_laws.proofs.Tests.{both, clash, lt-or-le}
@@ -140,6 +140,7 @@ only-pens-20 (find S T) h = clash h refl
 only-pens-20 (book net ks) h = clash h refl
 only-pens-20 slip h = clash h refl
 only-pens-20 (join net S) h = clash h refl
+only-pens-20 (carry o) h = clash h refl
 
 pub old-ends : OldEnds
 unfolding endsJob

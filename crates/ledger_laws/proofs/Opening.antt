@@ -10,16 +10,18 @@ use borrow.Author.Tests.{eqb-true}
 use Rattle.foil_spec.specs.Lists.{any}
 use Rattle.foil_spec.specs.Foil.{Layout}
 use Rattle.foil_spec.specs.Ledger.{Clearance, byPen, Step, newFoil, Answer, refused, first, Room, short, After, settle}
-use Rattle.foil_spec.specs.Ledger.{refusalOf, ledgerStep, accepted, says}
+use Rattle.foil_spec.specs.Ledger.{refusalOf, ledgerStep, reads, carry, accepted, wrote, says}
 use Rattle.foil_spec.specs.Lent.{Lent, held, sound, stepOn}
 use Rattle.foil_spec.specs.Job.{mapByte, has, isEnd, steps, recordEnd, recordChecks}
 use Rattle.foil_spec.specs.Calls.{Call, step, runRecord, Reply, answered, ran, atEnd, measured, endsJob, andThen}
 use Rattle.foil_spec.specs.Calls.{actAll, actRecord, wholeRefusals, reply, ledgerCall, callOn}
 use Rattle.foil_spec.specs.Sequence.{Begins}
 use Rattle.list_laws.proofs.Tests.{both, clash}
-use Rattle.ledger_laws.proofs.Lending.{new-refusal, new-ends, Begun, Opens, board-first, opens, own-checks}
+use Rattle.ledger_laws.proofs.Line.{line}
+use Rattle.ledger_laws.proofs.Lending.{new-ends, new-blind, carry-blind, Begun, Opens, board-first, opens}
 use Rattle.ledger_laws.proofs.Steps.{shown}
-use Rattle.ledger_laws.proofs.Lending.{shortNumber, call-short, whole-at-0, begun-record}
+use Rattle.ledger_laws.proofs.Lending.{shortNumber, call-short, whole-at-0, begun-record, own-checks}
+use Rattle.ledger_laws.proofs.Lending.{blind-refusal, blind-answer, no-accepted, no-wrote, taken-on}
 
 -- a reply after which there is no next place, and no strip is told
 abbrev pub Over : Reply → Type 0
@@ -64,11 +66,12 @@ module _ (W H : ℕ) (d : Clearance) (r : Room) (l : Layout) where
   on-lists : (m : Lent) (k : ℕ) → refusalOf r false (newFoil W H d) l ≡ some k
       → stepOn r (newFoil W H d) m .answer ≡ refused k
   unfolding stepOn settle
-  on-lists m k e = rw (new-refusal W H d r l (not (sound m)) (held m), e) refl
+  on-lists m k e =
+      rw (blind-refusal (newFoil W H d) (new-blind W H d) r l (not (sound m)) (held m), e) refl
 
   on-ledger-accepted : refusalOf r false (newFoil W H d) l ≡ none → ledgerStep r (newFoil W H d) l .answer ≡ accepted
-  unfolding ledgerStep settle says
-  on-ledger-accepted e = rw e refl
+  unfolding says
+  on-ledger-accepted e = blind-answer (newFoil W H d) (new-blind W H d) r l e
 
   -- the steps after a board that is accepted, and the next place
   abbrev later : List Step → List Answer
@@ -139,25 +142,24 @@ module _ (r : Room) (bs : List ℕ) (l : Layout) (m : Lent) (long : short r ≡ 
 
 -- ---- a call that begins a foil by what it answers on the lists begins one on the ledger
 
-settled-accepted : {S : Type 0} (o : Option ℕ) (done : After Answer S) (old : S) → settle o done old .answer ≡ accepted
-    → o ≡ none
-unfolding settle
-settled-accepted none done old e = refl
-settled-accepted (some n) done old e = absurd (let z : _≡_ {A = ℕ} 0 1 = cc in omega arith)
-
 module _ (r : Room) (l : Layout) (m : Lent) where
-  unrefused-new : (W H : ℕ) (d : Clearance) → stepOn r (newFoil W H d) m .answer ≡ accepted
-      → refusalOf r (not (sound m)) (newFoil W H d) (held m) ≡ none
-  unfolding stepOn
-  unrefused-new W H d e = settled-accepted (refusalOf r (not (sound m)) (newFoil W H d) (held m)) _ m e
+  -- a step that reads nothing of what is lent, and answers a, which is no refusal
+  blind-told : (s : Step) (blind : reads s ≡ false) (a : Answer) → ((n : ℕ) → refused n ≡ a → ⊥)
+      → stepOn r s m .answer ≡ a → ledgerStep r s l .answer ≡ a
+  blind-told s blind a never e =
+      let u = taken-on r s m a never e in
+      let q = sym (blind-refusal s blind r l (not (sound m)) (held m)) ∙ u in
+      blind-answer s blind r l q ∙ line s .blind blind r l (held m) .1 ∙ sym (stepped s u) ∙ e
+    where
+      stepped : (s : Step) → refusalOf r (not (sound m)) s (held m) ≡ none → stepOn r s m .answer ≡ says s (held m)
+      stepped s u = unfold stepOn settle in rw u refl
 
-  new-told : (W H : ℕ) (d : Clearance) → callOn r (step (newFoil W H d)) m .answer ≡ answered accepted
-      → ledgerCall r (step (newFoil W H d)) l .answer ≡ answered accepted
+  call-told : (s : Step) (blind : reads s ≡ false) (a : Answer) → ((n : ℕ) → refused n ≡ a → ⊥)
+      → callOn r (step s) m .answer ≡ answered a → ledgerCall r (step s) l .answer ≡ answered a
   unfolding callOn ledgerCall reply
-  new-told W H d e =
-      let a : stepOn r (newFoil W H d) m .answer ≡ accepted = cc in
-      ap answered
-      (on-ledger-accepted W H d r l (sym (new-refusal W H d r l (not (sound m)) (held m)) ∙ unrefused-new W H d a))
+  call-told s blind a never e =
+      let q : stepOn r s m .answer ≡ a = cc in
+      ap answered (blind-told s blind a never q)
 
   same-opening : (bs : List ℕ) → Opening r bs l m
       → callOn r (runRecord bs 0) m .answer ≡ ledgerCall r (runRecord bs 0) l .answer
@@ -184,10 +186,10 @@ module _ (r : Room) (l : Layout) (m : Lent) where
         p,
         e,
         subst (λ (x : Call). callOn r x m .answer ≡ answered accepted → ledgerCall r x l .answer ≡ answered accepted)
-            (sym e) (new-told W H (byPen p)) h,
+            (sym e) (call-told (newFoil W H (byPen p)) (new-blind W H (byPen p)) accepted no-accepted) h,
       )
-  begins-told c (inr (bs, xs, n, e, h)) =
-      inr (
+  begins-told c (inr (inl (bs, xs, n, e, h))) =
+      inr (inl (
         bs,
         xs,
         n,
@@ -197,4 +199,14 @@ module _ (r : Room) (l : Layout) (m : Lent) where
             callOn r x m .answer ≡ ran (accepted ∷ xs) n → ledgerCall r x l .answer ≡ ran (accepted ∷ xs) n)
             (sym e)
             (λ q. sym (same-opening bs (opening r bs l m (ran-long bs (accepted ∷ xs) n q))) ∙ q) h,
-      )
+      ))
+  begins-told c (inr (inr (o, ns, e, h))) =
+      inr (inr (
+        o,
+        ns,
+        e,
+        subst
+            (λ (x : Call).
+            callOn r x m .answer ≡ answered (wrote ns) → ledgerCall r x l .answer ≡ answered (wrote ns))
+            (sym e) (call-told (carry o) (carry-blind o) (wrote ns) (no-wrote ns)) h,
+      ))

@@ -4,23 +4,25 @@ use native.Mathlib.Omega.{arith}
 use mathlib.Core.Path.{_≡_, refl, sym, ap, ap₂, _∙_, subst}
 use mathlib.Core.Bool.{true}
 use mathlib.Core.List.{List, [], _∷_, _++_, map, append-assoc}
-use lib.Dec.{leb, eqb}
-use borrow.Author.Tests.{eqb-true, eq-eqb, leb-true}
+use lib.Dec.{eqb}
+use borrow.Author.Tests.{eqb-true, eq-eqb, leb-true, ltb-false}
 use lib.ListN.{length, getD, take, drop, replicate, length-map, length-append, length-drop, length-replicate}
 use lib.ListN.{getD-replicate, take-append-drop}
 use lib.Seq.{ext-getD, take-add, drop-drop, getD-take, getD-drop, length-take-le, take-at}
 use Rattle.foil_spec.specs.Lists.{range, each}
-use Rattle.foil_spec.specs.Limits.{maxEntries, tableSize, stripsSize}
-use Rattle.foil_spec.specs.Foil.{entryNumbers, Layout}
+use Rattle.foil_spec.specs.Limits.{maxEntries, tableSize, maxStrips, stripsSize}
+use Rattle.foil_spec.specs.Foil.{Entry, entryNumbers, free}
+use Rattle.foil_spec.specs.Strips.{Strip}
+use Rattle.foil_spec.specs.Sound.{Asked, today, stripsBy, keepsAsked, listedIn, soundBy}
 use Rattle.foil_spec.specs.Ledger.{stripsOf}
-use Rattle.foil_spec.specs.Lent.{Lent, lent, stripNumbers, written, boardOf, store, entryAt, layoutOf}
-use Rattle.foil_spec.specs.Lent.{held}
+use Rattle.foil_spec.specs.Lent.{Lent, lent, stripNumbers, written, boardOf, store, entryAt, layoutOf, penIn, held}
 use Rattle.foil_spec.specs.Lent.{layoutOk, sameNumbers, sound, listedStrips}
+use Rattle.foil_spec.specs.declared.Board.{Board}
 use Rattle.list_laws.proofs.Tests.{clash, and-l, and-r, parts}
 use Rattle.list_laws.proofs.Members.{length-range}
 use Rattle.strip_laws.proofs.Listed.{listed-written}
-use Rattle.ledger_laws.proofs.Stored.{Long, same-refl, entries-fit, strips-fit}
-use Rattle.ledger_laws.proofs.Rules.{of-ok}
+use Rattle.ledger_laws.proofs.Stored.{Long, same-refl, length-entries, length-strips}
+use Rattle.ledger_laws.proofs.Rules.{of-asked}
 
 same-is : (a b : List ℕ) → sameNumbers a b ≡ true → a ≡ b
 unfolding sameNumbers
@@ -116,7 +118,72 @@ module _ (a n : ℕ) (l : List ℕ) (le : a ≤ n) (long : n ≤ length l) where
       ∙ ap₂ (λ (x : List ℕ) (k : ℕ). take a l ++ x) (middle h) t
       ∙ ap (λ (k : ℕ). take a l ++ replicate (n - k) 0) (sym t))
 
--- ---- 13
+-- ---- 13, by what is asked
+
+-- what is known of a record and lists that 13 does not apply to
+pub record SoundAs (a : Asked) (W H n count : ℕ) (t s : List ℕ) : Type 0 where
+  pub kept : keepsAsked a W H (map (entryAt t) (range 0 n)) ≡ true
+  pub few : n ≤ maxEntries
+  pub counted : count ≡ length (stripsBy (a .rule) W H (map (entryAt t) (range 0 n)))
+  pub table-is : t ≡ written tableSize (each entryNumbers (map (entryAt t) (range 0 n))) t
+  pub strips-are : s
+      ≡ written stripsSize (each stripNumbers (stripsBy (a .rule) W H (map (entryAt t) (range 0 n)))) s
+
+written-long : (n : ℕ) (ns old : List ℕ) → length ns ≤ n → n ≤ length (written n ns old)
+unfolding written
+written-long n ns old h = simp (length-append, length-replicate, length-drop) (omega arith)
+
+module _ (a : Asked) (W H n count : ℕ) (t s : List ℕ) where
+  abbrev es : List Entry
+  es = map (entryAt t) (range 0 n)
+
+  abbrev ss : List Strip
+  ss = stripsBy (a .rule) W H es
+
+  pub of-sound-as : soundBy a W H n count t s ≡ true → SoundAs a W H n count t s
+  unfolding soundBy listedIn
+  of-sound-as h =
+      let g : keepsAsked a W H es ≡ true = search parts in
+      let c : eqb count (length ss) ≡ true = search parts in
+      record {
+        kept = g;
+        few = omega (arith, leb-true (length es) maxEntries (of-asked a W H es g .long), length-read t n);
+        counted = eqb-true _ _ c;
+        table-is = same-is _ _ (search parts);
+        strips-are = same-is _ _ (search parts);
+      }
+
+  pub to-sound-as : keepsAsked a W H es ≡ true → count ≡ length ss
+      → t ≡ written tableSize (each entryNumbers es) t → s ≡ written stripsSize (each stripNumbers ss) s
+      → soundBy a W H n count t s ≡ true
+  unfolding soundBy listedIn
+  to-sound-as g c e f =
+      simp (
+        g,
+        eq-eqb count (length ss) c,
+        subst (λ (l : List ℕ). sameNumbers t l ≡ true) e (same-refl t),
+        subst (λ (l : List ℕ). sameNumbers s l ≡ true) f (same-refl s),
+      )
+
+  -- such lists are long enough
+  pub as-long : SoundAs a W H n count t s → (tableSize ≤ length t) × (stripsSize ≤ length s)
+  as-long k =
+      let g = of-asked a W H es (k .kept) in
+      let few = leb-true (length es) maxEntries (g .long) in
+      let fine = ltb-false maxStrips (length ss) (g .fine) in (
+        omega (
+          arith,
+          ap length (k .table-is),
+          written-long tableSize (each entryNumbers es) t (omega (arith, length-entries es)),
+        ),
+        omega (
+          arith,
+          ap length (k .strips-are),
+          written-long stripsSize (each stripNumbers ss) s (omega (arith, length-strips ss)),
+        ),
+      )
+
+-- ---- 13 today
 
 -- what is known of lists that 13 does not apply to
 pub record Sound (m : Lent) : Type 0 where
@@ -126,35 +193,18 @@ pub record Sound (m : Lent) : Type 0 where
   pub table-is : m .table ≡ store (held m) m .table
   pub strips-are : m .strips ≡ store (held m) m .strips
 
-read-few : (m : Lent) → leb (length (held m .entries)) maxEntries ≡ true → m .board .entries ≤ maxEntries
-unfolding held layoutOf
-read-few m h =
-    let n : ℕ = length (map (entryAt (m .table)) (range 0 (m .board .entries))) in
-    omega (arith, leb-true n maxEntries h, length-read (m .table) (m .board .entries))
-
 pub of-sound : (m : Lent) → sound m ≡ true → Sound m
-unfolding sound store boardOf
+unfolding sound layoutOk held layoutOf store today stripsOf stripsBy free
 of-sound m h =
-    let g : layoutOk (held m) ≡ true = search parts in
-    let c : eqb (m .board .strips) (length (stripsOf (held m))) ≡ true = search parts in
+    let b : Board = m .board in
+    let k = of-sound-as (today (penIn b)) (b .width) (b .height) (b .entries) (b .strips) (m .table) (m .strips) h in
     record {
-      kept = g;
-      few = read-few m (of-ok (held m) g .long);
-      counted = eqb-true _ _ c;
-      table-is = same-is _ _ (search parts);
-      strips-are = same-is _ _ (search parts);
+      kept = k .kept;
+      few = k .few;
+      counted = k .counted;
+      table-is = k .table-is;
+      strips-are = k .strips-are;
     }
-
-pub to-sound : (m : Lent) → layoutOk (held m) ≡ true → m .board .strips ≡ length (stripsOf (held m))
-    → m .table ≡ store (held m) m .table → m .strips ≡ store (held m) m .strips → sound m ≡ true
-unfolding sound
-to-sound m g c t s =
-    simp (
-      g,
-      eq-eqb (m .board .strips) (store (held m) m .board .strips) (unfold store boardOf in c),
-      subst (λ (l : List ℕ). sameNumbers (m .table) l ≡ true) t (same-refl (m .table)),
-      subst (λ (l : List ℕ). sameNumbers (m .strips) l ≡ true) s (same-refl (m .strips)),
-    )
 
 -- it is what it says, stored
 pub sound-store-is : (m : Lent) → Sound m → store (held m) m ≡ m
@@ -180,27 +230,12 @@ strips-listed m s =
     ap₂ (λ (x : List ℕ) (n : ℕ). listedStrips x n) (s .strips-are) (s .counted)
     ∙ listed-written stripsSize (stripsOf (held m)) (m .strips)
 
-written-long : (n : ℕ) (ns old : List ℕ) → length ns ≤ n → n ≤ length (written n ns old)
-unfolding written
-written-long n ns old h = simp (length-append, length-replicate, length-drop) (omega arith)
-
 -- lists that 13 does not apply to are long enough
 pub sound-long : (m : Lent) → sound m ≡ true → Long m
-unfolding store
+unfolding sound
 sound-long m h =
-    let s = of-sound m h in
-    let l : Layout = held m in
-    record {
-      table =
-          omega (
-            arith,
-            ap length (s .table-is),
-            written-long tableSize (each entryNumbers (l .entries)) (m .table) (entries-fit l (s .kept)),
-          );
-      strips =
-          omega (
-            arith,
-            ap length (s .strips-are),
-            written-long stripsSize (each stripNumbers (stripsOf l)) (m .strips) (strips-fit l (s .kept)),
-          );
-    }
+    let b : Board = m .board in
+    let a : Asked = today (penIn b) in
+    let long = as-long a (b .width) (b .height) (b .entries) (b .strips) (m .table) (m .strips)
+    (of-sound-as a (b .width) (b .height) (b .entries) (b .strips) (m .table) (m .strips) h) in
+    record { table = long .0; strips = long .1 }

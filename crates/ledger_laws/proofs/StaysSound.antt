@@ -15,7 +15,7 @@ use Rattle.ledger_laws.proofs.Stored.{sound-store}
 use Rattle.ledger_laws.proofs.Sound.{of-sound, sound-store-is}
 use Rattle.ledger_laws.proofs.Kept.{steps-kept}
 use Rattle.ledger_laws.proofs.Steps.{shown, steps-are}
-use Rattle.ledger_laws.proofs.Lending.{new-refusal, new-ends, new-is, new-state}
+use Rattle.ledger_laws.proofs.Lending.{new-blind, blind-refusal, blind-is, blind-state, new-ends}
 
 module _ (r : Room) where
   pub steps-sound : (ss : List Step) (m : Lent) → sound m ≡ true → sound (actAll (stepOn r) ss m .state) ≡ true
@@ -33,13 +33,14 @@ module _ (r : Room) where
     accepted-new : refusalOf r false new (held m) ≡ none → sound (stepOn r new m .state) ≡ true
     unfolding shown
     accepted-new e =
-        ap (λ (a : After Answer Lent). sound (a .state)) (new-is W H d r (held m) e m)
-        ∙ sound-store (ledgerStep r new (held m) .state) m (new-state W H d r (held m) e)
+        ap (λ (a : After Answer Lent). sound (a .state)) (blind-is new (new-blind W H d) r (held m) e m)
+        ∙ sound-store (ledgerStep r new (held m) .state) m (blind-state new (new-blind W H d) r (held m) e)
 
     refused-new : (n : ℕ) → refusalOf r false new (held m) ≡ some n → endsJob (stepOn r new m .answer) ≡ true
-    unfolding stepOn settle reads
+    unfolding stepOn settle
     refused-new n e =
-        rw (new-refusal W H d r (held m) (not (sound m)) (held m), e) (new-ends W H d r (held m) n e long)
+        rw (blind-refusal new (new-blind W H d) r (held m) (not (sound m)) (held m), e)
+        (new-ends W H d r (held m) n e long)
 
     -- a new foil that does not end the job
     pub begun-sound : endsJob (stepOn r new m .answer) ≡ false → sound (stepOn r new m .state) ≡ true

@@ -2,23 +2,24 @@
 use Prim.Native.Nat.{ℕ, suc, _+_, _-_, _*_, _≤_}
 use native.Mathlib.Omega.{arith}
 use mathlib.Core.Path.{_≡_, refl, ap, ap₂, _∙_, fun-ext}
-use mathlib.Core.Bool.{true, false}
+use mathlib.Core.Bool.{true, _&&_}
 use mathlib.Core.List.{List, [], _∷_, _++_, map, append-assoc}
-use lib.Dec.{leb, ltb}
+use lib.Dec.{eqb}
 use borrow.Author.Tests.{eq-eqb, leb-true, ltb-false}
 use lib.ListN.{length, drop, replicate}
 use Rattle.foil_spec.specs.Lists.{range, each}
 use Rattle.foil_spec.specs.Limits.{maxEntries, tableSize, maxStrips, stripsSize}
-use Rattle.foil_spec.specs.Foil.{Point, Entry, entryNumbers, Layout}
+use Rattle.foil_spec.specs.Foil.{Point, Entry, entryNumbers, Layout, free}
 use Rattle.foil_spec.specs.Strips.{Strip}
+use Rattle.foil_spec.specs.Sound.{today, stripsBy, listedIn, soundBy}
 use Rattle.foil_spec.specs.Ledger.{stripsOf, withEntries, tooFine}
 use Rattle.foil_spec.specs.Corners.{pointNumbers}
 use Rattle.foil_spec.specs.Lent.{Lent, lent, stripNumbers, written, boardOf, store}
 use Rattle.foil_spec.specs.Lent.{entryAt, layoutOf, held, layoutOk, sameNumbers, sound}
 use Rattle.foil_spec.specs.Sequence.{Lending, front, back}
 use Rattle.foil_spec.proofs.Written.{written-again, take-written, written-back, drop-past}
-use Rattle.list_laws.proofs.Tests.{parts}
 use Rattle.list_laws.proofs.Members.{map-later}
+use Rattle.ledger_laws.proofs.Rules.{of-ok}
 
 -- ---- how long the flat lists are
 
@@ -44,16 +45,13 @@ length-points (p ∷ ps) = omega (arith, length-points ps)
 
 -- the entries and the strips of a layout that keeps the rules fit their lists
 pub entries-fit : (l : Layout) → layoutOk l ≡ true → length (each entryNumbers (l .entries)) ≤ tableSize
-unfolding layoutOk
 entries-fit l g =
-    let h : leb (length (l .entries)) maxEntries ≡ true = search parts in
-    omega (arith, length-entries (l .entries), leb-true (length (l .entries)) maxEntries h)
+    omega (arith, length-entries (l .entries), leb-true (length (l .entries)) maxEntries (of-ok l g .long))
 
 pub strips-fit : (l : Layout) → layoutOk l ≡ true → length (each stripNumbers (stripsOf l)) ≤ stripsSize
-unfolding layoutOk tooFine
+unfolding tooFine
 strips-fit l g =
-    let h : ltb maxStrips (length (stripsOf l)) ≡ false = search parts in
-    omega (arith, length-strips (stripsOf l), ltb-false maxStrips (length (stripsOf l)) h)
+    omega (arith, length-strips (stripsOf l), ltb-false maxStrips (length (stripsOf l)) (of-ok l g .fine))
 
 -- ---- reading back
 
@@ -103,11 +101,20 @@ store-again l l′ m g =
     (written-again stripsSize (each stripNumbers (stripsOf l)) (m .strips) (strips-fit l g)
     (each stripNumbers (stripsOf l′)))
 
+-- 13 in words of the layout that is held
+sound-held : (m : Lent)
+    → sound m
+    ≡ (layoutOk (held m)
+    && (eqb (m .board .strips) (store (held m) m .board .strips)
+    && sameNumbers (m .table) (store (held m) m .table) && sameNumbers (m .strips) (store (held m) m .strips)))
+unfolding sound soundBy listedIn layoutOk held layoutOf store boardOf today stripsOf stripsBy free
+sound-held m = refl
+
 -- 13 does not apply to what a layout that keeps the rules is stored in
 pub sound-store : (l : Layout) (m : Lent) → layoutOk l ≡ true → sound (store l m) ≡ true
-unfolding sound
 sound-store l m g =
-    rw (
+    sound-held (store l m)
+    ∙ rw (
       held-store l m,
       store-again l l m g,
       g,

@@ -9,4 +9,5 @@ pub mod Joins
 pub mod Crossed
 pub mod OldJobs
 pub mod Numbers
+pub mod Carrying
 pub mod Saved

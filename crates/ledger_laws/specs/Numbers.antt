@@ -1,16 +1,17 @@
 -- The numbers that a list of calls answers, and that 13 is none of them, as it is stated.
 use Prim.Native.Nat.{ℕ}
 use mathlib.Core.Path.{_≡_}
-use mathlib.Core.Bool.{Bool, false}
+use mathlib.Core.Bool.{Bool, false, not}
 use mathlib.Core.List.{List, [], _∷_, map}
 use lib.Dec.{eqb}
-use Rattle.foil_spec.specs.Lists.{any, each}
+use Rattle.foil_spec.specs.Lists.{consIf, any, each}
 use Rattle.foil_spec.specs.Foil.{Layout}
 use Rattle.foil_spec.specs.Ledger.{Step, numberOf}
 use Rattle.foil_spec.specs.Lent.{Lent}
 use Rattle.foil_spec.specs.Job.{steps}
 use Rattle.foil_spec.specs.Calls.{Call, step, runRecord, ohms, Reply, answersIn}
 use Rattle.foil_spec.specs.Sequence.{Lending, Begins, Left, runLent, told}
+use Rattle.ledger_laws.specs.Line.{noCarry}
 
 -- the steps that a call may run
 unfoldable pub stepsIn : Call → List Step
@@ -30,8 +31,20 @@ numbersOf os = each (λ (o : Left). numbersIn (o .reply)) os
 unfoldable pub among : ℕ → List ℕ → Bool
 among n ns = any (eqb n) ns
 
--- document 01: 13 never applies to a foil begun in the list
+-- the call carries a foil over
+unfoldable pub carriesOver : Call → Bool
+carriesOver (step s) = not (noCarry s)
+carriesOver (runRecord bs at) = false
+carriesOver (ohms net i) = false
+
+-- what is left by the calls of a list that carry none over
+unfoldable pub besidesCarries : List Lending → List Left → List Left
+besidesCarries [] os = []
+besidesCarries (c ∷ cs) [] = []
+besidesCarries (c ∷ cs) (o ∷ os) = consIf (not (carriesOver (c .call))) o (besidesCarries cs os)
+
+-- document 01: 13 never applies to a foil begun in the list; the 13 of a carry is about the old foil
 abbrev pub NeverBroken : Type 0
 NeverBroken =
     (m : Lent) (l : Layout) (c : Lending) (cs : List Lending) → Begins (c .call) (told m c l .answer)
-    → among 13 (numbersOf (runLent m (c ∷ cs))) ≡ false
+    → among 13 (numbersOf (besidesCarries (c ∷ cs) (runLent m (c ∷ cs)))) ≡ false
