@@ -17,8 +17,8 @@ use Rattle.foil_spec.specs.Nets.{ofNet}
 use Rattle.foil_spec.specs.Carrying.{Old, oldShort, oldSound, oldEntries, netBlocked, blockedNets, unblocked}
 use Rattle.foil_spec.specs.Carrying.{liftedNets, carried}
 use Rattle.foil_spec.specs.Ledger.{Room, short, tooLong, tooFine, Step, carry, Answer, refused, wrote, says, next, first}
-use Rattle.foil_spec.specs.Ledger.{_⇒_, Refusal, reads, refusals, refusalOf, settle, ledgerStep}
-use Rattle.foil_spec.specs.Lent.{Lent, overFront, sound, outputAfter}
+use Rattle.foil_spec.specs.Ledger.{_⇒_, Refusal, reads, refusals, refusalOf, After, settle, ledgerStep}
+use Rattle.foil_spec.specs.Lent.{Lent, overFront, held, sound, stepOn, outputAfter}
 use Rattle.list_laws.proofs.Tests.{both, clash, and-l, and-r, and-i, not-f, not-ff, parts}
 use Rattle.list_laws.proofs.Members.{In, of-all, in-any, of-any, in-keep, of-keep, in-range, of-range, sorted-keep}
 use Rattle.list_laws.proofs.Members.{sorted-range}
@@ -29,9 +29,11 @@ use Rattle.ledger_laws.specs.Line.{but}
 use Rattle.ledger_laws.proofs.Refusals.{none-applies, first-passes, short-refused, own-refused, unrefused-own}
 use Rattle.ledger_laws.proofs.Crossing.{ok-full, point-meets, meets-point}
 use Rattle.ledger_laws.proofs.Carried.{old-keeps, old-few, few-left}
-use Rattle.ledger_laws.proofs.Stored.{sound-store}
+use Rattle.ledger_laws.proofs.Stored.{held-store, sound-store}
 use Rattle.ledger_laws.proofs.Line.{settled-refused}
-use Rattle.ledger_laws.proofs.Lending.{carry-blind, step-taken, no-wrote, blind-answer}
+use Rattle.ledger_laws.proofs.Steps.{shown}
+use Rattle.ledger_laws.proofs.Lending.{carry-blind, step-taken, taken-on, no-wrote, blind-refusal, blind-is}
+use Rattle.ledger_laws.proofs.Lending.{blind-state, blind-answer}
 use Rattle.ledger_laws.proofs.Moments.{Shows, Standing, opens, runs-on, at-every, after-step}
 
 -- ---- which nets are lifted
@@ -164,6 +166,11 @@ module _ (m : Lent) (k : Moment) (later : List Moment) where
   told-output (opens o) = (o .given, o .output)
   told-output (runs-on g n) = (g .given, g .output)
 
+left-by : (r : Room) (o : Old) (l : Layout) → refusalOf r false (carry o) l ≡ none
+    → ledgerStep r (carry o) l .state ≡ carried o
+unfolding ledgerStep settle next
+left-by r o l u = rw u refl
+
 -- a carry on the ledger that answers nets
 module _ (r : Room) (o : Old) (l : Layout) (ns : List ℕ) (e : ledgerStep r (carry o) l .answer ≡ wrote ns) where
   unrefused : refusalOf r false (carry o) l ≡ none
@@ -175,8 +182,7 @@ module _ (r : Room) (o : Old) (l : Layout) (ns : List ℕ) (e : ledgerStep r (ca
       let q : wrote (liftedNets o) ≡ wrote ns = sym (blind-answer (carry o) (carry-blind o) r l unrefused) ∙ e in cc
 
   left-is : ledgerStep r (carry o) l .state ≡ carried o
-  unfolding ledgerStep settle next
-  left-is = rw unrefused refl
+  left-is = left-by r o l unrefused
 
   was-sound : oldSound o ≡ true
   unfolding refusals
@@ -203,6 +209,20 @@ carries-over m l cs b earlier k later e o ns s a =
           (carried-over o (was-sound (k .room) o (k .ledgerBefore) ns t))),
       ap sound (shows .is) ∙ sound-store (k .ledgerAfter) m (shows .kept),
       front-is ns (k .output) given (output ∙ ap (λ (x : Answer). outputAfter x given) a),
+    )
+
+-- what a carry leaves, on lists that hold anything
+pub carried-lists : (r : Room) (o : Old) (m : Lent) (ns : List ℕ) → stepOn r (carry o) m .answer ≡ wrote ns
+    → (sound (stepOn r (carry o) m .state) ≡ true) × (held (stepOn r (carry o) m .state) ≡ carried o)
+unfolding shown
+carried-lists r o m ns e =
+    let l : Layout = held m in
+    let u = sym (blind-refusal (carry o) (carry-blind o) r l (not (sound m)) l)
+    ∙ taken-on r (carry o) m (wrote ns) (no-wrote ns) e in
+    let is = ap (λ (a : After Answer Lent). a .state) (blind-is (carry o) (carry-blind o) r l u m) in
+    let left = ledgerStep r (carry o) l .state in (
+      ap sound is ∙ sound-store left m (blind-state (carry o) (carry-blind o) r l u),
+      ap held is ∙ held-store left m ∙ left-by r o l u,
     )
 
 -- ---- 13 and 10

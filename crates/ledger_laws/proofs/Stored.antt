@@ -102,7 +102,7 @@ store-again l l′ m g =
     (each stripNumbers (stripsOf l′)))
 
 -- 13 in words of the layout that is held
-sound-held : (m : Lent)
+pub sound-held : (m : Lent)
     → sound m
     ≡ (layoutOk (held m)
     && (eqb (m .board .strips) (store (held m) m .board .strips)

@@ -6,21 +6,22 @@ use mathlib.Core.Bool.{Bool, true, false, not, cond, _&&_, _||_, and-false, or-f
 use mathlib.Core.List.{List, [], _∷_}
 use mathlib.Core.Option.{Option, none, some}
 use lib.ListN.{length, getD}
-use Rattle.foil_spec.specs.Lists.{consIf, any, all, range}
+use Rattle.foil_spec.specs.Lists.{any, all}
 use Rattle.foil_spec.specs.Limits.{sheetFoils, sheetSize}
 use Rattle.foil_spec.specs.Foil.{Layout}
 use Rattle.foil_spec.specs.Ledger.{Room, Step, save, Answer, says, next, After, settle, refusalOf}
 use Rattle.foil_spec.specs.Lent.{Lent, boardOf, store, held, layoutOk, sound, stepOn}
-use Rattle.foil_spec.specs.Job.{has, stepBits, stepAt, stepsAt, steps, isEnd, recordEnd}
+use Rattle.foil_spec.specs.Job.{stepAt, steps, isEnd, recordEnd}
 use Rattle.foil_spec.specs.Calls.{Call, step, runRecord, ohms, Reply, endsJob, andThen, actAll, actRecord, reply}
 use Rattle.foil_spec.specs.Calls.{callOn, answersIn}
 use Rattle.foil_spec.specs.Sheet.{total, limitOf, SheetLent, counts, view, putBack, writes, sheetStep, sheetRefusal}
 use Rattle.foil_spec.specs.Sheet.{unless, sheetCall}
-use Rattle.list_laws.proofs.Tests.{both, clash, not-ff, and-i, and-l, and-r}
+use Rattle.list_laws.proofs.Tests.{both, clash, not-ff, and-l, and-r}
 use Rattle.ledger_laws.proofs.Stored.{held-store, store-again}
 use Rattle.ledger_laws.proofs.Refusals.{unrefused-sound, unrefused-own}
 use Rattle.ledger_laws.proofs.Sound.{of-sound, sound-store-is}
 use Rattle.ledger_laws.proofs.Line.{line}
+use Rattle.ledger_laws.proofs.Numbers.{steps-all}
 use Rattle.ledger_laws.proofs.Replies.{shownBy, reply-keeps, reply-is}
 use Rattle.sheet_laws.specs.Alone.{RoomOn}
 use Rattle.sheet_laws.specs.Answers.{taken}
@@ -39,20 +40,8 @@ step-writes bs at (suc (suc zero)) = refl
 step-writes bs at (suc (suc (suc zero))) = refl
 step-writes bs at (suc (suc (suc (suc k)))) = refl
 
-write-if : (b : Bool) (s : Step) (ss : List Step) → writes s ≡ true → all writes ss ≡ true
-    → all writes (consIf b s ss) ≡ true
-write-if true s ss e h = and-i {a = writes s} e h
-write-if false s ss e h = h
-
-bits-write : (bs : List ℕ) (at : ℕ) (ks : List ℕ) → all writes (stepsAt bs at ks) ≡ true
-unfolding stepsAt
-bits-write bs at [] = refl
-bits-write bs at (k ∷ ks) =
-    write-if (has bs at k) (stepAt bs at k) (stepsAt bs at ks) (step-writes bs at k) (bits-write bs at ks)
-
 steps-write : (bs : List ℕ) (at : ℕ) → all writes (steps bs at) ≡ true
-unfolding steps
-steps-write bs at = bits-write bs at (range 0 stepBits)
+steps-write bs at = steps-all writes bs at (step-writes bs at)
 
 -- ---- whether something is written
 

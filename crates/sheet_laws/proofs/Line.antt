@@ -10,7 +10,7 @@ use Rattle.foil_spec.specs.Limits.{maxEntries}
 use Rattle.foil_spec.specs.Foil.{Entry, Layout}
 use Rattle.foil_spec.specs.Nets.{ofNet}
 use Rattle.foil_spec.specs.Ledger.{Room, tooLong, Step, newFoil, draw, lay, lift, lookUp, putLeg, save, find, book}
-use Rattle.foil_spec.specs.Ledger.{slip, join, next, says, first, reads, refusals}
+use Rattle.foil_spec.specs.Ledger.{slip, join, carry, next, says, first, reads, refusals}
 use Rattle.foil_spec.specs.Sheet.{writes}
 use Rattle.list_laws.proofs.Tests.{clash}
 use Rattle.list_laws.proofs.Members.{length-keep}
@@ -57,3 +57,5 @@ sheet-line (book net ks) =
 sheet-line slip = reading slip refl (λ l. refl) (λ l. refl)
 sheet-line (join net S) =
     writing (join net S) refl (λ l. refl) (λ r l e. within r (next (join net S) l) _ (search none-applies depth 9))
+sheet-line (carry o) =
+    writing (carry o) refl (λ l. refl) (λ r l e. within r (next (carry o) l) _ (search none-applies depth 9))

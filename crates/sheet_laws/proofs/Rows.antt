@@ -13,6 +13,7 @@ use Rattle.foil_spec.specs.Lists.{each}
 use Rattle.foil_spec.specs.Limits.{tableSize, stripsSize, sheetSize}
 use Rattle.foil_spec.specs.Foil.{entryNumbers, sizeOk, Layout, noFoil}
 use Rattle.foil_spec.specs.Strips.{stripsFrom}
+use Rattle.foil_spec.specs.Sound.{keepsAsked}
 use Rattle.foil_spec.specs.Ledger.{stripsOf}
 use Rattle.foil_spec.specs.Lent.{Lent, lent, stripNumbers, written, boardOf, store, held, layoutOk, sound}
 use Rattle.foil_spec.specs.Sheet.{countsOk, SheetLent, noBoard, counts, parts, joined, tableAt, view, putBack, blank}
@@ -20,7 +21,8 @@ use Rattle.foil_spec.specs.Sheet.{rowCounts, rowNumbers, rowStrips, rowsTable}
 use Rattle.foil_spec.specs.declared.Board.{Board}
 use Rattle.foil_spec.proofs.Written.{written-again}
 use Rattle.list_laws.proofs.Tests.{clash, and-l}
-use Rattle.ledger_laws.proofs.Stored.{length-entries, entries-fit, strips-fit, held-store, sound-store}
+use Rattle.ledger_laws.proofs.Stored.{length-entries, entries-fit, strips-fit, held-store, sound-held}
+use Rattle.ledger_laws.proofs.Stored.{sound-store}
 use Rattle.ledger_laws.proofs.Rules.{of-ok}
 use Rattle.sheet_laws.proofs.Counts.{ok-total}
 use Rattle.sheet_laws.proofs.Parts.{Sized, length-joined, parts-written}
@@ -60,8 +62,8 @@ unfolding alone rowNumbers held store
 held-alone l s = held-store l (bare s)
 
 pub sound-alone : (l : Layout) (s : List ℕ) → Row l → sound (alone l s) ≡ not (blank l)
-unfolding sound layoutOk sizeOk blank
-sound-alone l s (inl e) = rw (held-alone l s, e) refl
+unfolding layoutOk keepsAsked sizeOk blank
+sound-alone l s (inl e) = sound-held (alone l s) ∙ rw (held-alone l s, e) refl
 sound-alone l s (inr g) = ap sound (alone-stored l s (begun l g)) ∙ sound-store l (bare s) g ∙ ap not (sym (begun l g))
 
 row-fits : (l : Layout) → Row l → length (rowNumbers l) ≤ tableSize

@@ -13,9 +13,9 @@ use Rattle.foil_spec.specs.Calls.{Call, step, runRecord, ohms, Reply, ledgerCal
 use Rattle.foil_spec.specs.Sheet.{Sheet, storeSheet, SheetLending, lendSheet, toldSheet, SheetLeft, leavesSheet}
 use Rattle.foil_spec.specs.Sheet.{runSheet, runSheetLedger, opening, sheetRefusal, unless, rowStep, rowCall}
 use Rattle.foil_spec.specs.Sheet.{sheetLedgerCall, rowCounts, roomOn}
-use Rattle.list_laws.proofs.Tests.{and-i}
+use Rattle.list_laws.proofs.Tests.{and-i, not-f}
 use Rattle.ledger_laws.specs.Line.{but}
-use Rattle.ledger_laws.specs.Numbers.{numbersIn}
+use Rattle.ledger_laws.specs.Numbers.{numbersIn, carriesOver}
 use Rattle.ledger_laws.proofs.Refusals.{first-passes}
 use Rattle.ledger_laws.proofs.Kept.{step-kept}
 use Rattle.ledger_laws.proofs.Numbers.{not-among, call-but-13}
@@ -101,20 +101,20 @@ unless-but-13 (some n) done old h k = unfold numbersIn answersIn numberOf in and
 unless-but-13 none done old h k = k
 
 told-but-13 : (r : Room) (k : ℕ) (c : Call) (ls : List Layout) → layoutOk (getD ls k noFoil) ≡ true
-    → all (but 13) (numbersIn (sheetLedgerCall r k c ls .answer)) ≡ true
+    → carriesOver c ≡ false → all (but 13) (numbersIn (sheetLedgerCall r k c ls .answer)) ≡ true
 unfolding sheetLedgerCall
-told-but-13 r k c ls g =
+told-but-13 r k c ls g o =
     unless-but-13 (sheetRefusal r false k c) _ ls (opening-but-13 r k c)
     (ap (λ (a : After Reply Layout). all (but 13) (numbersIn (a .answer))) (rows-are-foils r c (getD ls k noFoil) g)
-    ∙ call-but-13 r c (getD ls k noFoil))
+    ∙ call-but-13 r c (getD ls k noFoil) (not-f o))
 
 pub sheet-never-broken : SheetNeverBroken
 unfolding toldSheet shownBy
-sheet-never-broken m ls cs c s b =
+sheet-never-broken m ls cs c s b o =
     let (e, h) = reached m ls cs s in
     let rows : List Layout = rowsAfter m ls cs in
     not-among 13 _
     (ap (λ (x : Sheet). all (but 13) (numbersIn (lendSheet c x .answer))) e
     ∙ ap (λ (a : After Reply Sheet). all (but 13) (numbersIn (a .answer))) (lend-is c m rows h)
     ∙ told-but-13 (roomOn c (rowCounts rows) m) (c .foil) (c .call) rows
-    (row-ok (getD rows (c .foil) noFoil) (h .rows (c .foil)) b))
+    (row-ok (getD rows (c .foil) noFoil) (h .rows (c .foil)) b) o)

@@ -2,7 +2,7 @@
 use Prim.Native.Nat.{ℕ, zero, suc, _+_, _-_, _≤_}
 use native.Mathlib.Omega.{arith}
 use native.Mathlib.Nat.{zero-add, suc-add}
-use mathlib.Core.Path.{_≡_, refl, sym, ap, ap₂, _∙_}
+use mathlib.Core.Path.{_≡_, refl, sym, ap, ap₂, _∙_, subst}
 use mathlib.Core.Bool.{true, false, cond}
 use mathlib.Core.List.{List, [], _∷_, _++_, map, append-assoc, append-nil}
 use mathlib.Core.Logic.{inl, inr}
@@ -12,15 +12,17 @@ use lib.ListN.{length, getD, take, drop, replicate, length-append, length-take, 
 use lib.Seq.{drop-at}
 use Rattle.foil_spec.specs.Limits.{maxEntries, tableSize, stripsSize, sheetFoils, sheetEntries, sheetSize}
 use Rattle.foil_spec.specs.Foil.{Layout, noFoil}
-use Rattle.foil_spec.specs.Lent.{Lent, written, boardOf, store, held, sound}
+use Rattle.foil_spec.specs.Ledger.{carry}
+use Rattle.foil_spec.specs.Lent.{Lent, written, boardOf, store, held, sound, stepOn}
 use Rattle.foil_spec.specs.Sheet.{total, reserved, eachFew, countsOk, noBoard, joined, blank, rowCounts, Sheet}
 use Rattle.foil_spec.specs.Sheet.{rowNumbers, rowStrips, rowsTable, storeSheet}
 use Rattle.foil_spec.specs.declared.Board.{Board}
 use Rattle.list_laws.proofs.Tests.{clash, and-i}
 use Rattle.ledger_laws.proofs.Stored.{entries-fit}
 use Rattle.ledger_laws.proofs.Rules.{of-ok}
+use Rattle.ledger_laws.proofs.Carrying.{carried-lists}
 use Rattle.ledger_laws.proofs.Sound.{Sound, of-sound, sound-store-is, sound-long, front-written}
-use Rattle.sheet_laws.specs.Sheet.{unusedSheet, carriedSheet, Starts, unused, carried}
+use Rattle.sheet_laws.specs.Sheet.{unusedSheet, carriedSheet, Starts, unused, carriedOver}
 use Rattle.sheet_laws.proofs.Rows.{Row, begun, no-board}
 use Rattle.sheet_laws.proofs.Lending.{Holds}
 
@@ -191,4 +193,11 @@ module _ (n : Lent) (rest : List ℕ) (ss : ℕ → List ℕ) (g : sound n ≡ t
 -- a sheet that a list of calls starts from
 pub starts-holds : (m : Sheet) (ls : List Layout) → Starts m ls → (storeSheet ls m ≡ m) × Holds m ls
 starts-holds _ _ (unused rest ss) = (unused-stored rest ss, unused-holds rest ss)
-starts-holds _ _ (carried n rest ss g) = (carried-stored n rest ss g, carried-holds n rest ss g)
+starts-holds _ _ (carriedOver r o m ns rest ss e) =
+    let n : Lent = stepOn r (carry o) m .state in
+    let (g, is) = carried-lists r o m ns e in
+    subst
+    (λ (l : Layout).
+    (storeSheet (l ∷ replicate 7 noFoil) (carriedSheet n rest ss) ≡ carriedSheet n rest ss)
+    × Holds (carriedSheet n rest ss) (l ∷ replicate 7 noFoil))
+    is (carried-stored n rest ss g, carried-holds n rest ss g)

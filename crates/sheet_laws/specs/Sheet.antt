@@ -9,12 +9,13 @@ use lib.Dec.{eqb}
 use lib.ListN.{length, getD, replicate, take}
 use Rattle.foil_spec.specs.Limits.{tableSize, sheetFoils, sheetSize}
 use Rattle.foil_spec.specs.Foil.{Layout, noFoil}
-use Rattle.foil_spec.specs.Ledger.{Room}
-use Rattle.foil_spec.specs.Lent.{Lent, held, layoutOk, sound}
+use Rattle.foil_spec.specs.Carrying.{Old, carried}
+use Rattle.foil_spec.specs.Ledger.{Room, carry, wrote}
+use Rattle.foil_spec.specs.Lent.{Lent, layoutOk, stepOn}
 use Rattle.foil_spec.specs.Calls.{Call, ledgerCall}
 use Rattle.foil_spec.specs.Sheet.{countsOk, noBoard, blank, rowCall, rowCounts, Sheet, storeSheet, SheetLending}
 use Rattle.foil_spec.specs.Sheet.{lendSheet, toldSheet, runSheet, runSheetLedger}
-use Rattle.ledger_laws.specs.Numbers.{numbersIn, among}
+use Rattle.ledger_laws.specs.Numbers.{numbersIn, among, carriesOver}
 
 -- the records and the 512 places of the table are zero; past them and in the strip lists stands anything
 abbrev pub unusedSheet : List ℕ → (ℕ → List ℕ) → Sheet
@@ -30,12 +31,13 @@ carriedSheet n rest ss =
       strips = λ (k : ℕ). cond (eqb k 0) (n .strips) (ss k);
     }
 
--- the sheets that a list of calls may start from, with the ledger's rows: no foil is begun; or foil 0 alone, carried
--- over, any that 13 does not apply to
+-- the sheets that a list of calls may start from, with the ledger's rows: no foil is begun; or foil 0 alone, as a carry
+-- of an old foil that was accepted has left it in lists that held anything
 pub data Starts : Sheet → List Layout → Type 0 where
   unused : (rest : List ℕ) (ss : ℕ → List ℕ) → Starts (unusedSheet rest ss) (replicate sheetFoils noFoil)
-  carried : (n : Lent) (rest : List ℕ) (ss : ℕ → List ℕ) → sound n ≡ true
-      → Starts (carriedSheet n rest ss) (held n ∷ replicate 7 noFoil)
+  carriedOver : (r : Room) (o : Old) (m : Lent) (nets rest : List ℕ) (ss : ℕ → List ℕ)
+      → stepOn r (carry o) m .answer ≡ wrote nets
+      → Starts (carriedSheet (stepOn r (carry o) m .state) rest ss) (carried o ∷ replicate 7 noFoil)
 
 -- from there on, whatever foils are called, all replies, the records, the table, the strips and the output lists are
 -- the ledger's
@@ -73,9 +75,9 @@ SheetHoldsRows =
 abbrev pub RowsAreFoils : Type 0
 RowsAreFoils = (r : Room) (c : Call) (l : Layout) → layoutOk l ≡ true → rowCall r c l ≡ ledgerCall r c l
 
--- 13 never applies to a foil that is begun
+-- 13 never applies to a foil that is begun; that of a carry is about the old foil
 abbrev pub SheetNeverBroken : Type 0
 SheetNeverBroken =
     (m : Sheet) (ls : List Layout) (cs : List SheetLending) (c : SheetLending) → Starts m ls
-    → blank (getD (rowsAfter m ls cs) (c .foil) noFoil) ≡ false
+    → blank (getD (rowsAfter m ls cs) (c .foil) noFoil) ≡ false → carriesOver (c .call) ≡ false
     → among 13 (numbersIn (lendSheet c (sheetAfter m cs) .answer)) ≡ false
