@@ -2,61 +2,61 @@
 use Prim.Native.Nat.{ℕ, _+_, _-_, _*_, _≤_, _<_}
 use native.Mathlib.Omega.{arith}
 use mathlib.Core.Path.{_≡_, refl, sym, ap, _∙_}
-use mathlib.Core.Bool.{Bool, true, false, not}
+use mathlib.Core.Bool.{Bool, true, false, not, _&&_, and-true, and-false}
 use mathlib.Core.List.{List, map}
-use lib.Dec.{leb}
+use lib.Dec.{leb, ltb}
 use lib.ListN.{length, getD, take}
 use borrow.Author.Tests.{le-leb, leb-true, ltb-false, le-ltb, not-true, not-false}
 use Rattle.foil_spec.specs.Lists.{range, all, each}
 use Rattle.foil_spec.specs.Limits.{maxEntries, tableSize, maxStrips, stripsSize}
-use Rattle.foil_spec.specs.Foil.{entryNumbers, Layout, entryOk, noCrossing, penRule, patchMargin}
-use Rattle.foil_spec.specs.Ledger.{stripsOf, tooFine}
-use Rattle.foil_spec.specs.Lent.{Lent, lent, stripNumbers, written, store, entryAt, layoutOf, penIn, held}
-use Rattle.foil_spec.specs.Lent.{layoutOk, sound}
+use Rattle.foil_spec.specs.Foil.{Entry, entryNumbers, Rule, sizeOk, reachOk, penOk, entryOk, noCrossing, penRule}
+use Rattle.foil_spec.specs.Foil.{patchMargin, reachRule}
+use Rattle.foil_spec.specs.Strips.{Strip}
+use Rattle.foil_spec.specs.Sound.{entryAt, stripNumbers, written, Asked, today, formerly, stripsBy, keepsAsked}
+use Rattle.foil_spec.specs.Sound.{listedIn, soundBy}
+use Rattle.foil_spec.specs.Carrying.{old, oldSound}
+use Rattle.foil_spec.specs.Lent.{lent, penIn, sound}
 use Rattle.foil_spec.specs.declared.Board.{Board}
+use Rattle.foil_spec.specs.declared.OldBoard.{OldBoard}
 use Rattle.foil_spec.proofs.Written.{written-zero}
 use Rattle.list_laws.proofs.Tests.{both, clash, parts}
 use Rattle.ledger_laws.proofs.Stored.{length-entries, length-strips}
-use Rattle.ledger_laws.proofs.Rules.{of-ok, to-ok}
-use Rattle.ledger_laws.proofs.Sound.{Sound, of-sound, to-sound, sound-long, length-read, read-numbers, front-written}
-use Rattle.ledger_laws.proofs.Sound.{is-written, zeros-written}
-use Rattle.zones.specs.Table.{Small, Sized}
-use Rattle.zones.proofs.Tables.{pen-small, foil-sized}
+use Rattle.ledger_laws.proofs.Rules.{of-asked, to-asked}
+use Rattle.ledger_laws.proofs.Sound.{SoundAs, of-sound-as, to-sound-as, as-long, length-read, read-numbers}
+use Rattle.ledger_laws.proofs.Sound.{front-written, is-written, zeros-written}
+use Rattle.zones.specs.Table.{Sized}
+use Rattle.zones.proofs.Tables.{foil-sized}
 use Rattle.strips.specs.Told.{Told}
-use Rattle.state.specs.Tests.{Zeros, boardOk, StripsRight}
+use Rattle.state.specs.Tests.{Zeros, sizesOk, ruled, StripsRight}
 
 -- ---- the strips
 
-fine-few : (l : Layout) → tooFine l ≡ false → length (stripsOf l) ≤ maxStrips
-unfolding tooFine
-fine-few l e = ltb-false maxStrips (length (stripsOf l)) e
-
--- c counts the strips that were built anew
-module _ (l : Layout) (count : ℕ) (s : List ℕ) where
-  pub too-many : maxStrips < length (stripsOf l) → StripsRight l count s → ⊥
+-- c counts the strips ss, which were built anew
+module _ (ss : List Strip) (count : ℕ) (s : List ℕ) where
+  pub too-many : maxStrips < length ss → StripsRight ss count s → ⊥
   too-many h r = omega (arith, r .few)
 
-  pub miscounted : (c : ℕ) → c ≡ length (stripsOf l) → (c ≡ count → ⊥) → StripsRight l count s → ⊥
+  pub miscounted : (c : ℕ) → c ≡ length ss → (c ≡ count → ⊥) → StripsRight ss count s → ⊥
   miscounted c e d r = d (e ∙ sym (r .counted))
 
   ns : List ℕ
-  ns = each stripNumbers (stripsOf l)
+  ns = each stripNumbers ss
 
   -- the list has the same front, or not
-  pub compared : (out o : List ℕ) (c : ℕ) (r : Bool) → c ≡ length (stripsOf l) → c ≤ maxStrips
-      → out ≡ written stripsSize (each stripNumbers (stripsOf l)) o → c ≡ count
-      → Told (take stripsSize out ≡ take stripsSize s) r → Told (StripsRight l count s) r
+  pub compared : (out o : List ℕ) (c : ℕ) (r : Bool) → c ≡ length ss → c ≤ maxStrips
+      → out ≡ written stripsSize (each stripNumbers ss) o → c ≡ count
+      → Told (take stripsSize out ≡ take stripsSize s) r → Told (StripsRight ss count s) r
   unfolding ns
   compared out o c r n few e k h = go r h
     where
       fits : length ns ≤ stripsSize
-      fits = omega (arith, length-strips (stripsOf l))
+      fits = omega (arith, length-strips ss)
 
       front : take stripsSize out ≡ take stripsSize (written stripsSize ns s)
       front =
           ap (take stripsSize) e ∙ front-written stripsSize ns o fits ∙ sym (front-written stripsSize ns s fits)
 
-      go : (r : Bool) → Told (take stripsSize out ≡ take stripsSize s) r → Told (StripsRight l count s) r
+      go : (r : Bool) → Told (take stripsSize out ≡ take stripsSize s) r → Told (StripsRight ss count s) r
       go true h =
           record {
             few = omega arith;
@@ -65,138 +65,182 @@ module _ (l : Layout) (count : ℕ) (s : List ℕ) where
           }
       go false h = λ q. h (front ∙ ap (take stripsSize) (sym (q .listed)))
 
--- ---- the whole check
+-- ---- the whole check by a rule
 
-module _ (b : Board) (t s : List ℕ) where
-  abbrev m : Lent
-  m = lent b t s
+module _ (rule : Rule) (w h n count : ℕ) (t s : List ℕ) where
+  abbrev right : Bool
+  right = soundBy (ruled rule) w h n count t s
 
-  not-sound : (Sound m → ⊥) → false ≡ sound m
-  not-sound h = both (sound m) (λ e. absurd (h (of-sound m e))) (λ e. sym e)
+  abbrev es : List Entry
+  es = map (entryAt t) (range 0 n)
 
-  pub short-table : length t < tableSize → false ≡ sound m
-  short-table h = both (sound m) (λ e. absurd (omega (arith, sound-long m e .table))) (λ e. sym e)
+  not-right : (SoundAs (ruled rule) w h n count t s → ⊥) → false ≡ right
+  not-right f = both right (λ e. absurd (f (of-sound-as (ruled rule) w h n count t s e))) (λ e. sym e)
 
-  pub short-strips : length s < stripsSize → false ≡ sound m
-  short-strips h = both (sound m) (λ e. absurd (omega (arith, sound-long m e .strips))) (λ e. sym e)
+  pub short-table : length t < tableSize → false ≡ right
+  short-table l = not-right (λ k. omega (arith, as-long (ruled rule) w h n count t s k .0))
 
-  pub bad-board : (r : Bool) → r ≡ boardOk b → not r ≡ true → false ≡ sound m
-  unfolding boardOk held layoutOf
-  bad-board r e n =
-      not-sound (λ k.
-      let g = of-ok (held m) (k .kept) in
-      clash
-      (let y : boardOk b ≡ true =
-      simp (g .width, g .height, g .pen, le-leb (b .entries) maxEntries (k .few)) in y)
-      (sym e ∙ not-true r n))
+  pub short-strips : length s < stripsSize → false ≡ right
+  short-strips l = not-right (λ k. omega (arith, as-long (ruled rule) w h n count t s k .1))
 
-  pub bad-entries : (r : Bool) → r ≡ all (entryOk (b .width) (b .height)) (map (entryAt t) (range 0 (b .entries)))
-      → not r ≡ true → false ≡ sound m
-  unfolding held layoutOf
-  bad-entries r e n = not-sound (λ k. clash (of-ok (held m) (k .kept) .entries) (sym e ∙ not-true r n))
+  pub bad-sizes : (r : Bool) → r ≡ sizesOk w h n → not r ≡ true → false ≡ right
+  unfolding sizesOk
+  bad-sizes r e f =
+      not-right (λ k.
+      let g = of-asked (ruled rule) w h es (k .kept) in
+      clash (let y : sizesOk w h n ≡ true = simp (g .width, g .height, le-leb n maxEntries (k .few)) in y)
+      (sym e ∙ not-true r f))
 
-  pub bad-crossing : (r : Bool) (d : ℕ) → d ≡ patchMargin (penIn b)
-      → r ≡ noCrossing d (map (entryAt t) (range 0 (b .entries))) → not r ≡ true → false ≡ sound m
-  unfolding held layoutOf
-  bad-crossing r d is e n =
-      not-sound (λ k.
-      clash (of-ok (held m) (k .kept) .uncrossed)
-      (ap (λ (x : ℕ). noCrossing x (map (entryAt t) (range 0 (b .entries)))) (sym is) ∙ sym e ∙ not-true r n))
+  pub bad-entries : (r : Bool) → r ≡ all (entryOk w h) es → not r ≡ true → false ≡ right
+  bad-entries r e f = not-right (λ k. clash (of-asked (ruled rule) w h es (k .kept) .entries) (sym e ∙ not-true r f))
 
-  zeros-after : Sound m → Zeros t (b .entries * 5) tableSize
-  unfolding store held layoutOf
+  zeros-after : SoundAs (ruled rule) w h n count t s → Zeros t (n * 5) tableSize
   zeros-after k =
       record {
         zero-at = λ i p q.
-            let ns : List ℕ = each entryNumbers (map (entryAt t) (range 0 (b .entries))) in
-            let c : length ns ≡ b .entries * 5 =
-            omega (arith, length-entries (map (entryAt t) (range 0 (b .entries))), length-read t (b .entries)) in
+            let ns : List ℕ = each entryNumbers es in
+            let c : length ns ≡ n * 5 = omega (arith, length-entries es, length-read t n) in
             let j : length ns + (i - length ns) ≡ i = omega arith in
             ap (λ (l : List ℕ). getD l i 0) (k .table-is)
             ∙ ap (λ (x : ℕ). getD (written tableSize ns t) x 0) (sym j)
             ∙ written-zero tableSize ns t (omega (arith, k .few)) (i - length ns) (omega arith);
       }
 
-  pub bad-rest : (r : Bool) → Told (Zeros t (b .entries * 5) tableSize) r → not r ≡ true → false ≡ sound m
-  bad-rest true h n = clash n refl
-  bad-rest false h n = not-sound (λ k. h (zeros-after k))
+  pub bad-rest : (r : Bool) → Told (Zeros t (n * 5) tableSize) r → not r ≡ true → false ≡ right
+  bad-rest true z f = clash f refl
+  bad-rest false z f = not-right (λ k. z (zeros-after k))
 
-  -- what the test of the record says
-  pub record BoardFits : Type 0 where
-    pub yes : boardOk b ≡ true
-    pub few : b .entries ≤ maxEntries
-    pub small : Small (penRule (penIn b))
-    pub sized : Sized (b .width) (b .height)
+  -- what the test of the sizes says
+  pub record SizesFit : Type 0 where
+    pub yes : sizesOk w h n ≡ true
+    pub few : n ≤ maxEntries
+    pub sized : Sized w h
 
-  pub board-fits : (r : Bool) → r ≡ boardOk b → not r ≡ false → BoardFits
-  unfolding boardOk
-  board-fits r e n =
-      let h : boardOk b ≡ true = sym e ∙ not-false r n in
-      let few : leb (b .entries) maxEntries ≡ true = search parts in
+  pub sizes-fit : (r : Bool) → r ≡ sizesOk w h n → not r ≡ false → SizesFit
+  unfolding sizesOk
+  sizes-fit r e f =
+      let y : sizesOk w h n ≡ true = sym e ∙ not-false r f in
+      let few : leb n maxEntries ≡ true = search parts in
       record {
-        yes = h;
-        few = leb-true (b .entries) maxEntries few;
-        small = pen-small (penIn b) (search parts);
-        sized = foil-sized (b .width) (b .height) (search parts) (search parts);
+        yes = y;
+        few = leb-true n maxEntries few;
+        sized = foil-sized w h (search parts) (search parts);
       }
 
   -- what the tests before that of the strips have shown
   pub record Shown : Type 0 where
     pub long : tableSize ≤ length t
-    pub board : BoardFits
-    pub entries : all (entryOk (b .width) (b .height)) (map (entryAt t) (range 0 (b .entries))) ≡ true
-    pub rest : Zeros t (b .entries * 5) tableSize
-    pub uncrossed : noCrossing (patchMargin (penIn b)) (map (entryAt t) (range 0 (b .entries))) ≡ true
+    pub sizes : SizesFit
+    pub entries : all (entryOk w h) es ≡ true
+    pub rest : Zeros t (n * 5) tableSize
 
-  abbrev l : Layout
-  l = layoutOf (b .width) (b .height) (penIn b) (b .entries) t
+  pub shown : tableSize ≤ length t → SizesFit → (r : Bool) → r ≡ all (entryOk w h) es → not r ≡ false
+      → (q : Bool) → Told (Zeros t (n * 5) tableSize) q → not q ≡ false → Shown
+  shown len fits r e f true z k = record { long = len; sizes = fits; entries = sym e ∙ not-false r f; rest = z }
+  shown len fits r e f false z k = clash refl k
 
-  all-kept : Shown → length (stripsOf l) ≤ maxStrips → layoutOk l ≡ true
-  unfolding layoutOf tooFine boardOk
-  all-kept h f =
-      let k = h .board .yes in
-      to-ok l
+  all-kept : Shown → length (stripsBy rule w h es) ≤ maxStrips → keepsAsked (ruled rule) w h es ≡ true
+  unfolding sizesOk ruled
+  all-kept k f =
+      let y = k .sizes .yes in
+      to-asked (ruled rule) w h es
       (record {
         width = search parts;
         height = search parts;
-        pen = search parts;
-        entries = h .entries;
-        long =
-            le-leb (length (map (entryAt t) (range 0 (b .entries)))) maxEntries
-            (omega (arith, length-read t (b .entries), h .board .few));
-        uncrossed = h .uncrossed;
-        fine = le-ltb maxStrips (length (stripsOf l)) f;
+        allowed = refl;
+        entries = k .entries;
+        long = le-leb (length es) maxEntries (omega (arith, length-read t n, k .sizes .few));
+        besides = refl;
+        fine = le-ltb maxStrips (length (stripsBy rule w h es)) f;
       })
 
-  table-right : Shown → t ≡ written tableSize (each entryNumbers (map (entryAt t) (range 0 (b .entries)))) t
-  table-right h =
-      let f = h .board .few in
-      zeros-written (b .entries * 5) tableSize t (omega arith) (h .long) (h .rest .zero-at)
-      ∙ ap (λ (ns : List ℕ). written tableSize ns t) (sym (read-numbers t (b .entries) (omega (arith, h .long))))
+  table-right : Shown → t ≡ written tableSize (each entryNumbers es) t
+  table-right k =
+      let f = k .sizes .few in
+      zeros-written (n * 5) tableSize t (omega arith) (k .long) (k .rest .zero-at)
+      ∙ ap (λ (ns : List ℕ). written tableSize ns t) (sym (read-numbers t n (omega (arith, k .long))))
 
-  pub shown : tableSize ≤ length t → BoardFits
-      → (r : Bool) → r ≡ all (entryOk (b .width) (b .height)) (map (entryAt t) (range 0 (b .entries))) → not r ≡ false
-      → (q : Bool) → Told (Zeros t (b .entries * 5) tableSize) q → not q ≡ false
-      → (d : ℕ) → d ≡ patchMargin (penIn b)
-      → (c : Bool) → c ≡ noCrossing d (map (entryAt t) (range 0 (b .entries))) → not c ≡ false → Shown
-  shown len fits r e n true z k d is c f g =
-      record {
-        long = len;
-        board = fits;
-        entries = sym e ∙ not-false r n;
-        rest = z;
-        uncrossed =
-            ap (λ (x : ℕ). noCrossing x (map (entryAt t) (range 0 (b .entries)))) (sym is) ∙ sym f ∙ not-false c g;
-      }
-  shown len fits r e n false z k d is c f g = clash refl k
-
-  pub all-right : (r : Bool) → Shown → Told (StripsRight l (b .strips) s) r → r ≡ sound m
-  unfolding held store layoutOf
-  all-right true h k = sym (to-sound m (all-kept h (k .few)) (k .counted) (table-right h) (k .listed))
-  all-right false h k =
-      not-sound (λ z. k
+  pub all-right : (r : Bool) → Shown → Told (StripsRight (stripsBy rule w h es) count s) r → r ≡ right
+  unfolding ruled
+  all-right true k z =
+      sym (to-sound-as (ruled rule) w h n count t s (all-kept k (z .few)) (z .counted) (table-right k) (z .listed))
+  all-right false k z =
+      not-right (λ q. z
       (record {
-        few = fine-few l (of-ok (held m) (z .kept) .fine);
-        counted = z .counted;
-        listed = z .strips-are;
+        few = ltb-false maxStrips (length (stripsBy rule w h es)) (of-asked (ruled rule) w h es (q .kept) .fine);
+        counted = q .counted;
+        listed = q .strips-are;
       }))
+
+  -- where it is passed, the table has the entries, and they are few
+  pub right-fits : (r : Bool) → r ≡ right → not r ≡ false → (n ≤ maxEntries) × (n * 5 ≤ length t)
+  right-fits r e f =
+      let k = of-sound-as (ruled rule) w h n count t s (sym e ∙ not-false r f) in
+      (k .few, omega (arith, k .few, as-long (ruled rule) w h n count t s k .0))
+
+-- ---- with what is asked besides
+
+split : (x a e l b f g : Bool)
+    → (x && a && e && l && b && f && g) ≡ (a && (x && true && e && l && true && f && g) && b)
+split x true e l true f g = sym (and-true (x && true && e && l && true && f && g))
+split x true e l false f g =
+    rw (and-false (x && true && e && l), and-false (x && true && e && l && true && f && g)) refl
+split x false e l b f g = rw (and-false x) refl
+
+-- the check is that by the rule, and of what is asked besides
+pub asked-parts : (a : Asked) (w h n count : ℕ) (t s : List ℕ)
+    → soundBy a w h n count t s
+    ≡ (a .allowed && soundBy (ruled (a .rule)) w h n count t s && a .besides (map (entryAt t) (range 0 n)))
+unfolding soundBy keepsAsked ruled
+asked-parts a w h n count t s =
+    let es : List Entry = map (entryAt t) (range 0 n) in
+    split (sizeOk w && sizeOk h) (a .allowed) (all (entryOk w h) es) (leb (length es) maxEntries) (a .besides es)
+    (not (ltb maxStrips (length (stripsBy (a .rule) w h es))))
+    (listedIn es (stripsBy (a .rule) w h es) count t s)
+
+-- today's check, by the pen
+module _ (b : Board) (t s : List ℕ) where
+  abbrev entries : List Entry
+  entries = map (entryAt t) (range 0 (b .entries))
+
+  -- the check by a rule
+  abbrev by : Rule → Bool
+  by rule = soundBy (ruled rule) (b .width) (b .height) (b .entries) (b .strips) t s
+
+  today-parts : sound (lent b t s)
+      ≡ (penOk (penIn b) && by (penRule (penIn b)) && noCrossing (patchMargin (penIn b)) entries)
+  unfolding sound today
+  today-parts = asked-parts (today (penIn b)) (b .width) (b .height) (b .entries) (b .strips) t s
+
+  pub bad-pen : (r : Bool) → r ≡ penOk (penIn b) → not r ≡ true → false ≡ sound (lent b t s)
+  bad-pen r e f = sym (today-parts ∙ simp (sym e ∙ not-true r f))
+
+  module _ (allowed : penOk (penIn b) ≡ true) (rule : Rule) (is : rule ≡ penRule (penIn b)) (r : Bool)
+      (found : r ≡ by rule) where
+    by-is : r ≡ by (penRule (penIn b))
+    by-is = found ∙ ap by is
+
+    pub rule-broken : not r ≡ true → false ≡ sound (lent b t s)
+    rule-broken f = sym (today-parts ∙ simp (allowed, sym by-is ∙ not-true r f))
+
+    pub rule-kept : not r ≡ false → (q : Bool) → q ≡ noCrossing (rule .patch) entries → q ≡ sound (lent b t s)
+    unfolding patchMargin
+    rule-kept f q e =
+        e ∙ ap (λ (x : Rule). noCrossing (x .patch) entries) is
+        ∙ sym (today-parts ∙ simp (allowed, sym by-is ∙ not-false r f))
+
+-- document 01's check, by the reach
+module _ (b : OldBoard) (t s : List ℕ) where
+  old-parts : oldSound (old b t s)
+      ≡ (reachOk (b .reach)
+      && soundBy (ruled (reachRule (b .reach))) (b .width) (b .height) (b .entries) (b .strips) t s && true)
+  unfolding oldSound formerly
+  old-parts = asked-parts (formerly (b .reach)) (b .width) (b .height) (b .entries) (b .strips) t s
+
+  pub bad-reach : (r : Bool) → r ≡ reachOk (b .reach) → not r ≡ true → false ≡ oldSound (old b t s)
+  bad-reach r e f = sym (old-parts ∙ simp (sym e ∙ not-true r f))
+
+  pub old-rule : (r : Bool) → r ≡ reachOk (b .reach) → not r ≡ false → (q : Bool)
+      → q ≡ soundBy (ruled (reachRule (b .reach))) (b .width) (b .height) (b .entries) (b .strips) t s
+      → q ≡ oldSound (old b t s)
+  old-rule r e f q is = is ∙ sym (old-parts ∙ simp (sym e ∙ not-false r f, and-true))

@@ -1,4 +1,5 @@
-// The state check: whether the record, the table and the strips keep document 01's rules (13).
+// The state check: whether the record, the table and the strips keep the rules (13), today's or those of
+// document 01.
 mod crossing;
 mod limits;
 
@@ -9,6 +10,8 @@ pub use crossing::under_patch;
 use foil_spec::Board;
 use foil_spec::Entry;
 use foil_spec::MAX_ENTRIES;
+use foil_spec::OldBoard;
+use foil_spec::Rule;
 use foil_spec::STRIPS_SIZE;
 use foil_spec::TABLE_SIZE;
 use foil_spec::entry_at;
@@ -20,24 +23,83 @@ pub use limits::size_ok;
 use strips::Built;
 use strips::rebuild;
 use zones::BOXES_SIZE;
-use zones::pen_zones;
+use zones::pen_rule;
+use zones::zones;
 ghost use mathlib.Core.Path.{_≡_};
 ghost use Prim.Native.Nat.{_*_, _≤_};
 ghost use mathlib.Core.List.{map};
 ghost use lib.ListN.{length, take};
 ghost use Rattle.foil_spec.specs.Lists.{range, all};
 ghost use Rattle.foil_spec.specs.Limits.{stripsSize};
-ghost use Rattle.foil_spec.specs.Foil.{entryOk, penRule};
-ghost use Rattle.foil_spec.specs.Ledger.{stripsOf};
-ghost use Rattle.foil_spec.specs.Lent.{lent, entryAt, layoutOf, penIn, sound};
-ghost use Rattle.zones.specs.Table.{Table};
+ghost use Rattle.foil_spec.specs.Foil.{entryOk};
+ghost use Rattle.foil_spec.specs.Sound.{stripsBy, soundBy};
+ghost use Rattle.foil_spec.specs.Carrying.{old, oldSound};
+ghost use Rattle.foil_spec.specs.Lent.{lent, entryAt, sound};
+ghost use Rattle.zones.specs.Table.{Small, Table};
 ghost use Rattle.strips.specs.Built.{Rebuilt};
 ghost use Rattle.strips.specs.Told.{Told};
-ghost use Rattle.state.specs.Tests.{Zeros, boardOk, StripsRight};
+ghost use Rattle.state.specs.Tests.{Zeros, sizesOk, ruled, StripsRight};
 
-// Whether the record, the table and the strips keep document 01's rules, whatever they hold.
+// Whether the record, the table and the strips keep today's rules, whatever they hold.
 pub fn is_sound(table: &[u16], strips: &[u16], board: Board) -> bool
     ensures { λ r. ⌜ r ≡ sound (lent board (now (table .entry)) (now (strips .entry))) ⌝ }
+{
+    if !limits::pen_ok(board.half, board.gap) {
+        return false;
+    }
+    let rule = pen_rule(board.half, board.gap);
+    let n = board.entries;
+    if !keeps_rule(
+        table,
+        strips,
+        rule,
+        board.width,
+        board.height,
+        n,
+        board.strips,
+    ) {
+        return false;
+    }
+    no_crossing(table, n, rule.patch)
+}
+
+// Whether a record, a table and strips of document 01 keep its rules, whatever they hold.
+pub fn old_sound(table: &[u16], strips: &[u16], board: OldBoard) -> bool
+    ensures { λ r. ⌜ r ≡ oldSound (old board (now (table .entry)) (now (strips .entry))) ⌝ }
+{
+    let d = board.reach;
+    if !limits::reach_ok(d) {
+        return false;
+    }
+    let rule = Rule {
+        patch: d,
+        leg: d,
+        edge: 0,
+    };
+    keeps_rule(
+        table,
+        strips,
+        rule,
+        board.width,
+        board.height,
+        board.entries,
+        board.strips,
+    )
+}
+
+// Whether a record of w by h, n entries and so many strips, the table and the strips keep the rules of
+// the foil and the strips, where points are blocked by this rule.
+fn keeps_rule(
+    table: &[u16],
+    strips: &[u16],
+    rule: Rule,
+    w: u16,
+    h: u16,
+    n: usize,
+    count: usize,
+) -> bool
+    requires { ⌜ Small rule ⌝ }
+    ensures { λ r. ⌜ r ≡ soundBy (ruled rule) w h n count (now (table .entry)) (now (strips .entry)) ⌝ }
 {
     if table.len() < TABLE_SIZE {
         return false;
@@ -45,67 +107,68 @@ pub fn is_sound(table: &[u16], strips: &[u16], board: Board) -> bool
     if strips.len() < STRIPS_SIZE {
         return false;
     }
-    if !board_ok(board) {
+    if !sizes_ok(w, h, n) {
         return false;
     }
-    let n = board.entries;
-    if !entries_ok(table, n, board.width, board.height) {
+    if !entries_ok(table, n, w, h) {
         return false;
     }
     if !zeros(table, n * 5, TABLE_SIZE) {
         return false;
     }
-    if !no_crossing(table, n, patch_margin(board)) {
-        return false;
-    }
-    strips_ok(table, strips, board)
+    strips_ok(table, strips, rule, w, h, n, count)
 }
 
-// Whether the record's width, height, pen and number of entries are in their limits.
-fn board_ok(board: Board) -> bool
-    ensures { λ r. ⌜ r ≡ boardOk board ⌝ }
+// Whether width, height and number of entries are in their limits.
+fn sizes_ok(w: u16, h: u16, n: usize) -> bool
+    ensures { λ r. ⌜ r ≡ sizesOk w h n ⌝ }
 {
-    if !limits::size_ok(board.width) {
+    if !limits::size_ok(w) {
         return false;
     }
-    if !limits::size_ok(board.height) {
+    if !limits::size_ok(h) {
         return false;
     }
-    if !limits::pen_ok(board.half, board.gap) {
-        return false;
-    }
-    board.entries <= MAX_ENTRIES
+    n <= MAX_ENTRIES
 }
 
-// Whether the strips are those of the table, as many as the record says.
-fn strips_ok(table: &[u16], strips: &[u16], board: Board) -> bool
-    requires { ⌜ Table (now table) (board .entries) (penRule (penIn board)) (board .width) (board .height) ⌝ }
+// Whether the strips are those of the table's first n entries, by the rule, and so many.
+fn strips_ok(
+    table: &[u16],
+    strips: &[u16],
+    rule: Rule,
+    w: u16,
+    h: u16,
+    n: usize,
+    count: usize,
+) -> bool
+    requires { ⌜ Table (now table) n rule w h ⌝ }
     requires { ⌜ stripsSize ≤ length (now strips) ⌝ }
-    ensures { λ r. ⌜ Told (StripsRight (layoutOf (board .width) (board .height) (penIn board)
-        (board .entries) (now (table .entry))) (board .strips) (now (strips .entry))) r ⌝ }
+    ensures { λ r. ⌜ Told (StripsRight (stripsBy rule w h (map (entryAt (now (table .entry))) (range 0 n)))
+        count (now (strips .entry))) r ⌝ }
 {
     let mut out = [0u16; STRIPS_SIZE];
-    let built = strips_of(&mut out, table, board.entries, board);
-    let Built::Strips(count) = built else {
+    let built = strips_of(&mut out, table, n, rule, w, h);
+    let Built::Strips(found) = built else {
         return false;
     };
-    if count != board.strips {
+    if found != count {
         return false;
     }
     same_front(&out, strips, STRIPS_SIZE)
 }
 
-// Writes the strips of the table's first n entries, on a board of the record's size and pen, to out,
-// and zeros after them up to 4,096 places. Where there are too many, what out holds is undecided.
-pub fn strips_of(out: &mut [u16], table: &[u16], n: usize, board: Board) -> Built
-    requires { ⌜ Table (now table) n (penRule (penIn board)) (board .width) (board .height) ⌝ }
+// Writes the strips that the table's first n entries leave of a foil of w by h, by the rule, to out, and
+// zeros after them up to 4,096 places. Where there are too many, what out holds is undecided.
+pub fn strips_of(out: &mut [u16], table: &[u16], n: usize, rule: Rule, w: u16, h: u16) -> Built
+    requires { ⌜ Table (now table) n rule w h ⌝ }
     requires { ⌜ stripsSize ≤ length (now out) ⌝ }
     ensures { λ r. ⌜ Rebuilt (now (out .entry)) (now (out .exit))
-        (stripsOf (layoutOf (board .width) (board .height) (penIn board) n (now (table .entry)))) r ⌝ }
+        (stripsBy rule w h (map (entryAt (now (table .entry))) (range 0 n))) r ⌝ }
 {
     let mut boxes = [0u16; BOXES_SIZE];
-    let count = pen_zones(&mut boxes, table, n, board);
-    rebuild(out, &boxes, count, board.width, board.height)
+    let count = zones(&mut boxes, table, n, rule, w, h);
+    rebuild(out, &boxes, count, w, h)
 }
 
 // Whether the entry is one that a table of a foil of w by h may hold.

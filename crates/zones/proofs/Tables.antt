@@ -9,7 +9,7 @@ use lib.ListN.{length}
 use borrow.Author.Tests.{leb-true, ltb-true}
 use Rattle.foil_spec.specs.Lists.{range, all}
 use Rattle.foil_spec.specs.Limits.{maxEntries}
-use Rattle.foil_spec.specs.Foil.{Entry, Pen, Rule, sizeOk, penOk, boxOk, entryOk, penRule}
+use Rattle.foil_spec.specs.Foil.{Entry, Pen, Rule, sizeOk, reachOk, penOk, boxOk, entryOk, penRule, reachRule}
 use Rattle.foil_spec.specs.Lent.{entryAt}
 use Rattle.list_laws.proofs.Tests.{and-l, and-r, parts}
 use Rattle.list_laws.proofs.Members.{at-place}
@@ -62,6 +62,13 @@ pen-small p ok =
     let half = leb-true (p .half) 7 a in
     let gap = leb-true (p .gap) 15 b in
     record { patch = omega (arith, half, gap); leg = omega (arith, half, gap); edge = omega (arith, half, gap) }
+
+-- document 01's rule of a reach within its limits
+pub reach-small : (d : ℕ) → reachOk d ≡ true → Small (reachRule d)
+unfolding reachOk reachRule
+reach-small d ok =
+    let few = leb-true d 15 ok in
+    record { patch = omega (arith, few); leg = omega (arith, few); edge = omega arith }
 
 -- a foil within its limits
 pub foil-sized : (w h : ℕ) → sizeOk w ≡ true → sizeOk h ≡ true → Sized w h

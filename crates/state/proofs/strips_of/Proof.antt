@@ -1,18 +1,20 @@
--- `state::strips_of` meets its contract: the strips that the zones leave are those of the layout.
+-- `state::strips_of` meets its contract: the strips that the zones leave are those by the rule.
+use mathlib.Core.Path.{ap}
+use Rattle.foil_spec.specs.Strips.{strips}
+use Rattle.foil_spec.specs.Sound.{stripsBy}
 use borrow.Author.Needs.{needs}
-use Rattle.zones.proofs.Zoning.{zoned-strips}
 use Rattle.state.proofs.strips_of.Statement.{statement}
 use Rattle.state.proofs.strips_of.Tie as tie
 
 -- back to the zones
-abbrev atZones : tie.After-rebuild → tie.After-pen-zones
+abbrev atZones : tie.After-rebuild → tie.After-zones
 atZones c = c .before .before .before .before
 
-slice-aggregate-pen-zones : tie.Need-slice-aggregate-pen-zones
-slice-aggregate-pen-zones c = search needs
+slice-aggregate-zones : tie.Need-slice-aggregate-zones
+slice-aggregate-zones c = search needs
 
-pen-zones-requires : tie.Need-pen-zones-requires
-pen-zones-requires c κs = search needs
+zones-requires : tie.Need-zones-requires
+zones-requires c κs = search needs
 
 slice-aggregate-rebuild : tie.Need-slice-aggregate-rebuild
 slice-aggregate-rebuild c = search needs
@@ -24,11 +26,12 @@ same-length : tie.Need-same-length
 same-length c = search needs
 
 returns : tie.Need-returns
+unfolding stripsBy
 returns c =
     let r = c .before .before in
-    rw (zoned-strips _ _ _ _ _ _ _ (atZones r .pen-zones .ensures)) at (r .rebuild .ensures)
+    rw (atZones r .zones .ensures .0 .same) at (r .rebuild .ensures)
 
 pub strips-of-spec : {M : Type 1} → statement M
 strips-of-spec =
     tie.close
-    (tie.spec slice-aggregate-pen-zones pen-zones-requires slice-aggregate-rebuild rebuild-requires same-length returns)
+    (tie.spec slice-aggregate-zones zones-requires slice-aggregate-rebuild rebuild-requires same-length returns)

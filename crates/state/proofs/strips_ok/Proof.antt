@@ -1,4 +1,4 @@
--- `state::strips_ok` meets its contract: the layout's strips are built anew and compared.
+-- `state::strips_ok` meets its contract: the strips by the rule are built anew and compared.
 use borrow.Author.Needs.{needs}
 use Rattle.state.proofs.Checking.{too-many, miscounted, compared}
 use Rattle.state.proofs.strips_ok.Statement.{statement}
@@ -26,7 +26,7 @@ returns c =
 
 returns-2 : tie.Need-returns-2
 returns-2 c =
-    let known = c .before .before .before in
+    let known = c .before .before in
     let matched = known .before in
     let r = matched .before .before in
     let q = rw (known .built .given .1) at (r .strips-of .ensures) in
@@ -41,7 +41,7 @@ same-front-requires c κs = search needs
 returns-3 : tie.Need-returns-3
 returns-3 c =
     let counted = c .before .before in
-    let known = counted .before .before .before in
+    let known = counted .before .before in
     let matched = known .before in
     let r = matched .before .before in
     let q = rw (known .built .given .1) at (r .strips-of .ensures) in
