@@ -6,20 +6,21 @@ use native.Mathlib.Decide.{ℕ-discrete}
 use mathlib.Core.Path.{_≡_, refl, sym, ap, _∙_, subst}
 use mathlib.Core.Bool.{Bool, true, false, not, or-true}
 use mathlib.Core.List.{List, [], _∷_}
-use mathlib.Core.Logic.{by-cases}
+use mathlib.Core.Logic.{by-cases, ⊎-elim}
 use mathlib.Core.Option.{Option, none, some, Option·getD}
-use lib.Dec.{leb}
+use lib.Dec.{leb, ltb}
 use lib.ListN.{length}
-use borrow.Author.Tests.{eq-eqb, ne-eqb, ltb-false, leb-true}
+use borrow.Author.Tests.{eq-eqb, ne-eqb, ltb-true, ltb-false, leb-true}
 use Rattle.foil_spec.specs.Lists.{all}
-use Rattle.foil_spec.specs.Limits.{maxEntries, maxStrips, cornerPlaces}
+use Rattle.foil_spec.specs.Limits.{maxEntries, maxStrips, reportPlaces, cornerPlaces}
 use Rattle.foil_spec.specs.Foil.{Point, Layout, noFoil}
 use Rattle.foil_spec.specs.Strips.{stripsFrom}
 use Rattle.foil_spec.specs.Paths.{bends}
 use Rattle.foil_spec.specs.Nets.{inUse, netsOf}
 use Rattle.foil_spec.specs.Slip.{slipOf}
 use Rattle.foil_spec.specs.Ledger.{stripsOf, pathOf, cornersOf, without, joinOf, joinCorners, Room, short, cornerRoom}
-use Rattle.foil_spec.specs.Ledger.{tooFine, Step, join, Answer, refused}
+use Rattle.foil_spec.specs.Carrying.{Old, oldShort}
+use Rattle.foil_spec.specs.Ledger.{tooFine, Step, join, carry, Answer, refused}
 use Rattle.foil_spec.specs.Ledger.{next, first, reads, refusals, afterLent, After, refusalOf}
 use Rattle.foil_spec.specs.Lent.{Lent, store, held, layoutOk, sound, stepOn}
 use Rattle.foil_spec.specs.Job.{recordChecks}
@@ -27,9 +28,9 @@ use Rattle.foil_spec.specs.Ohms.{ohmsRefusals}
 use Rattle.foil_spec.specs.declared.Ink.{Ink}
 use Rattle.foil_spec.specs.Calls.{Reply, wholeRefusals}
 use Rattle.foil_spec.specs.Sequence.{Lending, roomFor, told, Left, leaves, runLent, runLedger}
-use Rattle.list_laws.proofs.Tests.{clash, both, not-ff, parts}
+use Rattle.list_laws.proofs.Tests.{clash, both, not-t, not-ff, parts}
 use Rattle.list_laws.proofs.Members.{of-all}
-use Rattle.ledger_laws.specs.Line.{but, ownNumbers, Lacks, corners, joint, bytes, page}
+use Rattle.ledger_laws.specs.Line.{but, ownNumbers, Lacks, corners, joint, bytes, page, LacksOld}
 use Rattle.ledger_laws.specs.Numbers.{stepsIn, numbersOf, among}
 use Rattle.ledger_laws.proofs.Refusals.{first-passes, broken-refused, own-refused, unrefused-own}
 use Rattle.ledger_laws.proofs.Rules.{of-ok}
@@ -44,7 +45,7 @@ use Rattle.sheet_laws.specs.Alone.{foilOf}
 use Rattle.sheet_laws.proofs.Alone.{foils-alone}
 use Rattle.slip_laws.proofs.Pages.{slip-small}
 use Rattle.bend_bound.specs.Bound.{bendBound}
-use Rattle.bend_bound.specs.Room.{TrackCorners, EnoughCorners, noJoin, lentEnough, NeverShort, SheetNeverShort}
+use Rattle.bend_bound.specs.Room.{TrackCorners, EnoughCorners, asksFew, lentEnough, NeverShort, SheetNeverShort}
 use Rattle.bend_bound.proofs.Bound.{track-bends, join-bound}
 
 -- ---- corners
@@ -106,57 +107,70 @@ small l (unbegun e) = subst Small (sym e) no-foil-small
 
 -- ---- one step
 
--- if the step is a join, the foil without its net is not too fine
-abbrev Liftable : Step → Layout → Type 0
-Liftable s l = (net : ℕ) (S : Point) → s ≡ join net S → tooFine (without net l) ≡ false
+-- if the step is a join, the foil without its net is not too fine; the old lists of a carry are long enough
+record Lendable (s : Step) (l : Layout) : Type 0 where
+  liftable : (net : ℕ) (S : Point) → s ≡ join net S → tooFine (without net l) ≡ false
+  long-olds : (o : Old) → s ≡ carry o → oldShort o ≡ false
 
-no-join : (s : Step) (l : Layout) → noJoin s ≡ true → Liftable s l
-unfolding noJoin
-no-join s l h net S e = clash h (ap noJoin e)
+asks-few : (s : Step) (l : Layout) → asksFew s ≡ true → Lendable s l
+unfolding asksFew
+asks-few s l h =
+    record {
+      liftable = λ net S e. clash h (ap asksFew e);
+      long-olds = λ o e. not-t (oldShort o) (sym (ap asksFew e) ∙ h);
+    }
 
 module _ (r : Room) (room : cornerPlaces ≤ cornerRoom r) where
   -- on a foil that is fine nothing lacks output
-  none-lacks : (s : Step) (l : Layout) → Fine l → Liftable s l → Lacks s r l → ⊥
+  none-lacks : (s : Step) (l : Layout) → Fine l → Lendable s l → Lacks s r l → ⊥
   unfolding cornerRoom
   none-lacks s l fine lift (corners S T more) = omega (arith, more, corners-few l S T (small l fine .strips))
-  none-lacks s l fine lift (joint net S e more) = omega (arith, more, joints-few l net S (lift net S e))
+  none-lacks s l fine lift (joint net S e more) = omega (arith, more, joints-few l net S (lift .liftable net S e))
   none-lacks s l fine lift (bytes more) = omega (arith, room, more, file-small l (small l fine .entries))
   none-lacks s l fine lift (page more) = omega (arith, room, more, small l fine .page)
 
-  -- a step has a 12 of its own only on a foil that is not fine, which it reads, or as a join
-  own-12 : (s : Step) (l : Layout) → first (refusals s r l) ≡ some 12
-      → (reads s ≡ true) × (Fine l → Liftable s l → ⊥)
-  own-12 s l e = let (read, lacks) = line s .output r l e in (read, λ fine lift. none-lacks s l fine lift lacks)
+  none-old : (s : Step) (l : Layout) → Lendable s l → LacksOld s r → ⊥
+  unfolding cornerRoom
+  none-old s l lift k =
+      let short-report : ltb (r .output) reportPlaces ≡ true = rw (lift .long-olds (k .from) (k .is)) at (k .lacks) in
+      omega (arith, room, ltb-true (r .output) reportPlaces short-report)
+
+  -- a step has a 12 of its own only on a foil that is not fine, which it reads, or as a join or a carry
+  own-12 : (s : Step) (l : Layout) → Lendable s l → first (refusals s r l) ≡ some 12
+      → (reads s ≡ true) × (Fine l → ⊥)
+  own-12 s l lift e =
+      ⊎-elim (λ (k : (reads s ≡ true) × Lacks s r l). (k .0, λ fine. none-lacks s l fine lift (k .1)))
+      (λ (k : LacksOld s r). absurd (none-old s l lift k)) (line s .output r l e)
 
   module _ (long : short r ≡ false) where
     -- on lists that hold anything, where those that keep the rules are fine
-    not-12 : (s : Step) (broken : Bool) (l : Layout) → (broken ≡ false → Fine l) → Liftable s l
+    not-12 : (s : Step) (broken : Bool) (l : Layout) → (broken ≡ false → Fine l) → Lendable s l
         → refusalOf r broken s l ≡ some 12 → ⊥
-    not-12 s false l fine lift e = own-12 s l (sym (own-refused r s l false long refl) ∙ e) .1 (fine refl) lift
+    not-12 s false l fine lift e = own-12 s l lift (sym (own-refused r s l false long refl) ∙ e) .1 (fine refl)
     not-12 s true l fine lift e =
         both (reads s)
         (λ t. let z : _≡_ {A = ℕ} 13 12 = cc (broken-refused r s l long t) in omega arith)
-        (λ t. clash (own-12 s l (sym (own-refused r s l true long t) ∙ e) .0) t)
+        (λ t. clash (own-12 s l lift (sym (own-refused r s l true long t) ∙ e) .0) t)
 
     -- on the ledger, a number that the step is refused by passes a test that its own numbers pass
-    pub step-passes : (p : ℕ → Bool) (s : Step) → noJoin s ≡ true → all p (ownNumbers s) ≡ true → (l : Layout)
+    pub step-passes : (p : ℕ → Bool) (s : Step) → asksFew s ≡ true → all p (ownNumbers s) ≡ true → (l : Layout)
         → Fine l → (n : ℕ) → refusalOf r false s l ≡ some n → p n ≡ true
     unfolding refusalOf
     step-passes p s j h l fine =
         lent-passes p r (refusals s r l) (λ t. clash t long)
-        (own-passes p s r l h (λ e. absurd (own-12 s l e .1 fine (no-join s l j))))
+        (own-passes p s r l h (λ e. absurd (own-12 s l (asks-few s l j) e .1 fine)))
 
-    step-but-12 : (s : Step) → noJoin s ≡ true → (l : Layout) → Fine l → (n : ℕ) → refusalOf r false s l ≡ some n
+    step-but-12 : (s : Step) → asksFew s ≡ true → (l : Layout) → Fine l → (n : ℕ) → refusalOf r false s l ≡ some n
         → but 12 n ≡ true
     unfolding but
     step-but-12 s j l fine n e =
         by-cases (ℕ-discrete 12 n)
-        (λ q. absurd (not-12 s false l (λ _. fine) (no-join s l j) (e ∙ ap {A = ℕ} {B = Option ℕ} some (sym q))))
+        (λ q. absurd (not-12 s false l (λ _. fine) (asks-few s l j) (e ∙ ap {A = ℕ} {B = Option ℕ} some (sym q))))
         (λ q. ap not (ne-eqb 12 n q))
 
 pub enough-corners : EnoughCorners
 unfolding stepOn
-enough-corners r s m room lift = (only-short, λ e. ap (λ (a : After Answer Lent). a .answer) (step-short r s m e))
+enough-corners r s m room lift olds = (only-short, λ e. ap (λ (a : After Answer Lent). a .answer) (step-short r s m e))
   where
     kept : not (sound m) ≡ false → Fine (held m)
     kept e = begun (of-sound m (not-ff (sound m) e) .kept)
@@ -166,7 +180,8 @@ enough-corners r s m room lift = (only-short, λ e. ap (λ (a : After Answer Len
         both (short r) (λ e. e)
         (λ e.
         absurd
-        (not-12 r room e s (not (sound m)) (held m) kept lift (settled-refused _ s (held m) _ m 12 (omega arith) h)))
+        (not-12 r room e s (not (sound m)) (held m) kept
+        (record { liftable = lift; long-olds = olds }) (settled-refused _ s (held m) _ m 12 (omega arith) h)))
 
 -- ---- a list of calls
 
@@ -201,13 +216,13 @@ fine-passes : (m : Lent) (c : Lending) → lentEnough m c ≡ true → Passes (b
 unfolding lentEnough told but
 fine-passes m c e =
     let r : Room = roomFor c m in
-    let others : all noJoin (stepsIn (c .call)) ≡ true = search parts in
+    let others : all asksFew (stepsIn (c .call)) ≡ true = search parts in
     let long : short r ≡ false = search parts in
     let places : leb cornerPlaces (cornerRoom r) ≡ true = search parts in
     let room : cornerPlaces ≤ cornerRoom r = leb-true cornerPlaces (cornerRoom r) places in
     record {
       answers =
-          call-passes (but 12) refl noJoin Fine r (step-but-12 r room long) (fine-kept r) (file-but-12 r long)
+          call-passes (but 12) refl asksFew Fine r (step-but-12 r room long) (fine-kept r) (file-but-12 r long)
           (ohms-but-12 r long) (c .call) others;
       keeps = call-keeps Fine r (fine-kept r) (c .call);
     }

@@ -13,6 +13,8 @@ use Rattle.foil_spec.specs.Limits.{cornerPlaces, sheetFoils}
 use Rattle.foil_spec.specs.Foil.{Point, Layout}
 use Rattle.foil_spec.specs.Ledger.{stripsOf, pathOf, without, Room, short, cornerRoom, tooFine, refused}
 use Rattle.foil_spec.specs.Ledger.{Step, newFoil, draw, lay, lift, lookUp, putLeg, save, find, book, slip, join}
+use Rattle.foil_spec.specs.Ledger.{carry}
+use Rattle.foil_spec.specs.Carrying.{Old, oldShort}
 use Rattle.foil_spec.specs.Lent.{Lent, held, stepOn}
 use Rattle.foil_spec.specs.Sequence.{Lending, Begins, roomFor, runLent, told}
 use Rattle.foil_spec.specs.Sheet.{Sheet, SheetLending}
@@ -25,32 +27,35 @@ TrackCorners =
     (l : Layout) (S T : Point) (cs : List Point) → pathOf l S T ≡ some cs → length cs ≤ max 3 (2 * length (stripsOf l))
 
 -- a step that has two corner places for each of 4,096 strips, on lists that hold anything, answers 12 exactly when the
--- table or the strip list is too short; a join, if the foil without its net has so few strips
+-- table or the strip list is too short; a join, if the foil without its net has so few strips; a carry, if its old
+-- lists are long enough
 abbrev pub EnoughCorners : Type 0
 EnoughCorners =
     (r : Room) (s : Step) (m : Lent) → cornerPlaces ≤ cornerRoom r
     → ((net : ℕ) (S : Point) → s ≡ join net S → tooFine (without net (held m)) ≡ false)
+    → ((o : Old) → s ≡ carry o → oldShort o ≡ false)
     → (stepOn r s m .answer ≡ refused 12) ↔ (short r ≡ true)
 
--- the step is no join
-unfoldable pub noJoin : Step → Bool
-noJoin (newFoil W H c) = true
-noJoin (draw x0 y0 x1 y1) = true
-noJoin (lay net S T) = true
-noJoin (lift net) = true
-noJoin (lookUp p) = true
-noJoin (putLeg e) = true
-noJoin save = true
-noJoin (find S T) = true
-noJoin (book net ks) = true
-noJoin slip = true
-noJoin (join net S) = false
+-- so many corner places are enough for the step: it is no join, and the old lists of a carry are long enough
+unfoldable pub asksFew : Step → Bool
+asksFew (newFoil W H c) = true
+asksFew (draw x0 y0 x1 y1) = true
+asksFew (lay net S T) = true
+asksFew (lift net) = true
+asksFew (lookUp p) = true
+asksFew (putLeg e) = true
+asksFew save = true
+asksFew (find S T) = true
+asksFew (book net ks) = true
+asksFew slip = true
+asksFew (join net S) = false
+asksFew (carry o) = not (oldShort o)
 
--- the call is no join, and is lent a table and strips that are long enough and so many corner places; m is what was
+-- the call is no join, and is lent tables and strips that are long enough and so many corner places; m is what was
 -- lent at first
 unfoldable pub lentEnough : Lent → Lending → Bool
 lentEnough m c =
-    all noJoin (stepsIn (c .call)) && not (short (roomFor c m)) && leb cornerPlaces (cornerRoom (roomFor c m))
+    all asksFew (stepsIn (c .call)) && not (short (roomFor c m)) && leb cornerPlaces (cornerRoom (roomFor c m))
 
 -- from a call that begins a foil on, calls that are no joins and all lent enough never answer 12, by themselves or in a
 -- record

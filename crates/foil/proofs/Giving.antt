@@ -96,7 +96,7 @@ module _ (c : Step) (m : Lent) (n : ℕ) (d : Done) (q : d ≡ refusedBy n (m .b
   step-refused r e = gave-refused _ _ m n d e q
 
   -- the same with an output list, which stays as it is
-  wrote-refused : (r : Room) (out : List ℕ) → refusalOf r (not (sound m)) c (held m) ≡ some n
+  pub wrote-refused : (r : Room) (out : List ℕ) → refusalOf r (not (sound m)) c (held m) ≡ some n
       → Wrote c r m out d (m .table) (m .strips) out
   unfolding stepOn settle outputAfter
   wrote-refused r out e = record { gave = step-refused r e; output = rw e refl }

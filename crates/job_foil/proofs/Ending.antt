@@ -7,7 +7,7 @@ use mathlib.Core.List.{List, [], _∷_}
 use mathlib.Core.Option.{Option, none, some}
 use Rattle.foil_spec.specs.Lists.{range, all, any}
 use Rattle.foil_spec.specs.Foil.{Layout}
-use Rattle.foil_spec.specs.Ledger.{Step, newFoil, draw, lay, lift, lookUp, putLeg, save, find, book, slip, join}
+use Rattle.foil_spec.specs.Ledger.{Step, newFoil, draw, lay, lift, lookUp, putLeg, save, find, book, slip, join, carry}
 use Rattle.foil_spec.specs.Ledger.{Answer, refused, says, Refusal, Room, short, reads, refusals, afterLent, After}
 use Rattle.foil_spec.specs.Ledger.{settle, refusalOf}
 use Rattle.foil_spec.specs.Lent.{held, sound}
@@ -52,6 +52,7 @@ own-mild (find S T) r l h = simp or-true
 own-mild (book net ks) r l h = simp or-true
 own-mild slip r l h = simp or-true
 own-mild (join net S) r l h = simp or-true
+own-mild (carry o) r l h = clash h refl
 
 says-on : (s : Step) (l : Layout) → endsJob (says s l) ≡ false
 unfolding says endsJob
@@ -66,6 +67,7 @@ says-on (find S T) l = refl
 says-on (book net ks) l = refl
 says-on slip l = refl
 says-on (join net S) l = refl
+says-on (carry o) l = refl
 
 settled-on : (o : Option ℕ) (a : After Answer SheetLent) (m : SheetLent) → endsJob (a .answer) ≡ false
     → ((n : ℕ) → o ≡ some n → goesOn n ≡ true) → endsJob (settle o a m .answer) ≡ false

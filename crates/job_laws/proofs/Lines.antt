@@ -13,7 +13,7 @@ use Rattle.foil_spec.specs.Foil.{Point, Layout, noFoil, free}
 use Rattle.foil_spec.specs.Strips.{Strip}
 use Rattle.foil_spec.specs.Paths.{at, bends}
 use Rattle.foil_spec.specs.Ledger.{stripsOf, cornersOf, short, cornerRoom, next, says, first}
-use Rattle.foil_spec.specs.Ledger.{Step, newFoil, draw, lay, lift, lookUp, putLeg, save, find, book, slip, join}
+use Rattle.foil_spec.specs.Ledger.{Step, newFoil, draw, lay, lift, lookUp, putLeg, save, find, book, slip, join, carry}
 use Rattle.foil_spec.specs.Ledger.{Answer, numberOf}
 use Rattle.foil_spec.specs.Ledger.{refusals, afterLent, After, settle, refusalOf, ledgerStep}
 use Rattle.foil_spec.specs.Job.{jobRoom, steps, isEnd, recordEnd, recordChecks}
@@ -28,7 +28,7 @@ use Rattle.ledger_laws.proofs.Kept.{step-keeps, call-keeps}
 use Rattle.ledger_laws.proofs.Lay.{Laid, lay-seeks, first-laid}
 use Rattle.ledger_laws.proofs.Line.{clearance-number}
 use Rattle.ledger_laws.proofs.Numbers.{answer-passes}
-use Rattle.bend_bound.specs.Room.{noJoin}
+use Rattle.bend_bound.specs.Room.{asksFew}
 use Rattle.bend_bound.proofs.Room.{corners-few, step-passes, Fine, small, fine-kept, no-foil-fine}
 use Rattle.lines.specs.Lines.{stripLine}
 use Rattle.lines.specs.Output.{trackLine, stepLine, stepLines, replyLines, outputFrom, output}
@@ -63,7 +63,7 @@ unfolding cornerRoom jobRoom
 job-room = omega arith
 
 -- what a step answers passes a test that 0 and its own numbers pass
-number-passes : (p : ℕ → Bool) (s : Step) → noJoin s ≡ true → (l : Layout) → Fine l → p 0 ≡ true
+number-passes : (p : ℕ → Bool) (s : Step) → asksFew s ≡ true → (l : Layout) → Fine l → p 0 ≡ true
     → all p (ownNumbers s) ≡ true
     → p (numberOf (ledgerStep jobRoom s l .answer)) ≡ true
 number-passes p s j l fine z h = answer-passes p z jobRoom s l (step-passes jobRoom job-room job-long p s j h l fine)
@@ -89,14 +89,14 @@ module _ (l : Layout) (fine : Fine l) where
   lay-line : (net : ℕ) (S T : Point) (o : Option ℕ) → refusalOf jobRoom false (lay net S T) l ≡ o
       → InLines (trackLine net
       (settle o (record { answer = says (lay net S T) l; state = next (lay net S T) l }) l .answer))
-  unfolding settle says trackLine bytesOf possible among ownNumbers numbersFrom but refusals noJoin
+  unfolding settle says trackLine bytesOf possible among ownNumbers numbersFrom but refusals asksFew
   lay-line net S T none e = one-line (laidTrack net _ _) (laid-possible l net S T fine e)
   lay-line net S T (some n) e =
       one-line (refusedTrack net n)
       (step-passes jobRoom job-room job-long (λ k. possible (refusedTrack net k)) (lay net S T) refl refl l fine n e)
 
   step-line : (s : Step) → InLines (stepLine s (ledgerStep jobRoom s l .answer))
-  unfolding stepLine bytesOf possible among ownNumbers numbersFrom but refusals noJoin
+  unfolding stepLine bytesOf possible among ownNumbers numbersFrom but refusals asksFew
   step-line (newFoil W H c) =
       one-line (board _)
       (number-passes (λ n. possible (board n)) (newFoil W H c) refl l fine refl
@@ -114,6 +114,7 @@ module _ (l : Layout) (fine : Fine l) where
   step-line (book net ks) = no-line
   step-line slip = no-line
   step-line (join net S) = no-line
+  step-line (carry o) = no-line
 
 -- ---- a record's lines
 

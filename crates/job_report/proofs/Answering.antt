@@ -8,7 +8,7 @@ use lib.ListN.{length, drop}
 use lib.Seq.{drop-drop}
 use Rattle.foil_spec.specs.Lists.{range, each}
 use Rattle.foil_spec.specs.Limits.{maxStrips, cornerPlaces}
-use Rattle.foil_spec.specs.Ledger.{Step, newFoil, draw, lay, lift, lookUp, putLeg, save, find, book, slip, join}
+use Rattle.foil_spec.specs.Ledger.{Step, newFoil, draw, lay, lift, lookUp, putLeg, save, find, book, slip, join, carry}
 use Rattle.foil_spec.specs.Ledger.{stripsOf}
 use Rattle.foil_spec.specs.Ledger.{Answer, refused, accepted, laid, found, wrote, booked, numberOf}
 use Rattle.foil_spec.specs.Lent.{Lent, held}
@@ -63,6 +63,7 @@ step-read (find S T) room ks a t = refl
 step-read (book net js) room ks a t = refl
 step-read slip room ks a t = refl
 step-read (join net S) room ks a t = refl
+step-read (carry o) room ks a t = refl
 
 laid-few : (room : ℕ) (ks : List ℕ) (a : Answer) (k n : ℕ) → Tracked a room ks → answerOf a ≡ Laid k n → k ≤ room / 2
 unfolding answerOf

@@ -6,7 +6,7 @@ use mathlib.Core.List.{List, [], _∷_}
 use lib.ListN.{length, getD}
 use Rattle.foil_spec.specs.Lists.{range, each}
 use Rattle.foil_spec.specs.Limits.{cornerPlaces}
-use Rattle.foil_spec.specs.Ledger.{Step, newFoil, draw, lay, lift, lookUp, putLeg, save, find, book, slip, join}
+use Rattle.foil_spec.specs.Ledger.{Step, newFoil, draw, lay, lift, lookUp, putLeg, save, find, book, slip, join, carry}
 use Rattle.foil_spec.specs.Corners.{cornersIn}
 use Rattle.foil_spec.specs.Job.{stepBits, has, stepAt}
 use Rattle.foil.specs.declared.Answer.{Answer}
@@ -34,7 +34,8 @@ layLine net ks (Laid k n) = trackLaid net n (cornersIn ks k)
 layLine net ks (Found k) = []
 layLine net ks (Wrote k) = []
 
--- the line of a step that was answered; no record holds a look up, a save, a find, a booking, a slip or a join
+-- the line of a step that was answered; no record holds a look up, a save, a find, a booking, a slip, a join or a
+-- carry
 unfoldable pub lineOf : Step → List ℕ → Answer → List ℕ
 lineOf (newFoil W H d) ks a = boardLine (numberIn a)
 lineOf (draw x0 y0 x1 y1) ks a = patchLine (numberIn a)
@@ -47,6 +48,7 @@ lineOf (find S T) ks a = []
 lineOf (book net js) ks a = []
 lineOf slip ks a = []
 lineOf (join net S) ks a = []
+lineOf (carry o) ks a = []
 
 -- the line of a step, if it was run
 unfoldable pub toldLine : Step → List ℕ → Told → List ℕ

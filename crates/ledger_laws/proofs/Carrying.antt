@@ -260,16 +260,16 @@ module _ (r : Room) (o : Old) (l : Layout) where
     )
 
   -- the entries that are left always fit a table
-  fits : maxEntries ≤ r .limit → oldSound o ≡ true → tooLong r (carried o) ≡ false
+  pub carried-fits : maxEntries ≤ r .limit → oldSound o ≡ true → tooLong r (carried o) ≡ false
   unfolding tooLong
-  fits h s =
+  carried-fits h s =
       le-ltb (min maxEntries (r .limit)) (length (carried o .entries)) (omega (arith, few-left o s, old-few o s))
 
   own-10 : maxEntries ≤ r .limit → first (refusals (carry o) r l) ≡ some 10 → ⊥
   unfolding refusals next but
   own-10 h e =
       both (oldSound o)
-      (λ s. clash (first-passes (but 10) _ (simp (fits h s, or-true)) 10 e) refl)
+      (λ s. clash (first-passes (but 10) _ (simp (carried-fits h s, or-true)) 10 e) refl)
       (λ s. past-13 (oldShort o) (ltb (r .output) reportPlaces) _ _ (rw s at e))
 
   never-10 : maxEntries ≤ r .limit → ledgerStep r (carry o) l .answer ≡ refused 10 → ⊥

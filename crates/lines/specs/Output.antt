@@ -5,7 +5,7 @@ use mathlib.Core.Option.{none, some}
 use lib.ListN.{length}
 use Rattle.foil_spec.specs.Lists.{each}
 use Rattle.foil_spec.specs.Foil.{Layout, noFoil}
-use Rattle.foil_spec.specs.Ledger.{Step, newFoil, draw, lay, lift, lookUp, putLeg, save, find, book, slip, join}
+use Rattle.foil_spec.specs.Ledger.{Step, newFoil, draw, lay, lift, lookUp, putLeg, save, find, book, slip, join, carry}
 use Rattle.foil_spec.specs.Ledger.{stripsOf}
 use Rattle.foil_spec.specs.Ledger.{Answer, numberOf, refused, accepted, laid, found, wrote, booked}
 use Rattle.foil_spec.specs.Job.{jobRoom, steps}
@@ -22,8 +22,7 @@ trackLine net (found n) = []
 trackLine net (wrote bs) = []
 trackLine net (booked k n) = []
 
--- the line of a step; no record holds a look up, a save, a find, a booking, a slip or a
--- join
+-- the line of a step; no record holds a look up, a save, a find, a booking, a slip, a join or a carry
 unfoldable pub stepLine : Step → Answer → List ℕ
 stepLine (newFoil W H c) a = boardLine (numberOf a)
 stepLine (draw x0 y0 x1 y1) a = patchLine (numberOf a)
@@ -36,6 +35,7 @@ stepLine (find S T) a = []
 stepLine (book net ks) a = []
 stepLine slip a = []
 stepLine (join net S) a = []
+stepLine (carry o) a = []
 
 -- the lines of the steps that were answered
 unfoldable pub stepLines : List Step → List Answer → List ℕ

@@ -9,10 +9,13 @@ use borrow.Author.Count.{below-more}
 use borrow.Author.Tests.{lt-ltb, le-ltb}
 use Rattle.foil_spec.specs.Lists.{range}
 use Rattle.foil_spec.specs.Limits.{maxStrips}
-use Rattle.foil_spec.specs.Foil.{Entry, Pen, Rule, Layout}
+use Rattle.foil_spec.specs.Foil.{Entry, Pen, Rule, Layout, penRule}
+use Rattle.foil_spec.specs.Strips.{Strip}
+use Rattle.foil_spec.specs.Sound.{stripsBy}
 use Rattle.foil_spec.specs.Ledger.{stripsOf, withEntries, tooFine, beginningTooFine}
 use Rattle.foil_spec.specs.Lent.{entryAt, layoutOf}
 use Rattle.list_laws.proofs.Members.{in-any, none-of, in-range, of-range}
+use Rattle.ledger_laws.proofs.Rules.{strips-by}
 use Rattle.ledger_laws.proofs.Sound.{length-read}
 use Rattle.zones.specs.Table.{Table}
 
@@ -32,13 +35,21 @@ table-front k le b =
 
 -- the strips of a layout are counted
 module _ (l : Layout) where
-  pub too-many : maxStrips < length (stripsOf l) → true ≡ tooFine l
+  -- c counts the strips ss, which were built
+  pub too-many : (ss : List Strip) → ss ≡ stripsOf l → maxStrips < length ss → true ≡ tooFine l
   unfolding tooFine
-  too-many h = sym (lt-ltb maxStrips (length (stripsOf l)) h)
+  too-many ss are h = sym (lt-ltb maxStrips (length (stripsOf l)) (omega (arith, ap length are)))
 
-  pub not-many : (c : ℕ) → c ≡ length (stripsOf l) → c ≤ maxStrips → false ≡ tooFine l
+  pub not-many : (ss : List Strip) → ss ≡ stripsOf l → (c : ℕ) → c ≡ length ss → c ≤ maxStrips → false ≡ tooFine l
   unfolding tooFine
-  not-many c e h = sym (le-ltb maxStrips (length (stripsOf l)) (omega arith))
+  not-many ss are c e h = sym (le-ltb maxStrips (length (stripsOf l)) (omega (arith, ap length are)))
+
+-- the strips by the pen's rule are those of the layout
+pub strips-are : (w h : ℕ) (p : Pen) (n : ℕ) (t : List ℕ) (r : Rule) → r ≡ penRule p
+    → stripsBy r w h (map (entryAt t) (range 0 n)) ≡ stripsOf (layoutOf w h p n t)
+unfolding layoutOf
+strips-are w h p n t r e =
+    ap (λ (q : Rule). stripsBy q w h (map (entryAt t) (range 0 n))) e ∙ sym (strips-by (layoutOf w h p n t))
 
 take-places : {A : Type 0} (g : ℕ → A) (a k n : ℕ) → k ≤ n → take k (map g (range a n)) ≡ map g (range a k)
 take-places g a zero n le = refl

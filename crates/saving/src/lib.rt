@@ -9,6 +9,7 @@ use foil_spec::STRIPS_SIZE;
 use putting::put_bytes;
 use state::strips_of;
 use strips::Built;
+use zones::pen_rule;
 ghost use mathlib.Core.Path.{_≡_};
 ghost use mathlib.Core.Bool.{true};
 ghost use Rattle.foil_spec.specs.Foil.{penRule};
@@ -60,7 +61,8 @@ fn too_fine(table: &[u16], n: usize, board: Board) -> bool
         (now (table .entry))) ⌝ }
 {
     let mut out = [0u16; STRIPS_SIZE];
-    let built = strips_of(&mut out, table, n, board);
+    let rule = pen_rule(board.half, board.gap);
+    let built = strips_of(&mut out, table, n, rule, board.width, board.height);
     let Built::Strips(_) = built else {
         return true;
     };

@@ -1,14 +1,26 @@
 -- `saving::too_fine` meets its contract: the strips are built, and are more than the list holds, or not.
-use Rattle.saving.proofs.Beginnings.{too-many, not-many}
+use mathlib.Core.Path.{sym}
+use Rattle.zones.specs.Table.{Table}
+use Rattle.saving.proofs.Beginnings.{too-many, not-many, strips-are}
 use borrow.Author.Needs.{needs}
 use Rattle.saving.proofs.too_fine.Statement.{statement}
 use Rattle.saving.proofs.too_fine.Tie as tie
+
+-- back to where the strips are built, and to the rule
+abbrev atRule : tie.After-strips-of → tie.After-pen-rule
+atRule c = c .before .before
+
+pen-rule-requires : tie.Need-pen-rule-requires
+pen-rule-requires c κs = search needs
 
 slice-aggregate-strips-of : tie.Need-slice-aggregate-strips-of
 slice-aggregate-strips-of c = search needs
 
 strips-of-requires : tie.Need-strips-of-requires
-strips-of-requires c κs = search needs
+strips-of-requires c κs =
+    let made = c .before in
+    let start = made .before .before in
+    (rw (made .pen-rule .ensures) (start .pre), search needs)
 
 enum-told : tie.Need-enum-told
 enum-told c = search needs
@@ -18,14 +30,24 @@ enum-told-2 c = search needs
 
 returns : tie.Need-returns
 returns c =
-    too-many _ ((rw (c .enum-told2 .given .1) at (c .before .before .before .strips-of .ensures)) .0)
+    let built = c .before .before .before in
+    too-many _ _ (strips-are _ _ _ _ _ _ (atRule built .pen-rule .ensures))
+    ((rw (c .enum-told2 .given .1) at (built .strips-of .ensures)) .0)
 
 returns-2 : tie.Need-returns-2
 returns-2 c =
-    let q = rw (c .enum-told .given .1) at (c .before .before .before .strips-of .ensures) in
-    not-many _ _ (q .0) (q .1)
+    let built = c .before .before .before in
+    let q = rw (c .enum-told .given .1) at (built .strips-of .ensures) in
+    not-many _ _ (strips-are _ _ _ _ _ _ (atRule built .pen-rule .ensures)) _ (q .0) (q .1)
 
 pub too-fine-spec : {M : Type 1} → statement M
 too-fine-spec =
     tie.close
-    (tie.spec slice-aggregate-strips-of strips-of-requires enum-told enum-told-2 returns returns-2)
+    (tie.spec
+    pen-rule-requires
+    slice-aggregate-strips-of
+    strips-of-requires
+    enum-told
+    enum-told-2
+    returns
+    returns-2)

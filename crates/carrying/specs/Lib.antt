@@ -1,0 +1,3 @@
+-- What the contracts of carrying over cite.
+pub mod Marks
+pub mod Carried
