@@ -4,7 +4,7 @@ functions named at the end of this file. Run it at the repository's root when on
 is changed, or a call is added. With --check it writes nothing: it prints the files that are not as it would write them,
 and ends with 1 if there are any. What it writes is formatted by `rt fmt`, and checked like any proof.
 
-Four shapes of function have a walk each. A walk follows the MIR statement by statement, so that the body of the
+Five shapes of function have a walk each. A walk follows the MIR statement by statement, so that the body of the
 function must be just as it stands here; `rest` is lists lent as `&mut` or `&`, numbers, and structs by value, in any
 order, the same in the function and in its core.
 
@@ -13,6 +13,9 @@ order, the same in the function and in its core.
 
     inner    pub fn f(s: Sheet, table: &mut [Entry], rest) -> Left
              { let t = load(table); let out = core(s, t, rest); let u = out.table; store(table, u); out }
+
+    second   fn f(b: Board, t: Flat, table: &[Entry], rest) -> Left
+             { let u = load(table); core(b, t, u, rest) }
 
     look     pub fn f(sheet: &Sheet, table: &[Entry], rest) -> Answer
              { let s = *sheet; let t = load(table); core(s, t, rest) }
@@ -24,7 +27,8 @@ A walk hands `rest` on as one thing, and what the callees ensure unopened, so th
 public call's is its core's at `out.answer` and `out.sheet`, a told one's is `ToldBy` of its core's, and those of an
 inner function and of a look follow from their core's by the law named with them, of e₁ : t ≡ frontOf es, e₂ : what the
 core ensures, and for an inner function e₃ : es′ ≡ overFront (out .table) es; besides, they are told that the records
-are eight. The laws of walks stand in Walks.antt and Locals.antt of crates/host/proofs.
+are eight. Where a call takes the record of one foil, a `Board`, this stands for the `Sheet` in the first two shapes, and
+nothing more is told. The laws of walks stand in Walks.antt and Locals.antt of crates/host/proofs.
 
 A position in a walk counts the items that are held: the last local stands first, and each local is two items, its cell
 and the right to free it.
@@ -38,7 +42,7 @@ import tempfile
 CRATE = 'host'
 WIDTHS = {'u8': 'w8', 'u16': 'w16', 'u32': 'w32', 'u64': 'w64', 'usize': 'w64'}
 EIGHT = 'use Rattle.sheet_rows.proofs.Records.{eight}'
-ROWS = {'Entry': 'entry.the-row', 'Sheet': 'sheet.the-row'}
+ROWS = {'Entry': 'entry.the-row', 'Sheet': 'sheet.the-row', 'Board': 'board.the-row'}
 
 
 # ---- names and terms
@@ -188,52 +192,55 @@ class Walk:
                  % (how, by, result, result, lasts, made))
 
 
-# ---- the four walks. Comments list what is held in front of the locals
+# ---- the five walks. Comments list what is held in front of the locals
 
-def public(function, core, left, answer, rest):
-    """left is the type of the core's result, answer that of the call's"""
-    w = Walk(['&mut Sheet', '&mut [Entry]'] + rest, 2 + 2 * (1 + sum(r.startswith('&mut') for r in rest)))
+def public(function, core, left, answer, rest, of='Sheet'):
+    """left is the type of the core's result, answer that of the call's, of that of the record"""
+    by, field, row_of = value(of), of.lower(), ROWS[of]
+    w = Walk(['&mut ' + of, '&mut [Entry]'] + rest, 2 + 2 * (1 + sum(r.startswith('&mut') for r in rest)))
     n = w.lifetimes()
     record, result = w.local(), w.local()
     w.begin('(‵ (flft (κs .0) (qs .0)) ⊛ raw (toks 𝓤 A %d (κs .1) (qs .1)))' % (n - 1))
     w.note("the record's borrow is opened, and the record copied out")
     cells = 2 * w.count
     w.say(move(cells + 1) + 'fsplit ! $ fsplit3 ! $ drop ! $ ' + move(cells + 3) + 'split ! $ ' + move(2, 3, 0))
-    w.say('opens-record ! tt a-Sheet (a .0 .now) (a .0 .ptr .0) (a .0 .ptr .1) (λ g. ')
+    w.say('opens-record ! tt %s (a .0 .now) (a .0 .ptr .0) (a .0 .ptr .1) (λ g. ' % by)
     # the record's cell; what it owns; the open borrow; obs; auth; tokens; what the other parameters own
     w.copy(record, '(from ! (hop ! (look ! %d refl) (stop !))) (look-raw ! 0 refl)' % w.place(1, 7), 7,
-           '(typed-at W a-Sheet (a .0 .now) g .0)')
+           '(typed-at W %s (a .0 .now) g .0)' % by)
     operands = w.lend_all(1, 7)
     w.say(move(1, 6) + 'fjoin ! $ ' + move(5, 0) + 'join ! $ ')
-    w.call('core', 'known', '(κs .1, qs .1, tt, (a .0 .now, a .1), (a-Sheet .val (a .0 .now) ∷ [], vals .1))',
+    w.call('core', 'known', '(κs .1, qs .1, tt, (a .0 .now, a .1), (%s .val (a .0 .now) ∷ [], vals .1))' % by,
            value(left), [record] + operands, 5, 'r is ok ws')
     w.land(result, 7, 'ok')
     part = left.lower()
     w.note('the new record is stored, and the borrow closed at it')
     w.say('assigns ! (of-opd ! (load ! (from ! (fld ! refl (stop !))) (look-in ! %d (sub ! 0 refl (whole !))))) '
-          '(from ! (hop ! (look ! %d refl) (stop !))) (store-raw ! 3 refl (typed-at W a-Sheet (r .sheet) (%s-sheet r '
+          '(from ! (hop ! (look ! %d refl) (stop !))) (store-raw ! 3 refl (typed-at W %s (r .%s) (%s-%s r '
           'is) .0)) $ '
-          % (w.place(result, 7), w.place(1, 7), part))
+          % (w.place(result, 7), w.place(1, 7), by, field, part, field))
     w.copy(0, '(from ! (fld ! refl (stop !))) (look-in ! %d (sub ! 1 refl (whole !)))' % w.place(result, 7), 7,
            '(typed-at W %s (r .%s) (%s-answer r is) .0)' % (value(answer), answer.lower(), part))
-    w.say('has-value ! a-Sheet (r .sheet) (%s-sheet r is) $ ' % part + move(4, 0, 5, 6, 7))
-    w.say('closes ! tt sheet.the-row (r .sheet) (a-Sheet .val (r .sheet) ∷ []) (a .0 .ptr .0) (a .0 .ptr .1) $ ')
+    w.say('has-value ! %s (r .%s) (%s-%s r is) $ ' % (by, field, part, field) + move(4, 0, 5, 6, 7))
+    w.say('closes ! tt %s (r .%s) (%s .val (r .%s) ∷ []) (a .0 .ptr .0) (a .0 .ptr .1) $ '
+          % (row_of, field, by, field))
     w.leave(6)
     # obs; the borrow; its token; tokens; the last lists; what is ensured
-    w.say('use1 W (‵ (fres (a .0 .name) (sheet.the-row .coded .code (r .sheet)))) (W .names .obs-res (a .0 .name) '
-          '(sheet.the-row .coded .code (r .sheet))) $ ' + move(4) + 'fsplit ! $ drop ! $ ' + move(1, 0) + 'fjoin ! $ '
+    w.say('use1 W (‵ (fres (a .0 .name) (%s .coded .code (r .%s)))) (W .names .obs-res (a .0 .name) '
+          '(%s .coded .code (r .%s))) $ ' % (row_of, field, row_of, field) + move(4) + 'fsplit ! $ drop ! $ ' + move(1, 0) + 'fjoin ! $ '
           + move(2, 3) + 'join ! $ has-value ! %s (r .%s) (%s-answer r is) $ keep ! (1 ∷ 0 ∷ 2 ∷ 4 ∷ []) $ '
           % (value(answer), answer.lower(), part))
-    w.end('ends-with', '(r .%s)' % answer.lower(), value(answer), '(r .sheet, ws .1)')
+    w.end('ends-with', '(r .%s)' % answer.lower(), value(answer), '(r .%s, ws .1)' % field)
     write(function, w, 'public', "The record's borrow is opened and the record copied out; the lists are given to "
           '`%s` for good; the new record is stored, and the borrow closed at it.' % colons(core),
-          [('core', core, 'known')], ['a-Sheet', value(left), value(answer), part + '-sheet', part + '-answer'])
+          [('core', core, 'known')], [by, value(left), value(answer), part + '-' + field, part + '-answer'])
 
 
-def inner(function, core, left, rest, law):
-    """law: its `use` line, and the law with its arguments but the facts"""
+def inner(function, core, left, rest, law, of='Sheet'):
+    """law: its `use` line, and the law with its arguments but the facts; of: the type of the record"""
     lent = sum(r.startswith('&mut') for r in rest)
-    w = Walk(['Sheet', '&mut [Entry]'] + rest, 8 + 2 * lent)
+    w = Walk([of, '&mut [Entry]'] + rest, 8 + 2 * lent)
+    eight = (' (eight (a .0) (are .0))', [EIGHT]) if of == 'Sheet' else ('', [])
     n = w.lifetimes()
     table = w.params[1]
     loaded, result, stored = w.local(), w.local(), w.local()
@@ -282,13 +289,44 @@ def inner(function, core, left, rest, law):
           + move(1, 0) + 'fjoin ! $ nothing ! $ fjoin ! $ ' + move(1, 2) + 'join ! $ has-value ! %s r is₂ $ '
           % value(left) + move(1, 0))
     w.end('ends-saying', 'r', value(left), '(tt, (vs .0, zs .1 .1))',
-          ' (factI 𝓤 _ (emp 𝓤) (%s (eight (a .0) (are .0)) e₁ e₂ e₃))' % law[1])
+          ' (factI 𝓤 _ (emp 𝓤) (%s%s e₁ e₂ e₃))' % (law[1], eight[0]))
     write(function, w, 'inner', 'The table is lent as a `&` to `%s` for a lifetime that the walk makes, and comes back '
           '(Shared.antt); the other lists are given to `%s` for good, and the table to `%s`.'
           % (colons('table.load'), colons(core), colons('table.store')),
           [('core', core, 'known'), ('ld', 'table.load', 'known-load'), ('st', 'table.store', 'known-store')],
-          ['a-Sheet', 'a-Flat', value(left), part + '-table'],
-          ['use Rattle.host.proofs.Shared.{LentShared, lends-shared, shared-back}', EIGHT, law[0]])
+          [value(of), 'a-Flat', value(left), part + '-table'],
+          ['use Rattle.host.proofs.Shared.{LentShared, lends-shared, shared-back}'] + eight[1] + [law[0]])
+
+
+def second(function, core, left, rest, law):
+    """a second table, which is only read; law as for an inner function, of e₁ and e₂"""
+    w = Walk(['Board', 'Flat', '&[Entry]'] + rest, 1 + 2 * sum(r.startswith('&mut') for r in rest))
+    n = w.lifetimes()
+    loaded = w.local()
+    w.begin('(‵ (flft (κs .0) (qs .0)) ⊛ raw (toks 𝓤 A %d (κs .1) (qs .1)))' % (n - 1))
+    cells = 2 * w.count
+    w.say(move(cells + 1) + 'fsplit ! $ ' + move(1) + 'fsplit ! $ ' + move(1) + 'fsplit ! $ ' + move(cells + 4)
+          + 'split ! $ ')
+    # the table's token; the other tokens; the table; what the rest, the numbers and the record own
+    w.say(move(2) + 'nothing ! $ ' + move(1, 0) + 'fjoin ! $ nothing ! $ ' + move(2, 0) + 'join ! $ join ! $ ')
+    w.call('ld', 'known-load', '((κs .0, tt), (qs .0, tt), tt, (a .1 .1 .0, tt), (vals .1 .1 .0, tt))', 'a-Flat',
+           [3], 5, 't is₁ ok₁ us')
+    w.say(move(1) + 'drop ! $ ' + move(1) + 'heard ! _ (λ e₁. ')
+    w.land(loaded, 5, 'ok₁')
+    operands = w.lend_all(3, 5)
+    w.say('has-value ! a-Flat t is₁ $ ' + move(0, 3) + 'fjoin ! $ ' + move(3, 0) + 'fjoin ! $ ' + move(3, 0)
+          + 'fjoin ! $ ' + move(2, 0) + 'join ! $ ')
+    w.call('core', 'known', '(κs .1, qs .1, tt, (a .0, (a .1 .0, (t, a .1 .1 .1))), (vals .0, (vals .1 .0, (a-Flat .val '
+           't ∷ [], vals .1 .1 .1))))', value(left), [1, 2, loaded] + operands, 2, 'r is₂ ok₂ zs')
+    w.land(0, 4, 'ok₂')
+    w.leave(4)
+    # tokens, last lists and fact of the core; the table's token
+    w.say(move(2) + 'heard ! _ (λ e₂. ' + move(2) + 'use1 W (‵ (flft (κs .0) (qs .0))) (fst∗ 𝓤 _ (emp 𝓤)) $ '
+          + move(0, 1) + 'join ! $ has-value ! %s r is₂ $ keep ! (1 ∷ 0 ∷ 2 ∷ []) $ ' % value(left))
+    w.end('ends-saying', 'r', value(left), 'zs', ' (factI 𝓤 _ (emp 𝓤) (%s e₁ e₂))' % law[1])
+    write(function, w, 'second', 'The second table is passed to `%s`, and the rest to `%s`.'
+          % (colons('table.load'), colons(core)), [('core', core, 'known'), ('ld', 'table.load', 'known-load')],
+          ['a-Board', 'a-Flat', value(left)], [law[0]])
 
 
 def look(function, core, answer, rest, law):
@@ -484,7 +522,8 @@ def write(function, walk, shape, idea, callees, values, more=()):
     values = set(values) | {value(p.type) for p in walk.params if not p.ref and p.type not in WIDTHS}
     head += uses('Rattle.host.proofs.Values', sorted(values))
     head += list(more)
-    for prefix, module in (('sheet', 'sheet_rows.proofs.Sheet'), ('entry', 'foil_spec.proofs.Entry')):
+    for prefix, module in (('sheet', 'sheet_rows.proofs.Sheet'), ('board', 'foil_spec.proofs.Board'),
+                           ('entry', 'foil_spec.proofs.Entry')):
         if prefix + '.the-row' in text or prefix + '.the-type' in text:
             head += ['use Rattle.%s as %s' % (module, prefix)]
     head += ['use %s as %s' % (proofs_of(c), p) for p, c, _ in callees] + ['use %s as f' % proofs_of(function), '']
@@ -533,6 +572,15 @@ reading('find', 'flat.find', 'Answer', ['&[u16]', CORNERS, FOIL] + ['u16'] * 4, 
 reading('save', 'flat.save', 'Answer', ['&[u16]', '&mut [u8]', FOIL], READ)
 reading('slip', 'flat.slip', 'Answer', ['&[u16]', '&mut [u8]', FOIL], READ)
 reading('ohms', 'flat.ohms', 'Resistance', ['&[u16]', FOIL, 'u16', 'Ink'], OHMS)
+
+
+OLDS = ['&[Entry]', STRIPS, '&mut [u16]', '&[u16]', 'OldBoard']
+CARRIED = 'use Rattle.host.proofs.Carried.{%s}'
+inner('table.carry', 'table.carry_loaded', 'Brought', OLDS, (CARRIED % 'whole-carried', 'whole-carried' + ' _' * 10),
+      'Board')
+second('table.carry_loaded', 'flat.carry', 'Brought', OLDS[1:], (CARRIED % 'loaded-carried', 'loaded-carried' + ' _' * 11))
+public('carry', 'table.carry', 'Brought', 'Answer', OLDS, 'Board')
+told('exported.foil_carry', 'carry', 'Answer', *SAY['Answer'], ['&mut Board', '&mut [Entry]'], OLDS)
 
 
 def formatted(files):

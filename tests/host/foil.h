@@ -26,6 +26,9 @@ enum {
     FOIL_BYTES = 12 + 11 * FOIL_ENTRIES
 };
 
+/* the places of a report of nets: a carry asks for so many */
+enum { FOIL_REPORT = 128 };
+
 /* a line of a slip, its line feed included; a foil has no more nets than entries */
 enum { FOIL_SLIP_LINE = 33 };
 
@@ -40,13 +43,20 @@ struct foil_sheet {
     struct foil_board boards[FOIL_FOILS];
 };
 
+/* the record of a foil that was begun under document 01's rules, with its reach */
+struct foil_old_board {
+    uint16_t width, height, reach;
+    size_t entries, strips;
+};
+
 /* an entry of the table: its net, and the points with x0 <= x < x1 and y0 <= y < y1 */
 struct foil_entry {
     uint16_t net, x0, y0, x1, y1;
 };
 
 /* an answer: the number of a refusal, 0 for none; the numbers of corners and bends after a lay, a join, a find or a
-   booking; the strip's place after a look up; the number of bytes after a save or a slip */
+   booking; the strip's place after a look up; the number of bytes after a save or a slip, and that of nets after a
+   carry */
 struct foil_said {
     uint8_t number;
     size_t corners, bends, place, bytes;
@@ -143,5 +153,17 @@ struct foil_resistance foil_ohms(const struct foil_sheet *sheet, const struct fo
 struct foil_record foil_run_record(struct foil_sheet *sheet, struct foil_entry *table, size_t places, uint16_t *strips,
                                    size_t strip_numbers, uint16_t *corners, size_t corner_numbers,
                                    const uint8_t *bytes, size_t byte_count, size_t foil, size_t at);
+
+/* carries a foil over that was begun under document 01's rules, and is checked by these: its record, table and strips
+   are only read. It is written by today's rules, half width 0 and the old reach for a gap, to `board`, to the first
+   FOIL_ENTRIES places of `table` and to `strips`, as a foil of its own; the places past these are not written. Every net
+   with a point that a patch blocks is lifted whole, and all other entries keep their order. The nets that are lifted are
+   written to the front of `report`, rising, and their number is answered. Lists of fewer than FOIL_ENTRIES places,
+   FOIL_STRIPS strips or FOIL_REPORT nets are refused by 12. On a sheet whose records and table are else zero, with the
+   record of foil 0 and the strips lent for it, this begins foil 0 */
+struct foil_said foil_carry(struct foil_board *board, struct foil_entry *table, size_t places,
+                            const struct foil_entry *old_table, size_t old_places, uint16_t *strips,
+                            size_t strip_numbers, uint16_t *report, size_t report_numbers, const uint16_t *old_strips,
+                            size_t old_strip_numbers, struct foil_old_board old);
 
 #endif

@@ -2,7 +2,8 @@
    customer's program would make it; a track found and a drawing booked, with the slip of both; the foil saved, and read
    on other lists; tracks of a wider pen; points joined to nets; patches across tracks; and lists in protected pages,
    which show what a call does not touch: if it did, the program would die. Then eight foils on one sheet: what they
-   share, what each is sure of, and what is refused for all of them. */
+   share, what each is sure of, and what is refused for all of them. Last, foils that were begun under document 01's
+   rules, carried over. */
 #define _DEFAULT_SOURCE
 #include <stdio.h>
 #include <stdlib.h>
@@ -799,12 +800,218 @@ static void unused_places(struct pages t)
     printf("past 512: %s\n", kept(t));
 }
 
+/* ---- foils of document 01, carried over */
+
+/* an old foil: its record, and its lists, which may only be read while it is carried over */
+static struct foil_old_board old;
+static struct foil_entry *old_table;
+static uint16_t *old_strips, *report;
+
+#define OLD old_table, FOIL_ENTRIES
+#define OLD_STRIPS old_strips, 4 * FOIL_STRIPS, old
+
+/* the old foil w by h of this reach, with these entries and the strips that it has by document 01 */
+static void old_foil(struct pages ot, struct pages os, uint16_t w, uint16_t h, uint16_t reach,
+                     const struct foil_entry *entries, size_t count, const uint16_t *listed, size_t strip_count)
+{
+    writable(ot);
+    writable(os);
+    old_table = (struct foil_entry *)(void *)ot.border - FOIL_ENTRIES;
+    old_strips = (uint16_t *)(void *)os.border - 4 * FOIL_STRIPS;
+    memset(old_table, 0, FOIL_ENTRIES * sizeof *old_table);
+    memset(old_strips, 0, 4 * FOIL_STRIPS * sizeof *old_strips);
+    memcpy(old_table, entries, count * sizeof *entries);
+    memcpy(old_strips, listed, 4 * strip_count * sizeof *listed);
+    old.width = w;
+    old.height = h;
+    old.reach = reach;
+    old.entries = count;
+    old.strips = strip_count;
+    read_only(ot);
+    read_only(os);
+}
+
+static void show_carried(struct foil_said said)
+{
+    size_t k;
+    printf("carry %u", said.number);
+    if (said.number == 0) {
+        printf(" %zu:", said.bytes);
+        for (k = 0; k < said.bytes; k++)
+            printf(" %u", report[k]);
+        if (said.bytes < FOIL_REPORT)
+            printf(", then %u", report[said.bytes]);
+    }
+    printf("\n");
+}
+
+/* carries the old foil over to foil 0 of a sheet else empty, whose lists hold something else before */
+static void carry_to_sheet(struct pages t)
+{
+    empty_sheet(t);
+    on(0);
+    memset(strips, 0xa5, 4 * FOIL_STRIPS * sizeof *strips);
+    memset(report, 0xff, FOIL_REPORT * sizeof *report);
+    show_carried(foil_carry(&BOARD, table, places, OLD, strips, strip_numbers, report, FOIL_REPORT, OLD_STRIPS));
+    show_foil();
+    printf("unused: %s, %u\n", unused(), strips[4 * BOARD.strips]);
+}
+
+static void carried(struct pages t, struct pages ot, struct pages os)
+{
+    static const struct foil_entry patched[] = {{0, 0, 0, 2, 1}, {3, 1, 3, 11, 4}, {0, 4, 3, 6, 4}, {7, 2, 1, 3, 5}};
+    static const uint16_t patched_strips[] = {4, 0, 12, 2};
+    static const struct foil_entry edged[] = {{0, 4, 3, 6, 4}, {3, 1, 3, 11, 4}, {7, 1, 1, 2, 5}, {3, 8, 1, 9, 2}};
+    static const uint16_t edged_strips[] = {3, 0, 7, 2, 10, 0, 12, 2};
+    static const struct foil_entry falling[] = {{0, 2, 0, 3, 3}, {9, 2, 0, 3, 3}, {5, 0, 0, 6, 1}, {9, 5, 3, 6, 4}};
+    static const uint16_t falling_strips[] = {0, 1, 2, 3, 3, 1, 6, 3, 0, 3, 5, 4};
+    static const struct foil_entry of_job[] = {{0, 2, 0, 3, 3}, {5, 0, 0, 1, 4}, {5, 0, 3, 5, 4}, {5, 4, 0, 5, 4}};
+    static const uint16_t job_strips[] = {1, 0, 2, 3, 3, 0, 4, 3, 5, 0, 6, 4};
+    static const uint16_t square[] = {0, 0, 4, 4};
+    static uint8_t bytes[FOIL_BYTES];
+    size_t count;
+    old_foil(ot, os, 12, 5, 1, patched, 4, patched_strips, 1);
+    carry_to_sheet(t);
+    old_foil(ot, os, 6, 4, 0, falling, 4, falling_strips, 3);
+    carry_to_sheet(t);
+    /* the edge leaves nothing */
+    old_foil(ot, os, 4, 4, 2, patched, 0, square, 1);
+    carry_to_sheet(t);
+    /* a net in the edge's zone stays; the foil goes on with today's calls */
+    old_foil(ot, os, 12, 5, 1, edged, 4, edged_strips, 2);
+    carry_to_sheet(t);
+    printf("patch %u\n", foil_draw(LENT, foil, 1, 2, 2, 3).number);
+    show_lay(3, foil_lay(LENT, CORNERS, foil, 3, 8, 3, 10, 1));
+    printf("lift 7 %u\n", foil_lift(LENT, foil, 7).number);
+    show_foil();
+    /* the foil of document 01's job as its calls left it; carried over, drawn on, joined, saved, and read as foil 1 */
+    old_foil(ot, os, 6, 4, 0, of_job, 4, job_strips, 3);
+    carry_to_sheet(t);
+    printf("patch %u\n", foil_draw(LENT, foil, 5, 0, 6, 1).number);
+    show_join(5, 3, 1, corner_numbers);
+    count = show_file(bytes, sizeof bytes);
+    on(1);
+    run_job(bytes, count);
+}
+
+/* one number of a list that may only be read else is changed, the old foil carried over, and the number put back */
+static void broken_at(struct pages p, uint16_t *number, uint16_t other)
+{
+    uint16_t was = *number;
+    writable(p);
+    *number = other;
+    read_only(p);
+    show_carried(foil_carry(&BOARD, table, places, OLD, strips, strip_numbers, report, FOIL_REPORT, OLD_STRIPS));
+    writable(p);
+    *number = was;
+    read_only(p);
+}
+
+/* the same of a number of the old record */
+static void broken_record(uint16_t *number, uint16_t other)
+{
+    uint16_t was = *number;
+    *number = other;
+    show_carried(foil_carry(&BOARD, table, places, OLD, strips, strip_numbers, report, FOIL_REPORT, OLD_STRIPS));
+    *number = was;
+}
+
+static void broken_count(size_t *number, size_t other)
+{
+    size_t was = *number;
+    *number = other;
+    show_carried(foil_carry(&BOARD, table, places, OLD, strips, strip_numbers, report, FOIL_REPORT, OLD_STRIPS));
+    *number = was;
+}
+
+/* carries that are refused, and write to no list */
+static void refused_carries(struct pages t, struct pages s, struct pages r, struct pages ot, struct pages os)
+{
+    static const struct foil_entry of_job[] = {{0, 2, 0, 3, 3}, {5, 0, 0, 1, 4}, {5, 0, 3, 5, 4}, {5, 4, 0, 5, 4}};
+    static const uint16_t job_strips[] = {1, 0, 2, 3, 3, 0, 4, 3, 5, 0, 6, 4};
+    static const struct foil_entry bare[] = {{0, 0, 0, 2, 1}};
+    static const uint16_t bare_strips[] = {3, 0, 12, 2, 0, 2, 12, 5}, edge_strips[] = {3, 1, 11, 2, 1, 2, 11, 4};
+    static struct foil_entry lines[FOIL_ENTRIES];
+    static uint16_t cells[4 * FOIL_STRIPS];
+    struct foil_board was;
+    size_t k;
+    empty_sheet(t);
+    on(0);
+    was = BOARD;
+    strips = (uint16_t *)(void *)s.border - 4 * FOIL_STRIPS;
+    report = (uint16_t *)(void *)r.border - FOIL_REPORT;
+    read_only(t);
+    read_only(s);
+    read_only(r);
+    old_foil(ot, os, 6, 4, 0, of_job, 4, job_strips, 3);
+    /* 12: a place less of the new lists, of the report, of the old lists; also where the old foil is none */
+    show_carried(foil_carry(&BOARD, table, 127, OLD, strips, strip_numbers, report, FOIL_REPORT, OLD_STRIPS));
+    show_carried(foil_carry(&BOARD, table, places, OLD, strips, strip_numbers - 1, report, FOIL_REPORT, OLD_STRIPS));
+    show_carried(foil_carry(&BOARD, table, places, OLD, strips, strip_numbers, report, 127, OLD_STRIPS));
+    show_carried(foil_carry(&BOARD, table, places, old_table, 127, strips, strip_numbers, report, FOIL_REPORT,
+                            OLD_STRIPS));
+    show_carried(foil_carry(&BOARD, table, places, OLD, strips, strip_numbers, report, FOIL_REPORT, old_strips,
+                            4 * FOIL_STRIPS - 1, old));
+    old.width = 0;
+    show_carried(foil_carry(&BOARD, table, places, OLD, strips, strip_numbers, report, 127, OLD_STRIPS));
+    old.width = 6;
+    /* 13: the record; an entry that is empty, off the foil, of no net, no leg; what is unused; the strips */
+    broken_record(&old.width, 0);
+    broken_record(&old.height, 4097);
+    broken_record(&old.reach, 16);
+    broken_record(&old.reach, 1);
+    broken_count(&old.entries, 3);
+    broken_count(&old.entries, 129);
+    broken_count(&old.strips, 2);
+    broken_at(ot, &old_table[0].x1, 2);
+    broken_at(ot, &old_table[2].x1, 7);
+    broken_at(ot, &old_table[1].net, 1000);
+    broken_at(ot, &old_table[1].x1, 2);
+    broken_at(ot, &old_table[127].y1, 1);
+    broken_at(os, &old_strips[2], 3);
+    broken_at(os, &old_strips[4 * FOIL_STRIPS - 1], 1);
+    /* strips by today's rules are no strips of document 01 */
+    old_foil(ot, os, 12, 5, 1, bare, 1, edge_strips, 2);
+    show_carried(foil_carry(&BOARD, table, places, OLD, strips, strip_numbers, report, FOIL_REPORT, OLD_STRIPS));
+    /* 11: lines across a track, which hides a column of cells as long as it is there */
+    for (k = 0; k < 64; k++) {
+        struct foil_entry e = {0, (uint16_t)(2 * k + 1), 0, (uint16_t)(2 * k + 2), 127};
+        lines[k] = e;
+    }
+    for (k = 0; k < 63; k++) {
+        struct foil_entry e = {0, 0, (uint16_t)(2 * k + 1), 129, (uint16_t)(2 * k + 2)};
+        lines[64 + k] = e;
+    }
+    lines[127].net = 5;
+    lines[127].x1 = 1;
+    lines[127].y1 = 127;
+    for (k = 0; k < FOIL_STRIPS; k++) {
+        cells[4 * k] = (uint16_t)(2 * (k % 64) + 2);
+        cells[4 * k + 1] = (uint16_t)(2 * (k / 64));
+        cells[4 * k + 2] = (uint16_t)(cells[4 * k] + 1);
+        cells[4 * k + 3] = (uint16_t)(cells[4 * k + 1] + 1);
+    }
+    old_foil(ot, os, 129, 127, 0, lines, 128, cells, FOIL_STRIPS);
+    show_carried(foil_carry(&BOARD, table, places, OLD, strips, strip_numbers, report, FOIL_REPORT, OLD_STRIPS));
+    printf("record: %s\n", memcmp(&was, &BOARD, sizeof was) == 0 ? "as it was" : "changed");
+    /* with its strips by document 01 the foil above is carried over */
+    old_foil(ot, os, 12, 5, 1, bare, 1, bare_strips, 2);
+    writable(t);
+    writable(s);
+    writable(r);
+    show_carried(foil_carry(&BOARD, table, places, OLD, strips, strip_numbers, report, FOIL_REPORT, OLD_STRIPS));
+    show_foil();
+}
+
 int main(void)
 {
     struct pages t = parted(FOIL_PLACES * sizeof(struct foil_entry), 88 * sizeof(struct foil_entry));
     struct pages s = parted(4 * FOIL_STRIPS * sizeof(uint16_t), 4 * 904 * sizeof(uint16_t));
     struct pages c = parted(2 * 8192 * sizeof(uint16_t), 0);
     struct pages b = parted(FOIL_BYTES, 64);
+    struct pages r = parted(FOIL_REPORT * sizeof(uint16_t), 0);
+    struct pages ot = parted(FOIL_ENTRIES * sizeof(struct foil_entry), 0);
+    struct pages os = parted(4 * FOIL_STRIPS * sizeof(uint16_t), 0);
     document_01();
     drawn();
     saved();
@@ -820,5 +1027,8 @@ int main(void)
     full_sheet(t);
     refused_for_all(t, s, c, b);
     unused_places(t);
+    report = (uint16_t *)(void *)r.border - FOIL_REPORT;
+    carried(t, ot, os);
+    refused_carries(t, s, r, ot, os);
     return 0;
 }

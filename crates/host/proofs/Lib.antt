@@ -10,3 +10,4 @@ pub mod Flats
 pub mod Fronts
 pub mod Tables
 pub mod Running
+pub mod Carried

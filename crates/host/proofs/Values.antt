@@ -7,8 +7,13 @@ use denote.Laws.{Is}
 use denote.Struct.Laws as LL
 use Rattle.host.specs.declared.flat.Flat.{Flat}
 use Rattle.host.specs.declared.flat.Left.{Left}
+use Rattle.host.specs.declared.flat.Brought.{Brought}
 use Rattle.host.specs.declared.records.Ran.{Ran}
 use Rattle.host.proofs.Walks.{ByValue, of-struct, of-enum, of-array, of-number}
+use Rattle.foil_spec.proofs.Board as board
+use Rattle.foil_spec.proofs.Board.Laws as board′
+use Rattle.foil_spec.proofs.OldBoard as old
+use Rattle.foil_spec.proofs.OldBoard.Laws as old′
 use Rattle.foil_spec.proofs.Entry as entry
 use Rattle.foil_spec.proofs.Entry.Laws as entry′
 use Rattle.foil_spec.proofs.Ink as ink
@@ -29,6 +34,8 @@ use Rattle.host.proofs.flat.OhmsSaid as ohms-said
 use Rattle.host.proofs.flat.OhmsSaid.Laws as ohms-said′
 use Rattle.host.proofs.flat.Left as left
 use Rattle.host.proofs.flat.Left.Laws as left′
+use Rattle.host.proofs.flat.Brought as brought
+use Rattle.host.proofs.flat.Brought.Laws as brought′
 use Rattle.host.proofs.records.Ran as ran
 use Rattle.host.proofs.records.Ran.Laws as ran′
 use Rattle.host.proofs.records.RecordSaid as record-said
@@ -36,6 +43,12 @@ use Rattle.host.proofs.records.RecordSaid.Laws as record-said′
 
 abbrev pub a-Sheet : ByValue sheet.the-row
 a-Sheet = of-struct sheet.the-type sheet′.the-laws sheet′.the-plain
+
+abbrev pub a-Board : ByValue board.the-row
+a-Board = of-struct board.the-type board′.the-laws board′.the-plain
+
+abbrev pub an-OldBoard : ByValue old.the-row
+an-OldBoard = of-struct old.the-type old′.the-laws old′.the-plain
 
 abbrev pub an-Entry : ByValue entry.the-row
 an-Entry = of-struct entry.the-type entry′.the-laws entry′.the-plain
@@ -106,3 +119,18 @@ ran-answer r is = LL.owed ran.the-type ran′.the-laws r _ is .1 .0
 pub ran-table : (r : Ran) → Is ran.the-row r (a-Ran .val r ∷ [])
     → Is flat.the-row (r .table) (a-Flat .val (r .table) ∷ [])
 ran-table r is = LL.owed ran.the-type ran′.the-laws r _ is .1 .1 .0
+
+abbrev pub a-Brought : ByValue brought.the-row
+a-Brought = of-struct brought.the-type brought′.the-laws brought′.the-plain
+
+pub brought-board : (r : Brought) → Is brought.the-row r (a-Brought .val r ∷ [])
+    → Is board.the-row (r .board) (a-Board .val (r .board) ∷ [])
+brought-board r is = LL.owed brought.the-type brought′.the-laws r _ is .0
+
+pub brought-answer : (r : Brought) → Is brought.the-row r (a-Brought .val r ∷ [])
+    → Is answer.the-row (r .answer) (an-Answer .val (r .answer) ∷ [])
+brought-answer r is = LL.owed brought.the-type brought′.the-laws r _ is .1 .0
+
+pub brought-table : (r : Brought) → Is brought.the-row r (a-Brought .val r ∷ [])
+    → Is flat.the-row (r .table) (a-Flat .val (r .table) ∷ [])
+brought-table r is = LL.owed brought.the-type brought′.the-laws r _ is .1 .1 .0

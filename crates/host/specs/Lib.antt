@@ -2,3 +2,4 @@
 pub mod Calls
 pub mod Flats
 pub mod Records
+pub mod Carried

@@ -1,6 +1,7 @@
 // The calls for programs in C, under plain names: each is the call in Rattle, its answer told by its
 // numbers.
 use crate::book;
+use crate::carry;
 use crate::draw;
 use crate::find;
 use crate::flat::OhmsSaid;
@@ -19,8 +20,10 @@ use crate::records::record_said_of;
 use crate::run_record;
 use crate::save;
 use crate::slip;
+use foil_spec::Board;
 use foil_spec::Entry;
 use foil_spec::Ink;
+use foil_spec::OldBoard;
 use sheet_rows::Sheet;
 ghost use mathlib.Core.List.{[]};
 ghost use Rattle.foil_spec.specs.Foil.{point, pen};
@@ -29,6 +32,7 @@ ghost use Rattle.foil_spec.specs.Ledger.{join as joins, save as saves, find as 
 ghost use Rattle.foil_spec.specs.Ledger.{lookUp};
 ghost use Rattle.host.specs.Calls.{ToldBy, saidOf, ohmsSaid, HostDone, HostWrote, HostRead, HostOhms};
 ghost use Rattle.host.specs.Records.{recordSaidOf, HostRan};
+ghost use Rattle.host.specs.Carried.{oldOf, HostCarried};
 
 // Begins foil k, w by h with a pen of this half width and gap: no entries, and one strip, what the edge
 // leaves, or none.
@@ -275,4 +279,25 @@ pub extern "C" fn foil_run_record(
 {
     let reply = run_record(sheet, table, strips, corners, bytes, k, at);
     record_said_of(reply)
+}
+
+// Carries a foil over that was begun under document 01's rules: its record, table and strips are only read. It is
+// written by today's rules to the record, to the first 128 places of the table and to the strips, as a foil of its own,
+// and the nets that are lifted, rising, to the front of the report.
+#[no_mangle]
+pub extern "C" fn foil_carry(
+    board: &mut Board,
+    table: &mut [Entry],
+    entries: &[Entry],
+    strips: &mut [u16],
+    report: &mut [u16],
+    listed: &[u16],
+    old: OldBoard,
+) -> Said
+    ensures { λ r. ⌜ ToldBy saidOf (λ a. HostCarried (oldOf old (now (entries .entry)) (now (listed .entry)))
+        (now (board .entry)) (now (table .entry)) (now (strips .entry)) (now (report .entry))
+        a (now (board .exit)) (now (table .exit)) (now (strips .exit)) (now (report .exit))) r ⌝ }
+{
+    let answer = carry(board, table, entries, strips, report, listed, old);
+    said_of(answer)
 }

@@ -1,7 +1,10 @@
 // The table's numbers by value, and the calls on numbers on them, on foil k of a sheet.
 use foil::Answer;
+use foil::Done;
+use foil_spec::Board;
 use foil_spec::Entry;
 use foil_spec::Ink;
+use foil_spec::OldBoard;
 use ohms::Resistance;
 use sheet::SheetDone;
 use sheet_rows::SHEET_ENTRIES;
@@ -20,6 +23,7 @@ ghost use Rattle.foil_spec.specs.Lent.{entryAt};
 ghost use Rattle.strips.specs.Told.{Told};
 ghost use Rattle.host.specs.Flats.{setFive, placesLent, numbersLent, entriesOf};
 ghost use Rattle.host.specs.Calls.{saidOf, ohmsSaid, FlatDone, FlatWrote, HostRead, HostOhms};
+ghost use Rattle.host.specs.Carried.{oldOf, FlatCarried};
 
 // The first 512 places of a lent table as numbers, five a place, and how many places are lent.
 pub struct Flat {
@@ -29,7 +33,7 @@ pub struct Flat {
 
 // An answer as numbers: the number of a refusal, 0 for none; the numbers of corners and bends after a
 // lay, a join, a find or a booking; the strip's place after a look up; the number of bytes after a save
-// or a slip.
+// or a slip, and of nets after a carry.
 #[repr(C)]
 pub struct Said {
     pub number: u8,
@@ -49,6 +53,13 @@ pub struct OhmsSaid {
 // What a call leaves: the records, its answer, and the table's numbers.
 pub struct Left {
     pub sheet: Sheet,
+    pub answer: Answer,
+    pub table: Flat,
+}
+
+// What a carry leaves: the record, its answer, and the table's numbers.
+pub struct Brought {
+    pub board: Board,
     pub answer: Answer,
     pub table: Flat,
 }
@@ -348,4 +359,42 @@ pub fn ohms_said(answer: Resistance) -> OhmsSaid
         Resistance::Refused(number) => OhmsSaid { number, ohms: 0.0 },
         Resistance::Ohms(ohms) => OhmsSaid { number: 0, ohms },
     }
+}
+
+// What a carry to the table's numbers has left.
+fn bring(done: Done, at: [u16; SHEET_SIZE], len: usize) -> Brought
+    ensures { λ r. ⌜ r ≡ record {
+      board = done .board;
+      answer = done .answer;
+      table = record { at = at; len = len };
+    } ⌝ }
+{
+    let board = done.board;
+    let answer = done.answer;
+    Brought {
+        board,
+        answer,
+        table: Flat { at, len },
+    }
+}
+
+// Carries an old foil over.
+pub fn carry(
+    b: Board,
+    t: Flat,
+    u: Flat,
+    strips: &mut [u16],
+    report: &mut [u16],
+    listed: &[u16],
+    old: OldBoard,
+) -> Brought
+    ensures { λ r. ⌜ FlatCarried (oldOf old (entriesOf u) (now (listed .entry))) b t
+        (now (strips .entry)) (now (report .entry)) r (now (strips .exit)) (now (report .exit)) ⌝ }
+{
+    let mut a = t.at;
+    let n = numbers_lent(t.len);
+    let c = u.at;
+    let m = numbers_lent(u.len);
+    let done = carrying::carry(&mut a[..n], strips, report, b, &c[..m], listed, old);
+    bring(done, a, t.len)
 }

@@ -8,8 +8,10 @@ mod records;
 mod table;
 
 use foil::Answer;
+use foil_spec::Board;
 use foil_spec::Entry;
 use foil_spec::Ink;
+use foil_spec::OldBoard;
 use job::Reply;
 use ohms::Resistance;
 use sheet_rows::Sheet;
@@ -21,6 +23,7 @@ ghost use Rattle.foil_spec.specs.Ledger.{join as joins, save as saves, find as 
 ghost use Rattle.foil_spec.specs.Ledger.{lookUp};
 ghost use Rattle.host.specs.Calls.{HostDone, HostWrote, HostRead, HostOhms};
 ghost use Rattle.host.specs.Records.{HostRan};
+ghost use Rattle.host.specs.Carried.{oldOf, HostCarried};
 
 // Begins foil k, w by h with a pen of this half width and gap: no entries, and one strip, what the edge
 // leaves, or none.
@@ -253,4 +256,26 @@ pub fn run_record(
     let out = table::run_record(s, table, strips, corners, bytes, k, at);
     *sheet = out.sheet;
     out.reply
+}
+
+// Carries a foil over that was begun under document 01's rules: its record, table and strips are only read. It is
+// written by today's rules to the record, to the first 128 places of the table and to the strips, as a foil of its own,
+// and the nets that are lifted, rising, to the front of the report.
+pub fn carry(
+    board: &mut Board,
+    table: &mut [Entry],
+    entries: &[Entry],
+    strips: &mut [u16],
+    report: &mut [u16],
+    listed: &[u16],
+    old: OldBoard,
+) -> Answer
+    ensures { λ r. ⌜ HostCarried (oldOf old (now (entries .entry)) (now (listed .entry)))
+        (now (board .entry)) (now (table .entry)) (now (strips .entry)) (now (report .entry))
+        r (now (board .exit)) (now (table .exit)) (now (strips .exit)) (now (report .exit)) ⌝ }
+{
+    let b = *board;
+    let out = table::carry(b, table, entries, strips, report, listed, old);
+    *board = out.board;
+    out.answer
 }

@@ -1,6 +1,7 @@
 // The patch table as a lent slice of entry structs. Each function takes its first 512 places out as
 // numbers, does a call on these, and puts them back; the sheet's records go by value.
 use crate::flat;
+use crate::flat::Brought;
 use crate::flat::Flat;
 use crate::flat::Left;
 use crate::flat::flat_of;
@@ -11,7 +12,9 @@ use crate::flat::put;
 use crate::flat::same;
 use crate::records;
 use crate::records::Ran;
+use foil_spec::Board;
 use foil_spec::Entry;
+use foil_spec::OldBoard;
 use sheet_rows::Sheet;
 ghost use mathlib.Core.Path.{_≡_};
 ghost use Rattle.foil_spec.specs.Foil.{point, pen};
@@ -20,6 +23,7 @@ ghost use Rattle.foil_spec.specs.Ledger.{join as joins, book as books};
 ghost use Rattle.host.specs.Flats.{frontOf, overFront};
 ghost use Rattle.host.specs.Calls.{HostDone, HostWrote};
 ghost use Rattle.host.specs.Records.{HostRan};
+ghost use Rattle.host.specs.Carried.{oldOf, HostCarried, FlatCarried};
 
 // Takes the numbers of a table's first 512 places out; the places after them are not even read.
 pub fn load(table: &[Entry]) -> Flat
@@ -206,4 +210,42 @@ pub fn run_record(
     let u = out.table;
     store(table, u);
     out
+}
+
+// Carries an old foil over to the table.
+pub fn carry(
+    b: Board,
+    table: &mut [Entry],
+    entries: &[Entry],
+    strips: &mut [u16],
+    report: &mut [u16],
+    listed: &[u16],
+    old: OldBoard,
+) -> Brought
+    ensures { λ r. ⌜ HostCarried (oldOf old (now (entries .entry)) (now (listed .entry))) b
+        (now (table .entry)) (now (strips .entry)) (now (report .entry))
+        (r .answer) (r .board) (now (table .exit)) (now (strips .exit)) (now (report .exit)) ⌝ }
+{
+    let t = load(table);
+    let out = carry_loaded(b, t, entries, strips, report, listed, old);
+    let u = out.table;
+    store(table, u);
+    out
+}
+
+// Takes the old table's numbers out too, and carries the foil over to the numbers of the table.
+fn carry_loaded(
+    b: Board,
+    t: Flat,
+    entries: &[Entry],
+    strips: &mut [u16],
+    report: &mut [u16],
+    listed: &[u16],
+    old: OldBoard,
+) -> Brought
+    ensures { λ r. ⌜ FlatCarried (oldOf old (now (entries .entry)) (now (listed .entry))) b t
+        (now (strips .entry)) (now (report .entry)) r (now (strips .exit)) (now (report .exit)) ⌝ }
+{
+    let u = load(entries);
+    flat::carry(b, t, u, strips, report, listed, old)
 }
