@@ -1,29 +1,29 @@
 -- What the marks, the rows and the report come to: the carry of the definitions.
-use Prim.Native.Nat.{ℕ, _/_, _*_, _≤_, _<_}
+use Prim.Native.Nat.{ℕ, _≤_, _<_}
 use native.Mathlib.Omega.{arith}
 use mathlib.Core.Path.{_≡_, refl, sym, ap, ap₂, _∙_, subst}
 use mathlib.Core.Bool.{Bool, true, false, not, _&&_, and-false}
 use mathlib.Core.List.{List, [], _∷_, map}
 use mathlib.Core.Logic.{inl, inr}
-use lib.Dec.{leb, ltb, eqb}
+use lib.Dec.{leb, eqb}
 use borrow.Author.Tests.{eqb-true, leb-true, lt-ltb, le-ltb, not-true, not-false}
 use lib.ListN.{length}
 use Rattle.foil_spec.specs.Lists.{range, consIf, keep, all, any}
-use Rattle.foil_spec.specs.Limits.{maxEntries, tableSize, maxStrips, stripsSize, reportPlaces}
+use Rattle.foil_spec.specs.Limits.{maxEntries, reportPlaces}
 use Rattle.foil_spec.specs.Foil.{Entry, pen, Layout, netOk, boxOk, shapeOk, entryOk, penOk, reachOk, underPatch}
 use Rattle.foil_spec.specs.Foil.{penRule}
 use Rattle.foil_spec.specs.Nets.{ofNet}
 use Rattle.foil_spec.specs.Sound.{formerly}
 use Rattle.foil_spec.specs.Carrying.{Old, old, oldShort, oldSound, oldEntries, netBlocked, blockedNets, unblocked}
 use Rattle.foil_spec.specs.Carrying.{liftedNets, carried}
-use Rattle.foil_spec.specs.Ledger.{withEntries, Room, short, tooLong, tooFine, Step, carry, wrote, says, next, _⇒_, first}
-use Rattle.foil_spec.specs.Ledger.{reads, refusals, After, settle, refusalOf}
+use Rattle.foil_spec.specs.Ledger.{withEntries, Room, short, tooFine, carry, wrote, says, next, _⇒_}
+use Rattle.foil_spec.specs.Ledger.{first, reads, refusals, After, settle, refusalOf}
 use Rattle.foil_spec.specs.Ledger.{Answer as Outcome}
 use Rattle.foil_spec.specs.Lent.{Lent, lent, entryAt, layoutOf, held, store, sound, roomIn, roomOf, stepOn}
-use Rattle.foil_spec.specs.Lent.{overFront, outputAfter}
+use Rattle.foil_spec.specs.Lent.{outputAfter}
 use Rattle.foil_spec.specs.declared.Board.{Board}
 use Rattle.foil_spec.specs.declared.OldBoard.{OldBoard}
-use Rattle.list_laws.proofs.Tests.{both, clash, and-l, and-r, parts, all-keep}
+use Rattle.list_laws.proofs.Tests.{both, clash, and-l, and-r, all-keep}
 use Rattle.list_laws.proofs.Members.{In, in-map, of-all, in-any, of-any, in-range, of-range}
 use Rattle.list_laws.proofs.Counting.{few-numbers}
 use Rattle.ledger_laws.proofs.Refusals.{short-refused, own-refused}
@@ -38,7 +38,7 @@ use Rattle.booking.specs.declared.Booked.{Booked}
 use Rattle.booking.specs.declared.Booked.the-variants.{Taken, TooFine}
 use Rattle.booking.proofs.Filling.{read-rows, length-rows}
 use Rattle.foil.specs.Contract.{answerOf, Gave, Wrote, refusedBy, TooShort}
-use Rattle.foil.specs.declared.Answer.the-variants.{Refused, Wrote as WroteNets}
+use Rattle.foil.specs.declared.Answer.the-variants.{Wrote as WroteNets}
 use Rattle.foil.specs.declared.Done.{Done}
 use Rattle.foil.proofs.Giving.{gave-refused, wrote-refused}
 use Rattle.putting.specs.Put.{Put}
@@ -196,7 +196,8 @@ module _ (t : List ℕ) (b : OldBoard) (o : OldRows t b) where
               gave =
                   subst (λ (x : List ℕ). Gave (carriedTo l ns lists) d x s₁) (sym (k .table))
                   (subst (λ (x : List ℕ). Gave (carriedTo l ns lists) d t₀ x) (sym (k .strips))
-                  (gave-refused (first ((tooFine l ⇒ 11) ∷ [])) (record { answer = wrote ns; state = store l lists }) lists 11 d
+                  (gave-refused (first ((tooFine l ⇒ 11) ∷ []))
+                  (record { answer = wrote ns; state = store l lists }) lists 11 d
                   (rw many refl) q));
               output = rw many refl;
             }
@@ -207,7 +208,8 @@ module _ (t : List ℕ) (b : OldBoard) (o : OldRows t b) where
         unfolding first settle outputAfter answerOf store
         taken t₁ s₁ out₁ after count x over e p =
             let q = subst (λ (y : Layout). Stored y t₀ s₀ t₁ s₁ after) layout-is (subst (Over t₁ s₁) e over) in
-            let (is, counted) = report-is out out₁ ns count (subst (λ (x : List ℕ). Put out 0 x out₁ count) nets-are p) in
+            let put = subst (λ (x : List ℕ). Put out 0 x out₁ count) nets-are p in
+            let (is, counted) = report-is out out₁ ns count put in
             record {
               gave =
                   rw (q .fine)

@@ -126,7 +126,8 @@ module _ (a : Asked) (W H n count : ℕ) (t s rest : List ℕ) (long : tableSize
   sound-longer : SoundAs a W H n count t s → soundBy a W H n count (t ++ rest) s ≡ true
   sound-longer k =
       let is : t ++ rest ≡ written tableSize (each entryNumbers es) (t ++ rest) =
-      ap (λ (x : List ℕ). x ++ rest) (k .table-is) ∙ sym (written-longer tableSize (each entryNumbers es) t rest long) in
+      ap (λ (x : List ℕ). x ++ rest) (k .table-is)
+      ∙ sym (written-longer tableSize (each entryNumbers es) t rest long) in
       let same : more ≡ es = read-from es (t ++ rest) (length-read t n) is in
       to-sound-as a W H n count (t ++ rest) s
       (subst (λ (xs : List Entry). keepsAsked a W H xs ≡ true) (sym same) (k .kept))

@@ -9,7 +9,7 @@ use lib.Dec.{eqb}
 use borrow.Author.Tests.{eq-eqb, leb-true, le-leb}
 use lib.ListN.{length}
 use Rattle.foil_spec.specs.Lists.{keep}
-use Rattle.foil_spec.specs.Limits.{maxEntries, tableSize, stripsSize}
+use Rattle.foil_spec.specs.Limits.{maxEntries}
 use Rattle.foil_spec.specs.Foil.{Entry, pen, reachOk, penOk, entryOk, crosses, underPatch, noCrossing, penRule}
 use Rattle.foil_spec.specs.Foil.{patchMargin}
 use Rattle.foil_spec.specs.Nets.{ofNet}

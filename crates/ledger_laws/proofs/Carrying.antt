@@ -1,13 +1,13 @@
 -- What a carry lifts, leaves and answers.
-use Prim.Native.Nat.{ℕ, _+_, _≤_, _<_, min}
+use Prim.Native.Nat.{ℕ, _≤_, _<_, min}
 use native.Mathlib.Omega.{arith}
 use mathlib.Core.Path.{_≡_, refl, sym, ap, ap₂, _∙_, subst}
 use mathlib.Core.Bool.{Bool, true, false, not, _&&_, or-true}
 use mathlib.Core.List.{List, [], _∷_}
-use mathlib.Core.Logic.{_↔_, inl, inr}
+use mathlib.Core.Logic.{_↔_}
 use mathlib.Core.Option.{none, some, Option·some-injective, Option·none-ne-some}
 use lib.Dec.{leb, ltb, eqb}
-use borrow.Author.Tests.{eq-eqb, ne-eqb, eqb-true, leb-true, ltb-false, le-ltb}
+use borrow.Author.Tests.{eq-eqb, ne-eqb, eqb-true, leb-true, le-ltb}
 use lib.ListN.{length, drop, take}
 use lib.Seq.{take-at}
 use Rattle.foil_spec.specs.Lists.{range, keep, consIf, any}
@@ -16,11 +16,11 @@ use Rattle.foil_spec.specs.Foil.{Entry, Layout, netOk, boxOk, shapeOk, entryOk,
 use Rattle.foil_spec.specs.Nets.{ofNet}
 use Rattle.foil_spec.specs.Carrying.{Old, oldShort, oldSound, oldEntries, netBlocked, blockedNets, unblocked}
 use Rattle.foil_spec.specs.Carrying.{liftedNets, carried}
-use Rattle.foil_spec.specs.Ledger.{Room, short, tooLong, tooFine, Step, carry, Answer, refused, wrote, says, next, first}
-use Rattle.foil_spec.specs.Ledger.{_⇒_, Refusal, reads, refusals, refusalOf, After, settle, ledgerStep}
+use Rattle.foil_spec.specs.Ledger.{Room, short, tooLong, tooFine, Step, carry, Answer, refused, wrote, says, next}
+use Rattle.foil_spec.specs.Ledger.{first, _⇒_, refusals, refusalOf, After, settle, ledgerStep}
 use Rattle.foil_spec.specs.Lent.{Lent, overFront, held, sound, stepOn, outputAfter}
-use Rattle.list_laws.proofs.Tests.{both, clash, and-l, and-r, and-i, not-f, not-ff, parts}
-use Rattle.list_laws.proofs.Members.{In, of-all, in-any, of-any, in-keep, of-keep, in-range, of-range, sorted-keep}
+use Rattle.list_laws.proofs.Tests.{both, clash, and-l, and-r, and-i, not-ff, parts}
+use Rattle.list_laws.proofs.Members.{In, of-all, in-any, of-any, in-keep, of-keep, in-range, sorted-keep}
 use Rattle.list_laws.proofs.Members.{sorted-range}
 use Rattle.ledger_laws.specs.Moments.{Moment}
 use Rattle.ledger_laws.specs.Numbers.{among}
@@ -34,7 +34,7 @@ use Rattle.ledger_laws.proofs.Line.{settled-refused}
 use Rattle.ledger_laws.proofs.Steps.{shown}
 use Rattle.ledger_laws.proofs.Lending.{carry-blind, step-taken, taken-on, no-wrote, blind-refusal, blind-is}
 use Rattle.ledger_laws.proofs.Lending.{blind-state, blind-answer}
-use Rattle.ledger_laws.proofs.Moments.{Shows, Standing, opens, runs-on, at-every, after-step}
+use Rattle.ledger_laws.proofs.Moments.{Standing, opens, runs-on, at-every, after-step}
 
 -- ---- which nets are lifted
 

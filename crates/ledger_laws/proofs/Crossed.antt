@@ -3,7 +3,7 @@ use Prim.Native.Nat.{ℕ, _+_, _<_}
 use native.Mathlib.Omega.{arith}
 use mathlib.Core.Path.{_≡_, refl, sym, _∙_, subst}
 use mathlib.Core.Bool.{Bool, true, false}
-use mathlib.Core.List.{List, [], _∷_}
+use mathlib.Core.List.{[], _∷_}
 use mathlib.Core.Logic.{_↔_}
 use mathlib.Core.Option.{some, Option·some-injective, Option·none-ne-some}
 use lib.Dec.{eqb}
@@ -12,16 +12,14 @@ use Rattle.foil_spec.specs.Foil.{Entry, entry, Pen, Layout, netOk, boxOk, entry
 use Rattle.foil_spec.specs.Foil.{overLeg, underPatch, penRule, patchMargin}
 use Rattle.foil_spec.specs.Ledger.{Room, Step, draw, putLeg, Answer, refused, first, refusals, reads, next, _⇒_, short}
 use Rattle.foil_spec.specs.Ledger.{settle, refusalOf, ledgerStep, tooLong, tooFine}
-use Rattle.foil_spec.specs.Lent.{Lent}
 use Rattle.list_laws.proofs.Tests.{clash, parts}
 use Rattle.list_laws.proofs.Members.{In, of-all, in-any, of-any}
-use Rattle.ledger_laws.specs.Moments.{Moment}
 use Rattle.ledger_laws.specs.Crossed.{Crosses, NoneCrossed, TurnsPatchDown, TurnsLegDown}
 use Rattle.ledger_laws.proofs.Rules.{Keeps, of-ok}
 use Rattle.ledger_laws.proofs.Refusals.{own-refused}
 use Rattle.ledger_laws.proofs.Crossing.{Full, ok-full, point-meets, meets-point, of-no-crossing}
 use Rattle.ledger_laws.proofs.Line.{patch-ok, settled-refused}
-use Rattle.ledger_laws.proofs.Moments.{Shows, at-every, after-step}
+use Rattle.ledger_laws.proofs.Moments.{at-every, after-step}
 use Rattle.ledger_laws.proofs.Demand3.{goes-on, answer-is}
 
 -- ---- a patch and a leg

@@ -19,7 +19,6 @@ use Rattle.list_laws.proofs.Members.{In, in-map, in-range, Sorted, sorted-place
 use Rattle.strip_laws.specs.Rules.{stripBefore}
 use Rattle.strip_laws.proofs.Listed.{listed-written}
 use Rattle.strip_laws.proofs.Laws.{listed-strip, strips-in-order, partition}
-use Rattle.ledger_laws.specs.Moments.{Moment}
 use Rattle.ledger_laws.specs.Demand2.{StripsRight, StripsStayRight}
 use Rattle.ledger_laws.proofs.Stored.{length-strips, strips-fit}
 use Rattle.zones.proofs.Free.{free-inside}

@@ -12,7 +12,7 @@ use lib.ListN.{length, length-take, take-append-drop}
 use Rattle.foil_spec.specs.Lists.{each, consIf}
 use Rattle.foil_spec.specs.Limits.{maxEntries, tableSize, maxStrips, stripsSize}
 use Rattle.foil_spec.specs.Foil.{entryNumbers, Layout}
-use Rattle.foil_spec.specs.Ledger.{stripsOf, says, next, Refusal, _⇒_, first, Room, short, reads, refusals, afterLent}
+use Rattle.foil_spec.specs.Ledger.{stripsOf, says, Refusal, _⇒_, first, Room, short, reads, refusals, afterLent}
 use Rattle.foil_spec.specs.Carrying.{Old}
 use Rattle.foil_spec.specs.Ledger.{After, settle, refusalOf, ledgerStep, Clearance, byPen, Step, newFoil, carry}
 use Rattle.foil_spec.specs.Ledger.{Answer, refused, accepted, wrote}

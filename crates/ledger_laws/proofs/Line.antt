@@ -26,7 +26,8 @@ use Rattle.foil_spec.specs.Ledger.{lay, lift, lookUp, putLeg, save, find, book,
 use Rattle.foil_spec.specs.Ledger.{without, freeFor, joinOf, joinCorners}
 use Rattle.foil_spec.specs.Ledger.{numberOf, next, says, refused, Refusal, first, reads, refusals, settle}
 use Rattle.foil_spec.specs.Lent.{layoutOk}
-use Rattle.list_laws.proofs.Tests.{clash, and-l, and-r, and-i, or-l, or-r, not-f, not-ff, both, parts, all-append, all-keep}
+use Rattle.list_laws.proofs.Tests.{clash, and-l, and-r, and-i, or-l, or-r, not-f, not-ff, both, parts, all-append}
+use Rattle.list_laws.proofs.Tests.{all-keep}
 use Rattle.list_laws.proofs.Members.{In, in-keep, length-keep}
 use Rattle.path_laws.proofs.Laws.{gives-first}
 use Rattle.path_laws.proofs.Ways.{path-way, way-is}

@@ -6,7 +6,7 @@ use mathlib.Core.Bool.{true, false, not}
 use mathlib.Core.List.{List, _∷_}
 use mathlib.Core.Option.{Option, none, some}
 use Rattle.foil_spec.specs.Lists.{any}
-use Rattle.foil_spec.specs.Ledger.{Room, short, Clearance, Step, newFoil, Answer, reads}
+use Rattle.foil_spec.specs.Ledger.{Room, short, Clearance, Step, newFoil, Answer}
 use Rattle.foil_spec.specs.Ledger.{After, refusalOf, settle, ledgerStep}
 use Rattle.foil_spec.specs.Lent.{Lent, held, sound, stepOn}
 use Rattle.foil_spec.specs.Calls.{endsJob, andThen, actAll}

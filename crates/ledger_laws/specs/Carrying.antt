@@ -1,5 +1,5 @@
--- Carrying over, as it is stated (document 02, P9): which nets are lifted, in words of points, what is left, and what is
--- answered. The old record and lists are arguments of the call: no call writes them.
+-- Carrying over, as it is stated (document 02, P9): which nets are lifted, in words of points, what is left, and what
+-- is answered. The old record and lists are arguments of the call: no call writes them.
 use Prim.Native.Nat.{ℕ, _≤_, _<_}
 use mathlib.Core.Path.{_≡_}
 use mathlib.Core.Bool.{true, false, not}
@@ -45,8 +45,8 @@ pub record CarriedOver (o : Old) (ns : List ℕ) (l : Layout) : Type 0 where
   pub gap : l .pen .gap ≡ o .board .reach
   pub entries : l .entries ≡ keep (λ (e : Entry). not (among (e .net) ns)) (oldEntries o)
 
--- a carry that is accepted leaves that on the ledger, and a record and lists that 13 does not apply to; the nets that it
--- answers stand at the front of the output list
+-- a carry that is accepted leaves that on the ledger, and a record and lists that 13 does not apply to; the nets that
+-- it answers stand at the front of the output list
 abbrev pub CarriesOverAt : Moment → List Moment → Type 0
 CarriesOverAt k later =
     (o : Old) (ns : List ℕ) → k .step ≡ carry o → k .answer ≡ wrote ns

@@ -85,7 +85,8 @@ report-nets-requires : tie.Need-report-nets-requires
 report-nets-requires c κs =
     let marks = atMarks (atRows (fromTold (c .before .before) .before)) in
     let p = atStart marks .pre in
-    (marks .mark-nets .ensures .long, report-room _ _ (p .0) _ (marks .mark-nets .ensures) (atStart marks .args .report .now) (p .1 .2))
+    let report = atStart marks .args .report .now in
+    (marks .mark-nets .ensures .long, report-room _ _ (p .0) _ (marks .mark-nets .ensures) report (p .1 .2))
 
 same-length-3 : tie.Need-same-length-3
 same-length-3 c = search needs

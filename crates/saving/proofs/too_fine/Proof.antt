@@ -1,6 +1,4 @@
 -- `saving::too_fine` meets its contract: the strips are built, and are more than the list holds, or not.
-use mathlib.Core.Path.{sym}
-use Rattle.zones.specs.Table.{Table}
 use Rattle.saving.proofs.Beginnings.{too-many, not-many, strips-are}
 use borrow.Author.Needs.{needs}
 use Rattle.saving.proofs.too_fine.Statement.{statement}

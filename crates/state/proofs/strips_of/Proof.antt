@@ -1,6 +1,4 @@
 -- `state::strips_of` meets its contract: the strips that the zones leave are those by the rule.
-use mathlib.Core.Path.{ap}
-use Rattle.foil_spec.specs.Strips.{strips}
 use Rattle.foil_spec.specs.Sound.{stripsBy}
 use borrow.Author.Needs.{needs}
 use Rattle.state.proofs.strips_of.Statement.{statement}
