@@ -1,7 +1,7 @@
-// Replays random job files on foil 0 of a sheet else empty beside a plain foil, with a find and a book or a join now and
-// then, and writes how many records there were, how many steps were accepted and refused by each number, and how often
-// the two differ: in an answer, in the record, in the table, the strips or the corner list, or in the strip of a point
-// that is looked up.
+// Replays random job files on foil 0 of a sheet else empty beside a plain foil, with a find and a book or a join now
+// and then, and writes how many records there were, how many steps were accepted and refused by each number, and how
+// often the two differ: in an answer, in the record, in the table, the strips or the corner list, or in the strip of a
+// point that is looked up.
 mod compare;
 mod drawings;
 mod holds;

@@ -1,4 +1,4 @@
--- `state::crossing::no_crossing` meets its contract: none of the entries before place i is a patch over one of the legs.
+-- `state::crossing::no_crossing` meets its contract: no entry before place i is a patch over one of the legs.
 use Prim.Native.Nat.{_-_}
 use native.Mathlib.Omega.{arith}
 use Rattle.booking.proofs.Filling.{no-rows}
