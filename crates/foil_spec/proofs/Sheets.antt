@@ -23,8 +23,9 @@ use Rattle.foil_spec.specs.Lent.{sameNumbers, sound}
 use Rattle.foil_spec.specs.Sound.{today, stripsBy, keepsAsked, listedIn, soundBy}
 use Rattle.foil_spec.specs.Job.{number, fieldCount, mapByte, has, fieldsAt, recordEnd, field, stepAt, jobRoom}
 use Rattle.foil_spec.specs.Job.{stepsAt, steps, isEnd, recordChecks}
-use Rattle.foil_spec.specs.Calls.{Call, step, runRecord, Reply, answered, ran, atEnd, endsJob, andThen, actAll}
-use Rattle.foil_spec.specs.Calls.{actRecord, tooLarge, wholeRefusals, reply}
+use Rattle.foil_spec.specs.Calls.{Call, step, runRecord, layList, Reply, answered, ran, atEnd, endsJob, andThen}
+use Rattle.foil_spec.specs.Calls.{actAll, actRecord, actList, tooLarge, wholeRefusals, listRefusals, reply}
+use Rattle.foil_spec.specs.Wishes.{tooMany}
 use Rattle.foil_spec.specs.Sheet.{total, reserved, eachFew, countsOk, limitOf, parts, joined, tableAt, SheetLent}
 use Rattle.foil_spec.specs.Sheet.{view, putBack, sheetRoom, counts, opening, sheetRefusal, unless, blank, rowStep}
 use Rattle.foil_spec.specs.Sheet.{rowCall, sheetLedgerCall, rowCounts, noBoard, writes, sheetStep, sheetCall}
@@ -91,16 +92,17 @@ trackReplies =
 abbrev secondRow : List Entry
 secondRow = entry 0 2 0 3 3 ∷ entry 5 0 0 1 4 ∷ entry 5 0 3 5 4 ∷ entry 5 4 0 5 4 ∷ []
 
--- then one of them is lifted and its foil begun anew; other foils are not begun, but for one by a record at place 0
+-- then one of them is lifted and its foil begun anew; other foils are not begun, but for one by a record at place 0, so
+-- that even a list of no net is refused there
 abbrev later : List On
 later =
-    on 0 (lift 9) ∷ on 7 (lookUp (point 0 0)) ∷ on 0 (newFoil 5 5 (byPen (pen 1 0))) ∷ at 3 0 ∷ at 3 7 ∷ at 4 7 ∷ at 9 0
+    on 0 (lift 9) ∷ on 7 (lookUp (point 0 0)) ∷ record { foil = 7; call = layList [] 0 } ∷ on 0 (newFoil 5 5 (byPen (pen 1 0))) ∷ at 3 0 ∷ at 3 7 ∷ at 4 7 ∷ at 9 0
     ∷ []
 
 abbrev laterReplies : List Reply
 laterReplies =
-    answered accepted ∷ answered (refused 13) ∷ answered accepted ∷ ran (accepted ∷ []) (some 7) ∷ atEnd
-    ∷ answered (refused 13) ∷ answered (refused 23) ∷ []
+    answered accepted ∷ answered (refused 13) ∷ answered (refused 13) ∷ answered accepted
+    ∷ ran (accepted ∷ []) (some 7) ∷ atEnd ∷ answered (refused 13) ∷ answered (refused 23) ∷ []
 
 eight-foils :
     rowsFrom (replicate sheetFoils noFoil) [] tracks ∷ rowsFrom (replicate sheetFoils noFoil) [] (tracks ++ later) ∷ []
@@ -118,7 +120,7 @@ unfolding rowsFrom roomAt begin
     firstPathTo stripsOf pathOf noPath cornersOf leg legsFrom legs ofNet inUse offFoil blocked
     short cornerRoom tooLong tooFine penOf clearanceRefusal next says first reads refusals afterLent settle refusalOf
     jobRoom number fieldCount mapByte has fieldsAt recordEnd field stepAt stepsAt steps isEnd recordChecks
-    endsJob andThen actAll actRecord tooLarge wholeRefusals reply xor
+    endsJob andThen actAll actRecord actList tooLarge tooMany wholeRefusals listRefusals reply xor
 eight-foils = refl
 
 -- ---- the refusals before the foil is looked at, in their order, where its counts are broken

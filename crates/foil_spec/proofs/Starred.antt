@@ -1,6 +1,6 @@
 -- The starred test foils of document 01, the ohms of its track, legs as booked with the file of their foil, drawn ways,
--- the slip of two tracks, pens, foils that the edge blocks, joins, patches across tracks, and foils carried over: one
--- list of cases, and one fact over it. Then 21 before 10.
+-- the slip of two tracks, pens, foils that the edge blocks, joins, patches across tracks, foils carried over, and lists of
+-- nets: one list of cases, and one fact over it. Then 21 before 10, and corners that run out.
 use Prim.Native.Nat.{ℕ}
 use mathlib.Core.Path.{_≡_, refl}
 use mathlib.Core.Bool.{true, false, xor}
@@ -20,7 +20,7 @@ use Rattle.foil_spec.specs.Strips.{Strip, stopIn, stop, scan, scanAt, st
 use Rattle.foil_spec.specs.Strips.{stripsFrom, holds, placeOf}
 use Rattle.foil_spec.specs.Paths.{after, between, levelFree, uprightFree, segment, bends, points, goings}
 use Rattle.foil_spec.specs.Paths.{leads, isPathTo, isWay, stepsFrom, shortest, firstFrom, firstPathTo}
-use Rattle.foil_spec.specs.Corners.{cornerAt, cornersIn, drawn}
+use Rattle.foil_spec.specs.Corners.{pointNumbers, cornerAt, cornersIn, drawn}
 use Rattle.foil_spec.specs.Nets.{ofNet, inUse, netsOf, legsOf, legSteps, stepsOf, netLength, netBends, firstPoint}
 use Rattle.foil_spec.specs.Text.{ascii, digitsIn, decimal}
 use Rattle.foil_spec.specs.Saving.{twoBytes, boardBytes, patchBytes, legBytes, entryBytes, jobOf}
@@ -30,18 +30,21 @@ use Rattle.foil_spec.specs.Sound.{listedIn, soundBy}
 use Rattle.foil_spec.specs.Carrying.{Old, old, oldShort, oldSound, oldEntries, netBlocked, blockedNets, unblocked}
 use Rattle.foil_spec.specs.Carrying.{liftedNets, carried}
 use Rattle.foil_spec.specs.Ledger.{stripsOf, pathOf, noPath, cornersOf, leg, legsFrom, legs}
-use Rattle.foil_spec.specs.Ledger.{offFoil, blocked, Room, short, cornerRoom, tooLong, tooFine, beginningTooFine}
+use Rattle.foil_spec.specs.Ledger.{withOutput, offFoil, blocked, Room, short, cornerRoom, tooLong, tooFine}
+use Rattle.foil_spec.specs.Ledger.{beginningTooFine}
 use Rattle.foil_spec.specs.Ledger.{next, says, first, reads, refusals, afterLent, settle, refusalOf, ledgerStep}
 use Rattle.foil_spec.specs.Ledger.{byPen, penOf, clearanceRefusal, Step, newFoil, draw, lay, lift, lookUp}
 use Rattle.foil_spec.specs.Ledger.{putLeg, save, find, book, slip, join, carry}
 use Rattle.foil_spec.specs.Ledger.{freeFor, onLegs, onNet, joinOf, joinCorners}
-use Rattle.foil_spec.specs.Ledger.{refused, accepted, laid, found, wrote, booked}
+use Rattle.foil_spec.specs.Ledger.{Answer, refused, accepted, laid, found, wrote, booked}
 use Rattle.foil_spec.specs.Job.{number, fieldCount, mapByte, has, fieldsAt, recordEnd, field, stepAt}
 use Rattle.foil_spec.specs.Job.{jobRoom, stepsAt, steps, isEnd, recordChecks}
 use Rattle.foil_spec.specs.Ohms.{whole, sheetOk, widthOk, bendOk, inkOk, formula, ohmsRefusals, ohmsOf}
-use Rattle.foil_spec.specs.Calls.{Call, step, runRecord, ohms, Reply, answered, ran, atEnd, measured}
-use Rattle.foil_spec.specs.Calls.{endsJob, andThen, actAll, actRecord, tooLarge, wholeRefusals, ohmsReply}
-use Rattle.foil_spec.specs.Calls.{reply, ledgerCall}
+use Rattle.foil_spec.specs.Lent.{overFront, outputAfter, numbersOut, roomLeft}
+use Rattle.foil_spec.specs.Wishes.{wishAt, wishes, tooMany}
+use Rattle.foil_spec.specs.Calls.{Call, step, runRecord, ohms, layList, Reply, answered, ran, atEnd, measured}
+use Rattle.foil_spec.specs.Calls.{laidAll, endsJob, andThen, actAll, actRecord, inFront, actEach, actList}
+use Rattle.foil_spec.specs.Calls.{tooLarge, wholeRefusals, ohmsReply, listRefusals, reply, ledgerCall, outputBy}
 
 abbrev strip : ℕ → ℕ → ℕ → ℕ → Strip
 strip x0 y0 x1 y1 = record { x0 = x0; y0 = y0; x1 = x1; y1 = y1 }
@@ -147,6 +150,22 @@ abbrev formerFoil : ℕ → ℕ → ℕ → List Entry → List Strip → Old
 formerFoil W H d es ss =
     old (record { width = W; height = H; reach = d; entries = length es; strips = length ss })
     (written tableSize (each entryNumbers es) []) (written stripsSize (each stripNumbers ss) [])
+
+-- a list on the foil of document 01's job: its track, the same net again, and two that are straight; and half a place
+fourWishes : List ℕ
+fourWishes =
+    5 ∷ 0 ∷ 0 ∷ 4 ∷ 0 ∷ 5 ∷ 1 ∷ 0 ∷ 1 ∷ 1 ∷ 6 ∷ 1 ∷ 0 ∷ 1 ∷ 2 ∷ 7 ∷ 5 ∷ 0 ∷ 5 ∷ 3 ∷ 8 ∷ 1 ∷ 0 ∷ []
+
+abbrev fourAnswers : List Answer
+fourAnswers =
+    laid jobCorners 2 ∷ refused 5 ∷ laid (point 1 0 ∷ point 1 2 ∷ []) 0 ∷ laid (point 5 0 ∷ point 5 3 ∷ []) 0 ∷ []
+
+-- its track, one for which five corner places are then too few, and one of a single point
+threeWishes : List ℕ
+threeWishes = 5 ∷ 0 ∷ 0 ∷ 4 ∷ 0 ∷ 6 ∷ 1 ∷ 0 ∷ 1 ∷ 2 ∷ 7 ∷ 5 ∷ 0 ∷ 5 ∷ 0 ∷ []
+
+abbrev threeAnswers : List Answer
+threeAnswers = laid jobCorners 2 ∷ refused 12 ∷ laid (point 5 0 ∷ []) 0 ∷ []
 
 -- a half
 half : Float
@@ -629,11 +648,28 @@ cases =
             strips = strip 1 1 7 2 ∷ strip 1 2 3 4 ∷ strip 10 3 11 4 ∷ [];
           };
     }
+    -- lists of nets: too few places for answers, too many nets, none at all, and four with half a place after them
+    ∷ record {
+      calls =
+          step (begin 6 4 0) ∷ step (draw 2 0 3 3) ∷ layList fourWishes 3 ∷ layList (replicate 205 0) 41
+          ∷ layList [] 0 ∷ layList fourWishes 4 ∷ [];
+      outcome =
+          record {
+            replies =
+                answered accepted ∷ answered accepted ∷ answered (refused 12) ∷ answered (refused 12)
+                ∷ laidAll [] ∷ laidAll fourAnswers ∷ [];
+            entries =
+                entry 0 2 0 3 3 ∷ entry 5 0 0 1 4 ∷ entry 5 0 3 5 4 ∷ entry 5 4 0 5 4 ∷ entry 6 1 0 2 3
+                ∷ entry 7 5 0 6 4 ∷ [];
+            strips = strip 3 0 4 3 ∷ [];
+          };
+    }
     ∷ []
 
 -- every case comes out as document 01 says
 starred : map (λ (c : Case). outcomeFrom noFoil [] (c .calls)) cases ≡ map (λ (c : Case). c .outcome) cases
 unfolding outcomeFrom cases jobBytes crossingBytes legJob savedBytes jobSlip penJob widePenJob latePenJob
+    fourWishes
     entryNumbers sizeOk reachOk penOk netOk boxOk shapeOk entryOk within blocks
     meets crosses overLeg underPatch patchMargin reachRule
     entryAt stripNumbers written sameNumbers formerly stripsBy keepsAsked listedIn soundBy
@@ -650,6 +686,7 @@ unfolding outcomeFrom cases jobBytes crossingBytes legJob savedBytes jobSlip pen
     penOf clearanceRefusal next says first reads refusals afterLent settle refusalOf ledgerStep
     jobRoom number fieldCount mapByte has fieldsAt recordEnd field stepAt stepsAt steps isEnd recordChecks
     endsJob andThen actAll actRecord tooLarge wholeRefusals ohmsReply reply ledgerCall xor
+    wishAt wishes tooMany listRefusals overFront outputAfter numbersOut roomLeft pointNumbers inFront actEach actList
     legsOf legSteps stepsOf netLength netBends whole sheetOk widthOk bendOk inkOk formula ohmsRefusals ohmsOf half bits
     ofInt ofBits add mul div lt le eq
 starred = refl
@@ -668,3 +705,23 @@ full : map (λ (s : Step). ledgerStep noMore s fullFoil .answer)
 unfolding netOk boxOk shapeOk entryOk meets crosses overLeg underPatch penRule patchMargin
     short tooLong next says first reads refusals afterLent settle refusalOf ledgerStep jobRoom
 full = refl
+
+-- with five corner places a net is refused by 12 and uses none of them, and the next one has the place that is left;
+-- the corners stand one after the other, and what is behind them stays
+corners-run-out :
+    ledgerCall (withOutput jobRoom 10) (layList threeWishes 3)
+    (record { width = 6; height = 4; pen = pen 0 0; entries = entry 0 2 0 3 3 ∷ [] }) .answer
+    ≡ laidAll threeAnswers
+unfolding threeWishes sizeOk netOk boxOk within blocks penRule margin nearEdge freeBy free
+    stopIn stop scan scanAt starts isRun isTop begun stripsFrom
+    after between levelFree uprightFree segment leads isPathTo isWay bends points goings stepsFrom shortest firstFrom
+    firstPathTo stripsOf pathOf noPath cornersOf leg legsFrom legs ofNet inUse offFoil blocked
+    short cornerRoom tooLong tooFine next says first reads refusals afterLent settle refusalOf ledgerStep jobRoom
+    wishAt wishes tooMany listRefusals overFront outputAfter numbersOut roomLeft pointNumbers inFront actEach actList
+    reply ledgerCall
+corners-run-out = refl
+
+one-after-the-other : outputBy (laidAll threeAnswers) (replicate 12 9)
+    ≡ 0 ∷ 0 ∷ 0 ∷ 3 ∷ 4 ∷ 3 ∷ 4 ∷ 0 ∷ 5 ∷ 0 ∷ 9 ∷ 9 ∷ []
+unfolding outputBy numbersOut outputAfter overFront pointNumbers
+one-after-the-other = refl

@@ -6,29 +6,33 @@ use mathlib.Core.Option.{Option, none, some}
 use lib.Dec.{ltb, eqb}
 use lib.ListN.{length}
 use lib.Ieee.{Float}
-use Rattle.foil_spec.specs.Lists.{any}
+use Rattle.foil_spec.specs.Lists.{any, each}
 use Rattle.foil_spec.specs.Limits.{maxBytes}
 use Rattle.foil_spec.specs.Foil.{Layout}
 use Rattle.foil_spec.specs.Ledger.{Step, Answer, refused, accepted, laid, found, wrote, booked}
 use Rattle.foil_spec.specs.Ledger.{Refusal, _⇒_, first, Room, afterLent, After, ledgerStep}
-use Rattle.foil_spec.specs.Lent.{Lent, held, sound, stepOn, outputAfter}
+use Rattle.foil_spec.specs.Lent.{Lent, held, sound, stepOn, overFront, outputAfter, numbersOut, roomLeft}
+use Rattle.foil_spec.specs.Wishes.{wishes, tooMany}
 use Rattle.foil_spec.specs.Ohms.{ohmsRefusals, ohmsOf}
 use Rattle.foil_spec.specs.declared.Ink.{Ink}
 use Rattle.foil_spec.specs.Job.{steps, isEnd, recordEnd, recordChecks}
 
--- a call: one step, or the record at a place of the job file's bytes, or the ohms of a net
+-- a call: one step, or the record at a place of the job file's bytes, or the ohms of a net, or a list of lays: the
+-- numbers of its wishes, and how many places for answers are lent
 pub data Call : Type 0 where
   step : Step → Call
   runRecord : List ℕ → ℕ → Call
   ohms : ℕ → Ink → Call
+  layList : List ℕ → ℕ → Call
 
 -- the answer of a step or of a record as a whole, or a refusal; or each step's answer and the next place; or the end
--- mark; or the ohms
+-- mark; or the ohms; or the answer of each lay of a list
 pub data Reply : Type 0 where
   answered : Answer → Reply
   ran : List Answer → Option ℕ → Reply
   atEnd : Reply
   measured : Float → Reply
+  laidAll : List Answer → Reply
 
 -- a step refused by 1, 2 or 20 ends the job
 unfoldable pub endsJob : Answer → Bool
@@ -63,6 +67,22 @@ module _ {S : Type 0} (act : Step → S → After Answer S) where
         state = actAll cs s .state;
       }
 
+-- an answer in front of those after it
+unfoldable pub inFront : {S : Type 0} → After Answer S → After (List Answer) S → After (List Answer) S
+inFront a b = record { answer = a .answer ∷ b .answer; state = b .state }
+
+-- a list of lays on any state, where `act` does a step in a room
+module _ {S : Type 0} (act : Room → Step → S → After Answer S) where
+  -- the steps one after the other, whatever each answers, and each in the room that those before it leave
+  unfoldable pub actEach : Room → List Step → S → After (List Answer) S
+  actEach r [] s = record { answer = []; state = s }
+  actEach r (c ∷ cs) s = inFront (act r c s) (actEach (roomLeft (act r c s .answer) r) cs (act r c s .state))
+
+  -- refused as a whole, or the answers of the steps
+  unfoldable pub actList : Option ℕ → Room → List Step → S → After Reply S
+  actList (some n) r cs s = record { answer = answered (refused n); state = s }
+  actList none r cs s = record { answer = laidAll (actEach r cs s .answer); state = actEach r cs s .state }
+
 -- 18: the job file has too many bytes
 unfoldable pub tooLarge : List ℕ → Bool
 tooLarge bs = ltb maxBytes (length bs)
@@ -76,21 +96,28 @@ unfoldable pub ohmsReply : Option ℕ → Float → Reply
 ohmsReply (some n) x = answered (refused n)
 ohmsReply none x = measured x
 
--- a call on a state s that holds the layout l, where `act` does a step; `broken` says that the state breaks a rule
-unfoldable pub reply : {S : Type 0} → (Step → S → After Answer S) → Room → Bool → Call → Layout → S → After Reply S
-reply act r broken (step c) l s = record { answer = answered (act c s .answer); state = act c s .state }
+-- the refusals of a list of lays as a whole; 13 is tried also without wishes
+unfoldable pub listRefusals : Room → Bool → List ℕ → ℕ → List Refusal
+listRefusals r broken ws n = (tooMany ws n ⇒ 12) ∷ afterLent r broken []
+
+-- a call on a state s that holds the layout l, where `act` does a step in a room; `broken` says that the state breaks a
+-- rule
+unfoldable pub reply :
+    {S : Type 0} → (Room → Step → S → After Answer S) → Room → Bool → Call → Layout → S → After Reply S
+reply act r broken (step c) l s = record { answer = answered (act r c s .answer); state = act r c s .state }
 reply act r broken (runRecord bs at) l s =
-    actRecord act (first (wholeRefusals r broken bs at)) (isEnd bs at) (steps bs at) (recordEnd bs at) s
+    actRecord (act r) (first (wholeRefusals r broken bs at)) (isEnd bs at) (steps bs at) (recordEnd bs at) s
 reply act r broken (ohms net i) l s =
     record { answer = ohmsReply (first (afterLent r broken (ohmsRefusals net i l))) (ohmsOf net i l); state = s }
+reply act r broken (layList ws n) l s = actList act (first (listRefusals r broken ws n)) r (wishes ws) s
 
 -- the ledger's reply to a call
 unfoldable pub ledgerCall : Room → Call → Layout → After Reply Layout
-ledgerCall r c l = reply (ledgerStep r) r false c l l
+ledgerCall r c l = reply ledgerStep r false c l l
 
 -- what a call does to what is lent
 unfoldable pub callOn : Room → Call → Lent → After Reply Lent
-callOn r c m = reply (stepOn r) r (not (sound m)) c (held m) m
+callOn r c m = reply stepOn r (not (sound m)) c (held m) m
 
 -- the answers in a reply
 unfoldable pub answersIn : Reply → List Answer
@@ -98,15 +125,20 @@ answersIn (answered a) = a ∷ []
 answersIn (ran given place) = given
 answersIn atEnd = []
 answersIn (measured x) = []
+answersIn (laidAll given) = given
 
 -- an output list after some answers
 unfoldable pub outputAll : List Answer → List ℕ → List ℕ
 outputAll [] out = out
 outputAll (a ∷ given) out = outputAll given (outputAfter a out)
 
--- an output list after a reply
+-- an output list after a reply: each answer of a record writes at its front, those of a list one after the other
 unfoldable pub outputBy : Reply → List ℕ → List ℕ
-outputBy r out = outputAll (answersIn r) out
+outputBy (answered a) out = outputAfter a out
+outputBy (ran given place) out = outputAll given out
+outputBy atEnd out = out
+outputBy (measured x) out = out
+outputBy (laidAll given) out = overFront (each numbersOut given) out
 
 -- where a job goes on after a reply
 unfoldable pub placeAfter : Reply → Option ℕ
@@ -114,6 +146,7 @@ placeAfter (answered a) = none
 placeAfter (ran given place) = place
 placeAfter atEnd = none
 placeAfter (measured x) = none
+placeAfter (laidAll given) = none
 
 -- a job file on any state, where `call` does a call
 module _ {S : Type 0} (call : Call → S → After Reply S) where

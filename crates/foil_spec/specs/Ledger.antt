@@ -95,6 +95,10 @@ pub record Room : Type 0 where
   pub output : ℕ
   pub limit : ℕ
 
+-- the room with so many numbers of output
+abbrev pub withOutput : Room → ℕ → Room
+withOutput r n = record { table = r .table; strips = r .strips; output = n; limit = r .limit }
+
 -- the lent table or strip list is too short
 unfoldable pub short : Room → Bool
 short r = ltb (r .table) maxEntries || ltb (r .strips) maxStrips

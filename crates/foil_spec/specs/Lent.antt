@@ -1,7 +1,7 @@
 -- The foil as it is lent, a record and flat lists of numbers, and what each step does to it and to an output list.
-use Prim.Native.Nat.{ℕ, _+_, _*_, _/_}
+use Prim.Native.Nat.{ℕ, _+_, _*_, _-_, _/_}
 use mathlib.Core.Bool.{Bool, not}
-use mathlib.Core.List.{List, _++_, map}
+use mathlib.Core.List.{List, [], _++_, map}
 use lib.ListN.{length, getD, drop}
 use Rattle.foil_spec.specs.Lists.{range, each}
 use Rattle.foil_spec.specs.Limits.{maxEntries, tableSize, stripsSize}
@@ -10,7 +10,7 @@ use Rattle.foil_spec.specs.Strips.{Strip}
 use Rattle.foil_spec.specs.Corners.{pointNumbers}
 use Rattle.foil_spec.specs.Sound.{today, keepsAsked, soundBy}
 unfoldable pub use Rattle.foil_spec.specs.Sound.{entryAt, stripNumbers, written, sameNumbers}
-use Rattle.foil_spec.specs.Ledger.{stripsOf, Room, Step, says, next, After, settle, refusalOf}
+use Rattle.foil_spec.specs.Ledger.{stripsOf, Room, withOutput, Step, says, next, After, settle, refusalOf}
 use Rattle.foil_spec.specs.Ledger.{Answer, refused, accepted, laid, found, wrote, booked}
 use Rattle.foil_spec.specs.declared.Board.{Board}
 
@@ -109,3 +109,11 @@ outputAfter (laid cs n) out = overFront (each pointNumbers cs) out
 outputAfter (found n) out = out
 outputAfter (wrote bs) out = overFront bs out
 outputAfter (booked k n) out = out
+
+-- the numbers that an answer writes there: what it makes of an empty list
+unfoldable pub numbersOut : Answer → List ℕ
+numbersOut a = outputAfter a []
+
+-- the room after an answer: what it wrote of the output list is not lent again
+unfoldable pub roomLeft : Answer → Room → Room
+roomLeft a r = withOutput r (r .output - length (numbersOut a))

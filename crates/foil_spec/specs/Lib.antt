@@ -13,6 +13,7 @@ pub mod Sound
 pub mod Carrying
 pub mod Ledger
 pub mod Lent
+pub mod Wishes
 pub mod Job
 pub mod Ohms
 pub mod Calls

@@ -27,6 +27,10 @@ maxBytes = 60000
 abbrev pub cornerPlaces : ℕ
 cornerPlaces = 8192
 
+-- a list of nets to lay has at most so many
+abbrev pub maxWishes : ℕ
+maxWishes = 40
+
 -- a sheet has so many foils, and holds so many entries, of five numbers each; each foil is sure of so many
 abbrev pub sheetFoils : ℕ
 sheetFoils = 8

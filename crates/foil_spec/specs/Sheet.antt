@@ -13,7 +13,9 @@ use Rattle.foil_spec.specs.Ledger.{stripsOf, Room, Step, newFoil, draw, 
 use Rattle.foil_spec.specs.Ledger.{book, slip, join, carry, Answer, refused, says, next, Refusal, _⇒_, first}
 use Rattle.foil_spec.specs.Ledger.{afterLent, After, settle, refusalOf}
 use Rattle.foil_spec.specs.Lent.{Lent, lent, stripNumbers, written, boardOf, store, held, sound}
-use Rattle.foil_spec.specs.Calls.{Call, step, runRecord, ohms, Reply, answered, tooLarge, reply, outputBy}
+use Rattle.foil_spec.specs.Calls.{Call, step, runRecord, ohms, layList, Reply, answered, tooLarge, reply}
+use Rattle.foil_spec.specs.Calls.{outputBy}
+use Rattle.foil_spec.specs.Wishes.{tooMany}
 use Rattle.foil_spec.specs.declared.Board.{Board}
 
 -- ---- how many entries the foils have
@@ -112,8 +114,8 @@ writes (join net S) = true
 writes (carry o) = true
 
 -- what a step on foil k does: what it does to the foil alone; the table is written anew, or left as it is
-unfoldable pub sheetStep : Room → ℕ → Step → SheetLent → After Answer SheetLent
-sheetStep r k s m =
+unfoldable pub sheetStep : ℕ → Room → Step → SheetLent → After Answer SheetLent
+sheetStep k r s m =
     settle (refusalOf r (not (sound (view k m))) s (held (view k m)))
     (record {
       answer = says s (held (view k m));
@@ -126,6 +128,7 @@ unfoldable pub opening : Room → Bool → Call → List Refusal
 opening r broken (step s) = afterLent r broken []
 opening r broken (runRecord bs at) = (tooLarge bs ⇒ 18) ∷ afterLent r broken []
 opening r broken (ohms net i) = afterLent r broken []
+opening r broken (layList ws n) = (tooMany ws n ⇒ 12) ∷ afterLent r broken []
 
 -- the number that turns a call down so, if one does; first of all 23
 unfoldable pub sheetRefusal : Room → Bool → ℕ → Call → Option ℕ
@@ -140,7 +143,7 @@ unless none done old = done
 unfoldable pub sheetCall : Room → ℕ → Call → SheetLent → After Reply SheetLent
 sheetCall r k c m =
     unless (sheetRefusal r (not (countsOk (counts (m .boards)))) k c)
-    (reply (sheetStep r k) r (not (sound (view k m))) c (held (view k m)) m) m
+    (reply (sheetStep k) r (not (sound (view k m))) c (held (view k m)) m) m
 
 -- ---- the ledger, which keeps a row for each foil
 
@@ -154,7 +157,7 @@ rowStep r s l = settle (refusalOf r (blank l) s l) (record { answer = says s l; 
 
 -- its reply to a call on a row
 unfoldable pub rowCall : Room → Call → Layout → After Reply Layout
-rowCall r c l = reply (rowStep r) r (blank l) c l l
+rowCall r c l = reply rowStep r (blank l) c l l
 
 -- its reply to a call on foil k; its own counts never break a limit
 unfoldable pub sheetLedgerCall : Room → ℕ → Call → List Layout → After Reply (List Layout)
