@@ -5,14 +5,14 @@ use mathlib.Core.Bool.{true, false}
 use mathlib.Core.List.{List}
 use mathlib.Core.Option.{Option, none, some}
 use Rattle.foil_spec.specs.Foil.{Layout}
-use Rattle.foil_spec.specs.Ledger.{Room, Step, Answer, says, next, After, settle, refusalOf, ledgerStep}
+use Rattle.foil_spec.specs.Ledger.{Room, withOutput, Step, Answer, says, next, After, settle, refusalOf, ledgerStep}
 use Rattle.foil_spec.specs.Lent.{layoutOk}
 use Rattle.foil_spec.specs.Calls.{Call, andThen, actAll, ledgerCall}
 use Rattle.ledger_laws.proofs.Refusals.{unrefused-own}
 use Rattle.ledger_laws.proofs.Line.{line}
 use Rattle.ledger_laws.proofs.Replies.{then-keeps, steps-keep as keep-steps, reply-keeps}
 
--- what accepted steps keep, every call keeps
+-- what accepted steps keep, every step keeps
 module _ (Q : Layout → Type 0) (r : Room)
     (keeps : (s : Step) (l : Layout) → Q l → refusalOf r false s l ≡ none → Q (next s l)) where
   settle-keeps : (o : Option ℕ) (s : Step) (l : Layout) → refusalOf r false s l ≡ o → Q l
@@ -28,9 +28,13 @@ module _ (Q : Layout → Type 0) (r : Room)
   pub steps-keep : (ss : List Step) (l : Layout) → Q l → Q (actAll (ledgerStep r) ss l .state)
   steps-keep = keep-steps (ledgerStep r) Q step-keeps
 
-  pub call-keeps : (c : Call) (l : Layout) → Q l → Q (ledgerCall r c l .state)
-  unfolding ledgerCall
-  call-keeps c l g = reply-keeps (ledgerStep r) Q step-keeps r false c l l g
+-- and in the room r, with any number of output, every call
+pub call-keeps : (Q : Layout → Type 0) (r : Room)
+    → ((n : ℕ) (s : Step) (l : Layout) → Q l → refusalOf (withOutput r n) false s l ≡ none → Q (next s l))
+    → (c : Call) (l : Layout) → Q l → Q (ledgerCall r c l .state)
+unfolding ledgerCall
+call-keeps Q r keeps c l g =
+    reply-keeps ledgerStep Q r (λ n. step-keeps Q (withOutput r n) (keeps n)) false c l l g
 
 -- ---- the rules
 
@@ -52,5 +56,5 @@ module _ (r : Room) where
       → layoutOk (actAll (ledgerStep r) ss l .state) ≡ true
   steps-kept = steps-keep Kept r next-keeps
 
-  pub call-kept : (c : Call) (l : Layout) → layoutOk l ≡ true → layoutOk (ledgerCall r c l .state) ≡ true
-  call-kept = call-keeps Kept r next-keeps
+pub call-kept : (r : Room) (c : Call) (l : Layout) → layoutOk l ≡ true → layoutOk (ledgerCall r c l .state) ≡ true
+call-kept r = call-keeps Kept r (λ n. next-keeps (withOutput r n))

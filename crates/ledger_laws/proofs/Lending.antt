@@ -18,12 +18,14 @@ use Rattle.foil_spec.specs.Ledger.{After, settle, refusalOf, ledgerStep, Cleara
 use Rattle.foil_spec.specs.Ledger.{Answer, refused, accepted, wrote}
 use Rattle.foil_spec.specs.Lent.{Lent, lent, stripNumbers, store, held, layoutOk, sound, roomIn, stepOn}
 use Rattle.foil_spec.specs.Job.{has, stepAt, stepsAt, steps, isEnd, recordEnd, recordChecks}
-use Rattle.foil_spec.specs.Calls.{Call, step, runRecord, ohms, Reply, answered, ran, endsJob, andThen, actAll}
-use Rattle.foil_spec.specs.Calls.{actRecord, tooLarge, wholeRefusals, ohmsReply, reply, ledgerCall, callOn}
+use Rattle.foil_spec.specs.Wishes.{tooMany}
+use Rattle.foil_spec.specs.Calls.{Call, step, runRecord, ohms, layList, Reply, answered, ran, endsJob, andThen, actAll}
+use Rattle.foil_spec.specs.Calls.{actRecord, actList, tooLarge, wholeRefusals, listRefusals, ohmsReply, reply}
+use Rattle.foil_spec.specs.Calls.{ledgerCall, callOn}
 use Rattle.foil_spec.specs.Sequence.{Lending, front, roomFor, back, lend, told, Begins}
 use Rattle.foil_spec.proofs.Written.{length-written}
 use Rattle.list_laws.proofs.Tests.{clash, both, or-l, parts}
-use Rattle.ledger_laws.specs.Moments.{stepsRun}
+use Rattle.ledger_laws.specs.Moments.{stepsRun, isList}
 use Rattle.ledger_laws.proofs.Refusals.{no-more, none-applies, first-passes, short-refused, own-refused}
 use Rattle.ledger_laws.proofs.Refusals.{unrefused-long, unrefused-own}
 use Rattle.ledger_laws.proofs.Stored.{Long, entries-fit, strips-fit, front-store, back-new, back-store}
@@ -48,31 +50,39 @@ pub shortNumber : Call → ℕ
 shortNumber (step s) = 12
 shortNumber (runRecord bs at) = cond (tooLarge bs) 18 12
 shortNumber (ohms net i) = 12
+shortNumber (layList ws n) = 12
 
-short-second : (a s : Bool) (rs : List Refusal) → s ≡ true → first ((a ⇒ 18) ∷ (s ⇒ 12) ∷ rs) ≡ some (cond a 18 12)
+short-second : (a s : Bool) (n : ℕ) (rs : List Refusal) → s ≡ true
+    → first ((a ⇒ n) ∷ (s ⇒ 12) ∷ rs) ≡ some (cond a n 12)
 unfolding first
-short-second true s rs e = refl
-short-second false s rs e = rw e refl
+short-second true s n rs e = refl
+short-second false s n rs e = rw e refl
+
+always-12 : (a : Bool) → _≡_ {A = ℕ} (cond a 12 12) 12
+always-12 true = refl
+always-12 false = refl
 
 -- on any state on which the steps are refused by 12
-reply-short : {S : Type 0} (act : Step → S → After Answer S) (r : Room) (b : Bool) (c : Call) (l : Layout) (x : S)
-    → short r ≡ true → ((s : Step) → act s x ≡ record { answer = refused 12; state = x })
+reply-short : {S : Type 0} (act : Room → Step → S → After Answer S) (r : Room) (b : Bool) (c : Call) (l : Layout)
+    (x : S) → short r ≡ true → ((s : Step) → act r s x ≡ record { answer = refused 12; state = x })
     → reply act r b c l x ≡ record { answer = answered (refused (shortNumber c)); state = x }
-unfolding reply shortNumber actRecord wholeRefusals afterLent first ohmsReply
+unfolding reply shortNumber actRecord actList wholeRefusals listRefusals afterLent first ohmsReply
 reply-short act r b (step s) l x e h = rw (h s) refl
 reply-short act r b (runRecord bs at) l x e h =
-    rw (short-second (tooLarge bs) (short r) ((b && not (eqb at 0) ⇒ 13) ∷ recordChecks bs at) e) refl
+    rw (short-second (tooLarge bs) (short r) 18 ((b && not (eqb at 0) ⇒ 13) ∷ recordChecks bs at) e) refl
 reply-short act r b (ohms net i) l x e h = rw e refl
+reply-short act r b (layList ws n) l x e h =
+    rw (short-second (tooMany ws n) (short r) 12 ((b ⇒ 13) ∷ []) e, always-12 (tooMany ws n)) refl
 
 pub call-short : (r : Room) (c : Call) (m : Lent) → short r ≡ true
     → callOn r c m ≡ record { answer = answered (refused (shortNumber c)); state = m }
 unfolding callOn
-call-short r c m e = reply-short (stepOn r) r (not (sound m)) c (held m) m e (λ s. step-short r s m e)
+call-short r c m e = reply-short stepOn r (not (sound m)) c (held m) m e (λ s. step-short r s m e)
 
 pub told-short : (r : Room) (c : Call) (l : Layout) → short r ≡ true
     → ledgerCall r c l ≡ record { answer = answered (refused (shortNumber c)); state = l }
 unfolding ledgerCall
-told-short r c l e = reply-short (ledgerStep r) r false c l l e (λ s. ledger-short r s l e)
+told-short r c l e = reply-short ledgerStep r false c l l e (λ s. ledger-short r s l e)
 
 -- ---- front parts
 
@@ -154,8 +164,8 @@ module _ (m : Lent) (long : Long m) (c : Lending) (l : Layout) (g : layoutOk l �
 
 -- ---- the call that begins a foil
 
--- it is not short, it goes as on the ledger, and leaves a layout that keeps the rules; the steps that it runs are one
--- that reads nothing of what is lent and is not refused, and others
+-- it is not short, it goes as on the ledger, and leaves a layout that keeps the rules; it is no list of lays, and the
+-- steps that it runs are one that reads nothing of what is lent and is not refused, and others
 pub record Begun (r : Room) (c : Call) (l : Layout) (m : Lent) : Type 0 where
   pub long : short r ≡ false
   pub kept : layoutOk (ledgerCall r c l .state) ≡ true
@@ -163,6 +173,7 @@ pub record Begun (r : Room) (c : Call) (l : Layout) (m : Lent) : Type 0 where
   pub opening : Step
   pub blind : reads opening ≡ false
   pub later : List Step
+  pub no-list : isList c ≡ false
   pub runs : stepsRun c (ledgerCall r c l .answer) ≡ opening ∷ later
   pub unrefused : refusalOf r false opening l ≡ none
   pub ends : ledgerCall r c l .state ≡ actAll (ledgerStep r) (opening ∷ later) l .state
@@ -253,6 +264,7 @@ module _ (s : Step) (blind : reads s ≡ false) (r : Room) (l : Layout) where
           opening = s;
           blind = blind;
           later = [];
+          no-list = unfold isList in refl;
           runs = refl;
           unrefused = e;
           ends = sym (step-alone r s l);
@@ -406,6 +418,7 @@ begun-record r bs xs n l m e =
       opening = new;
       blind = blind;
       later = b .later;
+      no-list = unfold isList in refl;
       runs = ap (stepsRun (runRecord bs 0)) e ∙ b .is;
       unrefused = u;
       ends = ends;

@@ -1,6 +1,7 @@
 -- Laws of the ledger and of what is lent.
 pub mod Stored
 pub mod CornerLists
+pub mod Outputs
 pub mod Refusals
 pub mod Legs
 pub mod Crossing
@@ -27,6 +28,7 @@ pub mod OldJobs
 pub mod Opening
 pub mod Numbers
 pub mod Carrying
+pub mod Singly
 pub mod FileSize
 pub mod RecordBytes
 pub mod SavedReplies

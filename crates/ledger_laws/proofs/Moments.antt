@@ -5,16 +5,19 @@ use mathlib.Core.Path.{_≡_, refl, sym, ap, _∙_, subst}
 use mathlib.Core.Bool.{Bool, true, false, cond}
 use mathlib.Core.List.{List, [], _∷_, _++_}
 use mathlib.Core.Option.{Option, none, some}
+use lib.ListN.{length, drop}
 use Rattle.foil_spec.specs.Limits.{tableSize, stripsSize}
 use Rattle.foil_spec.specs.Foil.{Layout}
 use Rattle.foil_spec.specs.Ledger.{Step, Answer, Room, short, reads, After, refusalOf, ledgerStep}
-use Rattle.foil_spec.specs.Lent.{Lent, store, held, layoutOk, sound, stepOn, outputAfter}
+use Rattle.foil_spec.specs.Lent.{Lent, store, held, layoutOk, sound, stepOn, outputAfter, numbersOut, roomLeft}
+use Rattle.foil_spec.specs.Wishes.{wishes}
 use Rattle.foil_spec.specs.Job.{steps}
-use Rattle.foil_spec.specs.Calls.{Call, step, runRecord, ohms, Reply, endsJob, andThen, actAll, actRecord}
-use Rattle.foil_spec.specs.Calls.{reply, ledgerCall}
+use Rattle.foil_spec.specs.Calls.{Call, step, runRecord, ohms, layList, Reply, endsJob, andThen, actAll, actRecord}
+use Rattle.foil_spec.specs.Calls.{inFront, actEach, actList, reply, ledgerCall}
 use Rattle.foil_spec.specs.Sequence.{Lending, front, roomFor, back, lend, told}
 use Rattle.list_laws.proofs.Tests.{both}
-use Rattle.ledger_laws.specs.Moments.{Moment, momentOf, momentsOf, stepsRun, moments, Started, begins, carried}
+use Rattle.ledger_laws.specs.Moments.{Moment, momentOf, momentsOf, momentsEach, stepsRun, isList, momentsBy}
+use Rattle.ledger_laws.specs.Moments.{moments, Started, begins, carried}
 use Rattle.ledger_laws.proofs.Stored.{Long, front-store, back-new, back-store}
 use Rattle.ledger_laws.proofs.Kept.{step-kept, call-kept}
 use Rattle.ledger_laws.proofs.Steps.{shown, step-is}
@@ -78,14 +81,10 @@ chain-then m a b ks h = go (endsJob (a .answer))
 -- a call c on the whole lists n, which with what it leaves of its front part hold what m holds
 module _ (c : Lending) (n m : Lent)
     (whole : (l : Layout) → layoutOk l ≡ true → back c n (store l (front c m)) ≡ store l m) where
-  -- the room that it has
-  abbrev r : Room
-  r = roomFor c n
-
-  goes : (s : Step) (l : Layout) (out : List ℕ) → layoutOk l ≡ true
-      → Goes m (momentOf c n s (store l (front c m)) out l)
+  goes : (r : Room) (s : Step) (l : Layout) (out : List ℕ) → layoutOk l ≡ true
+      → Goes m (momentOf c n r s (store l (front c m)) out l)
   unfolding momentOf
-  goes s l out g =
+  goes r s l out g =
       let o = step-is r s l (front c m) g in
       let kept = step-kept r s l g in
       record {
@@ -101,6 +100,10 @@ module _ (c : Lending) (n m : Lent)
         given = out;
         output = refl;
       }
+
+  -- the room that it has
+  abbrev r : Room
+  r = roomFor c n
 
   -- the steps ss after the step that is answered by z
   chain-next : (z : After Answer Lent) (a : After Answer Layout) (out : List ℕ) (ss : List Step)
@@ -125,10 +128,50 @@ module _ (c : Lending) (n m : Lent)
   chain (s ∷ ss) l out g =
       let a : After Answer Layout = ledgerStep r s l in (
         refl,
-        goes s l out g,
+        goes r s l out g,
         chain-next (stepOn r s (store l (front c m))) a out ss (actAll (ledgerStep r) ss (a .state))
             (step-is r s l (front c m) g) (chain ss (a .state) (outputAfter (a .answer) out) (step-kept r s l g)),
       )
+
+  -- the lays of a list after the one that is answered by z in the room q
+  each-next : (q : Room) (z : After Answer Lent) (a : After Answer Layout) (out : List ℕ) (ss : List Step) (e : Layout)
+      → z ≡ shown (front c m) a
+      → Chain m (a .state)
+      (momentsEach c n (roomLeft (a .answer) q) ss (store (a .state) (front c m))
+      (drop (length (numbersOut (a .answer))) out) (a .state))
+      e
+      → Chain m (a .state)
+      (momentsEach c n (roomLeft (z .answer) q) ss (z .state) (drop (length (numbersOut (z .answer))) out) (a .state)) e
+  each-next q z a out ss e h k =
+      subst
+      (λ (x : After Answer Lent).
+      Chain m (a .state)
+      (momentsEach c n (roomLeft (x .answer) q) ss (x .state) (drop (length (numbersOut (x .answer))) out) (a .state))
+      e)
+      (sym h) (unfold shown in k)
+
+  each-chain : (ss : List Step) (q : Room) (l : Layout) (out : List ℕ) → layoutOk l ≡ true
+      → Chain m l (momentsEach c n q ss (store l (front c m)) out l) (actEach ledgerStep q ss l .state)
+  unfolding momentsEach actEach inFront momentOf
+  each-chain [] q l out g = refl
+  each-chain (s ∷ ss) q l out g =
+      let a : After Answer Layout = ledgerStep q s l in (
+        refl,
+        goes q s l out g,
+        each-next q (stepOn q s (store l (front c m))) a out ss _ (step-is q s l (front c m) g)
+            (each-chain ss (roomLeft (a .answer) q) (a .state) (drop (length (numbersOut (a .answer))) out)
+            (step-kept q s l g)),
+      )
+
+  -- those that it runs, by its checks
+  list-chain : (o : Option ℕ) (ws : List ℕ) (k : ℕ) (l : Layout) (out : List ℕ) → layoutOk l ≡ true
+      → Chain m l
+      (momentsEach c n r (stepsRun (layList ws k) (actList ledgerStep o r (wishes ws) l .answer))
+      (store l (front c m)) out l)
+      (actList ledgerStep o r (wishes ws) l .state)
+  unfolding actList stepsRun
+  list-chain (some j) ws k l out g = unfold momentsEach in refl
+  list-chain none ws k l out g = each-chain (wishes ws) r l out g
 
   -- the steps that a record runs, by its checks
   record-chain : (o : Option ℕ) (e : Bool) (bs : List ℕ) (at p : ℕ) (l : Layout) (out : List ℕ) → layoutOk l ≡ true
@@ -142,13 +185,14 @@ module _ (c : Lending) (n m : Lent)
   record-chain none false bs at p l out g = chain (steps bs at) l out g
 
   call-chain : (k : Call) (l : Layout) (out : List ℕ) → layoutOk l ≡ true
-      → Chain m l (momentsOf c n (stepsRun k (ledgerCall r k l .answer)) (store l (front c m)) out l)
+      → Chain m l (momentsBy c n k (stepsRun k (ledgerCall r k l .answer)) (store l (front c m)) out l)
       (ledgerCall r k l .state)
-  unfolding ledgerCall reply stepsRun
+  unfolding ledgerCall reply stepsRun isList momentsBy
   call-chain (step s) l out g =
       subst (Chain m l (momentsOf c n (s ∷ []) (store l (front c m)) out l)) (step-alone r s l) (chain (s ∷ []) l out g)
   call-chain (runRecord bs at) l out g = record-chain _ _ bs at _ l out g
   call-chain (ohms net i) l out g = unfold momentsOf in refl
+  call-chain (layList ws k) l out g = list-chain _ ws k l out g
 
 -- ---- one call of the list
 
@@ -179,10 +223,11 @@ module _ (m : Lent) (long : Long m) (c : Lending) (l : Layout) (g : layoutOk l �
   abbrev Steps : Call → Type 0
   Steps k =
       Chain m l
-      (momentsOf c lists (stepsRun k (ledgerCall (roomFor c lists) k l .answer)) (front c lists) (c .output) l)
+      (momentsBy c lists k (stepsRun k (ledgerCall (roomFor c lists) k l .answer)) (front c lists) (c .output) l)
       (ledgerCall (roomFor c lists) k l .state)
 
-  short-goes : short (roomFor c lists) ≡ true → (s : Step) → Goes m (momentOf c lists s (front c lists) (c .output) l)
+  short-goes : short (roomFor c lists) ≡ true → (s : Step)
+      → Goes m (momentOf c lists (roomFor c lists) s (front c lists) (c .output) l)
   unfolding momentOf
   short-goes e s =
       let r : Room = roomFor c lists in
@@ -201,7 +246,7 @@ module _ (m : Lent) (long : Long m) (c : Lending) (l : Layout) (g : layoutOk l �
       }
 
   short-step : short (roomFor c lists) ≡ true → (s : Step) → Steps (step s)
-  unfolding ledgerCall reply stepsRun momentsOf
+  unfolding ledgerCall reply stepsRun isList momentsBy momentsOf
   short-step e s = (
     unfold momentOf in refl,
     short-goes e s,
@@ -210,10 +255,12 @@ module _ (m : Lent) (long : Long m) (c : Lending) (l : Layout) (g : layoutOk l �
   )
 
   short-steps : short (roomFor c lists) ≡ true → (k : Call) → Steps k
-  unfolding stepsRun momentsOf
+  unfolding stepsRun isList momentsBy momentsOf
   short-steps e (step s) = short-step e s
   short-steps e (runRecord bs at) = rw (told-short (roomFor c lists) (runRecord bs at) l e) refl
   short-steps e (ohms net i) = unfold ledgerCall reply in refl
+  short-steps e (layList ws k) =
+      unfold momentsEach in rw (told-short (roomFor c lists) (layList ws k) l e) refl
 
   long-steps : LongFront c m → (k : Call) → Steps k
   long-steps n k =
@@ -221,7 +268,7 @@ module _ (m : Lent) (long : Long m) (c : Lending) (l : Layout) (g : layoutOk l �
       let hs : stripsSize ≤ c .stripFront = omega (arith, n .strips) in
       subst
       (λ (z : Lent).
-      Chain m l (momentsOf c lists (stepsRun k (ledgerCall (roomFor c lists) k l .answer)) z (c .output) l)
+      Chain m l (momentsBy c lists k (stepsRun k (ledgerCall (roomFor c lists) k l .answer)) z (c .output) l)
       (ledgerCall (roomFor c lists) k l .state))
       (sym (front-store c m ht hs l g))
       (call-chain c lists m (λ l′ g′. back-store c m ht hs l l′ g g′) k l (c .output) g)
@@ -231,12 +278,14 @@ module _ (m : Lent) (long : Long m) (c : Lending) (l : Layout) (g : layoutOk l �
       both (short (roomFor c lists)) (λ e. short-steps e k)
       (λ e. long-steps (long-front c m (ap short (sym room-is) ∙ e)) k)
 
-  call-goes : Chain m l (momentsOf c lists (stepsRun (c .call) (lend c lists .answer)) (front c lists) (c .output) l)
+  call-goes :
+      Chain m l (momentsBy c lists (c .call) (stepsRun (c .call) (lend c lists .answer)) (front c lists) (c .output) l)
       (told lists c l .state)
   call-goes =
       subst
       (λ (a : Reply).
-      Chain m l (momentsOf c lists (stepsRun (c .call) a) (front c lists) (c .output) l) (told lists c l .state))
+      Chain m l (momentsBy c lists (c .call) (stepsRun (c .call) a) (front c lists) (c .output) l)
+      (told lists c l .state))
       (sym lend-answer) (unfold told in call-steps (c .call))
 
 -- ---- the calls after the one that begins a foil
@@ -259,7 +308,7 @@ onward m long (c ∷ cs) l g =
     let n : Lent = store l m in
     let l′ : Layout = told n c l .state in
     let kept : layoutOk l′ ≡ true = unfold told in call-kept (roomFor c n) (c .call) l g in
-    onward-append m l l′ (momentsOf c n (stepsRun (c .call) (lend c n .answer)) (front c n) (c .output) l) _
+    onward-append m l l′ (momentsBy c n (c .call) (stepsRun (c .call) (lend c n .answer)) (front c n) (c .output) l) _
     (call-goes m long c l g)
     (subst (λ (x : Lent). Onward m l′ (moments x l′ cs)) (sym (lend-state m long c l g)) (onward m long cs l′ kept))
 
@@ -320,10 +369,11 @@ module _ (m : Lent) (l : Layout) (c : Lending) (b : Begun (roomFor c m) (c .call
   first-steps = ap (λ (z : After Reply Lent). stepsRun (c .call) (z .answer)) lend-first ∙ b .runs
 
   -- the steps of the opening call
-  first-are : momentsOf c m (stepsRun (c .call) (lend c m .answer)) (front c m) (c .output) l
-      ≡ momentOf c m new (front c m) (c .output) l ∷ rest
-  unfolding momentsOf rest
-  first-are = ap (λ (ss : List Step). momentsOf c m ss (front c m) (c .output) l) first-steps
+  first-are : momentsBy c m (c .call) (stepsRun (c .call) (lend c m .answer)) (front c m) (c .output) l
+      ≡ momentOf c m room new (front c m) (c .output) l ∷ rest
+  unfolding momentsBy momentsOf rest
+  first-are =
+      rw (b .no-list) (ap (λ (ss : List Step). momentsOf c m ss (front c m) (c .output) l) first-steps)
 
   first-left : Shows m (line .state) (back c m (stepOn room new (front c m) .state))
   first-left =
@@ -347,7 +397,7 @@ module _ (m : Lent) (l : Layout) (c : Lending) (b : Begun (roomFor c m) (c .call
   opened cs =
       let js : List Moment = moments (lend c m .state) (told m c l .state) cs in
       record {
-        opening = momentOf c m new (front c m) (c .output) l;
+        opening = momentOf c m room new (front c m) (c .output) l;
         others = rest ++ js;
         are = ap (λ (ks : List Moment). ks ++ js) first-are;
         begins-it = record {

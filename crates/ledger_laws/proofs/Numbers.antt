@@ -1,5 +1,5 @@
 -- A test that the numbers of all steps and records pass is passed by all numbers that a list of calls answers.
-use Prim.Native.Nat.{ℕ, zero, suc}
+use Prim.Native.Nat.{ℕ, zero, suc, _/_}
 use native.Mathlib.Decide.{ℕ-discrete}
 use mathlib.Core.Path.{_≡_, refl, sym, ap, _∙_, subst}
 use mathlib.Core.Bool.{Bool, true, false, not, cond, or-true}
@@ -7,22 +7,26 @@ use mathlib.Core.List.{List, [], _∷_, map}
 use mathlib.Core.Logic.{inl, inr, by-cases}
 use mathlib.Core.Option.{Option, none, some, Option·some-injective}
 use lib.Dec.{eqb}
+use lib.ListN.{length}
 use lib.Ieee.{Float}
 use borrow.Author.Tests.{ne-eqb}
 use Rattle.foil_spec.specs.Lists.{range, consIf, all}
 use Rattle.foil_spec.specs.Foil.{Layout}
 use Rattle.foil_spec.specs.Ledger.{Room, short, Step, Answer, numberOf, says, next, Refusal, first, refusals, afterLent}
 use Rattle.foil_spec.specs.Ledger.{After, settle, refusalOf, ledgerStep}
-use Rattle.foil_spec.specs.Lent.{Lent}
+use Rattle.foil_spec.specs.Lent.{Lent, roomLeft}
+use Rattle.foil_spec.specs.Wishes.{wishAt, wishes}
 use Rattle.foil_spec.specs.Job.{has, stepBits, stepAt, stepsAt, steps, isEnd, recordEnd, recordChecks}
-use Rattle.foil_spec.specs.Calls.{Call, step, runRecord, ohms, endsJob, andThen, actAll, actRecord}
-use Rattle.foil_spec.specs.Calls.{wholeRefusals, ohmsReply, reply, ledgerCall, answersIn}
+use Rattle.foil_spec.specs.Calls.{Call, step, runRecord, ohms, layList, endsJob, andThen, actAll, actRecord, inFront}
+use Rattle.foil_spec.specs.Calls.{actEach, actList, wholeRefusals, listRefusals, ohmsReply, reply, ledgerCall}
+use Rattle.foil_spec.specs.Calls.{answersIn}
 use Rattle.foil_spec.specs.Ohms.{ohmsRefusals}
 use Rattle.foil_spec.specs.declared.Ink.{Ink}
 use Rattle.foil_spec.specs.Sequence.{Lending, roomFor, told, Left, leaves, runLedger}
-use Rattle.list_laws.proofs.Tests.{both, and-l, and-r, and-i, not-t, not-ff, all-append}
-use Rattle.list_laws.proofs.Members.{In, of-all, none-of, in-keep}
+use Rattle.list_laws.proofs.Tests.{both, clash, and-l, and-r, and-i, not-t, not-ff, all-append}
+use Rattle.list_laws.proofs.Members.{In, of-all, none-of, in-keep, all-places}
 use Rattle.ledger_laws.specs.Line.{but, numbersFrom, ownNumbers, noCarry}
+use Rattle.ledger_laws.specs.Moments.{isList}
 use Rattle.ledger_laws.specs.Numbers.{stepsIn, numbersIn, numbersOf, among, carriesOver, besidesCarries}
 use Rattle.ledger_laws.specs.Numbers.{NeverBroken}
 use Rattle.ledger_laws.proofs.Refusals.{first-passes, first-in}
@@ -42,6 +46,32 @@ module _ (p : ℕ → Bool) (zero-passes : p 0 ≡ true) where
       → p (numberOf (ledgerStep r s l .answer)) ≡ true
   unfolding ledgerStep
   answer-passes r s l h = settled-passes (refusalOf r false s l) s l h
+
+-- the lays of a list, all of the kind K, where R k r says that the room r is enough for k of them
+module _ (p : ℕ → Bool) (zero-passes : p 0 ≡ true) (K : Step → Type 0) (Q : Layout → Type 0) (R : ℕ → Room → Type 0)
+    (step-passes : (k : ℕ) (r : Room) → R (suc k) r → (s : Step) → K s → (l : Layout) → Q l → (n : ℕ)
+    → refusalOf r false s l ≡ some n → p n ≡ true)
+    (goes-on : (k : ℕ) (r : Room) → R (suc k) r → (s : Step) → K s → (l : Layout) → Q l
+    → R k (roomLeft (ledgerStep r s l .answer) r) × Q (ledgerStep r s l .state)) where
+  pub each-passes : (ss : List Step) → ((s : Step) → In s ss → K s) → (r : Room) → R (length ss) r → (l : Layout) → Q l
+      → all p (map numberOf (actEach ledgerStep r ss l .answer)) ≡ true
+  unfolding actEach inFront
+  each-passes [] k r e l g = refl
+  each-passes (s ∷ ss) k r e l g =
+      let of-kind = k s (inl refl) in
+      let (e′, g′) = goes-on (length ss) r e s of-kind l g in
+      and-i {a = p (numberOf (ledgerStep r s l .answer))}
+      (answer-passes p zero-passes r s l (step-passes (length ss) r e s of-kind l g))
+      (each-passes ss (λ t i. k t (inr i)) _ e′ (ledgerStep r s l .state) g′)
+
+-- a list that is refused by a number that passes, or whose lays' numbers pass
+pub list-passes : (p : ℕ → Bool) (o : Option ℕ) (r : Room) (ss : List Step) (l : Layout)
+    → ((n : ℕ) → o ≡ some n → p n ≡ true)
+    → (o ≡ none → all p (map numberOf (actEach ledgerStep r ss l .answer)) ≡ true)
+    → all p (numbersIn (actList ledgerStep o r ss l .answer)) ≡ true
+unfolding actList numbersIn answersIn numberOf
+list-passes p (some n) r ss l h k = and-i {a = p n} (h n refl) refl
+list-passes p none r ss l h k = k refl
 
 -- a test p that 0 passes, and each number that a step of some kind on a layout with Q, a record or the ohms are refused
 -- by
@@ -87,16 +117,17 @@ module _ (p : ℕ → Bool) (zero-passes : p 0 ≡ true) (kind : Step → Bool) 
   pub call-passes : ((bs : List ℕ) (at n : ℕ) → first (wholeRefusals r false bs at) ≡ some n → p n ≡ true)
       → ((net : ℕ) (i : Ink) (l : Layout) (n : ℕ) → first (afterLent r false (ohmsRefusals net i l)) ≡ some n
       → p n ≡ true)
-      → (c : Call) → all kind (stepsIn c) ≡ true → (l : Layout) → Q l
+      → (c : Call) → isList c ≡ false → all kind (stepsIn c) ≡ true → (l : Layout) → Q l
       → all p (numbersIn (ledgerCall r c l .answer)) ≡ true
-  unfolding ledgerCall reply stepsIn
-  call-passes h k (step s) a l g =
+  unfolding ledgerCall reply stepsIn isList
+  call-passes h k (step s) e a l g =
       unfold numbersIn answersIn in
       and-i {a = p (numberOf (ledgerStep r s l .answer))}
       (answer-passes p zero-passes r s l (step-passes s (and-l (kind s) _ a) l g)) refl
-  call-passes h k (runRecord bs at) a l g =
+  call-passes h k (runRecord bs at) e a l g =
       record-passes _ (isEnd bs at) (steps bs at) (recordEnd bs at) a l g (h bs at)
-  call-passes h k (ohms net i) a l g = ohms-pass _ _ (k net i l)
+  call-passes h k (ohms net i) e a l g = ohms-pass _ _ (k net i l)
+  call-passes h k (layList ws n) e a l g = clash refl e
 
 -- the numbers of a list of calls each of which passes the test and keeps Q
 module _ (p : ℕ → Bool) (Q : Layout → Type 0) (m : Lent) where
@@ -162,7 +193,7 @@ ohms-but-13 r net i l = first-passes (but 13) _ (simp or-true)
 pub steps-all : (p : Step → Bool) (bs : List ℕ) (at : ℕ) → ((k : ℕ) → p (stepAt bs at k) ≡ true)
     → all p (steps bs at) ≡ true
 unfolding steps stepsAt
-steps-all p bs at each-passes = go (range 0 stepBits)
+steps-all p bs at passes = go (range 0 stepBits)
   where
     put : (b : Bool) (s : Step) (ss : List Step) → p s ≡ true → all p ss ≡ true → all p (consIf b s ss) ≡ true
     put true s ss e h = and-i {a = p s} e h
@@ -170,7 +201,7 @@ steps-all p bs at each-passes = go (range 0 stepBits)
 
     go : (ks : List ℕ) → all p (stepsAt bs at ks) ≡ true
     go [] = refl
-    go (k ∷ ks) = put (has bs at k) (stepAt bs at k) (stepsAt bs at ks) (each-passes k) (go ks)
+    go (k ∷ ks) = put (has bs at k) (stepAt bs at k) (stepsAt bs at ks) (passes k) (go ks)
 
 no-carry-at : (bs : List ℕ) (at k : ℕ) → noCarry (stepAt bs at k) ≡ true
 unfolding stepAt noCarry
@@ -180,19 +211,45 @@ no-carry-at bs at (suc (suc zero)) = refl
 no-carry-at bs at (suc (suc (suc zero))) = refl
 no-carry-at bs at (suc (suc (suc (suc k)))) = refl
 
--- no record carries a foil over
+wishes-no-carry : (ws : List ℕ) → all noCarry (wishes ws) ≡ true
+unfolding wishes wishAt noCarry
+wishes-no-carry ws = all-places noCarry (wishAt ws) (length ws / 5) (λ k h. refl)
+
+-- no record and no list carries a foil over
 none-carried : (c : Call) → not (carriesOver c) ≡ true → all noCarry (stepsIn c) ≡ true
 unfolding carriesOver stepsIn
 none-carried (step s) h = and-i {a = noCarry s} (not-ff (noCarry s) (not-t (not (noCarry s)) h)) refl
 none-carried (runRecord bs at) h = steps-all noCarry bs at (no-carry-at bs at)
 none-carried (ohms net i) h = refl
+none-carried (layList ws n) h = wishes-no-carry ws
+
+list-but-13 : (r : Room) (ws : List ℕ) (k n : ℕ) → first (listRefusals r false ws k) ≡ some n → but 13 n ≡ true
+unfolding listRefusals afterLent but
+list-but-13 r ws k = first-passes (but 13) _ (simp or-true)
+
+lays-but-13 : (r : Room) (ws : List ℕ) (n : ℕ) (l : Layout)
+    → all (but 13) (numbersIn (ledgerCall r (layList ws n) l .answer)) ≡ true
+unfolding ledgerCall reply but
+lays-but-13 r ws n l =
+    list-passes (but 13) _ r (wishes ws) l (list-but-13 r ws n)
+    (λ _. each-passes (but 13) refl (λ s. noCarry s ≡ true) (λ k. Unit {0}) (λ k q. Unit {0})
+    (λ k q e s a x g. step-but-13 q s a x) (λ k q e s a x g. (tt, tt)) (wishes ws)
+    (λ s i. of-all noCarry s (wishes ws) (wishes-no-carry ws) i) r tt l tt)
+
+others-but-13 : (r : Room) (c : Call) (l : Layout) → isList c ≡ false → not (carriesOver c) ≡ true
+    → all (but 13) (numbersIn (ledgerCall r c l .answer)) ≡ true
+unfolding but
+others-but-13 r c l e h =
+    call-passes (but 13) refl noCarry (λ k. Unit {0}) r (λ s a k g. step-but-13 r s a k) (λ s k g e. tt)
+    (file-but-13 r) (ohms-but-13 r) c e (none-carried c h) l tt
 
 pub call-but-13 : (r : Room) (c : Call) (l : Layout) → not (carriesOver c) ≡ true
     → all (but 13) (numbersIn (ledgerCall r c l .answer)) ≡ true
-unfolding but
-call-but-13 r c l h =
-    call-passes (but 13) refl noCarry (λ k. Unit {0}) r (λ s a k g. step-but-13 r s a k) (λ s k g e. tt)
-    (file-but-13 r) (ohms-but-13 r) c (none-carried c h) l tt
+unfolding isList
+call-but-13 r (step s) l h = others-but-13 r (step s) l refl h
+call-but-13 r (runRecord bs at) l h = others-but-13 r (runRecord bs at) l refl h
+call-but-13 r (ohms net i) l h = others-but-13 r (ohms net i) l refl h
+call-but-13 r (layList ws n) l h = lays-but-13 r ws n l
 
 run-but-13 : (m : Lent) (cs : List Lending) (l : Layout)
     → all (but 13) (numbersOf (besidesCarries cs (runLedger m l cs))) ≡ true

@@ -13,8 +13,8 @@ use Rattle.foil_spec.specs.Ledger.{Clearance, byPen, Step, newFoil, Answer, ref
 use Rattle.foil_spec.specs.Ledger.{refusalOf, ledgerStep, reads, carry, accepted, wrote, says}
 use Rattle.foil_spec.specs.Lent.{Lent, held, sound, stepOn}
 use Rattle.foil_spec.specs.Job.{mapByte, has, isEnd, steps, recordEnd, recordChecks}
-use Rattle.foil_spec.specs.Calls.{Call, step, runRecord, Reply, answered, ran, atEnd, measured, endsJob, andThen}
-use Rattle.foil_spec.specs.Calls.{actAll, actRecord, wholeRefusals, reply, ledgerCall, callOn}
+use Rattle.foil_spec.specs.Calls.{Call, step, runRecord, Reply, answered, ran, atEnd, measured, laidAll, endsJob}
+use Rattle.foil_spec.specs.Calls.{andThen, actAll, actRecord, wholeRefusals, reply, ledgerCall, callOn}
 use Rattle.foil_spec.specs.Sequence.{Begins}
 use Rattle.list_laws.proofs.Tests.{both, clash}
 use Rattle.ledger_laws.proofs.Line.{line}
@@ -30,6 +30,7 @@ Over (ran given none) = Unit {0}
 Over (ran given (some n)) = ⊥
 Over atEnd = ⊥
 Over (measured x) = ⊥
+Over (laidAll given) = ⊥
 
 -- how a record at place 0 goes on lists that hold anything
 pub data Opening (r : Room) (bs : List ℕ) (l : Layout) (m : Lent) : Type 0 where

@@ -1,15 +1,16 @@
 -- Calls on two kinds of states that answer alike step by step answer alike; and what every step keeps, every call
 -- keeps.
-use Prim.Native.Nat.{ℕ, zero, suc}
+use Prim.Native.Nat.{ℕ, zero, suc, _-_}
 use mathlib.Core.Path.{_≡_, refl, ap}
 use mathlib.Core.Bool.{Bool, true, false, cond}
 use mathlib.Core.List.{List, [], _∷_}
 use mathlib.Core.Option.{Option, none, some}
 use lib.ListN.{length}
 use Rattle.foil_spec.specs.Foil.{Layout}
-use Rattle.foil_spec.specs.Ledger.{Room, Step, Answer, After}
-use Rattle.foil_spec.specs.Calls.{Call, step, runRecord, ohms, Reply, endsJob, andThen, actAll, actRecord, reply}
-use Rattle.foil_spec.specs.Calls.{placeAfter, readFrom, readJob}
+use Rattle.foil_spec.specs.Ledger.{Room, withOutput, Step, Answer, After}
+use Rattle.foil_spec.specs.Lent.{numbersOut, roomLeft}
+use Rattle.foil_spec.specs.Calls.{Call, step, runRecord, ohms, layList, Reply, endsJob, andThen, actAll, actRecord}
+use Rattle.foil_spec.specs.Calls.{inFront, actEach, actList, reply, placeAfter, readFrom, readJob}
 
 -- an answer, and the state after it as `put` gives it
 unfoldable pub shownBy : {A S T : Type 0} → (T → S) → After A T → After A S
@@ -36,17 +37,34 @@ module _ {T : Type 0} (tell : Step → T → After Answer T) (Q : T → Type 0)
   steps-keep (s ∷ ss) x g =
       then-keeps Q (tell s x) _ (keeps s x g) (steps-keep ss (tell s x .state) (keeps s x g))
 
-  record-keeps : (o : Option ℕ) (e : Bool) (ss : List Step) (p : ℕ) (x : T) → Q x → Q (actRecord tell o e ss p x .state)
+  pub record-keeps : (o : Option ℕ) (e : Bool) (ss : List Step) (p : ℕ) (x : T) → Q x
+      → Q (actRecord tell o e ss p x .state)
   unfolding actRecord
   record-keeps (some n) e ss p x g = g
   record-keeps none true ss p x g = g
   record-keeps none false ss p x g = steps-keep ss x g
 
-  pub reply-keeps : (r : Room) (b : Bool) (c : Call) (l : Layout) (x : T) → Q x → Q (reply tell r b c l x .state)
+-- the same in the room r, with any number of output
+module _ {T : Type 0} (tell : Room → Step → T → After Answer T) (Q : T → Type 0) (r : Room)
+    (keeps : (n : ℕ) (s : Step) (x : T) → Q x → Q (tell (withOutput r n) s x .state)) where
+  pub each-keeps : (ss : List Step) (n : ℕ) (x : T) → Q x → Q (actEach tell (withOutput r n) ss x .state)
+  unfolding actEach inFront roomLeft
+  each-keeps [] n x g = g
+  each-keeps (s ∷ ss) n x g =
+      let a : After Answer T = tell (withOutput r n) s x in
+      each-keeps ss (n - length (numbersOut (a .answer))) (a .state) (keeps n s x g)
+
+  list-keeps : (o : Option ℕ) (ss : List Step) (x : T) → Q x → Q (actList tell o r ss x .state)
+  unfolding actList
+  list-keeps (some k) ss x g = g
+  list-keeps none ss x g = each-keeps ss (r .output) x g
+
+  pub reply-keeps : (b : Bool) (c : Call) (l : Layout) (x : T) → Q x → Q (reply tell r b c l x .state)
   unfolding reply
-  reply-keeps r b (step s) l x g = keeps s x g
-  reply-keeps r b (runRecord bs at) l x g = record-keeps _ _ _ _ x g
-  reply-keeps r b (ohms net i) l x g = g
+  reply-keeps b (step s) l x g = keeps (r .output) s x g
+  reply-keeps b (runRecord bs at) l x g = record-keeps (tell r) Q (keeps (r .output)) _ _ _ _ x g
+  reply-keeps b (ohms net i) l x g = g
+  reply-keeps b (layList ws n) l x g = list-keeps _ _ x g
 
 -- `act` does on another kind of states what `tell` does, shown by `put`
 module _ {S T : Type 0} (tell : Step → T → After Answer T) (act : Step → S → After Answer S) (put : T → S) where
@@ -80,7 +98,7 @@ module _ {S T : Type 0} (tell : Step → T → After Answer T) (act : Step → S
   unfolding actRecord shownBy
   ran-is ss p x y h = rw h refl
 
-  -- where every step does, on states that keep Q, every call does
+  -- where every step does, on states that keep Q, every record does
   module _ (Q : T → Type 0) (keeps : (s : Step) (x : T) → Q x → Q (tell s x .state))
       (is : (s : Step) (x : T) → Q x → act s (put x) ≡ shownBy put (tell s x)) where
     pub steps-are : (ss : List Step) (x : T) → Q x → actAll act ss (put x) ≡ shownBy put (actAll tell ss x)
@@ -88,19 +106,55 @@ module _ {S T : Type 0} (tell : Step → T → After Answer T) (act : Step → S
     steps-are [] x g = refl
     steps-are (s ∷ ss) x g = cons-are s ss x (put x) (is s x g) (steps-are ss (tell s x .state) (keeps s x g))
 
-    record-is : (o : Option ℕ) (e : Bool) (ss : List Step) (p : ℕ) (x : T) → Q x
+    pub record-is : (o : Option ℕ) (e : Bool) (ss : List Step) (p : ℕ) (x : T) → Q x
         → actRecord act o e ss p (put x) ≡ shownBy put (actRecord tell o e ss p x)
     unfolding actRecord shownBy
     record-is (some k) e ss p x g = refl
     record-is none true ss p x g = refl
     record-is none false ss p x g = ran-is ss p x (put x) (steps-are ss x g)
 
-    pub reply-is : (r : Room) (b : Bool) (c : Call) (l : Layout) (x : T) → Q x
-        → reply act r b c l (put x) ≡ shownBy put (reply tell r b c l x)
-    unfolding reply
-    reply-is r b (step s) l x g = unfold shownBy in rw (is s x g) refl
-    reply-is r b (runRecord bs at) l x g = record-is _ _ _ _ x g
-    reply-is r b (ohms net i) l x g = unfold shownBy in refl
+-- the same in the room r, with any number of output: every call does
+module _ {S T : Type 0} (tell : Room → Step → T → After Answer T) (act : Room → Step → S → After Answer S) (put : T → S)
+  where
+    -- steps of a list whose first one does, from whatever state y
+    pub each-cons : (r : Room) (s : Step) (ss : List Step) (x : T) (y : S) → act r s y ≡ shownBy put (tell r s x)
+        → actEach act (roomLeft (tell r s x .answer) r) ss (put (tell r s x .state))
+        ≡ shownBy put (actEach tell (roomLeft (tell r s x .answer) r) ss (tell r s x .state))
+        → actEach act r (s ∷ ss) y ≡ shownBy put (actEach tell r (s ∷ ss) x)
+    unfolding actEach inFront shownBy
+    each-cons r s ss x y e later =
+        rw e
+        (ap
+        (λ (a : After (List Answer) S). record { answer = tell r s x .answer ∷ a .answer; state = a .state })
+        later)
+
+    module _ (Q : T → Type 0) (r : Room)
+        (keeps : (n : ℕ) (s : Step) (x : T) → Q x → Q (tell (withOutput r n) s x .state))
+        (is : (n : ℕ) (s : Step) (x : T) → Q x
+        → act (withOutput r n) s (put x) ≡ shownBy put (tell (withOutput r n) s x)) where
+      pub each-are : (ss : List Step) (n : ℕ) (x : T) → Q x
+          → actEach act (withOutput r n) ss (put x) ≡ shownBy put (actEach tell (withOutput r n) ss x)
+      unfolding roomLeft
+      each-are [] n x g = unfold actEach shownBy in refl
+      each-are (s ∷ ss) n x g =
+          let a : After Answer T = tell (withOutput r n) s x in
+          each-cons (withOutput r n) s ss x (put x) (is n s x g)
+          (each-are ss (n - length (numbersOut (a .answer))) (a .state) (keeps n s x g))
+
+      list-is : (o : Option ℕ) (ss : List Step) (x : T) → Q x
+          → actList act o r ss (put x) ≡ shownBy put (actList tell o r ss x)
+      unfolding actList shownBy
+      list-is (some k) ss x g = refl
+      list-is none ss x g = rw (each-are ss (r .output) x g) refl
+
+      pub reply-is : (b : Bool) (c : Call) (l : Layout) (x : T) → Q x
+          → reply act r b c l (put x) ≡ shownBy put (reply tell r b c l x)
+      unfolding reply
+      reply-is b (step s) l x g = unfold shownBy in rw (is (r .output) s x g) refl
+      reply-is b (runRecord bs at) l x g =
+          record-is (tell r) (act r) put Q (keeps (r .output)) (is (r .output)) _ _ _ _ x g
+      reply-is b (ohms net i) l x g = unfold shownBy in refl
+      reply-is b (layList ws n) l x g = list-is _ _ x g
 
 -- ---- job files
 

@@ -5,7 +5,7 @@ use mathlib.Core.Bool.{true, false}
 use mathlib.Core.List.{List, _∷_}
 use mathlib.Core.Option.{Option, none, some}
 use Rattle.foil_spec.specs.Foil.{Layout}
-use Rattle.foil_spec.specs.Ledger.{Room, Step, Answer, says, next, After, settle, refusalOf, ledgerStep}
+use Rattle.foil_spec.specs.Ledger.{Room, withOutput, Step, Answer, says, next, After, settle, refusalOf, ledgerStep}
 use Rattle.foil_spec.specs.Lent.{Lent, store, layoutOk, stepOn}
 use Rattle.foil_spec.specs.Calls.{Call, actAll, actRecord, ledgerCall, callOn}
 use Rattle.ledger_laws.proofs.Stored.{held-store, store-again, sound-store}
@@ -58,11 +58,11 @@ module _ (r : Room) where
   unfolding shown shownBy
   ran-is ss p l m n h = record-is (ledgerStep r) (stepOn r) (λ x. store x m) ss p l n h
 
-  -- a call on lists that hold a layout
-  pub call-is : (c : Call) (l : Layout) (m : Lent) → layoutOk l ≡ true
-      → callOn r c (store l m) ≡ shown m (ledgerCall r c l)
-  unfolding callOn ledgerCall shown shownBy
-  call-is c l m g =
-      rw (held-store l m, sound-store l m g)
-      (reply-is (ledgerStep r) (stepOn r) (λ x. store x m) (λ x. layoutOk x ≡ true) (step-kept r) (λ s x. step-is s x m)
-      r false c l l g)
+-- a call on lists that hold a layout
+pub call-is : (r : Room) (c : Call) (l : Layout) (m : Lent) → layoutOk l ≡ true
+    → callOn r c (store l m) ≡ shown m (ledgerCall r c l)
+unfolding callOn ledgerCall shown shownBy
+call-is r c l m g =
+    rw (held-store l m, sound-store l m g)
+    (reply-is ledgerStep stepOn (λ x. store x m) (λ x. layoutOk x ≡ true) r (λ n. step-kept (withOutput r n))
+    (λ n s x. step-is (withOutput r n) s x m) false c l l g)

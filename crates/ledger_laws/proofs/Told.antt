@@ -10,10 +10,13 @@ use Rattle.foil_spec.specs.Foil.{Layout}
 use Rattle.foil_spec.specs.Ledger.{Room, Step, Answer, After}
 use Rattle.foil_spec.specs.Lent.{Lent, stepOn}
 use Rattle.foil_spec.specs.Job.{steps}
-use Rattle.foil_spec.specs.Calls.{Call, step, runRecord, ohms, ran, ohmsReply, endsJob, andThen, actAll}
-use Rattle.foil_spec.specs.Calls.{actRecord, reply, callOn, answersIn}
+use Rattle.foil_spec.specs.Wishes.{wishes}
+use Rattle.foil_spec.specs.Calls.{Call, step, runRecord, ohms, layList, Reply, answered, ran, laidAll, ohmsReply}
+use Rattle.foil_spec.specs.Calls.{endsJob, andThen, actAll, actRecord, inFront, actEach, actList, reply, callOn}
+use Rattle.foil_spec.specs.Calls.{answersIn}
 use Rattle.foil_spec.specs.Sequence.{Lending, front, roomFor, lend}
-use Rattle.ledger_laws.specs.Moments.{Moment, momentOf, momentsOf, stepsRun, moments}
+use Rattle.ledger_laws.specs.Moments.{Moment, momentOf, momentsOf, momentsEach, stepsRun, isList, momentsBy}
+use Rattle.ledger_laws.specs.Moments.{moments}
 
 -- the answers at some steps
 abbrev answers : List Moment → List Answer
@@ -40,13 +43,20 @@ module _ (c : Lending) (m : Lent) where
       then-answers (endsJob (stepOn r s n .answer)) (stepOn r s n .answer) (stepOn r s n .state) _
       (actAll (stepOn r) ss (stepOn r s n .state)) (steps-answers ss (stepOn r s n .state) _ _)
 
+  each-answers : (ss : List Step) (q : Room) (n : Lent) (out : List ℕ) (l : Layout)
+      → answers (momentsEach c m q ss n out l) ≡ actEach stepOn q ss n .answer
+  unfolding momentsEach momentOf actEach inFront
+  each-answers [] q n out l = refl
+  each-answers (s ∷ ss) q n out l =
+      ap (λ (given : List Answer). stepOn q s n .answer ∷ given) (each-answers ss _ (stepOn q s n .state) _ _)
+
   module _ (n : Lent) (out : List ℕ) (l : Layout) where
     -- the answers at the steps of a call, where k is what it calls and n what it is lent
     abbrev stepAnswers : Call → List Answer
-    stepAnswers k = answers (momentsOf c m (stepsRun k (callOn r k n .answer)) n out l)
+    stepAnswers k = answers (momentsBy c m k (stepsRun k (callOn r k n .answer)) n out l)
 
     of-step : (s : Step) → stepAnswers (step s) ≡ answersIn (callOn r (step s) n .answer)
-    unfolding callOn reply stepsRun answersIn momentsOf momentOf
+    unfolding callOn reply stepsRun isList momentsBy answersIn momentsOf momentOf
     of-step s = go (endsJob (stepOn r s n .answer))
       where
         go : (t : Bool) → stepOn r s n .answer ∷ answers (cond t [] []) ≡ stepOn r s n .answer ∷ []
@@ -65,6 +75,12 @@ module _ (c : Lending) (m : Lent) where
         let q : actAll (stepOn r) (steps bs at) n .answer ≡ given = cc in
         steps-answers (steps bs at) n out l ∙ q
 
+    list-none : (o : Option ℕ) (ss : List Step) (given : List Answer) (place : Option ℕ)
+        → actList stepOn o r ss n .answer ≡ ran given place → ⊥
+    unfolding actList
+    list-none (some j) ss given place h = let z : _≡_ {A = ℕ} 0 1 = cc in omega arith
+    list-none none ss given place h = let z : _≡_ {A = ℕ} 0 1 = cc in omega arith
+
     no-record : (o : Option ℕ) (x : Float) (given : List Answer) (place : Option ℕ)
         → ohmsReply o x ≡ ran given place → ⊥
     unfolding ohmsReply
@@ -73,17 +89,35 @@ module _ (c : Lending) (m : Lent) where
 
     of-call : (k : Call) (given : List Answer) (place : Option ℕ) → callOn r k n .answer ≡ ran given place
         → stepAnswers k ≡ given
-    unfolding callOn reply
+    unfolding callOn reply isList momentsBy
     of-call (step s) given place h = absurd (let z : _≡_ {A = ℕ} 0 1 = cc in omega arith)
     of-call (runRecord bs at) given place h = of-record _ _ bs at _ given place h
     of-call (ohms net i) given place h = absurd (no-record _ _ given place h)
+    of-call (layList ws k) given place h = absurd (list-none _ _ given place h)
+
+    of-list : (o : Option ℕ) (ws : List ℕ) (k : ℕ) (given : List Answer)
+        → actList stepOn o r (wishes ws) n .answer ≡ laidAll given
+        → answers
+        (momentsEach c m r (stepsRun (layList ws k) (actList stepOn o r (wishes ws) n .answer)) n out l)
+        ≡ given
+    unfolding actList stepsRun
+    of-list (some j) ws k given h = absurd (let z : _≡_ {A = ℕ} 0 1 = cc in omega arith)
+    of-list none ws k given h =
+        let q : actEach stepOn r (wishes ws) n .answer ≡ given = cc in
+        each-answers (wishes ws) r n out l ∙ q
+
+    of-lays : (ws : List ℕ) (k : ℕ) (given : List Answer) → callOn r (layList ws k) n .answer ≡ laidAll given
+        → stepAnswers (layList ws k) ≡ given
+    unfolding callOn reply isList momentsBy
+    of-lays ws k given h = of-list _ ws k given h
 
   one-call : (l : Layout) → answers (moments m l (c ∷ [])) ≡ stepAnswers (front c m) (c .output) l (c .call)
   unfolding moments lend
   one-call l =
       ap answers
       (append-nil
-      (momentsOf c m (stepsRun (c .call) (callOn r (c .call) (front c m) .answer)) (front c m) (c .output) l))
+      (momentsBy c m (c .call) (stepsRun (c .call) (callOn r (c .call) (front c m) .answer)) (front c m) (c .output)
+      l))
 
   -- a call that is one step runs that step
   pub step-told : (l : Layout) (s : Step) → c .call ≡ step s
@@ -100,3 +134,13 @@ module _ (c : Lending) (m : Lent) where
       → answers (moments m l (c ∷ [])) ≡ given
   unfolding lend
   record-told l given place h = one-call l ∙ of-call (front c m) (c .output) l (c .call) given place h
+
+  -- a list of lays that is not refused as a whole runs the lays that it answers
+  pub list-told : (l : Layout) (ws : List ℕ) (k : ℕ) (given : List Answer) → c .call ≡ layList ws k
+      → lend c m .answer ≡ laidAll given → answers (moments m l (c ∷ [])) ≡ given
+  unfolding lend
+  list-told l ws k given e h =
+      one-call l
+      ∙ subst
+      (λ (j : Call). callOn r j (front c m) .answer ≡ laidAll given → stepAnswers (front c m) (c .output) l j ≡ given)
+      (sym e) (of-lays (front c m) (c .output) l ws k given) h

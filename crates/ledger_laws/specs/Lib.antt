@@ -10,4 +10,5 @@ pub mod Crossed
 pub mod OldJobs
 pub mod Numbers
 pub mod Carrying
+pub mod Singly
 pub mod Saved

@@ -9,7 +9,8 @@ use Rattle.foil_spec.specs.Foil.{Layout}
 use Rattle.foil_spec.specs.Ledger.{Step, numberOf}
 use Rattle.foil_spec.specs.Lent.{Lent}
 use Rattle.foil_spec.specs.Job.{steps}
-use Rattle.foil_spec.specs.Calls.{Call, step, runRecord, ohms, Reply, answersIn}
+use Rattle.foil_spec.specs.Wishes.{wishes}
+use Rattle.foil_spec.specs.Calls.{Call, step, runRecord, ohms, layList, Reply, answersIn}
 use Rattle.foil_spec.specs.Sequence.{Lending, Begins, Left, runLent, told}
 use Rattle.ledger_laws.specs.Line.{noCarry}
 
@@ -18,6 +19,7 @@ unfoldable pub stepsIn : Call → List Step
 stepsIn (step s) = s ∷ []
 stepsIn (runRecord bs at) = steps bs at
 stepsIn (ohms net i) = []
+stepsIn (layList ws k) = wishes ws
 
 -- the numbers in a reply: that of each answer, 0 if accepted; ohms have none
 unfoldable pub numbersIn : Reply → List ℕ
@@ -36,6 +38,7 @@ unfoldable pub carriesOver : Call → Bool
 carriesOver (step s) = not (noCarry s)
 carriesOver (runRecord bs at) = false
 carriesOver (ohms net i) = false
+carriesOver (layList ws n) = false
 
 -- what is left by the calls of a list that carry none over
 unfoldable pub besidesCarries : List Lending → List Left → List Left
