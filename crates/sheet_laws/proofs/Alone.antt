@@ -13,9 +13,10 @@ use lib.Seq.{take-all, drop-append-le, drop-length}
 use Rattle.foil_spec.specs.Limits.{maxEntries, tableSize, sheetFoils, sheetEntries, sheetSize}
 use Rattle.foil_spec.specs.Ledger.{Room, short, refused, Refusal, _⇒_, first, After, afterLent}
 use Rattle.foil_spec.specs.Lent.{Lent, lent, written, held, sound, roomIn}
+use Rattle.foil_spec.specs.Wishes.{tooMany}
 use Rattle.foil_spec.specs.Job.{recordChecks}
-use Rattle.foil_spec.specs.Calls.{Call, step, runRecord, ohms, Reply, answered, tooLarge, actRecord, wholeRefusals}
-use Rattle.foil_spec.specs.Calls.{ohmsReply, reply, callOn, outputBy}
+use Rattle.foil_spec.specs.Calls.{Call, step, runRecord, ohms, layList, Reply, answered, tooLarge, actRecord, actList}
+use Rattle.foil_spec.specs.Calls.{wholeRefusals, listRefusals, ohmsReply, reply, callOn, outputBy}
 use Rattle.foil_spec.specs.Sequence.{Lending, front, roomFor, back, lend, told, Left, leaves, runLent, Begins}
 use Rattle.foil_spec.specs.Sheet.{countsOk, limitOf, SheetLent, noBoard, counts, tableAt, view, sheetRoom, sheetStep}
 use Rattle.foil_spec.specs.Sheet.{opening, sheetRefusal, unless, sheetCall, Sheet, SheetLending, sheetFront, sheetBack}
@@ -114,6 +115,12 @@ large-first r b bs at n e =
     same-number (tooLarge bs) 18 (afterLent r false []) (afterLent r (b && not (eqb at 0)) (recordChecks bs at)) n
     (short-first r (b && not (eqb at 0)) (recordChecks bs at) n) e
 
+many-first : (r : Room) (b : Bool) (ws : List ℕ) (k n : ℕ)
+    → first ((tooMany ws k ⇒ 12) ∷ afterLent r false []) ≡ some n → first (listRefusals r b ws k) ≡ some n
+unfolding listRefusals
+many-first r b ws k n e =
+    same-number (tooMany ws k) 12 (afterLent r false []) (afterLent r b []) n (short-first r b [] n) e
+
 pub opened-refused : (r : Room) (c : Call) (m : Lent) (n : ℕ) → first (opening r false c) ≡ some n
     → callOn r c m ≡ record { answer = answered (refused n); state = m }
 unfolding opening callOn reply
@@ -123,6 +130,7 @@ opened-refused r (step s) m n e =
 opened-refused r (runRecord bs at) m n e =
     unfold actRecord in rw (large-first r (not (sound m)) bs at n e) refl
 opened-refused r (ohms net i) m n e = unfold ohmsReply in rw (short-first r (not (sound m)) _ n e) refl
+opened-refused r (layList ws k) m n e = unfold actList in rw (many-first r (not (sound m)) ws k n e) refl
 
 -- on one of the eight foils the number is not 23
 pub opens-with : (r : Room) (k : ℕ) (c : Call) (n : ℕ) → k < sheetFoils → sheetRefusal r false k c ≡ some n
@@ -141,7 +149,7 @@ module _ (c : SheetLending) (m : Sheet) (w : EightFoils (m .boards) (m .table)) 
 
   -- the call on the sheet, past the refusals that it begins with
   abbrev called : After Reply SheetLent
-  called = reply (sheetStep r (c .foil)) r (not (sound (view (c .foil) x))) (c .call) (held (view (c .foil) x)) x
+  called = reply (sheetStep (c .foil)) r (not (sound (view (c .foil) x))) (c .call) (held (view (c .foil) x)) x
 
   front-counts : countsOk (counts (x .boards)) ≡ true
   unfolding sheetFront

@@ -1,5 +1,5 @@
 -- A call on a foil of a sheet is the call on the foil alone, which is put back if the call wrote entries.
-use Prim.Native.Nat.{ℕ, zero, suc, _*_, _≤_, _<_}
+use Prim.Native.Nat.{ℕ, zero, suc, _*_, _-_, _/_, _≤_, _<_}
 use native.Mathlib.Omega.{arith}
 use mathlib.Core.Path.{_≡_, refl, sym, ap, _∙_, subst}
 use mathlib.Core.Bool.{Bool, true, false, not, cond, _&&_, _||_, and-false, or-false, or-true, or-assoc}
@@ -9,14 +9,16 @@ use lib.ListN.{length, getD}
 use Rattle.foil_spec.specs.Lists.{any, all}
 use Rattle.foil_spec.specs.Limits.{sheetFoils, sheetSize}
 use Rattle.foil_spec.specs.Foil.{Layout}
-use Rattle.foil_spec.specs.Ledger.{Room, Step, save, Answer, says, next, After, settle, refusalOf}
-use Rattle.foil_spec.specs.Lent.{Lent, boardOf, store, held, layoutOk, sound, stepOn}
+use Rattle.foil_spec.specs.Ledger.{Room, withOutput, Step, save, Answer, says, next, After, settle, refusalOf}
+use Rattle.foil_spec.specs.Lent.{Lent, boardOf, store, held, layoutOk, sound, stepOn, numbersOut, roomLeft}
+use Rattle.foil_spec.specs.Wishes.{wishAt, wishes}
 use Rattle.foil_spec.specs.Job.{stepAt, steps, isEnd, recordEnd}
-use Rattle.foil_spec.specs.Calls.{Call, step, runRecord, ohms, Reply, endsJob, andThen, actAll, actRecord, reply}
-use Rattle.foil_spec.specs.Calls.{callOn, answersIn}
+use Rattle.foil_spec.specs.Calls.{Call, step, runRecord, ohms, layList, Reply, endsJob, andThen, actAll, actRecord}
+use Rattle.foil_spec.specs.Calls.{inFront, actEach, actList, reply, callOn, answersIn}
 use Rattle.foil_spec.specs.Sheet.{total, limitOf, SheetLent, counts, view, putBack, writes, sheetStep, sheetRefusal}
 use Rattle.foil_spec.specs.Sheet.{unless, sheetCall}
 use Rattle.list_laws.proofs.Tests.{both, clash, not-ff, and-l, and-r}
+use Rattle.list_laws.proofs.Members.{all-places}
 use Rattle.ledger_laws.proofs.Stored.{held-store, store-again}
 use Rattle.ledger_laws.proofs.Refusals.{unrefused-sound, unrefused-own}
 use Rattle.ledger_laws.proofs.Sound.{of-sound, sound-store-is}
@@ -42,6 +44,11 @@ step-writes bs at (suc (suc (suc (suc k)))) = refl
 
 steps-write : (bs : List ℕ) (at : ℕ) → all writes (steps bs at) ≡ true
 steps-write bs at = steps-all writes bs at (step-writes bs at)
+
+-- so does every wish of a list
+wishes-write : (ws : List ℕ) → all writes (wishes ws) ≡ true
+unfolding wishes wishAt writes
+wishes-write ws = all-places writes (wishAt ws) (length ws / 5) (λ k h. refl)
 
 -- ---- whether something is written
 
@@ -90,7 +97,8 @@ module _ (r : Room) (k : ℕ) (m : SheetLent) (w : Stands r k m) (here : k < she
 
   -- ---- a step
 
-  module _ (s : Step) (t : Option Layout) where
+  -- in any room
+  module _ (q : Room) (s : Step) (t : Option Layout) where
     abbrev v : Lent
     v = alone t
 
@@ -98,100 +106,107 @@ module _ (r : Room) (k : ℕ) (m : SheetLent) (w : Stands r k m) (here : k < she
     l = held v
 
     abbrev refusal : Option ℕ
-    refusal = refusalOf r (not (sound v)) s l
+    refusal = refusalOf q (not (sound v)) s l
 
-  tell : Step → Option Layout → After Answer (Option Layout)
-  tell s t =
-      settle (refusal s t) (record { answer = says s (l s t); state = cond (writes s) (some (next s (l s t))) t }) t
+  tell : Room → Step → Option Layout → After Answer (Option Layout)
+  tell q s t =
+      settle (refusal q s t)
+      (record { answer = says s (l q s t); state = cond (writes s) (some (next s (l q s t))) t }) t
 
-  module _ (s : Step) (t : Option Layout) (g : Ok t) where
-    next-ok : refusal s t ≡ none → Ok (some (next s (l s t)))
+  -- in the room r with n numbers of output
+  module _ (n : ℕ) (s : Step) (t : Option Layout) (g : Ok t) where
+    abbrev q : Room
+    q = withOutput r n
+
+    next-ok : refusal q s t ≡ none → Ok (some (next s (l q s t)))
     next-ok e = (
-      line s .kept r (l s t)
-          (λ f. of-sound (v s t) (not-ff (sound (v s t)) (unrefused-sound r s (l s t) _ e f)) .kept)
-          (unrefused-own r s (l s t) _ e),
-      omega (arith, sheet-line s .fits r (l s t) (unrefused-own r s (l s t) _ e), few-held t g, w .limit),
+      line s .kept q (l q s t)
+          (λ f. of-sound (v q s t) (not-ff (sound (v q s t)) (unrefused-sound q s (l q s t) _ e f)) .kept)
+          (unrefused-own q s (l q s t) _ e),
+      omega (arith, sheet-line s .fits q (l q s t) (unrefused-own q s (l q s t) _ e), few-held t g, w .limit),
     )
 
-    settle-ok : (o : Option ℕ) → refusal s t ≡ o
-        → Ok (settle o (record { answer = says s (l s t); state = cond (writes s) (some (next s (l s t))) t }) t .state)
+    settle-ok : (o : Option ℕ) → refusal q s t ≡ o
+        → Ok
+        (settle o (record { answer = says s (l q s t); state = cond (writes s) (some (next s (l q s t))) t }) t .state)
     unfolding settle
     settle-ok (some n) e = g
     settle-ok none e = both (writes s) (λ b. rw b (next-ok e)) (λ b. rw b g)
 
-    tell-ok : Ok (tell s t .state)
+    tell-ok : Ok (tell q s t .state)
     unfolding tell
-    tell-ok = settle-ok (refusal s t) refl
+    tell-ok = settle-ok (refusal q s t) refl
 
     -- the foil alone after an accepted step
-    alone-next : refusal s t ≡ none
-        → store (next s (l s t)) (v s t) ≡ alone (cond (writes s) (some (next s (l s t))) t)
+    alone-next : refusal q s t ≡ none
+        → store (next s (l q s t)) (v q s t) ≡ alone (cond (writes s) (some (next s (l q s t))) t)
     alone-next e =
         both (writes s)
-        (λ b. rw b (stored t (next s (l s t)) g))
+        (λ b. rw b (stored t (next s (l q s t)) g))
         (λ b.
-        let known = not-ff (sound (v s t)) (unrefused-sound r s (l s t) _ e (sheet-line s .seen b)) in
-        rw (b, sheet-line s .still b (l s t)) (sound-store-is (v s t) (of-sound (v s t) known)))
+        let known = not-ff (sound (v q s t)) (unrefused-sound q s (l q s t) _ e (sheet-line s .seen b)) in
+        rw (b, sheet-line s .still b (l q s t)) (sound-store-is (v q s t) (of-sound (v q s t) known)))
 
-    alone-settled : (o : Option ℕ) → refusal s t ≡ o
-        → settle o (record { answer = says s (l s t); state = store (next s (l s t)) (v s t) }) (v s t)
+    alone-settled : (o : Option ℕ) → refusal q s t ≡ o
+        → settle o (record { answer = says s (l q s t); state = store (next s (l q s t)) (v q s t) }) (v q s t)
         ≡ shownBy alone
-        (settle o (record { answer = says s (l s t); state = cond (writes s) (some (next s (l s t))) t }) t)
+        (settle o (record { answer = says s (l q s t); state = cond (writes s) (some (next s (l q s t))) t }) t)
     unfolding settle shownBy
     alone-settled (some n) e = refl
     alone-settled none e =
-        ap {A = Lent} {B = After Answer Lent} (λ x. record { answer = says s (l s t); state = x }) (alone-next e)
+        ap {A = Lent} {B = After Answer Lent} (λ x. record { answer = says s (l q s t); state = x }) (alone-next e)
 
-    tell-alone : stepOn r s (alone t) ≡ shownBy alone (tell s t)
+    tell-alone : stepOn q s (alone t) ≡ shownBy alone (tell q s t)
     unfolding stepOn tell
-    tell-alone = alone-settled (refusal s t) refl
+    tell-alone = alone-settled (refusal q s t) refl
 
     -- and the sheet
     put-after : (b : Bool)
-        → cond b (putBack k (put t) (store (next s (l s t)) (v s t))) (put t)
-        ≡ put (cond b (some (next s (l s t))) t)
-    put-after true = put-next t _ g ∙ ap (putBack k m) (stored t (next s (l s t)) g)
+        → cond b (putBack k (put t) (store (next s (l q s t)) (v q s t))) (put t)
+        ≡ put (cond b (some (next s (l q s t))) t)
+    put-after true = put-next t _ g ∙ ap (putBack k m) (stored t (next s (l q s t)) g)
     put-after false = refl
 
     put-settled : (o : Option ℕ)
         → settle o
         (record {
-          answer = says s (l s t);
-          state = cond (writes s) (putBack k (put t) (store (next s (l s t)) (v s t))) (put t);
+          answer = says s (l q s t);
+          state = cond (writes s) (putBack k (put t) (store (next s (l q s t)) (v q s t))) (put t);
         })
         (put t)
         ≡ shownBy put
-        (settle o (record { answer = says s (l s t); state = cond (writes s) (some (next s (l s t))) t }) t)
+        (settle o (record { answer = says s (l q s t); state = cond (writes s) (some (next s (l q s t))) t }) t)
     unfolding settle shownBy
     put-settled (some n) = refl
     put-settled none =
-        ap {A = SheetLent} {B = After Answer SheetLent} (λ x. record { answer = says s (l s t); state = x })
+        ap {A = SheetLent} {B = After Answer SheetLent} (λ x. record { answer = says s (l q s t); state = x })
         (put-after (writes s))
 
-    tell-sheet : sheetStep r k s (put t) ≡ shownBy put (tell s t)
+    tell-sheet : sheetStep k q s (put t) ≡ shownBy put (tell q s t)
     unfolding sheetStep tell
-    tell-sheet = rw (put-view t g) (put-settled (refusal s t))
+    tell-sheet = rw (put-view t g) (put-settled (refusal q s t))
 
     -- something is written after it just if it was before, or the step wrote
     wrote-settled : (o : Option ℕ)
         → isSome
-        (settle o (record { answer = says s (l s t); state = cond (writes s) (some (next s (l s t))) t }) t .state)
+        (settle o (record { answer = says s (l q s t); state = cond (writes s) (some (next s (l q s t))) t }) t .state)
         ≡ (isSome t
         || (writes s
         && taken
-        (settle o (record { answer = says s (l s t); state = cond (writes s) (some (next s (l s t))) t }) t .answer)))
+        (settle o (record { answer = says s (l q s t); state = cond (writes s) (some (next s (l q s t))) t }) t
+        .answer)))
     unfolding settle taken isSome
     wrote-settled (some n) = rw (and-false (writes s), or-false (isSome t)) refl
     wrote-settled none =
         both (writes s)
-        (λ b. rw (b, sheet-line s .told (l s t), or-true (isSome t)) refl)
+        (λ b. rw (b, sheet-line s .told (l q s t), or-true (isSome t)) refl)
         (λ b. rw (b, or-false (isSome t)) refl)
 
-    tell-wrote : isSome (tell s t .state) ≡ (isSome t || (writes s && taken (tell s t .answer)))
+    tell-wrote : isSome (tell q s t .state) ≡ (isSome t || (writes s && taken (tell q s t .answer)))
     unfolding tell
-    tell-wrote = wrote-settled (refusal s t)
+    tell-wrote = wrote-settled (refusal q s t)
 
-  -- ---- the steps of a record, and every call
+  -- ---- the steps of a record
 
   then-wrote : (x : Bool) (a : After Answer (Option Layout)) (b : After (List Answer) (Option Layout))
       → isSome (a .state) ≡ (x || taken (a .answer))
@@ -215,41 +230,67 @@ module _ (r : Room) (k : ℕ) (m : SheetLent) (w : Stands r k m) (here : k < she
           f ∙ ap (λ (y : Bool). y || any taken (b .answer)) e ∙ or-assoc x (taken (a .answer)) (any taken (b .answer))
 
   steps-wrote : (ss : List Step) (t : Option Layout) → Ok t → all writes ss ≡ true
-      → isSome (actAll tell ss t .state) ≡ (isSome t || any taken (actAll tell ss t .answer))
+      → isSome (actAll (tell r) ss t .state) ≡ (isSome t || any taken (actAll (tell r) ss t .answer))
   unfolding actAll
   steps-wrote [] t g e = sym (or-false (isSome t))
   steps-wrote (s ∷ ss) t g e =
-      then-wrote (isSome t) (tell s t) _
-      (tell-wrote s t g
-      ∙ ap (λ (y : Bool). isSome t || (y && taken (tell s t .answer))) (and-l (writes s) (all writes ss) e))
-      (steps-wrote ss (tell s t .state) (tell-ok s t g) (and-r (writes s) (all writes ss) e))
+      then-wrote (isSome t) (tell r s t) _
+      (tell-wrote (r .output) s t g
+      ∙ ap (λ (y : Bool). isSome t || (y && taken (tell r s t .answer))) (and-l (writes s) (all writes ss) e))
+      (steps-wrote ss (tell r s t .state) (tell-ok (r .output) s t g) (and-r (writes s) (all writes ss) e))
 
   record-wrote : (o : Option ℕ) (e : Bool) (ss : List Step) (p : ℕ) → all writes ss ≡ true
-      → isSome (actRecord tell o e ss p none .state) ≡ any taken (answersIn (actRecord tell o e ss p none .answer))
+      → isSome (actRecord (tell r) o e ss p none .state)
+      ≡ any taken (answersIn (actRecord (tell r) o e ss p none .answer))
   unfolding actRecord answersIn isSome taken
   record-wrote (some n) e ss p h = refl
   record-wrote none true ss p h = refl
   record-wrote none false ss p h = steps-wrote ss none tt h
 
+  -- ---- those of a list
+
+  each-wrote : (ss : List Step) (n : ℕ) (t : Option Layout) → Ok t → all writes ss ≡ true
+      → isSome (actEach tell (withOutput r n) ss t .state)
+      ≡ (isSome t || any taken (actEach tell (withOutput r n) ss t .answer))
+  unfolding actEach inFront roomLeft
+  each-wrote [] n t g e = sym (or-false (isSome t))
+  each-wrote (s ∷ ss) n t g e =
+      let a : After Answer (Option Layout) = tell (withOutput r n) s t in
+      let i : ℕ = n - length (numbersOut (a .answer)) in
+      each-wrote ss i (a .state) (tell-ok n s t g) (and-r (writes s) (all writes ss) e)
+      ∙ ap (λ (y : Bool). y || any taken (actEach tell (withOutput r i) ss (a .state) .answer))
+      (tell-wrote n s t g
+      ∙ ap (λ (y : Bool). isSome t || (y && taken (a .answer))) (and-l (writes s) (all writes ss) e))
+      ∙ or-assoc (isSome t) (taken (a .answer)) (any taken (actEach tell (withOutput r i) ss (a .state) .answer))
+
+  list-wrote : (o : Option ℕ) (ss : List Step) → all writes ss ≡ true
+      → isSome (actList tell o r ss none .state) ≡ any taken (answersIn (actList tell o r ss none .answer))
+  unfolding actList answersIn isSome taken
+  list-wrote (some n) ss h = refl
+  list-wrote none ss h = each-wrote ss (r .output) none tt h
+
+  -- ---- every call
+
   reply-wrote : (b : Bool) (c : Call) (x : Layout)
       → isSome (reply tell r b c x none .state) ≡ rewrote c (reply tell r b c x none .answer)
   unfolding reply rewrote writing
   reply-wrote b (step s) x =
-      tell-wrote s none tt
-      ∙ unfold isSome answersIn in ap (λ (y : Bool). writes s && y) (sym (or-false (taken (tell s none .answer))))
+      tell-wrote (r .output) s none tt
+      ∙ unfold isSome answersIn in ap (λ (y : Bool). writes s && y) (sym (or-false (taken (tell r s none .answer))))
   reply-wrote b (runRecord bs at) x = record-wrote _ (isEnd bs at) (steps bs at) (recordEnd bs at) (steps-write bs at)
   reply-wrote b (ohms net i) x = unfold isSome in refl
+  reply-wrote b (layList ws n) x = list-wrote _ (wishes ws) (wishes-write ws)
 
   abbrev told : Call → After Reply (Option Layout)
   told c = reply tell r (not (sound (view k m))) c (held (view k m)) none
 
   sheet-told : (c : Call)
-      → reply (sheetStep r k) r (not (sound (view k m))) c (held (view k m)) m ≡ shownBy put (told c)
-  sheet-told c = reply-is tell (sheetStep r k) put Ok tell-ok tell-sheet r _ c _ none tt
+      → reply (sheetStep k) r (not (sound (view k m))) c (held (view k m)) m ≡ shownBy put (told c)
+  sheet-told c = reply-is tell (sheetStep k) put Ok r tell-ok tell-sheet _ c _ none tt
 
   alone-told : (c : Call) → callOn r c (view k m) ≡ shownBy alone (told c)
   unfolding callOn
-  alone-told c = reply-is tell (stepOn r) alone Ok tell-ok tell-alone r _ c _ none tt
+  alone-told c = reply-is tell stepOn alone Ok r tell-ok tell-alone _ c _ none tt
 
   put-told : (c : Call) (t : Option Layout) (b : Bool) → isSome t ≡ b → put t ≡ cond b (putBack k m (alone t)) m
   unfolding isSome
@@ -277,7 +318,7 @@ module _ (r : Room) (k : ℕ) (m : SheetLent) (w : Stands r k m) (here : k < she
   zero-told (some l) (g, few) e = put-zero k m (w .whole) here l few
 
   told-ok : (c : Call) → Ok (told c .state)
-  told-ok c = reply-keeps tell Ok tell-ok r _ c _ none tt
+  told-ok c = reply-keeps tell Ok r tell-ok _ c _ none tt
 
   -- the foil alone then has no more entries than it may; where nothing was written it is as it was
   few-alone : (t : Option Layout) → Ok t → isSome t ≡ true

@@ -12,9 +12,10 @@ use lib.ListN.{length, getD, set, length-set}
 use lib.Seq.{getD-set-same, set-getD, set-set}
 use Rattle.foil_spec.specs.Limits.{sheetFoils}
 use Rattle.foil_spec.specs.Foil.{Layout, noFoil}
-use Rattle.foil_spec.specs.Ledger.{Room, short, Step, says, next, settle, refusalOf, refused, first, afterLent}
+use Rattle.foil_spec.specs.Ledger.{Room, withOutput, short, Step, says, next, settle, refusalOf, refused, first}
+use Rattle.foil_spec.specs.Ledger.{afterLent}
 use Rattle.foil_spec.specs.Lent.{Lent, store, layoutOk, held, sound}
-use Rattle.foil_spec.specs.Calls.{Call, step, runRecord, ohms, reply}
+use Rattle.foil_spec.specs.Calls.{Call, step, runRecord, ohms, layList, reply}
 use Rattle.foil_spec.specs.Sheet.{countsOk, limitOf, SheetLent, counts, view, putBack, writes, sheetStep, opening}
 use Rattle.foil_spec.specs.Sheet.{sheetRefusal, unless, sheetCall, blank, rowStep, rowCall, sheetLedgerCall, rowCounts}
 use Rattle.list_laws.proofs.Tests.{both}
@@ -28,10 +29,14 @@ use Rattle.sheet_laws.proofs.Rows.{counts-rows, counts-set, count-at, l
 
 -- ---- what a step leaves of a row
 
--- a row in the room r: it is not begun or keeps the rules, and has no more entries than it may
-pub record Fits (r : Room) (l : Layout) : Type 0 where
+-- a row that is not begun or keeps the rules, and has no more entries than it may
+pub record FitsIn (most : ℕ) (l : Layout) : Type 0 where
   pub row : Row l
-  pub few : length (l .entries) ≤ r .limit
+  pub few : length (l .entries) ≤ most
+
+-- by the room r
+abbrev pub Fits : Room → Layout → Type 0
+Fits r l = FitsIn (r .limit) l
 
 module _ (r : Room) (s : Step) (l : Layout) (g : Row l) where
   -- accepted, it leaves a foil that keeps the rules
@@ -55,7 +60,7 @@ step-fits r s l f = settle-fits r s l (refusalOf r (blank l) s l) refl f
 
 pub call-fits : (r : Room) (c : Call) (l : Layout) → Fits r l → Fits r (rowCall r c l .state)
 unfolding rowCall
-call-fits r c l f = reply-keeps (rowStep r) (Fits r) (step-fits r) r (blank l) c l l f
+call-fits r c l f = reply-keeps rowStep (Fits r) r (λ n. step-fits (withOutput r n)) (blank l) c l l f
 
 -- ---- a step and a call on foil k of the rows
 
@@ -107,7 +112,7 @@ module _ (k : ℕ) (m : SheetLent) where
     settled (some n) e = ap (λ (x : SheetLent). record { answer = refused n; state = x }) (unset ls)
     settled none e = ap (λ (x : SheetLent). record { answer = says s l; state = x }) (after e)
 
-    step-row : sheetStep r k s (rowsLent k ls m) ≡ shownBy (λ x. rowsLent k (set ls k x) m) (rowStep r s l)
+    step-row : sheetStep k r s (rowsLent k ls m) ≡ shownBy (λ x. rowsLent k (set ls k x) m) (rowStep r s l)
     unfolding sheetStep rowStep
     step-row =
         rw (broken ls g, held-row ls, view-row ls k m) (settled (refusalOf r (blank l) s l) refl)
@@ -125,7 +130,7 @@ module _ (k : ℕ) (m : SheetLent) where
         ∙ fits (rowCounts ls) ok k (omega (arith, length-counts ls)) (length (x .entries))
         (subst (λ (n : ℕ). length (x .entries) ≤ n) limit (f .few))
 
-    put-step : (s : Step) (x : Layout) → Fits r x → sheetStep r k s (put x) ≡ shownBy put (rowStep r s x)
+    put-step : (s : Step) (x : Layout) → Fits r x → sheetStep k r s (put x) ≡ shownBy put (rowStep r s x)
     put-step s x f =
         let e = getD-set-same ls k x noFoil here in
         let row : Row (getD (set ls k x) k noFoil) = subst Row (sym e) (f .row) in
@@ -147,16 +152,19 @@ module _ (k : ℕ) (m : SheetLent) where
               );
         }
 
+  module _ (r : Room) (ls : List Layout) (here : k < length ls) (ok : countsOk (rowCounts ls) ≡ true)
+      (limit : r .limit ≡ limitOf (rowCounts ls) k) where
     reply-row : (c : Call) → Row (getD ls k noFoil)
-        → reply (sheetStep r k) r (not (sound (view k (rowsLent k ls m)))) c (held (view k (rowsLent k ls m)))
+        → reply (sheetStep k) r (not (sound (view k (rowsLent k ls m)))) c (held (view k (rowsLent k ls m)))
         (rowsLent k ls m)
-        ≡ shownBy put (rowCall r c (getD ls k noFoil))
+        ≡ shownBy (put r ls here ok limit) (rowCall r c (getD ls k noFoil))
     unfolding rowCall
     reply-row c g =
         let l : Layout = getD ls k noFoil in
-        ap₂ (λ (b : Bool) (x : Layout). reply (sheetStep r k) r b c x (rowsLent k ls m)) (broken ls g) (held-row ls)
-        ∙ ap (reply (sheetStep r k) r (blank l) c l) (unset ls)
-        ∙ reply-is (rowStep r) (sheetStep r k) put (Fits r) (step-fits r) put-step r (blank l) c l l (own-fits g)
+        ap₂ (λ (b : Bool) (x : Layout). reply (sheetStep k) r b c x (rowsLent k ls m)) (broken ls g) (held-row ls)
+        ∙ ap (reply (sheetStep k) r (blank l) c l) (unset ls)
+        ∙ reply-is rowStep (sheetStep k) (put r ls here ok limit) (Fits r) r (λ n. step-fits (withOutput r n))
+        (λ n. put-step (withOutput r n) ls here ok limit) (blank l) c l l (own-fits r ls here ok limit g)
 
 -- ---- the refusals that a call begins with
 
@@ -166,6 +174,7 @@ unfolding opening afterLent
 opened-long r b (step s) e = search none-applies
 opened-long r b (runRecord bs at) e = search none-applies
 opened-long r b (ohms net i) e = search none-applies
+opened-long r b (layList ws n) e = search none-applies
 
 pub record Passed (r : Room) (k : ℕ) : Type 0 where
   pub here : k < sheetFoils
@@ -186,7 +195,7 @@ module _ (k : ℕ) (m : SheetLent) (r : Room) (c : Call) (ls : List Layout) (eig
     (limit : r .limit ≡ limitOf (rowCounts ls) k) where
   unless-is : (o : Option ℕ) → sheetRefusal r false k c ≡ o
       → unless o
-      (reply (sheetStep r k) r (not (sound (view k (rowsLent k ls m)))) c (held (view k (rowsLent k ls m)))
+      (reply (sheetStep k) r (not (sound (view k (rowsLent k ls m)))) c (held (view k (rowsLent k ls m)))
       (rowsLent k ls m))
       (rowsLent k ls m)
       ≡ shownBy (λ xs. rowsLent k xs m)

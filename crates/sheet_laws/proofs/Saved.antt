@@ -25,7 +25,7 @@ module _ (r : Room) (k : ℕ) (here : k < sheetFoils) where
   called-view : (c : Call) (x : SheetLent) (o : Option ℕ) → sheetRefusal r false k c ≡ o → Stands r k x
       → callOn r c (view k x)
       ≡ shownBy (view k)
-      (unless o (reply (sheetStep r k) r (not (sound (view k x))) c (held (view k x)) x) x)
+      (unless o (reply (sheetStep k) r (not (sound (view k x))) c (held (view k x)) x) x)
   unfolding unless
   called-view c x (some n) e w = unfold shownBy in opened-refused r c (view k x) n (opens-with r k c n here e)
   called-view c x none e w = call-view r k here c x w
@@ -36,7 +36,7 @@ module _ (r : Room) (k : ℕ) (here : k < sheetFoils) where
   sheet-view c x w = rw (w .whole .limits) (called-view c x (sheetRefusal r false k c) refl w)
 
   unless-stands : (c : Call) (x : SheetLent) (o : Option ℕ) → Stands r k x
-      → Stands r k (unless o (reply (sheetStep r k) r (not (sound (view k x))) c (held (view k x)) x) x .state)
+      → Stands r k (unless o (reply (sheetStep k) r (not (sound (view k x))) c (held (view k x)) x) x .state)
   unfolding unless
   unless-stands c x (some n) w = w
   unless-stands c x none w = call-others r k here c x w .0

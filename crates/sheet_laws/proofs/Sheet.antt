@@ -7,9 +7,9 @@ use mathlib.Core.Option.{Option, none, some}
 use lib.ListN.{getD}
 use Rattle.foil_spec.specs.Lists.{all}
 use Rattle.foil_spec.specs.Foil.{Layout, noFoil}
-use Rattle.foil_spec.specs.Ledger.{Room, Step, numberOf, afterLent, After, ledgerStep}
+use Rattle.foil_spec.specs.Ledger.{Room, withOutput, Step, numberOf, afterLent, After, ledgerStep}
 use Rattle.foil_spec.specs.Lent.{layoutOk}
-use Rattle.foil_spec.specs.Calls.{Call, step, runRecord, ohms, Reply, ledgerCall, answersIn}
+use Rattle.foil_spec.specs.Calls.{Call, step, runRecord, ohms, layList, Reply, ledgerCall, answersIn}
 use Rattle.foil_spec.specs.Sheet.{Sheet, storeSheet, SheetLending, lendSheet, toldSheet, SheetLeft, leavesSheet}
 use Rattle.foil_spec.specs.Sheet.{runSheet, runSheetLedger, opening, sheetRefusal, unless, rowStep, rowCall}
 use Rattle.foil_spec.specs.Sheet.{sheetLedgerCall, rowCounts, roomOn}
@@ -84,7 +84,8 @@ pub rows-are-foils : RowsAreFoils
 unfolding rowCall ledgerCall shownBy
 rows-are-foils r c l g =
     rw (begun l g)
-    (reply-is (ledgerStep r) (rowStep r) (λ x. x) (λ x. layoutOk x ≡ true) (step-kept r) (begun-step r) r false c l l g)
+    (reply-is ledgerStep rowStep (λ x. x) (λ x. layoutOk x ≡ true) r (λ n. step-kept (withOutput r n))
+    (λ n. begun-step (withOutput r n)) false c l l g)
 
 -- ---- 13
 
@@ -93,6 +94,7 @@ unfolding sheetRefusal opening afterLent but
 opening-but-13 r k (step s) = first-passes (but 13) _ (simp or-true)
 opening-but-13 r k (runRecord bs at) = first-passes (but 13) _ (simp or-true)
 opening-but-13 r k (ohms net i) = first-passes (but 13) _ (simp or-true)
+opening-but-13 r k (layList ws n) = first-passes (but 13) _ (simp or-true)
 
 unless-but-13 : {S : Type 0} (o : Option ℕ) (done : After Reply S) (old : S) → ((n : ℕ) → o ≡ some n → but 13 n ≡ true)
     → all (but 13) (numbersIn (done .answer)) ≡ true → all (but 13) (numbersIn (unless o done old .answer)) ≡ true

@@ -10,7 +10,7 @@ use lib.ListN.{length, getD, set, take, drop, length-set, length-map, List·getD
 use lib.Seq.{getD-set-same, getD-set-other, set-set}
 use Rattle.foil_spec.specs.Limits.{tableSize, sheetFoils, sheetSize}
 use Rattle.foil_spec.specs.Foil.{Layout}
-use Rattle.foil_spec.specs.Ledger.{Room, Step, says, next, After, settle, refusalOf}
+use Rattle.foil_spec.specs.Ledger.{Room, withOutput, Step, says, next, After, settle, refusalOf}
 use Rattle.foil_spec.specs.Lent.{Lent, lent, written, boardOf, store, layoutOf, held, sound, stepOn}
 use Rattle.foil_spec.specs.Calls.{Call, Reply, reply, callOn}
 use Rattle.foil_spec.specs.Sheet.{total, countsOk, limitOf, SheetLent, noBoard, counts, parts, joined, tableAt, view}
@@ -182,10 +182,14 @@ module _ (k : ℕ) (x : SheetLent) (w : EightFoils (x .boards) (x .table)) (here
 
 -- ---- a step
 
--- a sheet on which foil k may have as many entries as the room r says
-pub record Stands (r : Room) (k : ℕ) (x : SheetLent) : Type 0 where
+-- a sheet on which foil k may have so many entries
+pub record StandsAt (most k : ℕ) (x : SheetLent) : Type 0 where
   pub whole : EightFoils (x .boards) (x .table)
-  pub limit : r .limit ≡ limitOf (counts (x .boards)) k
+  pub limit : most ≡ limitOf (counts (x .boards)) k
+
+-- as many as the room r says
+abbrev pub Stands : Room → ℕ → SheetLent → Type 0
+Stands r k x = StandsAt (r .limit) k x
 
 pub stands-in : (r : Room) (k : ℕ) (m : SheetLent) → RoomOn r k m → Stands r k m
 stands-in r k m o = record { whole = o .eight-foils; limit = o .limit }
@@ -239,7 +243,7 @@ module _ (r : Room) (k : ℕ) (here : k < sheetFoils) where
     settle-view (some n) e = refl
     settle-view none e = ap (λ (v : Lent). record { answer = says s l; state = v }) (sym (after-view e))
 
-    step-view : stepOn r s (view k x) ≡ shownBy (view k) (sheetStep r k s x)
+    step-view : stepOn r s (view k x) ≡ shownBy (view k) (sheetStep k r s x)
     unfolding stepOn sheetStep
     step-view = settle-view (refusalOf r broken s l) refl
 
@@ -256,11 +260,11 @@ module _ (r : Room) (k : ℕ) (here : k < sheetFoils) where
       settle-keeps (some n) e = q
       settle-keeps none e = after-keeps e
 
-      pub step-keeps : Q (sheetStep r k s x .state)
+      pub step-keeps : Q (sheetStep k r s x .state)
       unfolding sheetStep
       step-keeps = settle-keeps (refusalOf r broken s l) refl
 
-  step-stands : (s : Step) (x : SheetLent) → Stands r k x → Stands r k (sheetStep r k s x .state)
+  step-stands : (s : Step) (x : SheetLent) → Stands r k x → Stands r k (sheetStep k r s x .state)
   step-stands s x w =
       step-keeps x w s (Stands r k) w
       (λ l few.
@@ -273,7 +277,7 @@ module _ (r : Room) (k : ℕ) (here : k < sheetFoils) where
       })
 
   step-others : (m : SheetLent) (s : Step) (x : SheetLent) → Stands r k x × Others k m x
-      → Stands r k (sheetStep r k s x .state) × Others k m (sheetStep r k s x .state)
+      → Stands r k (sheetStep k r s x .state) × Others k m (sheetStep k r s x .state)
   step-others m s x (w, o) = (
     step-stands s x w,
     step-keeps x w s (Others k m) o
@@ -286,22 +290,23 @@ module _ (r : Room) (k : ℕ) (here : k < sheetFoils) where
         }),
   )
 
-  -- ---- a call
+-- ---- a call
 
+module _ (r : Room) (k : ℕ) (here : k < sheetFoils) where
   module _ (c : Call) (m : SheetLent) (w : Stands r k m) where
     -- the call on the sheet, past the refusals that it begins with
     abbrev called : After Reply SheetLent
-    called = reply (sheetStep r k) r (not (sound (view k m))) c (held (view k m)) m
+    called = reply (sheetStep k) r (not (sound (view k m))) c (held (view k m)) m
 
     -- the foil alone goes the same way
     pub call-view : callOn r c (view k m) ≡ shownBy (view k) called
     unfolding callOn
     call-view =
-        reply-is (sheetStep r k) (stepOn r) (view k) (Stands r k) step-stands (λ s x q. step-view x q s) r
-        (not (sound (view k m))) c (held (view k m)) m w
+        reply-is (sheetStep k) stepOn (view k) (Stands r k) r (λ n. step-stands (withOutput r n) k here)
+        (λ n s x q. step-view (withOutput r n) k here x q s) (not (sound (view k m))) c (held (view k m)) m w
 
     pub call-others : Stands r k (called .state) × Others k m (called .state)
     call-others =
-        reply-keeps (sheetStep r k) (λ x. Stands r k x × Others k m x) (step-others m) r (not (sound (view k m))) c
-        (held (view k m)) m
+        reply-keeps (sheetStep k) (λ x. Stands r k x × Others k m x) r
+        (λ n. step-others (withOutput r n) k here m) (not (sound (view k m))) c (held (view k m)) m
         (w, record { boards = λ j ne. refl; tables = λ j ne. refl; past = refl; size = refl })

@@ -8,16 +8,17 @@ use lib.ListN.{getD}
 use Rattle.foil_spec.specs.Lists.{any}
 use Rattle.foil_spec.specs.Limits.{sheetSize}
 use Rattle.foil_spec.specs.Ledger.{Room}
-use Rattle.foil_spec.specs.Calls.{Call, step, runRecord, ohms, Reply, callOn, answersIn}
+use Rattle.foil_spec.specs.Calls.{Call, step, runRecord, ohms, layList, Reply, callOn, answersIn}
 use Rattle.foil_spec.specs.Sheet.{total, SheetLent, counts, view, putBack, writes, sheetRefusal, sheetCall}
 use Rattle.sheet_laws.specs.Answers.{taken}
 use Rattle.sheet_laws.specs.Alone.{RoomOn}
 
--- the steps of the call write entries where they are accepted; those of a record all do
+-- the steps of the call write entries where they are accepted; those of a record and of a list all do
 unfoldable pub writing : Call → Bool
 writing (step s) = writes s
 writing (runRecord bs at) = true
 writing (ohms net i) = false
+writing (layList ws n) = true
 
 -- by its reply, the call wrote entries
 unfoldable pub rewrote : Call → Reply → Bool
