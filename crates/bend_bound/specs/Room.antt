@@ -1,5 +1,5 @@
--- With 8,192 corner places lent no track lacks room for its corners, as it is stated: K is at most 4,096. So many
--- places are room for the bytes of any foil's file too. On a sheet it is so for each foil.
+-- With 8,192 corner places lent for each track no track lacks room for its corners, as it is stated: K is at most
+-- 4,096. So many places are room for the bytes of any foil's file too. On a sheet it is so for each foil.
 use Prim.Native.Nat.{ℕ, _*_, _≤_, _<_, max}
 use mathlib.Core.Path.{_≡_}
 use mathlib.Core.Bool.{Bool, true, false, not, _&&_}
@@ -16,6 +16,8 @@ use Rattle.foil_spec.specs.Ledger.{Step, newFoil, draw, lay, lift, lookUp, putL
 use Rattle.foil_spec.specs.Ledger.{carry}
 use Rattle.foil_spec.specs.Carrying.{Old, oldShort}
 use Rattle.foil_spec.specs.Lent.{Lent, held, stepOn}
+use Rattle.foil_spec.specs.Wishes.{wishes, tooMany}
+use Rattle.foil_spec.specs.Calls.{Call, step, runRecord, ohms, layList}
 use Rattle.foil_spec.specs.Sequence.{Lending, Begins, roomFor, runLent, told}
 use Rattle.foil_spec.specs.Sheet.{Sheet, SheetLending}
 use Rattle.ledger_laws.specs.Numbers.{stepsIn, numbersOf, among}
@@ -51,14 +53,29 @@ asksFew slip = true
 asksFew (join net S) = false
 asksFew (carry o) = not (oldShort o)
 
--- the call is no join, and is lent tables and strips that are long enough and so many corner places; m is what was
--- lent at first
+-- the corner places that a call has enough of: so many, and for a list so many for each net
+unfoldable pub placesFor : Call → ℕ
+placesFor (step s) = cornerPlaces
+placesFor (runRecord bs at) = cornerPlaces
+placesFor (ohms net i) = cornerPlaces
+placesFor (layList ws n) = cornerPlaces * length (wishes ws)
+
+-- it is no list of too many nets, or of more than its places for answers
+unfoldable pub fewWishes : Call → Bool
+fewWishes (step s) = true
+fewWishes (runRecord bs at) = true
+fewWishes (ohms net i) = true
+fewWishes (layList ws n) = not (tooMany ws n)
+
+-- the call is no join, and is lent a table and strips that are long enough, so many corner places, and for a list
+-- places for its answers; m is what was lent at first
 unfoldable pub lentEnough : Lent → Lending → Bool
 lentEnough m c =
-    all asksFew (stepsIn (c .call)) && not (short (roomFor c m)) && leb cornerPlaces (cornerRoom (roomFor c m))
+    all asksFew (stepsIn (c .call)) && fewWishes (c .call) && not (short (roomFor c m))
+    && leb (placesFor (c .call)) (cornerRoom (roomFor c m))
 
--- from a call that begins a foil on, calls that are no joins and all lent enough never answer 12, by themselves or in a
--- record
+-- from a call that begins a foil on, calls that are no joins and all lent enough never answer 12, by themselves, in a
+-- record or in a list
 abbrev pub NeverShort : Type 0
 NeverShort =
     (m : Lent) (l : Layout) (c : Lending) (cs : List Lending) → Begins (c .call) (told m c l .answer)
