@@ -18,7 +18,8 @@ use Rattle.foil_spec.specs.Ledger.{Refusal, Room, cornerRoom, cornersOf, afterL
 use Rattle.foil_spec.specs.Corners.{cornersIn}
 use Rattle.foil_spec.specs.Lent.{Lent, held, sound, stepOn, overFront, outputAfter}
 use Rattle.foil_spec.specs.Job.{has, isEnd, recordEnd, stepAt, stepsAt, steps, recordChecks}
-use Rattle.foil_spec.specs.Calls.{Reply as Outcome, answered, ran, atEnd, measured, runRecord, endsJob, andThen, actAll}
+use Rattle.foil_spec.specs.Calls.{Reply as Outcome, answered, ran, atEnd, measured, laidAll, runRecord, endsJob}
+use Rattle.foil_spec.specs.Calls.{andThen, actAll}
 use Rattle.foil_spec.specs.Calls.{actRecord, tooLarge, wholeRefusals, reply, callOn, outputAll}
 use Rattle.list_laws.proofs.Tests.{both, or-l, not-ff}
 use Rattle.ledger_laws.proofs.Refusals.{none-applies, unrefused-own}
@@ -47,6 +48,7 @@ was-refused on (answered a) n e = record { answer = a; is = refl; number = cc }
 was-refused on (ran given p) n e = absurd (let z : _≡_ {A = ℕ} 0 1 = cc in omega arith)
 was-refused on atEnd n e = absurd (let z : _≡_ {A = ℕ} 0 1 = cc in omega arith)
 was-refused on (measured x) n e = absurd (let z : _≡_ {A = ℕ} 0 1 = cc in omega arith)
+was-refused on (laidAll given) n e = absurd (let z : _≡_ {A = ℕ} 0 1 = cc in omega arith)
 
 -- the answers of the steps
 pub record HasRun (on : ℕ → Bool) (o : Outcome) (a : Answers) (n : Next) : Type 0 where
@@ -62,6 +64,7 @@ has-run on (answered x) a n e = absurd (let z : _≡_ {A = ℕ} 0 1 = cc in omeg
 has-run on (ran given p) a n e = record { given = given; place = p; is = refl; answers = cc; next = cc }
 has-run on atEnd a n e = absurd (let z : _≡_ {A = ℕ} 0 1 = cc in omega arith)
 has-run on (measured x) a n e = absurd (let z : _≡_ {A = ℕ} 0 1 = cc in omega arith)
+has-run on (laidAll given) a n e = absurd (let z : _≡_ {A = ℕ} 0 1 = cc in omega arith)
 
 -- ---- the checks that it has passed
 

@@ -8,7 +8,7 @@ use lib.ListN.{length}
 use Rattle.foil_spec.specs.Ledger.{Answer, numberOf, After}
 use Rattle.foil_spec.specs.Lent.{Lent, roomIn}
 use Rattle.foil_spec.specs.Job.{has}
-use Rattle.foil_spec.specs.Calls.{runRecord, callOn, answered, ran, atEnd, measured, outputBy}
+use Rattle.foil_spec.specs.Calls.{runRecord, callOn, answered, ran, atEnd, measured, laidAll, outputBy}
 use Rattle.foil_spec.specs.Calls.{Reply as Outcome}
 use Rattle.foil.specs.Contract.{answerOf}
 use Rattle.job.specs.declared.Told.{Told}
@@ -56,12 +56,14 @@ unfoldable pub nextOf : Option ℕ → Next
 nextOf (some n) = At n
 nextOf none = Nowhere
 
--- document 01's number and values for each case of a record's reply, which is never ohms; `on` says which bits are set
+-- document 01's number and values for each case of a record's reply, which is never ohms nor a list's; `on` says which
+-- bits are set
 unfoldable pub replyOf : (ℕ → Bool) → Outcome → Reply
 replyOf on (answered a) = Refused (numberOf a)
 replyOf on (ran given n) = Ran (answersOf on given) (nextOf n)
 replyOf on atEnd = AtEnd
 replyOf on (measured x) = AtEnd
+replyOf on (laidAll given) = AtEnd
 
 -- the reply, the record, the table t and the strips s are those of a, and the output list is out after that reply
 pub record Replies (on : ℕ → Bool) (a : After Outcome Lent) (out : List ℕ) (r : Replied) (t s out′ : List ℕ)

@@ -12,7 +12,8 @@ use Rattle.foil_spec.specs.Ledger.{Answer, refused, says, Refusal, Room, short,
 use Rattle.foil_spec.specs.Ledger.{settle, refusalOf}
 use Rattle.foil_spec.specs.Lent.{held, sound}
 use Rattle.foil_spec.specs.Job.{has, isEnd, stepAt, stepsAt, steps, recordEnd}
-use Rattle.foil_spec.specs.Calls.{Reply as Outcome, answered, ran, atEnd, measured, runRecord, endsJob, andThen, actAll}
+use Rattle.foil_spec.specs.Calls.{Reply as Outcome, answered, ran, atEnd, measured, laidAll, runRecord, endsJob}
+use Rattle.foil_spec.specs.Calls.{andThen, actAll}
 use Rattle.foil_spec.specs.Calls.{actRecord, reply, placeAfter}
 use Rattle.foil_spec.specs.Sheet.{SheetLent, view, sheetStep, sheetCall}
 use Rattle.foil_spec.specs.declared.Board.{Board}
@@ -76,7 +77,7 @@ settled-on none a m e h = e
 settled-on (some n) a m e h = not-t (endsJob (refused n)) (h n refl)
 
 module _ (r : Room) where
-  step-on : (s : Step) (m : SheetLent) → reads s ≡ true → endsJob (sheetStep r 0 s m .answer) ≡ false
+  step-on : (s : Step) (m : SheetLent) → reads s ≡ true → endsJob (sheetStep 0 r s m .answer) ≡ false
   unfolding sheetStep refusalOf
   step-on s m h =
       let l : Layout = held (view 0 m) in
@@ -90,12 +91,12 @@ module _ (r : Room) where
   then-on a b e h = rw (e, e) h
 
   steps-on : (ss : List Step) (m : SheetLent) → all reads ss ≡ true
-      → any endsJob (actAll (sheetStep r 0) ss m .answer) ≡ false
+      → any endsJob (actAll (sheetStep 0 r) ss m .answer) ≡ false
   unfolding actAll
   steps-on [] m h = refl
   steps-on (s ∷ ss) m h =
-      then-on (sheetStep r 0 s m) _ (step-on s m (and-l (reads s) (all reads ss) h))
-      (steps-on ss (sheetStep r 0 s m .state) (and-r (reads s) (all reads ss) h))
+      then-on (sheetStep 0 r s m) _ (step-on s m (and-l (reads s) (all reads ss) h))
+      (steps-on ss (sheetStep 0 r s m .state) (and-r (reads s) (all reads ss) h))
 
 module _ (bs : List ℕ) (at : ℕ) where
   reads-at : (k : ℕ) → reads (stepAt bs at (suc k)) ≡ true
@@ -140,7 +141,7 @@ module _ {S : Type 0} (act : Step → S → After Answer S) where
 module _ (r : Room) (bs : List ℕ) (at : ℕ) (m : SheetLent) where
   -- past the refusals that the call begins with
   abbrev called : After Outcome SheetLent
-  called = reply (sheetStep r 0) r (not (sound (view 0 m))) (runRecord bs at) (held (view 0 m)) m
+  called = reply (sheetStep 0) r (not (sound (view 0 m))) (runRecord bs at) (held (view 0 m)) m
 
   called-ran : (given : List Answer) → sheetCall r 0 (runRecord bs at) m .answer ≡ ran given none
       → called .answer ≡ ran given none
@@ -156,7 +157,7 @@ module _ (r : Room) (bs : List ℕ) (at : ℕ) (m : SheetLent) where
       both (has bs at 0) (λ set. set)
       (λ unset.
       clash
-      (ended-by (sheetStep r 0) _ (isEnd bs at) (steps bs at) (recordEnd bs at) m given (called-ran given h))
+      (ended-by (sheetStep 0 r) _ (isEnd bs at) (steps bs at) (recordEnd bs at) m given (called-ran given h))
       (steps-on r (steps bs at) m (reads-all bs at unset)))
 
   -- the code's way and that of the definitions
@@ -169,3 +170,4 @@ module _ (r : Room) (bs : List ℕ) (at : ℕ) (m : SheetLent) where
   same-end (ran given (some n)) b h e = absurd (let z : _≡_ {A = ℕ} 0 1 = cc in omega arith)
   same-end atEnd b h e = refl
   same-end (measured x) b h e = refl
+  same-end (laidAll given) b h e = refl

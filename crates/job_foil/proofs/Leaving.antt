@@ -9,7 +9,7 @@ use lib.ListN.{length}
 use Rattle.foil_spec.specs.Limits.{maxBytes}
 use Rattle.foil_spec.specs.Ledger.{After}
 use Rattle.foil_spec.specs.Job.{jobRoom, has}
-use Rattle.foil_spec.specs.Calls.{Reply as Outcome, answered, ran, atEnd, measured, placeAfter}
+use Rattle.foil_spec.specs.Calls.{Reply as Outcome, answered, ran, atEnd, measured, laidAll, placeAfter}
 use Rattle.foil_spec.specs.Sheet.{SheetLent, noBoard, view}
 use Rattle.foil_spec.specs.declared.Board.{Board}
 use Rattle.job.specs.Contract.{nextOf, replyOf}
@@ -45,6 +45,7 @@ next-is on (answered a) = refl
 next-is on (ran given place) = refl
 next-is on atEnd = refl
 next-is on (measured x) = refl
+next-is on (laidAll given) = refl
 
 at-place : (o : Option ℕ) (p : ℕ) → nextOf o ≡ At p → o ≡ some p
 unfolding nextOf

@@ -4,7 +4,7 @@ use mathlib.Core.Path.{_≡_}
 use mathlib.Core.List.{List, [], _∷_}
 use Rattle.foil_spec.specs.Ledger.{Answer, refused, numberOf, After}
 use Rattle.foil_spec.specs.Job.{jobRoom}
-use Rattle.foil_spec.specs.Calls.{Reply, answered, ran, atEnd, measured, readJob}
+use Rattle.foil_spec.specs.Calls.{Reply, answered, ran, atEnd, measured, laidAll, readJob}
 use Rattle.foil_spec.specs.Sheet.{SheetLent, view, sheetCall}
 use Rattle.foil_spec.specs.declared.Board.{Board}
 use Rattle.sheet_laws.specs.Jobs.{onlyFoil0}
@@ -16,12 +16,14 @@ unfoldable pub firstNumber : List Answer → ℕ
 firstNumber [] = 0
 firstNumber (a ∷ given) = numberOf a
 
--- how a job ended by its last reply, which is never ohms, and by the board's record then; a board's answer is the first
+-- how a job ended by its last reply, which is never ohms nor a list's, and by the board's record then; a board's answer
+-- is the first
 unfoldable pub endedOf : Reply → Board → Ended
 endedOf (answered a) b = ByFile (numberOf a)
 endedOf (ran given place) b = ByBoard (firstNumber given)
 endedOf atEnd b = AtMark b
 endedOf (measured x) b = AtMark b
+endedOf (laidAll given) b = AtMark b
 
 -- the last of some replies, or a if there is none
 unfoldable pub lastReply : Reply → List Reply → Reply

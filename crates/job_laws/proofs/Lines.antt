@@ -12,7 +12,7 @@ use Rattle.foil_spec.specs.Limits.{cornerPlaces}
 use Rattle.foil_spec.specs.Foil.{Point, Layout, noFoil, free}
 use Rattle.foil_spec.specs.Strips.{Strip}
 use Rattle.foil_spec.specs.Paths.{at, bends}
-use Rattle.foil_spec.specs.Ledger.{stripsOf, cornersOf, short, cornerRoom, next, says, first}
+use Rattle.foil_spec.specs.Ledger.{stripsOf, cornersOf, short, cornerRoom, withOutput, next, says, first}
 use Rattle.foil_spec.specs.Ledger.{Step, newFoil, draw, lay, lift, lookUp, putLeg, save, find, book, slip, join, carry}
 use Rattle.foil_spec.specs.Ledger.{Answer, numberOf}
 use Rattle.foil_spec.specs.Ledger.{refusals, afterLent, After, settle, refusalOf, ledgerStep}
@@ -177,7 +177,9 @@ output-lines zero bs at l fine = no-line
 output-lines (suc most) bs at l fine =
     reply-lines (first (wholeRefusals jobRoom false bs at)) (isEnd bs at) (steps bs at) (recordEnd bs at) l _ fine
     (file-possible bs at)
-    (λ n. output-lines most bs n _ (call-keeps Fine jobRoom (fine-kept jobRoom) (runRecord bs at) l fine))
+    (λ n.
+    output-lines most bs n _
+    (call-keeps Fine jobRoom (λ k. fine-kept (withOutput jobRoom k)) (runRecord bs at) l fine))
 
 pub writes-lines : WritesLines
 unfolding output

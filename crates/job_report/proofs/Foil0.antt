@@ -8,7 +8,7 @@ use mathlib.Core.List.{List, _∷_}
 use mathlib.Core.Option.{Option, none, some}
 use lib.ListN.{length, getD, replicate}
 use Rattle.foil_spec.specs.Limits.{maxEntries, stripsSize, cornerPlaces, sheetSize}
-use Rattle.foil_spec.specs.Ledger.{Room, Step, short, Answer, refused, first, After, settle, afterLent}
+use Rattle.foil_spec.specs.Ledger.{Room, withOutput, Step, short, Answer, refused, first, After, settle, afterLent}
 use Rattle.foil_spec.specs.Lent.{Lent, held, sound}
 use Rattle.foil_spec.specs.Job.{jobRoom, has}
 use Rattle.foil_spec.specs.Calls.{runRecord, Reply, answered, tooLarge, callOn, outputBy}
@@ -91,9 +91,9 @@ unfolding settle
 settled-only none a x e f = e
 settled-only (some n) a x e f = f
 
-step-only : (c : Step) (x : SheetLent) → Only x → Only (sheetStep jobRoom 0 c x .state)
+step-only : (r : Room) (c : Step) (x : SheetLent) → Only x → Only (sheetStep 0 r c x .state)
 unfolding sheetStep
-step-only c x e = settled-only _ _ x (both (writes c) (λ w. rw w (put-only x _ e)) (λ w. rw w e)) e
+step-only r c x e = settled-only _ _ x (both (writes c) (λ w. rw w (put-only x _ e)) (λ w. rw w e)) e
 
 unless-only : (o : Option ℕ) (a : After Reply SheetLent) (x : SheetLent) → Only (a .state) → Only x
     → Only (unless o a x .state)
@@ -105,8 +105,8 @@ record-only : (bs : List ℕ) (at : ℕ) (x : SheetLent) → Only x → Only (ra
 unfolding sheetCall
 record-only bs at x e =
     unless-only _ _ x
-    (reply-keeps (sheetStep jobRoom 0) Only step-only jobRoom (not (sound (view 0 x))) (runRecord bs at)
-    (held (view 0 x)) x e)
+    (reply-keeps (sheetStep 0) Only jobRoom (λ n. step-only (withOutput jobRoom n)) (not (sound (view 0 x)))
+    (runRecord bs at) (held (view 0 x)) x e)
     e
 
 -- ---- what `run_record` gave

@@ -12,7 +12,8 @@ use Rattle.foil_spec.specs.Foil.{Layout, noFoil}
 use Rattle.foil_spec.specs.Ledger.{Step, short, After}
 use Rattle.foil_spec.specs.Lent.{Lent, store, held, layoutOk}
 use Rattle.foil_spec.specs.Job.{jobRoom, steps}
-use Rattle.foil_spec.specs.Calls.{runRecord, Reply, answered, ran, atEnd, measured, ledgerCall, callOn, placeAfter}
+use Rattle.foil_spec.specs.Calls.{runRecord, Reply, answered, ran, atEnd, measured, laidAll, ledgerCall, callOn}
+use Rattle.foil_spec.specs.Calls.{placeAfter}
 use Rattle.foil_spec.specs.Sheet.{SheetLent, view}
 use Rattle.ledger_laws.proofs.Stored.{held-store}
 use Rattle.ledger_laws.proofs.Kept.{call-kept}
@@ -36,6 +37,7 @@ lines-part ss (ran given none) l rest = append-nil _
 lines-part ss (ran given (some n)) l rest = ap (λ (x : List ℕ). x ++ rest n) (append-nil (stepLines ss given))
 lines-part ss atEnd l rest = append-nil _
 lines-part ss (measured x) l rest = refl
+lines-part ss (laidAll given) l rest = refl
 
 lines-over : (ss : List Step) (a : Reply) → Over a → (l l′ : Layout) (rest rest′ : ℕ → List ℕ)
     → replyLines ss a l rest ≡ replyLines ss a l′ rest′
@@ -45,6 +47,7 @@ lines-over ss (ran given none) o l l′ rest rest′ = refl
 lines-over ss (ran given (some n)) o l l′ rest rest′ = absurd o
 lines-over ss atEnd o l l′ rest rest′ = absurd o
 lines-over ss (measured x) o l l′ rest rest′ = absurd o
+lines-over ss (laidAll given) o l l′ rest rest′ = absurd o
 
 lines-rest : (ss : List Step) (a : Reply) (l : Layout) (rest rest′ : ℕ → List ℕ)
     → ((n : ℕ) → placeAfter a ≡ some n → rest n ≡ rest′ n) → replyLines ss a l rest ≡ replyLines ss a l rest′
@@ -54,6 +57,7 @@ lines-rest ss (ran given none) l rest rest′ h = refl
 lines-rest ss (ran given (some n)) l rest rest′ h = ap (λ (x : List ℕ). stepLines ss given ++ x) (h n refl)
 lines-rest ss atEnd l rest rest′ h = refl
 lines-rest ss (measured x) l rest rest′ h = refl
+lines-rest ss (laidAll given) l rest rest′ h = refl
 
 -- ---- as many records as the file can have
 

@@ -98,15 +98,15 @@ module _ (r : Room) (bs : List ℕ) (x : SheetLent) where
   no-place n k h = Option·none-ne-some n h
 
   sheet-goes : (at n : ℕ) → placeAfter (sheetCall r 0 (runRecord bs at) x .answer) ≡ some n
-      → Goes (sheetStep r 0) r broken bs at x n
+      → Goes (sheetStep 0 r) r broken bs at x n
   unfolding sheetCall reply
   sheet-goes at n h =
-      goes (sheetStep r 0) r broken bs at x n
+      goes (sheetStep 0 r) r broken bs at x n
       (past-opening (λ a. placeAfter a ≡ some n) (no-place n) _
-      (reply (sheetStep r 0) r broken (runRecord bs at) (held (view 0 x)) x) x h)
+      (reply (sheetStep 0) r broken (runRecord bs at) (held (view 0 x)) x) x h)
 
   pub call-later : (at n : ℕ) → placeAfter (sheetCall r 0 (runRecord bs at) x .answer) ≡ some n → Later bs at n
-  call-later at n h = later (sheetStep r 0) r broken bs at x n (sheet-goes at n h)
+  call-later at n h = later (sheetStep 0 r) r broken bs at x n (sheet-goes at n h)
 
   -- the first record has a board
   pub first-later : (n : ℕ) → placeAfter (sheetCall r 0 (runRecord bs 0) x .answer) ≡ some n → 6 < n

@@ -9,7 +9,7 @@ use Rattle.foil_spec.specs.Ledger.{Step, newFoil, draw, lay, lift, lookUp, putL
 use Rattle.foil_spec.specs.Ledger.{stripsOf}
 use Rattle.foil_spec.specs.Ledger.{Answer, numberOf, refused, accepted, laid, found, wrote, booked}
 use Rattle.foil_spec.specs.Job.{jobRoom, steps}
-use Rattle.foil_spec.specs.Calls.{runRecord, Reply, answered, ran, atEnd, measured, ledgerCall}
+use Rattle.foil_spec.specs.Calls.{runRecord, Reply, answered, ran, atEnd, measured, laidAll, ledgerCall}
 use Rattle.lines.specs.Lines.{boardLine, patchLine, trackRefused, trackLaid, liftLine, legLine}
 use Rattle.lines.specs.Lines.{stripLine, fileLine}
 
@@ -43,14 +43,15 @@ stepLines ss [] = []
 stepLines [] (a ∷ given) = []
 stepLines (s ∷ ss) (a ∷ given) = stepLine s a ++ stepLines ss given
 
--- the lines of a record with these steps, its reply, which is never ohms, and what it left; `rest` gives those from the
--- next place on
+-- the lines of a record with these steps, its reply, which is never ohms nor a list's, and what it left; `rest` gives
+-- those from the next place on
 unfoldable pub replyLines : List Step → Reply → Layout → (ℕ → List ℕ) → List ℕ
 replyLines ss (answered a) l rest = fileLine (numberOf a)
 replyLines ss (ran given none) l rest = stepLines ss given
 replyLines ss (ran given (some n)) l rest = stepLines ss given ++ rest n
 replyLines ss atEnd l rest = each stripLine (stripsOf l)
 replyLines ss (measured x) l rest = []
+replyLines ss (laidAll given) l rest = []
 
 -- the lines from the record at a place on, of at most so many records
 unfoldable pub outputFrom : ℕ → List ℕ → ℕ → Layout → List ℕ

@@ -7,17 +7,18 @@ use Rattle.foil_spec.specs.Foil.{Layout}
 use Rattle.foil_spec.specs.Ledger.{numberOf, first}
 use Rattle.foil_spec.specs.Lent.{entryAt}
 use Rattle.foil_spec.specs.Ohms.{ohmsRefusals, ohmsOf}
-use Rattle.foil_spec.specs.Calls.{Reply, answered, ran, atEnd, measured, ohmsReply}
+use Rattle.foil_spec.specs.Calls.{Reply, answered, ran, atEnd, measured, laidAll, ohmsReply}
 use Rattle.foil_spec.specs.declared.Ink.{Ink}
 use Rattle.ohms.specs.declared.Resistance.{Resistance}
 use Rattle.ohms.specs.declared.Resistance.the-variants.{Refused, Ohms}
 
--- the number of a refusal or the ohms; the last two are a record's replies
+-- the number of a refusal or the ohms; the last three are a record's replies and a list's
 unfoldable pub resistanceOf : Reply → Resistance
 resistanceOf (answered a) = Refused (numberOf a)
 resistanceOf (measured x) = Ohms x
 resistanceOf (ran given n) = Refused 0
 resistanceOf atEnd = Refused 0
+resistanceOf (laidAll given) = Refused 0
 
 -- r was answered for a net among the first n entries of a table, where 12 and 13 do not apply
 pub record NetAnswered (net : ℕ) (i : Ink) (t : List ℕ) (n : ℕ) (r : Resistance) : Type 0 where
