@@ -12,7 +12,8 @@ use Rattle.foil_spec.specs.Limits.{maxEntries, maxStrips, stripsSize, sheetFoil
 use Rattle.foil_spec.specs.Ledger.{Room, short, Step, Refusal, first, reads, refused, refusals, afterLent, settle}
 use Rattle.foil_spec.specs.Ledger.{refusalOf}
 use Rattle.foil_spec.specs.Lent.{Lent, lent, held, sound}
-use Rattle.foil_spec.specs.Calls.{Call, step, runRecord, ohms, ohmsReply, reply}
+use Rattle.foil_spec.specs.Wishes.{tooMany}
+use Rattle.foil_spec.specs.Calls.{Call, step, runRecord, ohms, layList, ohmsReply, actList, listRefusals, reply}
 use Rattle.foil_spec.specs.Ohms.{ohmsRefusals}
 use Rattle.foil_spec.specs.declared.Ink.{Ink}
 use Rattle.foil_spec.specs.Sheet.{countsOk, limitOf, SheetLent, noBoard, counts, tableAt, view, sheetRoom, sheetStep}
@@ -134,6 +135,12 @@ module _ (k : ℕ) (m : SheetLent) where
   unfolding sheetRefusal opening afterLent short sheetRoom
   ohms-opening net i output = refl
 
+  list-opening : (ws : List ℕ) (i output : ℕ) → tooMany ws i ≡ false
+      → sheetRefusal (room k m output) (not (countsOk (counts (m .boards)))) k (layList ws i)
+      ≡ first (sheetOpening k m)
+  unfolding sheetRefusal opening first afterLent short sheetRoom
+  list-opening ws i output few = rw few refl
+
   pub step-unopened : (n : ℕ) → first (sheetOpening k m) ≡ some n → (s : Step) (output : ℕ)
       → onSheet k (step s) m output ≡ refusedOn n m
   step-unopened n e s output = refused-on (step s) output n (step-opening s output ∙ e)
@@ -144,6 +151,8 @@ module _ (k : ℕ) (m : SheetLent) where
   unopened n e (step s) output f = step-unopened n e s output
   unopened n e (runRecord bs at) output f = clash f refl
   unopened n e (ohms net i) output f = refused-on (ohms net i) output n (ohms-opening net i output ∙ e)
+  unopened n e (layList ws i) output f =
+      refused-on (layList ws i) output n (list-opening ws i output (not-t (tooMany ws i) f) ∙ e)
 
 -- ---- a foil that was taken out
 
@@ -176,6 +185,11 @@ module _ (k : ℕ) (m : SheetLent) (rows : List ℕ) (o : TakenOut k m rows) whe
   unfolding sheetRefusal opening afterLent first
   ohms-goes net i output = let l = o .here in rw (le-ltb 7 k (omega arith), out-long output) refl
 
+  pub list-goes : (ws : List ℕ) (i output : ℕ) → tooMany ws i ≡ false
+      → sheetRefusal (room k m output) false k (layList ws i) ≡ none
+  unfolding sheetRefusal opening afterLent first
+  list-goes ws i output few = let l = o .here in rw (le-ltb 7 k (omega arith), few, out-long output) refl
+
   -- ---- the foil's own 13
 
   module _ (n : ℕ) (h : LentChecked (view k m) (checked.Refused n)) where
@@ -185,18 +199,25 @@ module _ (k : ℕ) (m : SheetLent) (rows : List ℕ) (o : TakenOut k m rows) whe
         ∙ h _ output rs
 
     step-own : (s : Step) (output : ℕ) → reads s ≡ true
-        → sheetStep (room k m output) k s m ≡ record { answer = refused n; state = m }
+        → sheetStep k (room k m output) s m ≡ record { answer = refused n; state = m }
     unfolding sheetStep settle refusalOf
     step-own s output f =
         rw (f, and-true (not (sound v)), own-first output (refusals s (room k m output) (held v))) refl
 
+    list-own : (ws : List ℕ) (i output : ℕ) → not (tooMany ws i) ≡ true
+        → first (listRefusals (room k m output) (not (sound v)) ws i) ≡ some n
+    unfolding listRefusals first
+    list-own ws i output f = rw (not-t (tooMany ws i) f) (own-first output [])
+
     pub own-unopened : (c : Call) (output : ℕ) → readsFoil c ≡ true → onSheet k c m output ≡ refusedOn n m
-    unfolding readsFoil sheetCall unless reply ohmsReply
+    unfolding readsFoil sheetCall unless reply ohmsReply actList
     own-unopened (step s) output f =
         rw (o .eight-foils .limits, step-goes s output, step-own s output f) refl
     own-unopened (runRecord bs at) output f = clash f refl
     own-unopened (ohms net i) output f =
         rw (o .eight-foils .limits, ohms-goes net i output, own-first output (ohmsRefusals net i (held v))) refl
+    own-unopened (layList ws i) output f =
+        rw (o .eight-foils .limits, list-goes ws i output (not-t (tooMany ws i) f), list-own ws i output f) refl
 
 -- ---- the contracts, by the case of the check
 

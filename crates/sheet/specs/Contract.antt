@@ -1,17 +1,21 @@
 -- What the contracts of the calls on a foil of a sheet say: answer, records and lists are what the definitions give.
-use Prim.Native.Nat.{ℕ}
+use Prim.Native.Nat.{ℕ, _/_}
 use mathlib.Core.Path.{_≡_}
 use mathlib.Core.List.{List}
 use lib.ListN.{length}
-use Rattle.foil_spec.specs.Ledger.{Step, After}
+use Rattle.foil_spec.specs.Lists.{each}
+use Rattle.foil_spec.specs.Ledger.{Step, refused, After}
 use Rattle.foil_spec.specs.Ledger.{Answer as Outcome}
+use Rattle.foil_spec.specs.Lent.{overFront}
 use Rattle.foil_spec.specs.Job.{has}
-use Rattle.foil_spec.specs.Calls.{Call, step, runRecord, ohms, Reply, answered, outputBy}
+use Rattle.foil_spec.specs.Calls.{Call, step, runRecord, ohms, layList, Reply, answered, laidAll, outputBy}
 use Rattle.foil_spec.specs.Sheet.{SheetLent, counts, sheetRoom, sheetCall}
 use Rattle.foil_spec.specs.declared.Ink.{Ink}
 use Rattle.foil.specs.Contract.{answerOf}
 use Rattle.foil.specs.declared.Answer.{Answer}
+use Rattle.foil.specs.declared.Answer.the-variants.{Refused, Accepted}
 use Rattle.job.specs.Contract.{replyOf}
+use Rattle.listing.specs.Contract.{answerNumbers}
 use Rattle.ohms.specs.Contract.{resistanceOf}
 use Rattle.ohms.specs.declared.Resistance.{Resistance}
 use Rattle.sheet_rows.specs.Rows.{sheetLent}
@@ -61,3 +65,17 @@ pub record SheetRecordDone (k : ℕ) (bs : List ℕ) (at : ℕ) (m : SheetLent) 
   pub reply : r .reply ≡ replyOf (has bs at) (onSheet k (runRecord bs at) m (length out) .answer)
   pub state : sheetLent (r .sheet .boards) t s ≡ onSheet k (runRecord bs at) m (length out) .state
   pub output : out′ ≡ outputBy (onSheet k (runRecord bs at) m (length out) .answer) out
+
+-- a reply to a list of nets is a refusal of it as a whole, and the answers' list stays as it is; or the answers of its
+-- lays, at the front of that list, three numbers each
+pub data ListTells (a : Reply) (r : Answer) (ans ans′ : List ℕ) : Type 0 where
+  refused-whole : (n : ℕ) → a ≡ answered (refused n) → r ≡ Refused n → ans′ ≡ ans → ListTells a r ans ans′
+  told-each : (given : List Outcome) → a ≡ laidAll given → r ≡ Accepted
+      → ans′ ≡ overFront (each answerNumbers given) ans → ListTells a r ans ans′
+
+-- the list of the wishes ws on foil k was lent m, the corner list out and the answers' list ans
+pub record SheetListDone (k : ℕ) (ws : List ℕ) (m : SheetLent) (out ans : List ℕ) (d : SheetDone)
+    (t s out′ ans′ : List ℕ) : Type 0 where
+  pub tells : ListTells (onSheet k (layList ws (length ans / 3)) m (length out) .answer) (d .answer) ans ans′
+  pub state : sheetLent (d .sheet .boards) t s ≡ onSheet k (layList ws (length ans / 3)) m (length out) .state
+  pub output : out′ ≡ outputBy (onSheet k (layList ws (length ans / 3)) m (length out) .answer) out

@@ -9,7 +9,8 @@ use lib.ListN.{length}
 use Rattle.foil_spec.specs.Limits.{tableSize, stripsSize, sheetFoils}
 use Rattle.foil_spec.specs.Ledger.{Refusal, _⇒_, first, reads, refused, afterLent, After}
 use Rattle.foil_spec.specs.Lent.{lent, sound}
-use Rattle.foil_spec.specs.Calls.{Call, step, runRecord, ohms, Reply, answered, tooLarge}
+use Rattle.foil_spec.specs.Wishes.{tooMany}
+use Rattle.foil_spec.specs.Calls.{Call, step, runRecord, ohms, layList, Reply, answered, tooLarge}
 use Rattle.foil_spec.specs.Sheet.{countsOk, limitOf, SheetLent, counts, tableAt, view, putBack, sheetRoom}
 use Rattle.foil_spec.specs.declared.Board.{Board}
 use Rattle.foil.specs.declared.Answer.{Answer}
@@ -63,12 +64,19 @@ unfoldable pub readsFoil : Call → Bool
 readsFoil (step s) = reads s
 readsFoil (runRecord bs at) = false
 readsFoil (ohms net i) = true
+readsFoil (layList ws n) = not (tooMany ws n)
 
 -- the foil was taken out and keeps the rules, or such calls are refused by this number
 abbrev pub Opening : ℕ → SheetLent → List ℕ → Checked → Type 0
 Opening k m rows checked.Passed = Opened k m rows
 Opening k m rows (checked.Refused n) =
     (c : Call) (output : ℕ) → readsFoil c ≡ true → onSheet k c m output ≡ refusedOn n m
+
+-- the foil was taken out for a list of the wishes ws with so many places for answers, which are not too many, and keeps
+-- the rules; or the list is refused by this number
+abbrev pub ListOpening : ℕ → SheetLent → List ℕ → ℕ → List ℕ → Checked → Type 0
+ListOpening k m ws n rows checked.Passed = Opened k m rows × (tooMany ws n ≡ false)
+ListOpening k m ws n rows (checked.Refused i) = (output : ℕ) → onSheet k (layList ws n) m output ≡ refusedOn i m
 
 -- the foil was taken out for a record of the bytes bs, which are not too many; or a record of them is refused by this
 -- number, wherever it begins

@@ -4,6 +4,7 @@ use foil::Checked;
 use foil::lent_refusal;
 use foil_spec::MAX_BYTES;
 use foil_spec::STRIPS_SIZE;
+use listing::MAX_WISHES;
 use sheet_rows::FOILS;
 use sheet_rows::SHEET_SIZE;
 use sheet_rows::Sheet;
@@ -12,10 +13,11 @@ use sheet_rows::counts_ok;
 use sheet_rows::take_out;
 ghost use mathlib.Core.Path.{_≡_};
 ghost use mathlib.Core.List.{[]};
+ghost use Rattle.foil_spec.specs.Wishes.{tooMany};
 ghost use Rattle.booking.specs.Rows.{rowsOf};
 ghost use Rattle.foil.specs.Contract.{FirstChecked};
 ghost use Rattle.sheet_rows.specs.Rows.{sheetLent};
-ghost use Rattle.sheet.specs.Parts.{sheetOpening, Lending, RecordLending, Opening};
+ghost use Rattle.sheet.specs.Parts.{sheetOpening, Lending, ListOpening, RecordLending, Opening};
 
 // The refusals before foil k is looked at: 23, 12, and 13 for the counts.
 fn sheet_checks(sheet: Sheet, k: usize, table: &[u16], strips: &[u16]) -> Checked
@@ -74,6 +76,40 @@ pub(crate) fn open_foil(
         return Checked::Refused(number);
     }
     lent_refusal(rows, strips, board_at(sheet, k))
+}
+
+// The checks of a list of nets: its own 12 comes after 23.
+pub(crate) fn open_for_list(
+    rows: &mut [u16],
+    table: &[u16],
+    strips: &[u16],
+    sheet: Sheet,
+    k: usize,
+    wishes: &[u16],
+    places: usize,
+) -> Checked
+    requires { ⌜ now rows ≡ rowsOf [] ⌝ }
+    ensures { λ r. ⌜ ListOpening k (sheetLent (sheet .boards) (now (table .entry)) (now (strips .entry)))
+        (now (wishes .entry)) places (now (rows .exit)) r ⌝ }
+{
+    if 7 < k {
+        return Checked::Refused(23);
+    }
+    if too_many(wishes, places) {
+        return Checked::Refused(12);
+    }
+    open_foil(rows, table, strips, sheet, k)
+}
+
+// Whether the wishes are more than 40, or more than these places for their answers.
+fn too_many(wishes: &[u16], places: usize) -> bool
+    ensures { λ r. ⌜ r ≡ tooMany (now (wishes .entry)) places ⌝ }
+{
+    let n = wishes.len() / 5;
+    if MAX_WISHES < n {
+        return true;
+    }
+    places < n
 }
 
 // The checks before a record of the bytes is looked at: 18 comes after 23. Where they are passed, foil k's entries are

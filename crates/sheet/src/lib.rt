@@ -2,9 +2,10 @@
 // and the strip list is that of the foil called. None has a `requires`: whatever is lent, each answers, and changes
 // only what documents 01 and 02 say. Each is its checks, taking the foil's rows out of the table, the body that there
 // is for a foil of its own, with as many entries as the other foils leave to it, and putting the rows back where it
-// wrote entries. Those that only read stand in `queries`, and a record in `record`.
+// wrote entries. Those that only read stand in `queries`, a record in `record`, and a list of nets in `list`.
 mod checks;
 mod finishing;
+mod list;
 mod queries;
 mod record;
 
@@ -25,6 +26,7 @@ use foil_spec::TABLE_SIZE;
 use job::Reply;
 use joining::join_in;
 use laying::lay_in;
+pub use list::lay_list;
 pub use queries::find;
 pub use queries::look_up;
 pub use queries::ohms;

@@ -1,0 +1,128 @@
+-- `sheet::list::lay_list` takes foil k out, is `lay_list_in` of it, and puts it back.
+use native.Mathlib.Omega.{arith}
+use mathlib.Core.Path.{refl}
+use Rattle.booking.proofs.Filling.{no-rows}
+use Rattle.sheet.proofs.Checking.{keeps-rules, limit-most}
+use Rattle.sheet.proofs.Listing.{list-out, list-not-out, places, list-refused, list-closable, list-done}
+use borrow.Author.Needs.{needs}
+use Rattle.sheet.proofs.list.lay_list.Statement.{statement}
+use Rattle.sheet.proofs.list.lay_list.Tie as tie
+
+-- back to the start, to the checks, to the limit, to the body and to the end
+abbrev atStart : tie.After-rows → tie.Start
+atStart c = c .before .before .before .before .before .before
+
+abbrev atOpening : tie.After-open-for-list → tie.After-rows
+atOpening c = c .before .before .before
+
+abbrev atPassed : tie.After-enum-told → tie.After-open-for-list
+atPassed c = c .before .before .before
+
+abbrev atLimit : tie.After-lay-list-in → tie.After-limit
+atLimit c = c .before .before .before .before .before
+
+abbrev atLeft : tie.After-rows5 → tie.After-left
+atLeft c = c .before .before
+
+abbrev atBody : tie.After-left → tie.After-lay-list-in
+atBody c = c .before .before .before .before .before .before .before .before
+
+abbrev atEnd : tie.After-slice-known8 → tie.After-close
+atEnd c = c .before .before
+
+slice-aggregate-open-for-list : tie.Need-slice-aggregate-open-for-list
+slice-aggregate-open-for-list c = search needs
+
+open-for-list-requires : tie.Need-open-for-list-requires
+open-for-list-requires c κs = no-rows
+
+enum-known-checked : tie.Need-enum-known-checked
+enum-known-checked c = search needs
+
+refuse-requires : tie.Need-refuse-requires
+refuse-requires c κs = search needs
+
+same-length : tie.Need-same-length
+same-length c = search needs
+
+same-length-2 : tie.Need-same-length-2
+same-length-2 c = search needs
+
+returns : tie.Need-returns
+returns c =
+    let told = c .before .before in
+    let opening = told .before .before .before in
+    list-refused _ (atStart (atOpening opening) .args .sheet) _ _ _ _ _ _ _ (c .refuse .ensures)
+    (list-not-out _ _ _ _ _ _ (opening .open-for-list .ensures) _ (told .checked .given .1) _)
+
+enum-told : tie.Need-enum-told
+enum-told c = search needs
+
+board-at-requires : tie.Need-board-at-requires
+board-at-requires c κs =
+    list-out _ _ _ _ _ _ (atPassed c .open-for-list .ensures) (c .enum-told .given .1) .0 .out .here
+
+limit-requires : tie.Need-limit-requires
+limit-requires c κs =
+    let told = c .before in
+    let o = list-out _ _ _ _ _ _ (atPassed told .open-for-list .ensures) (told .enum-told .given .1) .0 in
+    (o .out .here, o .out .eight-foils .limits)
+
+slice-aggregate-lay-list-in : tie.Need-slice-aggregate-lay-list-in
+slice-aggregate-lay-list-in c = search needs
+
+lay-list-in-requires : tie.Need-lay-list-in-requires
+lay-list-in-requires c κs =
+    let most = c .before .before .before .before in
+    let board = most .before in
+    let told = board .before in
+    let s = atStart (atOpening (atPassed told)) in
+    let o = list-out _ _ _ _ _ _ (atPassed told .open-for-list .ensures) (told .enum-told .given .1) in (
+      keeps-rules _ _ _ (o .0) _ (board .board-at .ensures),
+      (limit-most _ _ _ (most .limit .ensures), places _ (s .args .answers .now) (o .1)),
+    )
+
+slice-aggregate-close : tie.Need-slice-aggregate-close
+slice-aggregate-close c = search needs
+
+close-requires : tie.Need-close-requires
+close-requires c κs =
+    let body = atBody (atLeft c) in
+    let most = atLimit body in
+    let board = most .before in
+    let told = board .before in
+    let s = atStart (atOpening (atPassed told)) in
+    let o = list-out _ _ _ _ _ _ (atPassed told .open-for-list .ensures) (told .enum-told .given .1) in
+    list-closable _ (s .args .sheet) _ _ _ _ _ _ (o .0) (o .1) _ (board .board-at .ensures) _ (most .limit .ensures)
+    _ _ _ _ _ (body .lay-list-in .ensures) (omega arith)
+
+same-length-3 : tie.Need-same-length-3
+same-length-3 c = search needs
+
+same-length-4 : tie.Need-same-length-4
+same-length-4 c = search needs
+
+same-length-5 : tie.Need-same-length-5
+same-length-5 c = search needs
+
+same-length-6 : tie.Need-same-length-6
+same-length-6 c = search needs
+
+returns-2 : tie.Need-returns-2
+returns-2 c =
+    let end = atEnd c in
+    let body = atBody (atLeft (end .before)) in
+    let most = atLimit body in
+    let board = most .before in
+    let told = board .before in
+    let s = atStart (atOpening (atPassed told)) in
+    let o = list-out _ _ _ _ _ _ (atPassed told .open-for-list .ensures) (told .enum-told .given .1) in
+    list-done _ (s .args .sheet) _ _ _ _ _ _ (o .0) (o .1) _ (board .board-at .ensures) _ (most .limit .ensures)
+    _ _ _ _ _ (body .lay-list-in .ensures) _ _ refl (end .close .ensures)
+
+pub lay-list-spec : {M : Type 1} → statement M
+lay-list-spec =
+    tie.close
+    (tie.spec slice-aggregate-open-for-list open-for-list-requires enum-known-checked refuse-requires same-length
+    same-length-2 returns enum-told board-at-requires limit-requires slice-aggregate-lay-list-in lay-list-in-requires
+    slice-aggregate-close close-requires same-length-3 same-length-4 same-length-5 same-length-6 returns-2)
