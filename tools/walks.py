@@ -535,6 +535,7 @@ def write(function, walk, shape, idea, callees, values, more=()):
 
 TABLES = 'use Rattle.host.proofs.Tables.{%s}'
 RUNNING = 'use Rattle.host.proofs.Running.{%s}'
+LISTS = 'use Rattle.host.proofs.Lists.{%s}'
 SAY = {'Answer': ('flat.said_of', 'Said'), 'Resistance': ('flat.ohms_said', 'OhmsSaid'),
        'Reply': ('records.record_said_of', 'RecordSaid')}
 
@@ -554,6 +555,7 @@ def reading(name, core, answer, rest, law):
 
 STEP = (TABLES % 'whole-done', 'whole-done' + ' _' * 9)
 WRITE = (TABLES % 'whole-wrote', 'whole-wrote' + ' _' * 11)
+LIST = (LISTS % 'whole-listed', 'whole-listed' + ' _' * 13)
 RECORD = (RUNNING % 'whole-ran', 'whole-ran' + ' _' * 12)
 READ = (TABLES % 'whole-read', 'whole-read' + ' _' * 9)
 OHMS = (TABLES % 'whole-ohms', 'whole-ohms' + ' _' * 8)
@@ -561,6 +563,8 @@ STRIPS, CORNERS, FOIL = '&mut [u16]', '&mut [u16]', 'usize'
 changing('new_foil', 'table.clear', 'flat.new_foil', 'Left', 'Answer', [STRIPS, FOIL] + ['u16'] * 4, STEP)
 changing('draw', 'table.append', 'flat.draw', 'Left', 'Answer', [STRIPS, FOIL] + ['u16'] * 4, STEP)
 changing('lay', 'table.append_track', 'flat.lay', 'Left', 'Answer', [STRIPS, CORNERS, FOIL] + ['u16'] * 5, WRITE)
+changing('lay_list', 'table.append_list', 'flat.lay_list', 'Left', 'Answer',
+         [STRIPS, CORNERS, '&mut [u16]', '&[u16]', FOIL], LIST)
 changing('join', 'table.append_join', 'flat.join', 'Left', 'Answer', [STRIPS, CORNERS, FOIL] + ['u16'] * 3, WRITE)
 changing('lift', 'table.lift', 'flat.lift', 'Left', 'Answer', [STRIPS, FOIL, 'u16'], STEP)
 changing('put_leg', 'table.append_leg', 'flat.put_leg', 'Left', 'Answer', [STRIPS, FOIL, 'Entry'], STEP)

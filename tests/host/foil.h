@@ -5,8 +5,8 @@
    table is 5 numbers; a strip is 4 (x0, y0, x1, y1), a corner 2 (x, y). A call may be lent any lists: one that is too
    short is refused by 12, and of a longer one the places past the first FOIL_PLACES or FOIL_STRIPS are neither read nor
    written. Lists must not overlap each other nor the records. A refused call writes to no list, and to the records what
-   they held; a foil number above 7 is refused by 23, before all else. A lay, a join, a find, or a record with a lay,
-   needs up to 1.9 MB of stack. */
+   they held; a foil number above 7 is refused by 23, before all else. A lay, a join, a find, a list of nets, or a
+   record with a lay, needs up to 1.9 MB of stack. */
 #ifndef FOIL_H
 #define FOIL_H
 
@@ -31,6 +31,9 @@ enum { FOIL_REPORT = 128 };
 
 /* a line of a slip, its line feed included; a foil has no more nets than entries */
 enum { FOIL_SLIP_LINE = 33 };
+
+/* the nets that a list has at most */
+enum { FOIL_WISHES = 40 };
 
 /* a foil's record, with the pen's half width and gap; all zero where the foil is not begun */
 struct foil_board {
@@ -60,6 +63,16 @@ struct foil_entry {
 struct foil_said {
     uint8_t number;
     size_t corners, bends, place, bytes;
+};
+
+/* a net to lay from (sx, sy) to (tx, ty) */
+struct foil_wish {
+    uint16_t net, sx, sy, tx, ty;
+};
+
+/* what came of it: the number of a refusal, 0 for none; the numbers of corners and bends, 0 where it is refused */
+struct foil_answer {
+    uint16_t number, corners, bends;
 };
 
 /* a step of a record: whether it was run, and its answer */
@@ -103,6 +116,16 @@ struct foil_said foil_draw(struct foil_sheet *sheet, struct foil_entry *table, s
 struct foil_said foil_lay(struct foil_sheet *sheet, struct foil_entry *table, size_t places, uint16_t *strips,
                           size_t strip_numbers, uint16_t *corners, size_t corner_numbers, size_t foil, uint16_t net,
                           uint16_t sx, uint16_t sy, uint16_t tx, uint16_t ty);
+
+/* lays the nets of a list one after the other, as foil_lay would, each with the corner places that those before it have
+   left: `wishes` has five numbers for each, those of a struct foil_wish, and `answers` gets three for each, those of a
+   struct foil_answer. A net that is refused uses no corner place, and the next one is tried. The corners stand one after
+   the other. What is lent past the last corner and the last answer is not touched. The list as a whole is refused by 12
+   if it has more than FOIL_WISHES nets, or more than places for answers; else it is answered 0, and has no corners nor
+   bends of its own */
+struct foil_said foil_lay_list(struct foil_sheet *sheet, struct foil_entry *table, size_t places, uint16_t *strips,
+                               size_t strip_numbers, uint16_t *corners, size_t corner_numbers, uint16_t *answers,
+                               size_t answer_numbers, const uint16_t *wishes, size_t wish_numbers, size_t foil);
 
 /* joins the point (sx, sy) to the net: finds a way from it to any point of the net's legs, writes its corners, and adds
    its legs under the same net, one of a single point if the point is on a leg already. Points that only the net's own

@@ -1,9 +1,9 @@
 /* A host program. On foil 0 of a sheet: the foil of document 01's job, by calls and then as the job's bytes, as a
    customer's program would make it; a track found and a drawing booked, with the slip of both; the foil saved, and read
-   on other lists; tracks of a wider pen; points joined to nets; patches across tracks; and lists in protected pages,
-   which show what a call does not touch: if it did, the program would die. Then eight foils on one sheet: what they
-   share, what each is sure of, and what is refused for all of them. Last, foils that were begun under document 01's
-   rules, carried over. */
+   on other lists; tracks of a wider pen; points joined to nets; patches across tracks; nets laid together; and lists in
+   protected pages, which show what a call does not touch: if it did, the program would die. Then eight foils on one
+   sheet: what they share, what each is sure of, and what is refused for all of them. Last, foils that were begun under
+   document 01's rules, carried over. */
 #define _DEFAULT_SOURCE
 #include <stdio.h>
 #include <stdlib.h>
@@ -373,6 +373,137 @@ static void crossed(void)
     show_place(2, 2);
 }
 
+/* the numbers of a list of wishes, and of one of answers */
+#define NUMBERS(list) (const uint16_t *)(const void *)(list)
+
+/* lays a list of so many numbers, with so many numbers of corners and of answers lent, and shows what came of each */
+static void show_list(const struct foil_wish *wishes, size_t wish_numbers, size_t numbers, size_t answer_numbers)
+{
+    static struct foil_answer answers[FOIL_WISHES + 2];
+    size_t i, k, used = 0;
+    struct foil_said said;
+    memset(answers, 0xa5, sizeof answers);
+    memset(corners, 0xa5, 32 * sizeof *corners);
+    said = foil_lay_list(LENT, corners, numbers, (uint16_t *)(void *)answers, answer_numbers, NUMBERS(wishes),
+                         wish_numbers, foil);
+    printf("list %u\n", said.number);
+    for (i = 0; i < FOIL_WISHES + 2 && answers[i].number != 0xa5a5; i++) {
+        printf("track %u %u", wishes[i].net, answers[i].number);
+        if (answers[i].number == 0) {
+            printf(" %u", answers[i].bends);
+            for (k = 0; k < answers[i].corners; k++, used++)
+                printf(" %u,%u", corners[2 * used], corners[2 * used + 1]);
+        }
+        printf("\n");
+    }
+    /* the first number that is not written to, in both lists */
+    printf("answers end with %zu, corners with %zu\n", i, corners[2 * used] == 0xa5a5 ? used : 32);
+}
+
+static void new_bar(void)
+{
+    printf("board %u\n", foil_new_foil(LENT, foil, 6, 4, 0, 0).number);
+    printf("patch %u\n", foil_draw(LENT, foil, 2, 0, 3, 3).number);
+}
+
+/* lists of nets: a net twice, corner places that run out, numbers that are no whole wish, too many nets, too few places
+   for answers, no net, and a spoiled foil */
+static void listed(void)
+{
+    static const struct foil_wish four[] = {{5, 0, 0, 4, 0}, {5, 1, 0, 1, 1}, {6, 1, 0, 1, 2}, {7, 5, 0, 5, 3}};
+    static const struct foil_wish three[] = {{5, 0, 0, 4, 0}, {6, 1, 0, 1, 2}, {7, 5, 0, 5, 0}};
+    static struct foil_wish many[FOIL_WISHES + 1];
+    unsigned k;
+    new_bar();
+    show_list(four, 20, corner_numbers, 3 * FOIL_WISHES);
+    show_foil();
+    /* 11 numbers are five places for corners, and 8 are two for answers */
+    new_bar();
+    show_list(three, 15, 11, 8);
+    show_list(three, 15, 11, 9);
+    show_foil();
+    /* 14 numbers are two wishes */
+    new_bar();
+    show_list(three, 14, corner_numbers, 6);
+    /* no net, and none whole */
+    show_list(three, 0, 0, 0);
+    show_list(three, 4, 0, 2);
+    show_foil();
+    /* 40 nets, of which the last alone may be laid, and 41 */
+    for (k = 0; k < FOIL_WISHES; k++)
+        many[k].net = 1000 + k;
+    many[FOIL_WISHES - 1] = four[3];
+    show_list(many, 5 * FOIL_WISHES, corner_numbers, 3 * FOIL_WISHES);
+    show_list(many, 5 * (FOIL_WISHES + 1), corner_numbers, 3 * (FOIL_WISHES + 1));
+    /* a table that is too short, and strips that another program has spoiled: 12 for the list comes first */
+    places = 511;
+    show_list(three, 0, 0, 0);
+    places = FOIL_PLACES;
+    strips[0]++;
+    show_list(three, 0, 0, 0);
+    show_list(three, 15, corner_numbers, 8);
+    show_list(three, 15, corner_numbers, 9);
+}
+
+/* a number below n, at random */
+static uint32_t below(uint32_t n)
+{
+    static uint32_t seed = 1;
+    seed = (uint32_t)((uint64_t)seed * 48271 % 2147483647);
+    return seed % n;
+}
+
+/* lists at random, each beside the same nets by a call each on a copy of the sheet: answers, corners, records, table and
+   strips are to be the same */
+static void lists_beside_lays(void)
+{
+    static struct foil_entry list_table[FOIL_PLACES], *lays_table;
+    static uint16_t list_strips[4 * FOIL_STRIPS], list_corners[160], lays_corners[160], *lays_strips;
+    static struct foil_wish wishes[FOIL_WISHES];
+    static struct foil_answer answers[FOIL_WISHES];
+    struct foil_sheet list_sheet;
+    unsigned round, k, nets, different = 0, laid = 0, refused = 0;
+    lays_table = table;
+    lays_strips = strips;
+    for (round = 0; round < 300; round++) {
+        uint16_t w = 6 + below(30), h = 6 + below(30);
+        size_t numbers = below(160), used = 0;
+        foil_new_foil(LENT, foil, w, h, below(2), below(3));
+        for (k = below(8); k > 0; k--) {
+            uint16_t x = below(w), y = below(h);
+            foil_draw(LENT, foil, x, y, x + 1 + below(4), y + 1 + below(4));
+        }
+        nets = below(FOIL_WISHES + 1);
+        for (k = 0; k < nets; k++) {
+            struct foil_wish wish = {below(30), below(w + 1), below(h + 1), below(w + 1), below(h + 1)};
+            wishes[k] = wish;
+        }
+        memset(list_corners, 0, sizeof list_corners);
+        memset(lays_corners, 0, sizeof lays_corners);
+        list_sheet = sheet;
+        memcpy(list_table, lays_table, sizeof list_table);
+        memcpy(list_strips, lays_strips, sizeof list_strips);
+        different += foil_lay_list(&list_sheet, list_table, FOIL_PLACES, list_strips, 4 * FOIL_STRIPS, list_corners,
+                                   numbers, (uint16_t *)(void *)answers, 3 * nets, NUMBERS(wishes), 5 * nets, foil)
+                         .number != 0;
+        for (k = 0; k < nets; k++) {
+            struct foil_said said = foil_lay(LENT, lays_corners + used, numbers - used, foil, wishes[k].net,
+                                             wishes[k].sx, wishes[k].sy, wishes[k].tx, wishes[k].ty);
+            used += 2 * said.corners;
+            laid += said.number == 0;
+            refused += said.number != 0;
+            different += answers[k].number != said.number || answers[k].corners != said.corners ||
+                         answers[k].bends != said.bends;
+        }
+        different += memcmp(list_corners, lays_corners, sizeof list_corners) != 0;
+        different += memcmp(&list_sheet, &sheet, sizeof sheet) != 0;
+        different += memcmp(list_table, lays_table, sizeof list_table) != 0;
+        different += memcmp(list_strips, lays_strips, sizeof list_strips) != 0;
+    }
+    printf("lists beside lays: %s laid, %s refused, %u different\n", laid > 500 ? "many" : "few",
+           refused > 500 ? "many" : "few", different);
+}
+
 /* pages with a border among them: the first part of a list ends there, and its other places lie behind it */
 struct pages {
     unsigned char *first, *border;
@@ -473,6 +604,7 @@ static void refused_calls(struct pages t, struct pages s, struct pages c, struct
     show_lay(5, foil_lay(LENT, CORNERS, foil, 5, 0, 0, 4, 0));
     show_lay(6, foil_lay(LENT, CORNERS, foil, 6, 1, 0, 5, 0));
     show_lay(7, foil_lay(LENT, corners, 1, foil, 7, 1, 0, 1, 2));
+    printf("list %u\n", foil_lay_list(LENT, CORNERS, corners, 0, NUMBERS(table), 5, foil).number);
     show_find(1, 0, 1, 2, 3);
     show_find(1, 0, 5, 0, corner_numbers);
     show_book(5, corners, 4);
@@ -716,6 +848,7 @@ static void show_numbers(const char *why, uint8_t *bytes)
     printf(" %u", foil_new_foil(LENT, foil, 6, 4, 0, 0).number);
     printf(" %u", foil_draw(LENT, foil, 0, 0, 1, 1).number);
     printf(" %u", foil_lay(LENT, CORNERS, foil, 5, 0, 0, 1, 1).number);
+    printf(" %u", foil_lay_list(LENT, CORNERS, corners, 0, NUMBERS(&leg), 0, foil).number);
     printf(" %u", foil_join(LENT, CORNERS, foil, 5, 0, 0).number);
     printf(" %u", foil_find(LENT, CORNERS, foil, 0, 0, 1, 1).number);
     printf(" %u", foil_book(LENT, corners, 4, foil, 7).number);
@@ -1019,6 +1152,8 @@ int main(void)
     joined();
     joined_apart();
     crossed();
+    listed();
+    lists_beside_lays();
     longer_lists(t, s, b);
     refused_calls(t, s, c, b);
     refused_joins(t, s, c);

@@ -10,9 +10,9 @@ use lib.ListN.{length, getD, set, take, drop, replicate, length-append}
 use lib.Seq.{drop-append-le}
 use borrow.Author.Tests.{le-ltb}
 use Rattle.foil_spec.specs.Limits.{tableSize, sheetFoils, sheetEntries, sheetSize}
-use Rattle.foil_spec.specs.Ledger.{Room, Step, Answer, says, next, settle, refusalOf, first, afterLent}
+use Rattle.foil_spec.specs.Ledger.{Room, withOutput, Step, Answer, says, next, settle, refusalOf, first, afterLent}
 use Rattle.foil_spec.specs.Lent.{Lent, lent, written, store, held, sound}
-use Rattle.foil_spec.specs.Calls.{Call, step, runRecord, ohms, reply}
+use Rattle.foil_spec.specs.Calls.{Call, step, runRecord, ohms, layList, reply}
 use Rattle.foil_spec.specs.Sheet.{countsOk, SheetLent, noBoard, counts, parts, joined, tableAt, view, putBack, writes}
 use Rattle.foil_spec.specs.Sheet.{sheetRoom, sheetStep, opening, sheetRefusal, unless, sheetCall}
 use Rattle.list_laws.proofs.Tests.{not-ff}
@@ -20,7 +20,7 @@ use Rattle.ledger_laws.proofs.Refusals.{no-more, none-applies}
 use Rattle.ledger_laws.proofs.Replies.{shownBy, reply-is}
 use Rattle.sheet_laws.proofs.Counts.{ok-total}
 use Rattle.sheet_laws.proofs.Parts.{parts-append}
-use Rattle.sheet_laws.proofs.Views.{Stands, call-others}
+use Rattle.sheet_laws.proofs.Views.{StandsAt, call-others}
 use Rattle.sheet_laws.proofs.Called.{passed}
 use Rattle.sheet_rows.specs.Rows.{sheetLent}
 use Rattle.sheet.specs.Contract.{onSheet}
@@ -34,13 +34,17 @@ pub record Longer (rest : List ℕ) (k : ℕ) (c : Call) (m : SheetLent) (output
   pub answer : onSheet k c (longer rest m) output .answer ≡ onSheet k c m output .answer
   pub state : onSheet k c (longer rest m) output .state ≡ longer rest (onSheet k c m output .state)
 
--- a sheet in the room r whose table is just its places
-record Whole (r : Room) (k : ℕ) (x : SheetLent) : Type 0 where
-  stands : Stands r k x
+-- a sheet whose table is just its places, on which foil k may have so many entries
+record WholeAt (most k : ℕ) (x : SheetLent) : Type 0 where
+  stands : StandsAt most k x
   size : length (x .table) ≡ sheetSize
 
+-- as many as the room r says
+abbrev Whole : Room → ℕ → SheetLent → Type 0
+Whole r k x = WholeAt (r .limit) k x
+
 module _ (rest : List ℕ) (r : Room) (k : ℕ) (here : k < sheetFoils) where
-  whole-after : (s : Step) (x : SheetLent) → Whole r k x → Whole r k (sheetStep r k s x .state)
+  whole-after : (s : Step) (x : SheetLent) → Whole r k x → Whole r k (sheetStep k r s x .state)
   unfolding reply
   whole-after s x w =
       let (stands, others) = call-others r k here (step s) x (w .stands) in
@@ -85,20 +89,21 @@ module _ (rest : List ℕ) (r : Room) (k : ℕ) (here : k < sheetFoils) where
     settle-longer (some n) a t v = refl
     settle-longer none a t v = ap (λ (y : SheetLent). record { answer = a; state = y }) (after-longer t v)
 
-    step-longer : (s : Step) → sheetStep r k s (longer rest x) ≡ shownBy (longer rest) (sheetStep r k s x)
+    step-longer : (s : Step) → sheetStep k r s (longer rest x) ≡ shownBy (longer rest) (sheetStep k r s x)
     unfolding sheetStep
     step-longer s =
         rw view-longer
         (settle-longer (refusalOf r (not (sound (view k x))) s (held (view k x))) (says s (held (view k x))) (writes s)
         (store (next s (held (view k x))) (view k x)))
 
+module _ (rest : List ℕ) (r : Room) (k : ℕ) (here : k < sheetFoils) where
   reply-longer : (c : Call) (x : SheetLent) → Whole r k x
-      → reply (sheetStep r k) r (not (sound (view k (longer rest x)))) c (held (view k (longer rest x))) (longer rest x)
-      ≡ shownBy (longer rest) (reply (sheetStep r k) r (not (sound (view k x))) c (held (view k x)) x)
+      → reply (sheetStep k) r (not (sound (view k (longer rest x)))) c (held (view k (longer rest x))) (longer rest x)
+      ≡ shownBy (longer rest) (reply (sheetStep k) r (not (sound (view k x))) c (held (view k x)) x)
   reply-longer c x w =
-      rw (view-longer x w)
-      (reply-is (sheetStep r k) (sheetStep r k) (longer rest) (Whole r k) whole-after (λ s y v. step-longer y v s) r
-      (not (sound (view k x))) c (held (view k x)) x w)
+      rw (view-longer rest r k here x w)
+      (reply-is (sheetStep k) (sheetStep k) (longer rest) (Whole r k) r (λ n. whole-after rest (withOutput r n) k here)
+      (λ n s y v. step-longer rest (withOutput r n) k here y v s) (not (sound (view k x))) c (held (view k x)) x w)
 
 -- where no refusal that a call begins with applies, the counts keep both limits
 unbroken : (r : Room) (b : Bool) (c : Call) → first (opening r b c) ≡ none → b ≡ false
@@ -106,6 +111,7 @@ unfolding opening afterLent
 unbroken r b (step s) e = search none-applies
 unbroken r b (runRecord bs at) e = search none-applies
 unbroken r b (ohms net i) e = search none-applies
+unbroken r b (layList ws n) e = search none-applies
 
 module _ (rest : List ℕ) (k : ℕ) (c : Call) (m : SheetLent) (output : ℕ) (full : length (m .table) ≡ sheetSize)
     (eight : length (m .boards) ≡ sheetFoils) where
@@ -144,9 +150,9 @@ module _ (rest : List ℕ) (k : ℕ) (c : Call) (m : SheetLent) (output : ℕ) (
 
   unless-longer : (o : Option ℕ) → sheetRefusal r broken k c ≡ o
       → unless o
-      (reply (sheetStep r k) r (not (sound (view k (longer rest m)))) c (held (view k (longer rest m))) (longer rest m))
+      (reply (sheetStep k) r (not (sound (view k (longer rest m)))) c (held (view k (longer rest m))) (longer rest m))
       (longer rest m)
-      ≡ shownBy (longer rest) (unless o (reply (sheetStep r k) r (not (sound (view k m))) c (held (view k m)) m) m)
+      ≡ shownBy (longer rest) (unless o (reply (sheetStep k) r (not (sound (view k m))) c (held (view k m)) m) m)
   unfolding unless shownBy
   unless-longer (some n) e = refl
   unless-longer none e = reply-longer rest r k (passed r broken k c e .here) c m (in-room e)

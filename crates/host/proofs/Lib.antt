@@ -9,5 +9,6 @@ pub mod Words
 pub mod Flats
 pub mod Fronts
 pub mod Tables
+pub mod Lists
 pub mod Running
 pub mod Carried

@@ -14,7 +14,7 @@ use Rattle.ohms.specs.declared.Resistance.{Resistance}
 use Rattle.ohms.specs.declared.Resistance.the-variants.{Refused as RefusedOhms, Ohms}
 use Rattle.sheet_rows.specs.declared.Sheet.{Sheet}
 use Rattle.sheet_rows.specs.Rows.{sheetLent}
-use Rattle.sheet.specs.Contract.{SheetStepDone, SheetOutputDone, SheetReadDone, SheetOhmsDone}
+use Rattle.sheet.specs.Contract.{SheetStepDone, SheetOutputDone, SheetReadDone, SheetOhmsDone, SheetListDone}
 use Rattle.host.specs.declared.flat.Flat.{Flat}
 use Rattle.host.specs.declared.flat.Said.{Said}
 use Rattle.host.specs.declared.flat.OhmsSaid.{OhmsSaid}
@@ -35,6 +35,13 @@ abbrev pub HostWrote : ℕ → Step → Sheet → List Entry → List ℕ → Li
     → List ℕ → Type 0
 HostWrote k c b es s out a b′ es′ s′ out′ =
     SheetOutputDone k c (lentOf b es s) out (record { answer = a; sheet = b′ }) (each entryNumbers es′) s′ out′
+
+-- the list of the wishes ws on foil k was lent the corner list out and the answers' list ans besides, and left them as
+-- out′ and ans′
+abbrev pub HostListed : ℕ → List ℕ → Sheet → List Entry → List ℕ → List ℕ → List ℕ → Answer → Sheet → List Entry
+    → List ℕ → List ℕ → List ℕ → Type 0
+HostListed k ws b es s out ans a b′ es′ s′ out′ ans′ =
+    SheetListDone k ws (lentOf b es s) out ans (record { answer = a; sheet = b′ }) (each entryNumbers es′) s′ out′ ans′
 
 -- a step that only reads what it is lent of the sheet answered a and left its output list out as out′
 abbrev pub HostRead : ℕ → Step → Sheet → List Entry → List ℕ → List ℕ → Answer → List ℕ → Type 0
@@ -81,3 +88,9 @@ pub record FlatWrote (k : ℕ) (c : Step) (b : Sheet) (t : Flat) (s out : List �
     : Type 0 where
   pub places : r .table .len ≡ t .len
   pub done : HostWrote k c b (entriesOf t) s out (r .answer) (r .sheet) (entriesOf (r .table)) s′ out′
+
+-- the same of a list of nets
+pub record FlatListed (k : ℕ) (ws : List ℕ) (b : Sheet) (t : Flat) (s out ans : List ℕ) (r : Left)
+    (s′ out′ ans′ : List ℕ) : Type 0 where
+  pub places : r .table .len ≡ t .len
+  pub done : HostListed k ws b (entriesOf t) s out ans (r .answer) (r .sheet) (entriesOf (r .table)) s′ out′ ans′

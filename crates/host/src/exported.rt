@@ -10,6 +10,7 @@ use crate::flat::ohms_said;
 use crate::flat::said_of;
 use crate::join;
 use crate::lay;
+use crate::lay_list;
 use crate::lift;
 use crate::look_up;
 use crate::new_foil;
@@ -30,7 +31,8 @@ ghost use Rattle.foil_spec.specs.Foil.{point, pen};
 ghost use Rattle.foil_spec.specs.Ledger.{byPen, newFoil, draw as draws, lay as lays, lift as lifts, putLeg};
 ghost use Rattle.foil_spec.specs.Ledger.{join as joins, save as saves, find as finds, book as books, slip as slips};
 ghost use Rattle.foil_spec.specs.Ledger.{lookUp};
-ghost use Rattle.host.specs.Calls.{ToldBy, saidOf, ohmsSaid, HostDone, HostWrote, HostRead, HostOhms};
+ghost use Rattle.host.specs.Calls.{ToldBy, saidOf, ohmsSaid, HostDone, HostWrote, HostListed, HostRead};
+ghost use Rattle.host.specs.Calls.{HostOhms};
 ghost use Rattle.host.specs.Records.{recordSaidOf, HostRan};
 ghost use Rattle.host.specs.Carried.{oldOf, HostCarried};
 
@@ -95,6 +97,27 @@ pub extern "C" fn foil_lay(
         a (now (sheet .exit)) (now (table .exit)) (now (strips .exit)) (now (corners .exit))) r ⌝ }
 {
     let answer = lay(sheet, table, strips, corners, k, net, sx, sy, tx, ty);
+    said_of(answer)
+}
+
+// Lays the nets of a list, five numbers each, one after the other: writes their corners one after the
+// other to the front of the corner list, and three numbers for each answer to the front of theirs.
+#[no_mangle]
+pub extern "C" fn foil_lay_list(
+    sheet: &mut Sheet,
+    table: &mut [Entry],
+    strips: &mut [u16],
+    corners: &mut [u16],
+    answers: &mut [u16],
+    wishes: &[u16],
+    k: usize,
+) -> Said
+    ensures { λ r. ⌜ ToldBy saidOf (λ a. HostListed k (now (wishes .entry))
+        (now (sheet .entry)) (now (table .entry)) (now (strips .entry)) (now (corners .entry))
+        (now (answers .entry)) a (now (sheet .exit)) (now (table .exit)) (now (strips .exit))
+        (now (corners .exit)) (now (answers .exit))) r ⌝ }
+{
+    let answer = lay_list(sheet, table, strips, corners, answers, wishes, k);
     said_of(answer)
 }
 

@@ -22,7 +22,7 @@ ghost use Rattle.foil_spec.specs.Ledger.{lookUp};
 ghost use Rattle.foil_spec.specs.Lent.{entryAt};
 ghost use Rattle.strips.specs.Told.{Told};
 ghost use Rattle.host.specs.Flats.{setFive, placesLent, numbersLent, entriesOf};
-ghost use Rattle.host.specs.Calls.{saidOf, ohmsSaid, FlatDone, FlatWrote, HostRead, HostOhms};
+ghost use Rattle.host.specs.Calls.{saidOf, ohmsSaid, FlatDone, FlatWrote, FlatListed, HostRead, HostOhms};
 ghost use Rattle.host.specs.Carried.{oldOf, FlatCarried};
 
 // The first 512 places of a lent table as numbers, five a place, and how many places are lent.
@@ -242,6 +242,26 @@ pub fn lay(
     let mut a = t.at;
     let n = numbers_lent(t.len);
     let done = sheet::lay(&mut a[..n], strips, corners, s, k, net, sx, sy, tx, ty);
+    leave(done, a, t.len)
+}
+
+// Lays a list of nets.
+pub fn lay_list(
+    s: Sheet,
+    t: Flat,
+    strips: &mut [u16],
+    corners: &mut [u16],
+    answers: &mut [u16],
+    wishes: &[u16],
+    k: usize,
+) -> Left
+    ensures { λ r. ⌜ FlatListed k (now (wishes .entry)) s t
+        (now (strips .entry)) (now (corners .entry)) (now (answers .entry))
+        r (now (strips .exit)) (now (corners .exit)) (now (answers .exit)) ⌝ }
+{
+    let mut a = t.at;
+    let n = numbers_lent(t.len);
+    let done = sheet::lay_list(&mut a[..n], strips, corners, answers, s, k, wishes);
     leave(done, a, t.len)
 }
 

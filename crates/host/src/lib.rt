@@ -21,7 +21,7 @@ ghost use Rattle.foil_spec.specs.Foil.{point, pen};
 ghost use Rattle.foil_spec.specs.Ledger.{byPen, newFoil, draw as draws, lay as lays, lift as lifts, putLeg};
 ghost use Rattle.foil_spec.specs.Ledger.{join as joins, save as saves, find as finds, book as books, slip as slips};
 ghost use Rattle.foil_spec.specs.Ledger.{lookUp};
-ghost use Rattle.host.specs.Calls.{HostDone, HostWrote, HostRead, HostOhms};
+ghost use Rattle.host.specs.Calls.{HostDone, HostWrote, HostListed, HostRead, HostOhms};
 ghost use Rattle.host.specs.Records.{HostRan};
 ghost use Rattle.host.specs.Carried.{oldOf, HostCarried};
 
@@ -88,6 +88,28 @@ pub fn lay(
 {
     let s = *sheet;
     let out = table::append_track(s, table, strips, corners, k, net, sx, sy, tx, ty);
+    *sheet = out.sheet;
+    out.answer
+}
+
+// Lays the nets of a list, five numbers each, one after the other: writes their corners one after the
+// other to the front of the corner list, and three numbers for each answer to the front of theirs: that
+// of a refusal, 0 for none, and those of corners and bends.
+pub fn lay_list(
+    sheet: &mut Sheet,
+    table: &mut [Entry],
+    strips: &mut [u16],
+    corners: &mut [u16],
+    answers: &mut [u16],
+    wishes: &[u16],
+    k: usize,
+) -> Answer
+    ensures { λ r. ⌜ HostListed k (now (wishes .entry))
+        (now (sheet .entry)) (now (table .entry)) (now (strips .entry)) (now (corners .entry)) (now (answers .entry))
+        r (now (sheet .exit)) (now (table .exit)) (now (strips .exit)) (now (corners .exit)) (now (answers .exit)) ⌝ }
+{
+    let s = *sheet;
+    let out = table::append_list(s, table, strips, corners, answers, wishes, k);
     *sheet = out.sheet;
     out.answer
 }

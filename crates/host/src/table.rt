@@ -21,7 +21,7 @@ ghost use Rattle.foil_spec.specs.Foil.{point, pen};
 ghost use Rattle.foil_spec.specs.Ledger.{byPen, newFoil, draw as draws, lay as lays, lift as lifts, putLeg};
 ghost use Rattle.foil_spec.specs.Ledger.{join as joins, book as books};
 ghost use Rattle.host.specs.Flats.{frontOf, overFront};
-ghost use Rattle.host.specs.Calls.{HostDone, HostWrote};
+ghost use Rattle.host.specs.Calls.{HostDone, HostWrote, HostListed};
 ghost use Rattle.host.specs.Records.{HostRan};
 ghost use Rattle.host.specs.Carried.{oldOf, HostCarried, FlatCarried};
 
@@ -121,6 +121,27 @@ pub fn append_track(
 {
     let t = load(table);
     let out = flat::lay(s, t, strips, corners, k, net, sx, sy, tx, ty);
+    let u = out.table;
+    store(table, u);
+    out
+}
+
+// Appends the tracks of a list: an entry for each leg.
+pub fn append_list(
+    s: Sheet,
+    table: &mut [Entry],
+    strips: &mut [u16],
+    corners: &mut [u16],
+    answers: &mut [u16],
+    wishes: &[u16],
+    k: usize,
+) -> Left
+    ensures { λ r. ⌜ HostListed k (now (wishes .entry)) s
+        (now (table .entry)) (now (strips .entry)) (now (corners .entry)) (now (answers .entry)) (r .answer) (r .sheet)
+        (now (table .exit)) (now (strips .exit)) (now (corners .exit)) (now (answers .exit)) ⌝ }
+{
+    let t = load(table);
+    let out = flat::lay_list(s, t, strips, corners, answers, wishes, k);
     let u = out.table;
     store(table, u);
     out
