@@ -1,8 +1,8 @@
 /* One call by its name, `times` times, on foil 0 of a sheet, which is made first: calls NAME TIMES, and then a point
-   for a look up, a foil by its name for a lay and a join, or how many entries are legs, for a look up of a point that is
-   blocked, which is the check of the state. Where `full` stands before the name, the other foils have 378 entries. The
-   difference of the instructions of two runs, with one call and with two, is the cost of a call: what is made first, and
-   the first touch of the stack, is in both. */
+   for a look up, a foil by its name for a lay and a join, how 40 nets are laid, or how many entries are legs, for a look
+   up of a point that is blocked, which is the check of the state. Where `full` stands before the name, the other foils
+   have 378 entries. The difference of the instructions of two runs, with one call and with two, is the cost of a call:
+   what is made first, and the first touch of the stack, is in both. */
 #include <stdio.h>
 #include <stdlib.h>
 #include <string.h>
@@ -162,6 +162,63 @@ static struct foil_said led(int joins, const char *foil, int times)
     return said;
 }
 
+/* 40 nets between free points of the foil of scattered patches */
+static void wished(struct foil_wish *wishes)
+{
+    uint32_t seed = 1;
+    uint16_t x, y;
+    unsigned k = 0;
+    while (k < 2 * FOIL_WISHES) {
+        seed = seed * 1664525u + 1013904223u;
+        x = seed >> 20;
+        seed = seed * 1664525u + 1013904223u;
+        y = seed >> 20;
+        if (foil_look_up(LENT, called, x, y).number != 0)
+            continue;
+        wishes[k / 2].net = 101 + k / 2;
+        if (k % 2 == 0) {
+            wishes[k / 2].sx = x;
+            wishes[k / 2].sy = y;
+        } else {
+            wishes[k / 2].tx = x;
+            wishes[k / 2].ty = y;
+        }
+        k++;
+    }
+}
+
+/* lays them, by one list or (`lays`) by a call each, each time on the foil as it was made; or (`none`) a list of no net,
+   which is what comes before the lays of a list */
+static struct foil_said forty(const char *how, int times)
+{
+    static struct foil_entry made_table[FOIL_PLACES];
+    static uint16_t made_strips[4 * FOIL_STRIPS];
+    static struct foil_wish wishes[FOIL_WISHES];
+    static struct foil_answer answers[FOIL_WISHES];
+    struct foil_said said = {0, 0, 0, 0, 0};
+    struct foil_sheet made_sheet;
+    unsigned k;
+    made("scattered");
+    wished(wishes);
+    made_sheet = sheet;
+    memcpy(made_table, table, sizeof table);
+    memcpy(made_strips, strips, sizeof strips);
+    for (; times > 0; times--) {
+        if (strcmp(how, "lays") == 0)
+            for (k = 0; k < FOIL_WISHES; k++)
+                said = foil_lay(LENT, CORNERS, called, wishes[k].net, wishes[k].sx, wishes[k].sy, wishes[k].tx,
+                                wishes[k].ty);
+        else
+            said = foil_lay_list(LENT, CORNERS, (uint16_t *)(void *)answers, 3 * FOIL_WISHES,
+                                 (const uint16_t *)(const void *)wishes,
+                                 strcmp(how, "none") == 0 ? 0 : 5 * FOIL_WISHES, called);
+        sheet = made_sheet;
+        memcpy(table, made_table, sizeof table);
+        memcpy(strips, made_strips, sizeof strips);
+    }
+    return said;
+}
+
 /* stairs of n corners from (0, 0) */
 static size_t stairs(unsigned n)
 {
@@ -201,6 +258,8 @@ int main(int argc, char **argv)
             said = foil_slip(LENT, bytes, sizeof bytes, called);
     } else if (strcmp(name, "lay") == 0 || strcmp(name, "join") == 0) {
         said = led(*name == 'j', argc > 3 ? argv[3] : "", times);
+    } else if (strcmp(name, "forty") == 0) {
+        said = forty(argc > 3 ? argv[3] : "", times);
     } else if (strcmp(name, "find") == 0) {
         for (bars(120); times > 0; times--)
             said = foil_find(LENT, CORNERS, called, 0, 20, 4000, 4090);
