@@ -1,6 +1,6 @@
 -- The starred test foils of document 01, the ohms of its track, legs as booked with the file of their foil, drawn ways,
--- the slip of two tracks, pens, foils that the edge blocks, joins, patches across tracks, foils carried over, and lists of
--- nets: one list of cases, and one fact over it. Then 21 before 10, and corners that run out.
+-- the slip of two tracks, pens, foils that the edge blocks, joins, patches across tracks, foils carried over, and lists
+-- of nets: one list of cases, and one fact over it. Then 21 before 10, and corners that run out.
 use Prim.Native.Nat.{ℕ}
 use mathlib.Core.Path.{_≡_, refl}
 use mathlib.Core.Bool.{true, false, xor}
