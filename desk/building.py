@@ -2,7 +2,10 @@
 
 A program that was built has a record, target/built/NAME: the digest of the sources that it was proved from, its own
 digest, and the toolchain. A program whose record does not fit what stands there now is removed and built anew, with its
-stamp: `rt` asks no stamp whether the program beside it is the one that was built. One run builds at a time."""
+stamp: `rt` asks no stamp whether the program beside it is the one that was built. One run builds at a time.
+
+Where the tools are installed there are no sources: programs and records are those that ./install put there, and nothing
+is ever built."""
 import collections
 import contextlib
 import fcntl
@@ -10,13 +13,16 @@ import hashlib
 import os
 import shutil
 import subprocess
-import sys
 from typing import NamedTuple
 
-from desk.program import ROOT, NotRun
+from desk import console
+from desk.program import INSTALLED, ROOT, NotRun
+from desk.progress import Progress
 
 # what a program is proved from, in each crate that it stands on
 PARTS = ("src", "specs", "proofs")
+# the toolchain that these sources are proved by
+KIT = ROOT / "tools" / "KIT-ID"
 # what a run holds that builds: it stands beside target/, which `rt ci` removes
 LOCK = ROOT / "target.lock"
 WAITS = "another run is proving and building here: this one waits for it, and then goes on"
@@ -42,11 +48,11 @@ class Place(NamedTuple):
 
     @property
     def program(self):
-        return ROOT / "target" / "bin" / self.name
+        return (ROOT if INSTALLED else ROOT / "target") / "bin" / self.name
 
     @property
     def record(self):
-        return ROOT / "target" / "built" / self.name
+        return (ROOT if INSTALLED else ROOT / "target") / "built" / self.name
 
     @property
     def stamp(self):
@@ -126,15 +132,36 @@ def stale(now):
             if not record.program or recorded(name) is None or not recorded(name).fits(record)]
 
 
+def wanted():
+    """The toolchain that is asked for."""
+    return " ".join(KIT.read_text(encoding="utf-8").split())
+
+
+def another(version):
+    """What is to be said of a toolchain that is not the one that is asked for."""
+    return "this repository asks for the toolchain `%s`, and `rt version` says `%s`" % (wanted(), version)
+
+
 def built(*names):
-    """The paths of these programs, each proved from the sources as they stand."""
-    if stale(standing(names)):
+    """The paths of these programs, each proved from the sources as they stand, or as they were installed."""
+    if INSTALLED:
+        for name in names:
+            as_installed(name)
+    elif stale(standing(names)):
         try:
             with alone() as lock:
                 build(names, lock)
         except OSError as fault:
             raise NotRun("%s cannot be built: %s: %s" % (" and ".join(names), fault.filename, fault.strerror))
     return [Place(name).program for name in names]
+
+
+def as_installed(name):
+    """Sees that an installed program is the one that was installed."""
+    place = Place(name)
+    if not os.access(place.program, os.X_OK) or not recorded(name) or recorded(name).program != digest_of(place.program):
+        raise NotRun("%s is not the program that was installed: install it again, by ./install in a clone" %
+                     place.program)
 
 
 @contextlib.contextmanager
@@ -144,7 +171,7 @@ def alone():
         try:
             fcntl.flock(lock, fcntl.LOCK_EX | fcntl.LOCK_NB)
         except BlockingIOError:
-            print(WAITS, file=sys.stderr, flush=True)
+            console.complain(WAITS)
             fcntl.flock(lock, fcntl.LOCK_EX)
         yield lock
 
@@ -157,8 +184,10 @@ def build(names, lock):
         if not anew:
             return
         if now[anew[0]].toolchain is None:
-            raise NotRun("%s to be proved and built first, which wants Rattle's toolchain: `rt` is not in the PATH"
-                         % (anew[0] + " has" if len(anew) == 1 else " and ".join(anew) + " have"))
+            raise NotRun("%s to be proved and built first, which wants Rattle's toolchain (%s): `rt` is not in the PATH"
+                         % (anew[0] + " has" if len(anew) == 1 else " and ".join(anew) + " have", wanted()))
+        if now[anew[0]].toolchain != wanted():
+            console.complain(another(now[anew[0]].toolchain) + ": what is proved is then proved by that one")
         for name in anew:
             for path in (Place(name).record, Place(name).program, Place(name).stamp):
                 path.unlink(missing_ok=True)
@@ -178,51 +207,21 @@ def keep_record(name, before):
     half.replace(place.record)
 
 
-def check(names, lock):
-    """Has programs proved and built. How far that is goes to standard error."""
+def check(names, lock, verb="check"):
+    """Has programs proved and built, or by `staticlib` a library. How far that is goes to standard error."""
     log = ROOT / "target" / "built" / "log"
     log.parent.mkdir(parents=True, exist_ok=True)
     last = collections.deque(maxlen=TOLD)
     with open(log, "w", encoding="utf-8") as kept, subprocess.Popen(
-            ["rt", "check", *names], cwd=ROOT, stdin=subprocess.DEVNULL, stdout=subprocess.PIPE,
+            ["rt", verb, *names], cwd=ROOT, stdin=subprocess.DEVNULL, stdout=subprocess.PIPE,
             stderr=subprocess.STDOUT, encoding="utf-8", errors="replace", pass_fds=[lock.fileno()]) as running:
-        with Progress(names) as shown:
+        with Progress(needed(names, listed()), ROOT / "target" / "log") as shown:
             for line in running.stdout:
                 kept.write(line)
                 last.append(line.rstrip("\n"))
                 shown.follow(line)
     if running.returncode != 0:
-        last.append("%s not built: %s (`rt check %s` ended with status %d; all that it said is in %s)" % (
+        last.append("%s not built: %s (`rt %s %s` ended with status %d; all that it said is in %s)" % (
             names[0] + " is" if len(names) == 1 else "they are", FAILED.get(running.returncode, "the check failed"),
-            " ".join(names), running.returncode, log))
+            verb, " ".join(names), running.returncode, log))
         raise NotRun("\n".join(last))
-
-
-class Progress:
-    """How many of the crates are proved, on standard error: a line that moves on a terminal, or a line for each."""
-
-    def __init__(self, names):
-        self.what, self.done, self.all = " and ".join(names), 0, len(needed(names, listed()))
-        self.wide = os.get_terminal_size(sys.stderr.fileno()).columns if sys.stderr.isatty() else None
-
-    def __enter__(self):
-        self.show("")
-        return self
-
-    def show(self, crate):
-        line = "%s: proving and building, %d of %d crates%s" % (self.what, self.done, self.all, crate)
-        if self.wide is None:
-            print(line, file=sys.stderr, flush=True)
-        else:
-            print("\r\033[K" + line[:self.wide - 1], end="", file=sys.stderr, flush=True)
-
-    def follow(self, line):
-        """Takes a line of the check."""
-        words = line.split()
-        if words[:1] == ["rt:"] and words[2:3] == ["proved"]:
-            self.done += 1
-            self.show(" (%s)" % words[1])
-
-    def __exit__(self, *_):
-        if self.wide is not None:
-            print("\r\033[K", end="", file=sys.stderr, flush=True)

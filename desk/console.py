@@ -1,15 +1,16 @@
-"""The three streams of a command, each of which may be closed."""
+"""The three streams of a command, each of which may be closed, and the width of a terminal."""
 import errno
 import os
 import sys
+import textwrap
 
-# the columns of what is printed or said; on a narrower terminal, what is said has those of the terminal
+# the columns of what is printed or said; on a narrower terminal they are those of the terminal
 WIDTH = 116
 
 
 def prepare():
     """Fills the places of closed streams, so that no file that is opened later is taken for one of them. What is said
-    on a closed standard error goes nowhere."""
+    on a closed standard error goes nowhere. A letter that a stream has no bytes for is a question mark there."""
     for place in range(3):
         try:
             os.fstat(place)
@@ -17,17 +18,36 @@ def prepare():
             os.open(os.devnull, os.O_RDWR)
     if sys.stderr is None:
         sys.stderr = open(os.devnull, "w", encoding="utf-8")
+    for stream in (sys.stdout, sys.stderr):
+        if hasattr(stream, "reconfigure"):
+            stream.reconfigure(errors="replace")
 
 
 def complain(*what):
-    """Says something on standard error."""
-    print(*what, file=sys.stderr, flush=True)
+    """Says something on standard error: at a terminal, in lines that fit it."""
+    said = " ".join(map(str, what))
+    if sys.stderr.isatty():
+        said = "\n".join(fitted(line) for line in said.split("\n"))
+    print(said, file=sys.stderr, flush=True)
 
 
-def width():
-    """The columns for what is said on standard error."""
-    there = os.get_terminal_size(sys.stderr.fileno()).columns if sys.stderr.isatty() else 0
+def fitted(line):
+    """A line as lines that fit standard error."""
+    if len(line) <= width():
+        return line
+    return textwrap.fill(line, max(width(), 12), subsequent_indent="    ", break_on_hyphens=False)
+
+
+def width(stream=None):
+    """The columns for what goes to a stream, by default to standard error."""
+    stream = stream or sys.stderr
+    there = os.get_terminal_size(stream.fileno()).columns if stream and stream.isatty() else 0
     return min(there or WIDTH, WIDTH)
+
+
+def waiting():
+    """Whether standard input is a terminal, at which nothing was typed yet."""
+    return sys.stdin is not None and sys.stdin.isatty()
 
 
 def take(most):

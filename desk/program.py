@@ -4,6 +4,8 @@ import subprocess
 from typing import NamedTuple
 
 ROOT = pathlib.Path(__file__).resolve().parent.parent
+# whether these tools are installed, with their programs, or stand in a clone
+INSTALLED = ROOT.joinpath("installed").is_file()
 
 
 class NotRun(Exception):
@@ -18,7 +20,10 @@ class Written(NamedTuple):
 
 def written(program, given):
     """What a program writes for what it is given."""
-    done = subprocess.run([program], input=given, stdout=subprocess.PIPE, stderr=subprocess.PIPE)
+    try:
+        done = subprocess.run([program], input=given, stdout=subprocess.PIPE, stderr=subprocess.PIPE)
+    except OSError as fault:
+        raise NotRun("the program %s cannot be run: %s" % (program, fault.strerror))
     if done.returncode != 0:
         raise NotRun("the program %s ended with status %d" % (pathlib.Path(program).name, done.returncode))
     return Written(done.stdout, done.stderr.decode("ascii", errors="replace"))

@@ -59,8 +59,7 @@ def rows(text, run, table):
     """The rows for a text whose job was run: for each of its lines, those of the records that begin on it."""
     fault = run.fault and turned_down("at fault", run.fault.number, table)
     if fault and run.fault.number == 18:
-        lines = [Row(line.number, line.said, ["not done"]) for line in text.lines]
-        return [Row(None, "the whole file", fault, True)] + lines
+        return [Row(None, "the whole file", fault, True)]
     places = [outcome.place for outcome in run.outcomes]
     shown = []
     for line in text.lines:

@@ -58,6 +58,7 @@ class Scratch:
             self.write("crates/laws/proofs/part%d/P%d.antt" % (at % 7, at), "-- law %d\n" % at)
         self.write("../tools/rt", RT).chmod(0o755)
         self.write("../tools/version", "a kit 1\n")
+        self.write("tools/KIT-ID", "a kit 1\n")
 
     def write(self, name, text):
         """Writes a file of the repository; its path."""
@@ -73,12 +74,12 @@ class Scratch:
         path.unlink(missing_ok=True)
         return asked
 
-    def start(self, command, *words, with_rt=True, streams="", **how):
+    def start(self, command, *words, with_rt=True, streams="", python=(), **how):
         """Starts a command of the repository, with or without the toolchain in the PATH. `streams` is put behind it as
-        a shell takes it."""
+        a shell takes it, and `python` are words for Python."""
         path = os.pathsep.join([str(self.tools)] * with_rt + ["/usr/bin", "/bin"])
         how = {"stdin": subprocess.DEVNULL, "stdout": subprocess.PIPE, "stderr": subprocess.PIPE, **how}
-        script = ["/bin/sh", "-c", 'exec "$@" ' + streams, "sh", sys.executable, self.root / command, *words]
+        script = ["/bin/sh", "-c", 'exec "$@" ' + streams, "sh", sys.executable, *python, self.root / command, *words]
         return subprocess.Popen(script, env={**os.environ, "PATH": path}, text=True, **how)
 
     def run(self, *words, **how):

@@ -14,7 +14,7 @@ from desk.tests import given
 PATHS = {question: given.BUILT.with_name(question.program) for question in (asking.SLIP, asking.SAVE, asking.OHMS)}
 MISSING = [str(path) for path in PATHS.values() if not os.access(path, os.X_OK)]
 SHEET, WIDTH, BEND = 0.3, 3.0, 0.7
-INK = [str(SHEET), str(WIDTH), str(BEND)]
+INK = ["--sheet", str(SHEET), "--width", str(WIDTH), "--bend", str(BEND), "--exact"]
 
 
 def entries_of(run):
@@ -102,8 +102,10 @@ class Answers(unittest.TestCase):
         made = given.SAMPLES.joinpath("less-ink.job").read_bytes()
         for figures in ("0 2 0.5", "1001 2 0.5", "nan 2 0.5", "inf 2 0.5", "0.5 0.9 0.5", "0.5 65 0.5", "0.5 2 -1",
                         "0.5 2 4.5"):
-            status, out, err = self.ask(asking.OHMS, figures.split(), made)
+            sheet, width, bend = figures.split()
+            status, out, err = self.ask(asking.OHMS, ["--sheet=" + sheet, "--width=" + width, "--bend=" + bend], made)
             self.assertEqual((status, out, err.count("refused (22)"), err.count("refused (8)")), (3, b"", 1, 1))
+            self.assertEqual(len(re.findall(r"(?m)^--(sheet|width|bend) \S+: ", err)), 1)
 
 
 if __name__ == "__main__":

@@ -13,13 +13,13 @@ from desk.tests.scratch import Scratch
 
 README = refusals.README.read_text(encoding="utf-8")
 TABLE = refusals.table_of(README)
-INK = ["0.5", "2", "0.5"]
+INK = ["--sheet", "0.5", "--width", "2", "--bend", "0.5"]
 SLIP_LINES = "  1    3      12     1     1    \n"
 # each question, its words, what its program writes for a foil with a net, and what is printed for that
 ASKED = (
     (asking.SLIP, [], SLIP_LINES, SLIP_LINES),
     (asking.SAVE, [], "!\t\0", "!\t\0"),
-    (asking.OHMS, INK, "ohms 1 0 400c000000000000\n", "1 3.5\n"),
+    (asking.OHMS, INK + ["--exact"], "ohms 1 0 400c000000000000\n", "1 3.5\n"),
 )
 # what ends the job of a sample, for the programs of the questions
 ENDS = {"cut-short": "file 14\n", "too-fine": "file 14\n", "unknown-bit": "file 15\n", "second-board": "file 16\n",
@@ -64,7 +64,7 @@ class Asking(unittest.TestCase):
             with self.subTest(question.command):
                 status, out, err = self.ask(question, words, "less-ink", written)
                 self.assertEqual((status, out), (1, printed))
-                self.assertEqual(" ".join(err.split()), "%s: 1 of 4 steps was refused, and what is printed is of the "
+                self.assertEqual(" ".join(err.split()), "./%s: 1 of 4 steps was refused, and what is printed is of the "
                                  "foil without it: 3 track 2 1 5 7 3 refused (8): %s what to do: %s"
                                  % (question.command, says, to_do))
 
@@ -84,14 +84,14 @@ class Asking(unittest.TestCase):
     def test_nothing_is_printed_without_a_foil(self):
         for name, line in ENDS.items():
             number = int(line.split()[1])
-            how, why = ("at fault", "the file cannot be read to its end") if line.startswith("file") else \
+            how, why = ("at fault", "the job cannot be read to its end") if line.startswith("file") else \
                 ("refused", "its board was refused")
             for question, words, _, _ in ASKED:
                 with self.subTest(name, command=question.command):
                     told = (line, "") if question is asking.OHMS else ("", line)
                     status, out, err = self.ask(question, words, name, *told)
                     self.assertEqual((status, out), (2, ""))
-                    self.assertTrue(err.startswith("%s: nothing is printed, since %s:\n" % (question.command, why)))
+                    self.assertTrue(err.startswith("./%s: nothing is printed, since %s:\n" % (question.command, why)))
                     self.assertIn("%s (%d): %s" % (how, number, TABLE[number].says), " ".join(err.split()))
 
     def test_an_empty_file(self):
@@ -108,12 +108,6 @@ class Asking(unittest.TestCase):
             self.assertIn("./foil-save: nothing is printed, since it was refused (11): " + TABLE[11].says, told)
             self.assertIn(steps, told)
 
-    def test_figures_that_are_refused(self):
-        status, out, err = self.ask(asking.OHMS, ["0", "2", "0.5"], "document-01", "ohms 5 22\n")
-        self.assertEqual((status, out), (3, ""))
-        self.assertEqual(" ".join(err.split()), "./foil-ohms: nothing is printed, since it was refused (22): %s "
-                         "what to do: %s" % TABLE[22])
-
     def test_programs_that_do_not_agree(self):
         for name, told in (("document-01", ("", "file 14\n")), ("cut-short", (SLIP_LINES, "")),
                            ("cut-short", ("", "file 15\n")), ("board-size", ("", "slip 12\n"))):
@@ -128,9 +122,11 @@ class Asking(unittest.TestCase):
             self.assertIn("a line that is none of its own", err)
 
     def test_words_that_are_not_understood(self):
-        for question, words in ((asking.SLIP, ["x.job"]), (asking.SAVE, ["-"]), (asking.OHMS, []),
-                                (asking.OHMS, INK[:2]), (asking.OHMS, INK + ["1"]), (asking.OHMS, ["1", "wide", "0"])):
-            self.assertEqual(self.ask(question, words, "document-01"), (4, "", "usage: %s\n" % question.usage))
+        for question, words in ((asking.SLIP, ["a.job", "b.job"]), (asking.SAVE, ["--out", "x"]), (asking.OHMS, []),
+                                (asking.OHMS, INK[:4]), (asking.OHMS, ["0.5", "2", "0.5"]), (asking.OHMS, INK + ["--w", "1"])):
+            status, out, err = self.ask(question, words, "document-01")
+            self.assertEqual((status, out), (4, ""))
+            self.assertTrue(err.endswith("./%s --help says how it is used\n" % question.command), err)
 
     def test_the_lines_of_a_job(self):
         for name in given.NAMES:

@@ -10,7 +10,7 @@ import unittest
 import xml.etree.ElementTree as ET
 from unittest import mock
 
-from desk import building, command, program
+from desk import building, command, program, sources
 from desk.tests import given
 
 
@@ -68,9 +68,10 @@ class Command(unittest.TestCase):
 
     def test_only_the_first_of_many_faults_are_told(self):
         _, _, err = self.run_foil(self.text("board\n" * 1000))
-        self.assertEqual((err.count("\n"), err.splitlines()[-1]), (command.TOLD + 1, "and 980 more"))
-        _, _, err = self.run_foil(self.text("board\n" * command.TOLD))
-        self.assertEqual(err.count("\n"), command.TOLD)
+        self.assertEqual((err.count("\n"), err.splitlines()[-1]),
+                         (sources.TOLD + 1, "and 980 more lines that cannot be read"))
+        _, _, err = self.run_foil(self.text("board\n" * sources.TOLD))
+        self.assertEqual(err.count("\n"), sources.TOLD)
 
     def test_bytes_that_are_no_text(self):
         status, out, err = self.run_foil(self.text(b"board 5 5 0\n# Schl\xfcssel\nend\n"))
@@ -91,10 +92,9 @@ class Command(unittest.TestCase):
     def test_nothing_is_written_over_what_is_read(self):
         path = self.text("board 5 5 0\nend\n")
         for option in ("--job", "--picture"):
-            with self.assertRaises(SystemExit) as raised, contextlib.redirect_stderr(io.StringIO()) as err:
-                command.main([option, str(self.folder / "." / "a.txt"), str(path)])
-            self.assertEqual(raised.exception.code, 4)
-            self.assertIn("a.txt would be written over", err.getvalue())
+            status, out, err = self.run_foil(option, self.folder / "." / "a.txt", path)
+            self.assertEqual((status, out), (4, ""))
+            self.assertIn("a.txt would be written over", err)
         self.assertEqual(path.read_text(), "board 5 5 0\nend\n")
 
     def test_without_the_program(self):
@@ -150,10 +150,9 @@ class Command(unittest.TestCase):
         self.assertIn("# file 14: the file ends inside a record or before its end mark\n", out)
 
     def test_words_that_do_not_go_together(self):
-        for words in ("--strips x.txt", "--text --picture x.svg x.job", "--lines --quiet x.txt", "--text x.txt", ""):
-            with self.assertRaises(SystemExit) as raised, contextlib.redirect_stderr(io.StringIO()):
-                command.main(words.split())
-            self.assertEqual(raised.exception.code, 4)
+        for words in ("--strips x.txt", "--text --picture x.svg x.job", "--lines --quiet x.txt", "a.txt b.txt", "--pic x"):
+            status, out, err = self.run_foil(*words.split())
+            self.assertEqual((status, out, err.splitlines()[-1]), (4, "", "./foil --help says how it is used"))
 
     def test_output_that_is_cut_off(self):
         drawn = self.folder / "x.svg"
