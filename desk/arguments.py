@@ -1,5 +1,6 @@
 """The words of a command: its parser, the name that it is called by, and numbers that are not whole."""
 import argparse
+import math
 import sys
 import textwrap
 
@@ -41,3 +42,11 @@ def figure(word):
         return float("-" if "_" in word else word)
     except ValueError:
         raise argparse.ArgumentTypeError("`%s` is no number" % word)
+
+
+def limit(word):
+    """A number that others can be above."""
+    number = figure(word)
+    if not 0 <= number < math.inf:
+        raise argparse.ArgumentTypeError("`%s` is no limit: it is 0 or more" % word)
+    return number

@@ -69,13 +69,13 @@ def as_written(written, asked, job):
 
 def add_figures(parser):
     """The words of foil-ohms."""
-    for name, metavar, needed, about in (
-            ("--sheet", "OHMS", True, "the ink's ohms a square: above 0, at most 1000"),
-            ("--bend", "SQUARES", True, "the squares counted for a bend: 0 to 4"),
-            ("--width", "POINTS", False, "the width of a track: 1 to 64; where it is left out, that of the pen, "
-                                         "2 HALF + 1"),
-            ("--dead", "OHMS", False, "call each net dead that has more ohms")):
-        parser.add_argument(name, metavar=metavar, required=needed, type=arguments.figure, help=about)
+    parser.add_argument("--sheet", metavar="OHMS", required=True, type=arguments.figure,
+                        help="the ink's ohms a square: above 0, at most 1000")
+    parser.add_argument("--bend", metavar="SQUARES", required=True, type=arguments.figure,
+                        help="the squares counted for a bend: 0 to 4")
+    parser.add_argument("--width", metavar="POINTS", type=arguments.figure,
+                        help="the width of a track: 1 to 64; where it is left out, that of the pen, 2 HALF + 1")
+    parser.add_argument("--dead", metavar="OHMS", type=arguments.limit, help="call each net dead that has more ohms")
     parser.add_argument("--exact", action="store_true",
                         help="print lines `NET OHMS`, in decimals that read back to the very f64 that was answered")
 

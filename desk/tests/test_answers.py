@@ -8,7 +8,7 @@ import sys
 import unittest
 from unittest import mock
 
-from desk import asking, building, foils, job, lines, program, statuses, textform
+from desk import asking, building, foils, job, lines, program, sources, statuses, textform
 from desk.tests import given
 
 PATHS = {question: given.BUILT.with_name(question.program) for question in (asking.SLIP, asking.SAVE, asking.OHMS)}
@@ -80,6 +80,10 @@ class Answers(unittest.TestCase):
         early = re.search(r"(?m)^(file \d+|board [1-9]\d*)$", written)
         for question, words, right in ((asking.SLIP, [], slip), (asking.SAVE, [], saved), (asking.OHMS, INK, ohms)):
             status, out, err = self.ask(question, words, made)
+            if not sources.Source(None, made).is_job:
+                self.assertTrue(early, "a job file with a foil is taken for a text")
+                self.assertEqual((status, out, bool(err)), (2, b"", True))
+                continue
             self.assertEqual(status, 2 if early else 1 if refused else 0, err)
             self.assertEqual(out, b"" if early else right(run))
             self.assertEqual(err.count("refused ("), refused)
@@ -95,7 +99,7 @@ class Answers(unittest.TestCase):
             self.hold(textform.read(given.random_text(chance, largest=chance.choice([6, 20, 60]), most=20)).job)
 
     def test_random_files(self):
-        for chance in given.seeds(60):
+        for chance in given.seeds(120):
             self.hold(given.random_file(chance))
 
     def test_figures_out_of_their_range(self):

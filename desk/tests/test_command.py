@@ -97,6 +97,51 @@ class Command(unittest.TestCase):
             self.assertIn("a.txt would be written over", err)
         self.assertEqual(path.read_text(), "board 5 5 0\nend\n")
 
+    def test_outputs_are_not_written_over_each_other(self):
+        link = self.folder / "link.svg"
+        link.symlink_to("both")
+        for job, drawn in (("both", "both"), ("both", "./both"), ("both", "link.svg"), ("link.svg", "both")):
+            status, out, err = self.run_sample("document-01", "--job", self.folder / job, "--picture", self.folder / drawn)
+            self.assertEqual((status, out, self.folder.joinpath("both").exists()), (4, "", False))
+            self.assertIn("would be written over: give the picture another name", err)
+
+    def test_outputs_are_written_over_their_own_kind_alone(self):
+        self.run_sample("document-01", "--job", self.folder / "a.job", "--picture", self.folder / "a.svg")
+        kinds = {"--job": "a.job", "--picture": "a.svg"}
+        self.text("board 5 5 0\nend\n")
+        self.folder.joinpath("empty").write_bytes(b"")
+        for option, right in kinds.items():
+            for name in ("a.job", "a.svg", "a.txt", "empty"):
+                before = self.folder.joinpath(name).read_bytes()
+                status, out, err = self.run_sample("window", option, self.folder / name)
+                changed = self.folder.joinpath(name).read_bytes() != before
+                with self.subTest(option, name=name):
+                    if name in (right, "empty"):
+                        self.assertEqual((status, changed), (1, True), err)
+                        self.folder.joinpath(name).write_bytes(before)
+                    else:
+                        self.assertEqual((status, out, changed), (4, "", False))
+                        self.assertIn("%s is there and is no " % name, err)
+        for option in kinds:
+            self.assertEqual(self.run_sample("document-01", option, "/dev/null")[0], 0)
+            self.assertIn("goes to a file: give it a name", self.run_sample("document-01", option, "-")[2])
+
+    def test_an_output_that_cannot_be_written_loses_no_answer(self):
+        right = self.run_sample("less-ink")[1]
+        nowhere, kept = self.folder / "no" / "x", self.folder / "kept"
+        for words in (("--picture", nowhere, "--job", kept), ("--job", nowhere, "--picture", kept)):
+            status, out, err = self.run_sample("less-ink", *words)
+            self.assertEqual((status, out, err), (4, right, "%s: No such file or directory\n" % nowhere))
+            self.assertTrue(kept.stat().st_size)
+            kept.unlink()
+        status, out, err = self.run_sample("less-ink", "--picture", "/dev/full", "--lines")
+        self.assertEqual((status, out, err), (4, given.written_for("less-ink"), "/dev/full: No space left on device\n"))
+
+    def test_a_long_text_has_one_line(self):
+        long = self.text("board 9 9 0\n" + "track 1 100 200 300 400\n" * 45_000 + "end\n")
+        status, out, err = self.run_foil(long, written="file 18\n")
+        self.assertEqual((status, out.count("at fault (18)"), out.count("\n"), err), (2, 1, 2, ""))
+
     def test_without_the_program(self):
         with mock.patch.object(building, "built", side_effect=program.NotRun("no program")), \
                 contextlib.redirect_stderr(io.StringIO()) as err:
