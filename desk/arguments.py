@@ -1,7 +1,7 @@
 """The words of a command: its parser, the name that it is called by, and numbers that are not whole."""
 import argparse
 import math
-import sys
+import shutil
 import textwrap
 
 from desk import console, program, statuses
@@ -17,7 +17,7 @@ class Parser(argparse.ArgumentParser):
 
     def __init__(self, name, about, **how):
         parts = about.replace("./foil", called("foil")).split("\n\n")
-        wide = console.width(sys.stdout) - 2
+        wide = min(shutil.get_terminal_size().columns, console.WIDTH) - 2
         shown = [part if part.startswith(" ") else textwrap.fill(part, wide) for part in parts]
         super().__init__(called(name), description="\n\n".join(shown), allow_abbrev=False,
                          formatter_class=argparse.RawDescriptionHelpFormatter, **how)

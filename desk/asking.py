@@ -67,11 +67,11 @@ def as_written(written, asked, job):
     return Answer(b"", refusal_of(written.err)) if written.err else Answer(written.out)
 
 
-def add_figures(parser):
-    """The words of foil-ohms."""
-    parser.add_argument("--sheet", metavar="OHMS", required=True, type=arguments.figure,
+def add_figures(parser, needed=True):
+    """The words of foil-ohms; in a command that can go without them, they are not needed."""
+    parser.add_argument("--sheet", metavar="OHMS", required=needed, type=arguments.figure,
                         help="the ink's ohms a square: above 0, at most 1000")
-    parser.add_argument("--bend", metavar="SQUARES", required=True, type=arguments.figure,
+    parser.add_argument("--bend", metavar="SQUARES", required=needed, type=arguments.figure,
                         help="the squares counted for a bend: 0 to 4")
     parser.add_argument("--width", metavar="POINTS", type=arguments.figure,
                         help="the width of a track: 1 to 64; where it is left out, that of the pen, 2 HALF + 1")

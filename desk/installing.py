@@ -141,7 +141,7 @@ def manual_page(prefix, name):
     shown = subprocess.run([prefix / "bin" / name, "--help"], stdin=subprocess.DEVNULL, stdout=subprocess.PIPE,
                            env={**os.environ, "COLUMNS": "78"}, text=True, check=True).stdout
     lines = [("\\&" if line[:1] in (".", "'") else "") + line.replace("\\", "\\e") for line in shown.splitlines()]
-    return ".TH %s 1\n.SH NAME\n%s \\- the key-foil router\n.SH SYNOPSIS\n.nf\n%s\n.fi\n" % (
+    return ".TH %s 1\n.SH NAME\n%s \\- the key-foil router\n.SH DESCRIPTION\n.nf\n%s\n.fi\n" % (
         name.upper(), name, "\n".join(lines))
 
 

@@ -37,9 +37,8 @@ class Progress:
             console.complain("proving and building: %s%d of %d crates left, %s so far" % (
                 done and done + " is proved, ", len(self.left), self.all, self.time()))
             return
-        now = self.under_way()
-        line = "proving%s: %d of %d crates left, %s so far" % (
-            now and " " + ", ".join(now), len(self.left), self.all, self.time())
+        now = "".join(" " + crate for crate in self.under_way())
+        line = "proving%s: %d of %d crates left, %s so far" % (now, len(self.left), self.all, self.time())
         print("\r\033[K" + line[:console.width() - 1], end="", file=sys.stderr, flush=True)
 
     def time(self):
