@@ -19,3 +19,8 @@
     words        what came of each line of a text
     foils        the foil that a job leaves
     picture      its picture; with legend, labels, colours, boxes and svg"""
+import sys
+
+if sys.version_info < (3, 9):
+    sys.stderr.write("the desk's tools want Python 3.9 or later, and this is %d.%d\n" % tuple(sys.version_info[:2]))
+    sys.exit(5)

@@ -1,5 +1,5 @@
-"""The commands ./foil-job, which prints the job program's lines, and ./foil-save, ./foil-slip and ./foil-ohms, which ask
-something of the foil that a job leaves.
+"""The commands ./foil-job, which prints the job program's lines, and ./foil-save, ./foil-slip and ./foil-ohms, which
+ask something of the foil that a job leaves.
 
 Each of those three runs a program of its own, which answers, and the job program on the same bytes, whose lines say
 what was refused on the way: that is told on standard error, in the words of ./foil. Where the two do not agree on how
@@ -11,16 +11,16 @@ from typing import Callable, NamedTuple
 
 from desk import arguments, building, console, lines, ohms, program, refusals, sources, statuses, words
 
-JOB_HELP = """Runs a job, and prints the job program's lines as they are: one for each step, then the free strips (docs/JOB.md).
-The exit status is by README's table."""
+JOB_HELP = """Runs a job, and prints the job program's lines as they are: one for each step, then the free strips
+(docs/JOB.md). The exit status is by README's table."""
 SAVE_HELP = """Runs a job, and writes the foil that it leaves as a job file to standard output, as in
 
     %(prog)s FILE > SAVED.job
 
 Steps that were refused are told on standard error. Where the job cannot be read to its end, its board is refused or
 the save is (11), that is told instead, and nothing is written. The exit status is by README's table."""
-SLIP_HELP = """Runs a job, and prints the slip of the foil that it leaves, a line for each net: the net, its legs, its length, and x
-and y of its first point.
+SLIP_HELP = """Runs a job, and prints the slip of the foil that it leaves, a line for each net: the net, its legs, its
+length, and x and y of its first point.
 
 Steps that were refused are told on standard error. Where the job cannot be read to its end or its board is refused,
 that is told instead, and nothing is printed. The exit status is by README's table."""

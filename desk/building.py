@@ -158,10 +158,9 @@ def built(*names):
 
 def as_installed(name):
     """Sees that an installed program is the one that was installed."""
-    place = Place(name)
-    if not os.access(place.program, os.X_OK) or not recorded(name) or recorded(name).program != digest_of(place.program):
-        raise NotRun("%s is not the program that was installed: install it again, by ./install in a clone" %
-                     place.program)
+    path, record = Place(name).program, recorded(name)
+    if not os.access(path, os.X_OK) or not record or record.program != digest_of(path):
+        raise NotRun("%s is not the program that was installed: install it again, by ./install in a clone" % path)
 
 
 @contextlib.contextmanager

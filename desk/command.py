@@ -46,8 +46,8 @@ def main(given=None, path=None):
 def do(asked, path):
     """Does what is asked: the status."""
     source = sources.source(asked.file)
-    wanted = [Output(asked.job, "job file")] * bool(asked.job) + [Output(asked.picture, "picture")] * bool(asked.picture)
-    outputs.refuse(wanted, source.path)
+    wanted = [Output(asked.job, "job file"), Output(asked.picture, "picture")]
+    outputs.refuse([output for output in wanted if output.path], source.path)
     table = refusals.readme_table()
     if asked.text:
         return show_text(source, table)

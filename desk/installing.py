@@ -15,16 +15,16 @@ from desk import building, console, statuses
 from desk.arguments import Parser
 from desk.program import ROOT, NotRun
 
-HELP = """Proves and builds the programs and the library, once, and puts them under PREFIX with the desk's commands, the header
-and the pages. That takes some minutes, unless they are built already; a line on standard error says how far it is. What
-is installed never proves, and does not need this clone or the toolchain.
+HELP = """Proves and builds the programs and the library, once, and puts them under PREFIX with the desk's commands, the
+header and the pages. That takes some minutes, unless they are built already; a line on standard error says how far it
+is. What is installed never proves, and does not need this clone or the toolchain.
 
 Where something stands already that ./install has put there, it is put anew; nothing else is written over. The toolchain
 that is asked for is named in tools/KIT-ID."""
 PROGRAMS = ("foil_job", "foil_save", "foil_slip", "foil_ohms")
 # what hosts/build puts under PREFIX
 LIBRARY = ("lib/libfoil.a", "lib/libfoil.so", "lib/pkgconfig/foil.pc", "include/foil.h")
-OWN, PAGES, MANUAL = pathlib.Path("lib", "foil"), pathlib.Path("share", "doc", "foil"), pathlib.Path("share", "man", "man1")
+OWN, PAGES, MANUAL = map(pathlib.Path, ("lib/foil", "share/doc/foil", "share/man/man1"))
 # what of the desk's tools is of use in a clone alone
 NOT_INSTALLED = ("tests", "test", "installing.py", "__pycache__")
 # the file that says of a folder that it was put there by this command

@@ -89,8 +89,8 @@ def bytes_of(said):
         return b"\0"
     numbers = re.search("[0-9]+ ?, ?[0-9]+", said)
     if numbers:
-        raise ValueError("a comma between numbers, in `%s`: a comma parts steps, blanks part numbers, and a thousand is "
-                         "1000" % seen(numbers[0]))
+        raise ValueError("a comma between numbers, in `%s`: a comma parts steps, blanks part numbers, and a thousand "
+                         "is 1000" % seen(numbers[0]))
     steps = []
     for part in said.split(","):
         step = step_of(part.split())

@@ -122,8 +122,9 @@ class Asking(unittest.TestCase):
             self.assertIn("a line that is none of its own", err)
 
     def test_words_that_are_not_understood(self):
-        for question, words in ((asking.SLIP, ["a.job", "b.job"]), (asking.SAVE, ["--out", "x"]), (asking.OHMS, []),
-                                (asking.OHMS, INK[:4]), (asking.OHMS, ["0.5", "2", "0.5"]), (asking.OHMS, INK + ["--w", "1"])):
+        for question, words in (
+                (asking.SLIP, ["a.job", "b.job"]), (asking.SAVE, ["--out", "x"]), (asking.OHMS, []),
+                (asking.OHMS, INK[:4]), (asking.OHMS, ["0.5", "2", "0.5"]), (asking.OHMS, INK + ["--w", "1"])):
             status, out, err = self.ask(question, words, "document-01")
             self.assertEqual((status, out), (4, ""))
             self.assertTrue(err.endswith("./%s --help says how it is used\n" % question.command), err)

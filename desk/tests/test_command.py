@@ -101,7 +101,8 @@ class Command(unittest.TestCase):
         link = self.folder / "link.svg"
         link.symlink_to("both")
         for job, drawn in (("both", "both"), ("both", "./both"), ("both", "link.svg"), ("link.svg", "both")):
-            status, out, err = self.run_sample("document-01", "--job", self.folder / job, "--picture", self.folder / drawn)
+            words = ("--job", self.folder / job, "--picture", self.folder / drawn)
+            status, out, err = self.run_sample("document-01", *words)
             self.assertEqual((status, out, self.folder.joinpath("both").exists()), (4, "", False))
             self.assertIn("would be written over: give the picture another name", err)
 
@@ -195,7 +196,8 @@ class Command(unittest.TestCase):
         self.assertIn("# file 14: the file ends inside a record or before its end mark\n", out)
 
     def test_words_that_do_not_go_together(self):
-        for words in ("--strips x.txt", "--text --picture x.svg x.job", "--lines --quiet x.txt", "a.txt b.txt", "--pic x"):
+        for words in ("--strips x.txt", "--text --picture x.svg x.job", "--lines --quiet x.txt", "a.txt b.txt",
+                      "--pic x"):
             status, out, err = self.run_foil(*words.split())
             self.assertEqual((status, out, err.splitlines()[-1]), (4, "", "./foil --help says how it is used"))
 

@@ -2,6 +2,7 @@
 nothing else is written over, and that what is installed never proves."""
 import os
 import pathlib
+import re
 import shutil
 import subprocess
 import sys
@@ -40,9 +41,9 @@ class Installing(unittest.TestCase):
 
     def installed(self, name, *words):
         """Runs an installed command, far from any toolchain and from the clone: status, output, standard error."""
+        path = os.pathsep.join([str(pathlib.Path(sys.executable).parent), "/usr/bin", "/bin"])
         done = subprocess.run([self.prefix / "bin" / name, *words], cwd="/", capture_output=True, text=True,
-                              stdin=subprocess.DEVNULL,
-                              env={"PATH": os.pathsep.join([str(pathlib.Path(sys.executable).parent), "/usr/bin", "/bin"])})
+                              stdin=subprocess.DEVNULL, env={"PATH": path})
         return done.returncode, done.stdout, done.stderr
 
     def tree(self):
@@ -61,7 +62,7 @@ class Installing(unittest.TestCase):
                      "share/doc/foil/README.md", "share/doc/foil/docs/JOB.md", "share/doc/foil/samples/less-ink.txt",
                      *("bin/" + name for name in COMMANDS), *("share/man/man1/%s.1" % name for name in COMMANDS)]:
             self.assertIn(name, names)
-        self.assertFalse([name for name in names if "tests" in name or ".new" in name or ".old" in name or ".try" in name])
+        self.assertFalse([name for name in names if re.search(r"tests|\.(new|old|try)", name)])
 
     def test_what_is_installed_never_proves(self):
         self.assertEqual(self.install()[0], 0)
@@ -73,7 +74,8 @@ class Installing(unittest.TestCase):
         self.assertEqual(self.installed("foil-slip", sample), (0, "  5    3      10     0     0    \n", ""))
         self.assertEqual(self.installed("foil-save", sample), (0, "!", ""))
         self.assertEqual(self.installed("foil-ohms", "--sheet=1", "--bend=0", "--exact", sample), (0, "5 11.0\n", ""))
-        self.assertEqual(self.installed("foil-slip", "--what")[2].splitlines()[-1], "foil-slip --help says how it is used")
+        said = self.installed("foil-slip", "--what")[2].splitlines()
+        self.assertEqual(said[-1], "foil-slip --help says how it is used")
         self.assertEqual(self.scratch.calls(), [])
 
     def test_a_program_that_is_not_the_one_that_was_installed(self):

@@ -76,11 +76,12 @@ class Ohms(unittest.TestCase):
     def test_a_dead_net_and_a_refused_step(self):
         status, _, err = self.ask(INK + ["--dead", "1"], line(1, 2.0), "less-ink")
         self.assertEqual(status, 1)
-        self.assertTrue(err.startswith("./foil-ohms: 1 net is dead, with more than 1 ohms: 1\n1 of 4 steps was refused"))
+        self.assertIn("./foil-ohms: 1 net is dead, with more than 1 ohms: 1\n1 of 4 steps was refused", err)
 
     def test_no_net(self):
         for words in (INK, INK + ["--exact"], INK + ["--dead", "0"]):
-            self.assertEqual(self.ask(words, ""), (0, "", "./foil-ohms: there is no net on the foil, so there are no ohms\n"))
+            told = "./foil-ohms: there is no net on the foil, so there are no ohms\n"
+            self.assertEqual(self.ask(words, ""), (0, "", told))
 
     def test_the_figure_that_is_out_of_its_range(self):
         for words, told in ((["--sheet", "0", "--bend", "0"], "--sheet 0: ohms a square are above 0 and at most 1,000"),

@@ -28,7 +28,8 @@ class Ways(unittest.TestCase):
         written = given.written_for("less-ink").replace("\n", "\\n")
         cls.scratch = Scratch(
             foil_job=SCRIPT % ("", written), foil_slip=SCRIPT % ("", "  1    3      12     1     1    \\n"),
-            foil_save=SCRIPT % ("", "!"), foil_ohms=SCRIPT % ("head -c 24 > /dev/null; ", "ohms 1 0 400c000000000000\\n"))
+            foil_save=SCRIPT % ("", "!"),
+            foil_ohms=SCRIPT % ("head -c 24 > /dev/null; ", "ohms 1 0 400c000000000000\\n"))
         cls.addClassCleanup(cls.scratch.remove)
         for name in ("foil_job", "foil_slip", "foil_save", "foil_ohms"):
             cls.scratch.run("tools/built", name)
@@ -141,10 +142,16 @@ class Ways(unittest.TestCase):
             self.assertEqual((done.returncode, done.stdout, "Traceback" in done.stderr), (4, "", False), done.stderr)
             self.assertTrue(0 < done.stderr.count("\n") <= 2, done.stderr)
 
+    def test_an_older_python(self):
+        script = "import sys; sys.version_info = (3, 8, 18); sys.argv = ['foil']; import desk"
+        done = subprocess.run([sys.executable, "-B", "-c", script], cwd=program.ROOT, capture_output=True, text=True)
+        self.assertEqual((done.returncode, done.stdout, done.stderr), (
+            5, "", "the desk's tools want Python 3.9 or later, and this is 3.8\n"))
+
     def test_a_mistake_of_the_tools_is_one_line(self):
         self.scratch.write("desk/mistaken.py", "from desk import statuses\nprint(statuses.ended(lambda: {}[7]))\n")
-        script = "import desk.mistaken"
-        done = subprocess.run([sys.executable, "-B", "-c", script], cwd=self.scratch.root, capture_output=True, text=True)
+        done = subprocess.run([sys.executable, "-B", "-c", "import desk.mistaken"], cwd=self.scratch.root,
+                              capture_output=True, text=True)
         self.assertEqual((done.stdout, done.stderr), (
             "5\n", "a mistake in the desk's own tools, at mistaken.py, line 2: KeyError: 7\n"))
 
