@@ -2,7 +2,7 @@
 desk's commands, the header and the pages. What is installed never proves.
 
     PREFIX/bin                the commands, as links to those in lib/foil
-    PREFIX/lib, include       libfoil.a, libfoil.so, pkgconfig/foil.pc and foil.h, by hosts/build
+    PREFIX/lib, include       libfoil.a, libfoil.so, pkgconfig/foil.pc and foil.h
     PREFIX/lib/foil           the commands, the desk's tools, the proved programs and their records
     PREFIX/share/doc/foil     README, docs and samples
     PREFIX/share/man/man1     a page for each command: its help"""
@@ -22,7 +22,8 @@ is. What is installed never proves, and does not need this clone or the toolchai
 Where something stands already that ./install has put there, it is put anew; nothing else is written over. The toolchain
 that is asked for is named in tools/KIT-ID."""
 PROGRAMS = ("foil_job", "foil_save", "foil_slip", "foil_ohms")
-# what hosts/build puts under PREFIX
+# where the library is built, and the files that hosts/build puts there
+BUILT = ROOT / "target" / "install"
 LIBRARY = ("lib/libfoil.a", "lib/libfoil.so", "lib/pkgconfig/foil.pc", "include/foil.h")
 OWN, PAGES, MANUAL = map(pathlib.Path, ("lib/foil", "share/doc/foil", "share/man/man1"))
 # what of the desk's tools is of use in a clone alone
@@ -49,11 +50,12 @@ def do(given):
         folder.mkdir(parents=True, exist_ok=True)
         with open(folder / ".try", "w", encoding="utf-8"):
             folder.joinpath(".try").unlink()
-    console.complain("the programs:")
     building.built(*PROGRAMS)
-    console.complain("the library:")
-    build_library(prefix)
+    console.complain("the programs are proved and built")
+    build_library()
+    console.complain("the library is proved and built")
     put_own(prefix)
+    put_library(prefix)
     put_pages(prefix)
     console.put(told(prefix))
     return statuses.ACCEPTED
@@ -98,13 +100,22 @@ def ask_toolchain(any_kit):
     console.complain("the toolchain is %s" % version)
 
 
-def build_library(prefix):
-    """Has the library built under a folder."""
-    done = subprocess.run([ROOT / "hosts" / "build", prefix], stdin=subprocess.DEVNULL, stdout=subprocess.PIPE)
-    missing = [name for name in LIBRARY if not prefix.joinpath(name).is_file()]
+def build_library():
+    """Has the library built, in the clone."""
+    shutil.rmtree(BUILT, ignore_errors=True)
+    done = subprocess.run([ROOT / "hosts" / "build", BUILT], stdin=subprocess.DEVNULL, stdout=subprocess.PIPE)
+    missing = [name for name in LIBRARY if not BUILT.joinpath(name).is_file()]
     if done.returncode != 0 or missing:
         raise NotRun("the library is not built: hosts/build ended with status %d%s" % (
-            done.returncode, missing and ", without " + ", ".join(missing)))
+            done.returncode, "".join(", without " + name for name in missing)))
+
+
+def put_library(prefix):
+    """Puts the library: each file is made beside its place, so that a program which has the old one keeps it."""
+    for name in LIBRARY:
+        path = prefix / name
+        path.parent.mkdir(parents=True, exist_ok=True)
+        shutil.copy(BUILT / name, path.with_name(path.name + ".new")).replace(path)
 
 
 def put_own(prefix):

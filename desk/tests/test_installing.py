@@ -153,6 +153,11 @@ class Installing(unittest.TestCase):
         self.assertEqual((status, out, self.tree()), (5, "", {}))
         self.assertIn("the library is not built: hosts/build ended with status 5", err)
         self.scratch.root.joinpath("hosts", "fails").unlink()
+        self.scratch.write("hosts/build", "#!/bin/sh\n")
+        status, out, err = self.install()
+        self.assertEqual((status, out, self.tree()), (5, "", {}))
+        self.assertIn("ended with status 0, without lib/libfoil.a, without lib/libfoil.so", err)
+        self.scratch.write("hosts/build", LIBRARY)
         self.assertEqual(self.install()[0], 0)
 
 
