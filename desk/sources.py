@@ -30,8 +30,8 @@ class Source(NamedTuple):
 
     @property
     def title(self):
-        """Its name over a picture."""
-        return self.path.stem if self.path else "foil"
+        """Its name over a picture, in letters that a file can hold."""
+        return self.path.stem.encode(errors="replace").decode() if self.path else "foil"
 
     @property
     def is_job(self):

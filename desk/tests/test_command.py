@@ -2,6 +2,7 @@
 proved one."""
 import contextlib
 import io
+import os
 import pathlib
 import subprocess
 import sys
@@ -182,6 +183,13 @@ class Command(unittest.TestCase):
             self.assertEqual((status, out.count("laid: 2 bends, length 10")), (0, 1))
             self.assertTrue(ET.parse(drawn).getroot().tag.endswith("svg"))
             drawn.unlink()
+
+    def test_picture_of_a_file_whose_name_is_no_text(self):
+        path, drawn = pathlib.Path(os.fsdecode(os.fsencode(self.folder) + b"/caf\xe9.txt")), self.folder / "x.svg"
+        path.write_text(given.text_of("document-01"))
+        status, _, err = self.run_foil("--picture", drawn, path, written=given.written_for("document-01"))
+        self.assertEqual((status, err), (0, ""))
+        self.assertIn("<title>caf?</title>", drawn.read_text(encoding="utf-8"))
 
     def test_no_picture_without_a_foil(self):
         drawn = self.folder / "x.svg"

@@ -4,6 +4,7 @@ import os
 import pathlib
 import pty
 import re
+import select
 import struct
 import subprocess
 import sys
@@ -18,6 +19,8 @@ from desk.tests.scratch import Scratch
 
 INK = ("--sheet", "0.5", "--bend", "0.5")
 COMMANDS = (("foil",), ("foil-job",), ("foil-slip",), ("foil-save",), ("foil-ohms", *INK))
+# how many seconds a command may be silent
+PATIENCE = 20
 # what stands for a program: it keeps the job that it was given, and writes its lines
 SCRIPT = '#!/bin/sh\n%scat > "$(dirname "$0")/given"\nprintf \'%s\'\n'
 
@@ -168,14 +171,13 @@ class Terminal(unittest.TestCase):
                               stderr=plain[2]) as running:
             os.close(theirs)
             shown = b""
-            while True:
+            while select.select([ours], [], [], PATIENCE)[0]:
                 try:
-                    part = os.read(ours, 4096)
+                    shown += os.read(ours, 4096)
                 except OSError:
                     break
-                if not part:
-                    break
-                shown += part
+            else:
+                running.kill()
         os.close(ours)
         return running.returncode, shown.decode().replace("\r\n", "\n")
 
