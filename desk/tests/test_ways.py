@@ -122,20 +122,16 @@ class Ways(unittest.TestCase):
                 self.assertEqual((status, "send that to another file" in err), (4, True), err)
                 self.assertEqual(path.read_bytes(), given.SAMPLES.joinpath("less-ink.job").read_bytes())
 
-    def test_through_links_from_any_folder(self):
+    def test_through_links_from_any_folder_and_without_that_of_the_script(self):
         for command in COMMANDS:
             link = self.folder / ("a-" + command[0])
             link.symlink_to(self.scratch.root / command[0])
             again = self.folder / ("b-" + command[0])
             again.symlink_to(link.name)
             for path, folder in ((link, "/"), (again, self.folder), (self.scratch.root / command[0], "/")):
-                told = self.scratch.run(path, *command[1:], self.folder / "less-ink.txt", cwd=folder)
-                self.assertEqual((told[0], bool(told[1])), (1, True), told)
-
-    def test_python_without_the_folder_of_the_script(self):
-        for command in COMMANDS:
-            told = self.scratch.run(*command, self.folder / "less-ink.txt", cwd="/", python=["-I"])
-            self.assertEqual((told[0], bool(told[1])), (1, True), told)
+                for python in ([], ["-I"]):
+                    told = self.scratch.run(path, *command[1:], self.folder / "less-ink.txt", cwd=folder, python=python)
+                    self.assertEqual((told[0], bool(told[1])), (1, True), told)
 
     def test_every_script_says_what_it_does_not_understand(self):
         for script, *words in (("install",), ("install", "a", "b"), ("tools/built",), ("samples/make", "none.txt"),
