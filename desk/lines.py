@@ -32,6 +32,11 @@ class Outcome(NamedTuple):
     step: jobs.Step
     said: Said
 
+    @property
+    def key(self):
+        """By what a step is known: the place of its record, and its word."""
+        return self.place, self.step.word
+
 
 class Run(NamedTuple):
     """What came of a job. Its strips are none where it did not come to a good end mark. `place` is that of the end

@@ -10,7 +10,7 @@
     bytes 04 01 00                  bytes as they stand, in hexadecimal, on a line of their own
     bytes 00 times 5                five of them
 
-What follows a # is a remark; blank lines are passed over. The steps of a record stand in the order above, in which
+What follows a # is a remark, which may have names (desk/names.py); blank lines are passed over. The steps of a record stand in the order above, in which
 they are done. `read` makes the job from a text, and `show` the text of a job. Reading what is shown gives the same
 bytes, whatever they are; showing what was read gives the same text but for remarks and blanks, where the file is not
 at fault."""
@@ -36,11 +36,12 @@ class Unreadable(Exception):
 
 
 class Line(NamedTuple):
-    """A line of a text that gives bytes: its number, what it says without its remark, and the places of its bytes."""
+    """A line of a text that gives bytes: its number, what it says, the places of its bytes, and its remark."""
     number: int
     said: str
     place: int
     after: int
+    remark: str = ""
 
 
 class Text(NamedTuple):
@@ -53,14 +54,15 @@ def read(source):
     """The job of a text, which is given as text or as the bytes of its file."""
     made, lines, faults = bytearray(), [], []
     for number, line in enumerate(lines_of(source), 1):
-        said = " ".join(line.split("#")[0].split())
+        step, _, remark = line.partition("#")
+        said = " ".join(step.split())
         if said:
             try:
                 given = bytes_of(said)
             except ValueError as fault:
                 faults.append((number, str(fault)))
                 continue
-            lines.append(Line(number, said, len(made), len(made) + len(given)))
+            lines.append(Line(number, said, len(made), len(made) + len(given), remark.strip()))
             made += given
     if faults:
         raise Unreadable(faults)

@@ -23,7 +23,9 @@ class Reading(unittest.TestCase):
 
     def test_lines_have_their_places(self):
         text = textform.read("# one\nboard 6 4 0\n\n  patch 2 0 3 3 , lift 7 # two\r\nend")
-        self.assertEqual([line[:1] + line[2:] for line in text.lines], [(2, 0, 7), (4, 7, 18), (5, 18, 19)])
+        places = [(line.number, line.place, line.after) for line in text.lines]
+        self.assertEqual(places, [(2, 0, 7), (4, 7, 18), (5, 18, 19)])
+        self.assertEqual([line.remark for line in text.lines], ["", "two", ""])
 
     def test_what_cannot_be_read_is_told_by_its_line(self):
         for line, message in (
