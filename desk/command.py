@@ -2,7 +2,7 @@
 import pathlib
 import sys
 
-from desk import building, foils, job, lines, outputs, picture, program, refusals, sources, statuses, textform, words
+from desk import accounts, building, job, outputs, picture, refusals, sources, statuses, textform
 from desk.arguments import Parser
 from desk.console import complain, put, width
 from desk.outputs import Output
@@ -65,19 +65,13 @@ def show_text(source, table):
 def run(asked, source, table, path):
     """Runs the job of a text, shows what came of it, and writes what is to be kept: the status."""
     text = source.text()
-    written = program.run(path or building.built("foil_job")[0], text.job)
-    done = lines.run_of(text.job, written)
+    account = accounts.account_of(text, path or building.built("foil_job")[0])
     try:
-        put(written if asked.lines else answer(asked, text, done, table))
+        put(account.written if asked.lines else account.page(table, width(sys.stdout), asked.quiet))
     finally:
-        kept = keep(asked, source, text, foils.foil_of(done), table)
-    return statuses.of_run(done) if kept else statuses.NOT_DONE
-
-
-def answer(asked, text, done, table):
-    """What came of each line of a text, in words."""
-    rows = words.rows(text, done, table)
-    return words.page([row for row in rows if row.refused or not asked.quiet], width(sys.stdout))
+        kept = keep(asked, source, text, account.foil, table)
+        accounts.tell_strays(source.name, text)
+    return statuses.of_run(account.run) if kept else statuses.NOT_DONE
 
 
 def keep(asked, source, text, foil, table):

@@ -45,8 +45,8 @@ class Missing(NamedTuple):
 
     @property
     def called(self):
-        """What it is, and its net."""
-        return "leg of net %d" % self.net if self.net else "patch"
+        """What it is, with its net."""
+        return "leg %d" % self.net if self.net else "patch"
 
 
 class Foil(NamedTuple):
@@ -139,19 +139,28 @@ def standing(done):
     return list(laid.values())
 
 
+class Stead(NamedTuple):
+    """What is on the foil at the end in the stead of a refused track: a net, and the place where it was laid, if it is
+    the track's own that was laid later; otherwise a net with both the track's points on its legs."""
+    net: int
+    place: int = None
+
+
 def made_good(run):
-    """For each refused track, by its key, the net on the foil at the end that stands for it: its own, laid later, or
-    one with both its points on its legs."""
+    """What is on the foil in the stead of each refused track that is not open, by its key."""
     done = [outcome for outcome in run.outcomes if outcome.said]
     legs = legs_of(tables(run)[-1])
-    laid = {outcome.step.net: done.index(outcome) for outcome in standing(done)}
+    laid = {outcome.step.net: outcome for outcome in standing(done)}
+    order = {outcome.key: at for at, outcome in enumerate(done)}
     good = {}
-    for at, outcome in enumerate(done):
-        if outcome.step.word == "track" and outcome.said.number:
+    for outcome in run.refused:
+        if outcome.step.word == "track":
             joining = [net for net, of in legs.items() if all(is_on(of, end) for end in points_of(outcome.step))]
-            later = laid.get(outcome.step.net, -1) > at and outcome.said.number not in MISNUMBERED
-            if later or joining:
-                good[outcome.key] = outcome.step.net if later else joining[0]
+            later = laid.get(outcome.step.net)
+            if later and order[later.key] > order[outcome.key] and outcome.said.number not in MISNUMBERED:
+                good[outcome.key] = Stead(later.step.net, later.place)
+            elif joining:
+                good[outcome.key] = Stead(joining[0])
     return good
 
 

@@ -10,10 +10,10 @@
     bytes 04 01 00                  bytes as they stand, in hexadecimal, on a line of their own
     bytes 00 times 5                five of them
 
-What follows a # is a remark, which may have names (desk/names.py); blank lines are passed over. The steps of a record stand in the order above, in which
-they are done. `read` makes the job from a text, and `show` the text of a job. Reading what is shown gives the same
-bytes, whatever they are; showing what was read gives the same text but for remarks and blanks, where the file is not
-at fault."""
+What follows a # is a remark, which may give names (desk/names.py); blank lines are passed over. The steps of a record
+stand in the order above, in which they are done. `read` makes the job from a text, and `show` the text of a job.
+Reading what is shown gives the same bytes, whatever they are; showing what was read gives the same text but for remarks
+and blanks, where the file is not at fault."""
 import re
 from typing import NamedTuple
 
@@ -48,6 +48,10 @@ class Text(NamedTuple):
     """A text that was read: the job that it makes, and its lines."""
     job: bytes
     lines: list
+
+    def line_of(self, place):
+        """The line on which the record at a place begins."""
+        return next(line for line in self.lines if line.place <= place < line.after)
 
 
 def read(source):

@@ -24,6 +24,13 @@ def turned_down(how, number, table):
     return ["%s (%d): %s" % (how, number, says)] + (["what to do: " + to_do] if to_do else [])
 
 
+def listed(things, most):
+    """Things in a row; the first of them, and how many more, where there are too many."""
+    if len(things) > most:
+        things = things[:most] + ["%d more" % (len(things) - most)]
+    return " and ".join([", ".join(things[:-1])] * (len(things) > 1) + things[-1:])
+
+
 def count(n, thing, ending="s"):
     """So many of a thing."""
     return "%s %s%s" % (n or "no", thing, "" if n == 1 else ending)
@@ -40,13 +47,25 @@ def accepted(step, said):
     return {"patch": "drawn", "lift": "lifted", "leg": "put back as it was booked"}[step.word]
 
 
-def of_outcome(outcome, table):
-    """What came of a step."""
-    if outcome.said is None:
-        return ["not done"]
-    if outcome.said.number:
-        return turned_down("refused", outcome.said.number, table)
-    return [accepted(outcome.step, outcome.said)]
+class Told:
+    """What is told of steps: the words of a number once, where it is first met. `names` has those of steps, and `notes`
+    what would help with refused ones, by the steps' keys."""
+
+    def __init__(self, table, names, notes):
+        self.table, self.names, self.notes, self.first = table, names, notes, {}
+
+    def of(self, outcome, line):
+        """What came of a step on a line."""
+        if outcome.said is None:
+            return ["not done"]
+        name = '"%s" ' % self.names[outcome.key] if outcome.key in self.names else ""
+        if not outcome.said.number:
+            return [name + accepted(outcome.step, outcome.said)]
+        number, note = outcome.said.number, "; ".join(self.notes.get(outcome.key, []))
+        if number not in self.first:
+            self.first[number] = line
+            return turned_down(name + "refused", number, self.table) + (["here: " + note] if note else [])
+        return ["%srefused (%d): %s" % (name, number, note or "as on line %d" % self.first[number])]
 
 
 def left_free(strips):
@@ -55,8 +74,10 @@ def left_free(strips):
     return "%s free, in %s" % (count(points, "point"), count(len(strips), "strip")) if strips else "no point is free"
 
 
-def rows(text, run, table):
-    """The rows for a text whose job was run: for each of its lines, those of the records that begin on it."""
+def rows(text, run, table, names={}, notes={}):
+    """The rows for a text whose job was run: for each of its lines, those of the records that begin on it. `names` and
+    `notes` are those of steps, by their keys."""
+    told = Told(table, names, notes)
     fault = run.fault and turned_down("at fault", run.fault.number, table)
     if fault and run.fault.number == 18:
         return [Row(None, "the whole file", fault, True)]
@@ -64,21 +85,21 @@ def rows(text, run, table):
     shown = []
     for line in text.lines:
         begun = run.outcomes[bisect.bisect_left(places, line.place):bisect.bisect_left(places, line.after)]
-        shown += line_rows(line, begun, run, table)
+        shown += line_rows(line, begun, run, told)
     if fault and run.place == len(text.job):
         shown.append(Row(None, "the end of the file", fault, True))
     return shown
 
 
-def line_rows(line, begun, run, table):
+def line_rows(line, begun, run, told):
     """The rows for a line: the steps that begin on it, then the end mark or what is at fault, where that is on it."""
     ends = run.place is not None and line.place <= run.place < line.after
     if ends and run.fault:
         begun = [outcome for outcome in begun if outcome.said]
-    shown = [Row(line.number, textform.step_text(outcome.step), of_outcome(outcome, table), is_refused(outcome))
+    shown = [Row(line.number, textform.step_text(outcome.step), told.of(outcome, line.number), is_refused(outcome))
              for outcome in begun]
     if ends and run.fault:
-        shown.append(Row(line.number, line.said, turned_down("at fault", run.fault.number, table), True))
+        shown.append(Row(line.number, line.said, turned_down("at fault", run.fault.number, told.table), True))
     elif ends:
         shown.append(Row(line.number, "end", [left_free(run.strips)]))
     elif not begun:
