@@ -31,14 +31,18 @@ class Place(NamedTuple):
 
 
 class Wish(NamedTuple):
-    """A label: its text, its size, the places that it may have, and the boxes of its own ink; and the point to which a
-    line leads where it has to go far off, none where it may not."""
+    """A label: its text, its size, the places that it may have, and the boxes of its own ink; the point to which a line
+    leads where it has to go far off, none where it may not; its class; and what there is in its stead where there is no
+    room for it: another label of the same ink, or nothing where it may be left out."""
     text: str
     wide: float
     high: float
     places: list
     ink: list
     point: tuple = None
+    kind: str = "label"
+    shorter: "Wish" = None
+    left_out: bool = False
 
     @property
     def ink_area(self):
@@ -81,21 +85,32 @@ class Covered:
 
 
 def placed(wishes, frame, patches):
-    """The place of each label, in the order of the wishes. Those that have the fewest choose first."""
-    covered, places = Covered(), [None] * len(wishes)
+    """The labels that there is room for, each with its place. Those that have the fewest places choose first, and those
+    that may be left out last."""
+    covered, made = Covered(), [None] * len(wishes)
     for box in patches:
         covered.add(box, max(PATCH, SMALL * AREA / area(box)) / AREA)
     for wish in wishes:
         for box in wish.ink:
             covered.add(box, wish.ink_cost)
-    for at in sorted(range(len(wishes)), key=lambda at: len(wishes[at].places)):
-        places[at] = best_place(wishes[at], frame, covered)
-        covered.add(wishes[at].box(places[at]), LABEL / AREA)
-    return places
+    for at in sorted(range(len(wishes)), key=lambda at: (wishes[at].left_out, len(wishes[at].places))):
+        made[at] = settled(wishes[at], frame, covered)
+        if made[at]:
+            wish, place = made[at]
+            covered.add(wish.box(place), LABEL / AREA)
+    return [pair for pair in made if pair]
+
+
+def settled(wish, frame, covered):
+    """A label with its best place, or the one in its stead; none where it is left out."""
+    cost, place = best_place(wish, frame, covered)
+    if cost > CROWDED and wish.shorter:
+        return settled(wish.shorter, frame, covered)
+    return None if cost > CROWDED and wish.left_out else (wish, place)
 
 
 def best_place(wish, frame, covered):
-    """The place of a label that costs least, or the first that costs little."""
+    """The place of a label that costs least, or the first that costs little, with what it costs."""
     ink, rate = wish.ink_area, wish.ink_cost
 
     def cost(place):
@@ -109,7 +124,7 @@ def best_place(wish, frame, covered):
         if cost(best) <= CROWDED:
             break
         best = min([best] + far_off(wish.point, ring, wish.high), key=cost)
-    return best
+    return cost(best), best
 
 
 def far_off(point, ring, high):
@@ -134,6 +149,15 @@ def along(legs, wide, high):
             x, y = (shift, side) if level else (side, shift)
             places.append(Place((x0 + x1) / 2 + x, (y0 + y1) / 2 + y, cost + NEXT * len(places)))
     return places
+
+
+def about(box, wide, high):
+    """Places for a label of a box: on its middle, then above and below that, then outside it."""
+    x0, y0, x1, y1 = box
+    x, y = (x0 + x1) / 2, (y0 + y1) / 2
+    rows = [(y, 0), ((y0 + y) / 2, NEXT), ((y + y1) / 2, NEXT), (y0 - high / 2 - 1, BESIDE), (y1 + high / 2 + 1, BESIDE)]
+    beside = [(x0 - wide / 2 - 2, y, PAST), (x1 + wide / 2 + 2, y, PAST)]
+    return [Place(*place) for place in [(x, row, cost) for row, cost in rows] + beside]
 
 
 def on_line(start, end, wide, high):

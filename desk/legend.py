@@ -1,29 +1,44 @@
 """The legend of a picture: what it explains, and where each of that stands under the foil."""
-from desk import words
+from typing import NamedTuple
+
+from desk import blocking, words
 
 # the height of a row, the width of a sample before its words and of the blank after them, and of a character
 ROW, SAMPLE, BLANK, CHARACTER = 18, 24, 16, 6
-# how many refused tracks are named that are not in the picture
+# how many refused steps are named that are not in the picture
 NAMED = 6
 
 
-def items(foil, strips, lines, unlabelled, thickened):
-    """What there is to explain: pairs of a class of elements, or none for a remark, and the words. `lines` has the
-    refused tracks, each with its line in the picture or none; so many of them have no label."""
-    ink = foil.patches or foil.nets
-    unseen = ["%d (%d)" % (track.net, track.number) for track, line in lines if line is None]
-    more = " and %d more" % (len(unseen) - NAMED) if len(unseen) > NAMED else ""
+class Shown(NamedTuple):
+    """What a picture shows of what was refused: the class of its tracks, how many of them and how many boxes, what is
+    not in the picture, how many have no label; and whether ink is drawn wider than it is."""
+    kind: str
+    tracks: int
+    boxes: int
+    unseen: list
+    unlabelled: int
+    thickened: bool
+
+
+def items(foil, strips, shown):
+    """What there is to explain: pairs of a class of elements, or none for a remark, and the words."""
+    pen = (foil.half, foil.gap)
+    around = [words.count(blocking.reach(net, pen), "point") + " around a " + of
+              for net, of, there in ((0, "patch", foil.patches), (1, "track", foil.nets)) if there]
+    more = " and %d more" % (len(shown.unseen) - NAMED) if len(shown.unseen) > NAMED else ""
     every = (
         (foil.patches, "patch", "patch"),
-        (foil.gap and ink, "clearance", "clearance, %s around ink" % words.count(foil.gap, "point")),
+        (foil.gap and around, "clearance", "clearance, %s around ink" % words.count(foil.gap, "point")),
+        (foil.half and around, "kept", "no track's middle: %s" % ", ".join(around)),
         (foil.half + foil.gap, "edge", "edge zone, %s, blocked" % words.count(foil.half + foil.gap, "point")),
         (strips, "strip", "free strip"),
-        (len(lines) > len(unseen), "refused", "refused: net (number)"),
-        (unseen, None, "not in the picture: %s%s" % (", ".join(unseen[:NAMED]), more)),
-        (unlabelled, None, "without a label: %s" % words.count(unlabelled, "refused track")),
-        (thickened and foil.nets, None, "ink is drawn wider than it is"),
+        (shown.tracks, shown.kind, "refused: net (number)"),
+        (shown.boxes, "missing", "refused patch or leg (number)"),
+        (shown.unseen, None, "not in the picture: %s%s" % (", ".join(shown.unseen[:NAMED]), more)),
+        (shown.unlabelled, None, "without a label: %s" % words.count(shown.unlabelled, "refused step")),
+        (shown.thickened and foil.nets, None, "ink is drawn wider than it is"),
     )
-    return [(kind, text) for shown, kind, text in every if shown]
+    return [(kind, text) for there, kind, text in every if there]
 
 
 def rows(explained, left, right):

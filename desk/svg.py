@@ -3,8 +3,10 @@ import xml.etree.ElementTree as ET
 
 from desk import colours
 
-# classes: page, sheet (the foil), edge with its hatch, clearance, strip, patch, c0 to c5 (tracks), refused with its
-# halo, near (a broad unseen line for the pointer), outline, tick, label with its leader, head
+# classes: page, sheet (the foil), edge with its hatch, clearance, kept (where no track's middle may lie), strip, patch,
+# c0 to c5 (tracks), refused with its halo, dim (refused, where there are many), missing (a refused patch or leg), near
+# (a broad unseen line for the pointer), outline, tick, label with its leader, key (the name of a patch), faint (a label
+# of what is dim), head
 STYLE = """
 text { font: 11px sans-serif; fill: #22272d }
 .head { font-size: 14px; font-weight: bold }
@@ -13,30 +15,40 @@ text { font: 11px sans-serif; fill: #22272d }
 .page, .sheet { fill: #ffffff }
 .edge { fill: url(#hatch) }
 .hatch { stroke: #9aa4ae }
+.kept { fill: #f8f1e4 }
 .clearance { fill: #e4e8ec }
 .strip { fill: #f2f9f5; stroke: #4d8f7a }
 .patch { fill: #a7b0b9; stroke: #616b75 }
 .outline { fill: none; stroke: #22272d }
 .tick, .leader { stroke: #717b85; stroke-width: 1px }
 .refused { stroke: #000000; fill: none }
+.missing { stroke: #000000; fill: none }
+.dim { stroke: #848e98; fill: none }
 .halo { stroke: #ffffff; fill: none }
 .near { stroke: #ffffff; stroke-opacity: 0 }
-.label { font-weight: bold; text-anchor: middle; pointer-events: none;
+.label, .key, .faint { text-anchor: middle; pointer-events: none;
 fill: #000000; stroke: #ffffff; stroke-width: 3px; stroke-linejoin: round; paint-order: stroke }
+.label { font-weight: bold }
+.key { stroke: #a7b0b9; stroke-width: 2px }
+.faint { font-size: 9px; fill: #5b656f; stroke-width: 2px }
 %s
 @media screen and (prefers-color-scheme: dark) {
 text { fill: #d7dde3 }
 .page { fill: #101316 }
 .sheet { fill: #191d22 }
 .hatch { stroke: #56606b }
+.kept { fill: #25221c }
 .clearance { fill: #2f363f }
 .strip { fill: #15251f; stroke: #57a98f }
 .patch { fill: #5c6670; stroke: #a3aeb9 }
 .outline { stroke: #d7dde3 }
 .tick, .leader { stroke: #8d97a1 }
-.refused { stroke: #ffffff }
+.refused, .missing { stroke: #ffffff }
+.dim { stroke: #75808b }
 .halo { stroke: #101316 }
-.label { fill: #ffffff; stroke: #101316 }
+.label, .key, .faint { fill: #ffffff; stroke: #101316 }
+.key { stroke: #5c6670 }
+.faint { fill: #aab4be }
 %s
 }
 """

@@ -2,7 +2,7 @@
 import unittest
 import xml.etree.ElementTree as ET
 
-from desk import boxes, foils, labels, lines, picture, program, refusals, textform
+from desk import boxes, foils, labels, lines, names, picture, program, refusals, textform
 from desk.tests import given
 
 TABLE = refusals.readme_table()
@@ -96,6 +96,17 @@ class Ground(unittest.TestCase):
         *zones, _ = [self.box(rect) for rect in elements(root, "rect", "clearance")]
         self.assertEqual(zones, [(29, 9, 41, 21), (2, 2, 24, 9), (17, 2, 24, 34)])
 
+    def test_where_no_middle_may_lie(self):
+        root = drawn(PEN)
+        *zones, _ = [self.box(rect) for rect in elements(root, "rect", "kept")]
+        self.assertEqual(zones, [(27, 7, 43, 23), (0, 0, 26, 11), (15, 0, 26, 36)])
+        self.assertIn("no track's middle: 3 points around a patch, 5 points around a track",
+                      [text.text for text in elements(root, "text")])
+        drawn_in = [element.get("class") for element in root.iter(SVG + "rect")]
+        self.assertLess(drawn_in.index("kept"), drawn_in.index("clearance"))
+        for name in ("reader-keys", "document-01"):
+            self.assertEqual(elements(drawn(foils.foil_of(given.run_of(name))), "rect", "kept"), [])
+
     def test_no_point_is_left_by_the_edge(self):
         for size, edges in (("5 40 3", 1), ("6 40 3", 1), ("7 40 3", 4), ("9 9 0", 0)):
             root = drawn(foil_by("board %s\nend\n" % size, "board 0\n"))
@@ -155,6 +166,57 @@ class Refused(unittest.TestCase):
             self.assertIsNone(boxes.cut(start, end, frame))
 
 
+class Many(unittest.TestCase):
+    """Where dozens of steps are refused."""
+
+    def picture_of(self, many):
+        """A foil with a track, and so many that were refused across it."""
+        tracks = [(net, net % 60, 59 - net % 60) for net in range(1, many + 1)]
+        text = "board 60 60 0\ntrack 999 0 30 59 30\n" + "".join("track %d %d 0 %d 59\n" % track for track in tracks)
+        told = "board 0\ntrack 999 0 0 0,30 59,30\n" + "".join("track %d 9\n" % net for net, _, _ in tracks)
+        return drawn(foil_by(text + "end\n", told))
+
+    def order(self, root):
+        """The classes of lines and paths as they are drawn, each where it comes first."""
+        every = [element.get("class") for element in root.find(SVG + "g").iter()]
+        return [kind for kind in dict.fromkeys(every) if kind in ("c0", "halo", "refused", "dim")]
+
+    def test_a_few_lie_over_the_tracks_with_a_halo(self):
+        root = self.picture_of(picture.MANY)
+        self.assertEqual(self.order(root), ["c0", "halo", "refused"])
+        self.assertEqual(len(elements(root, "text", "label")), 1 + picture.MANY)
+
+    def test_many_are_dim_and_lie_under_the_tracks(self):
+        root = self.picture_of(400)
+        self.assertEqual(self.order(root), ["dim", "c0"])
+        self.assertEqual(len(elements(root, "line", "dim")), 400 + 1)
+        labelled = len(elements(root, "text", "faint"))
+        self.assertLess(labelled, 400)
+        self.assertIn("without a label: %d refused steps" % (400 - labelled), [e.text for e in elements(root, "text")])
+        self.assertEqual([text.text for text in elements(root, "text", "label")], ["999"])
+
+    def test_tracks_that_were_laid_later_are_not_drawn(self):
+        for name in ("window", "reader-relaid", "wide-pen"):
+            root = drawn(foils.foil_of(given.run_of(name)))
+            self.assertEqual(elements(root, "line", "refused") + elements(root, "line", "dim"), [])
+            self.assertNotIn("refused", elements(root, "text")[1].text)
+
+    def test_refused_patches_and_legs_are_drawn(self):
+        text = "board 20 20 0\npatch 2 2 4 30\npatch 9 9 5 5\npatch 7 7 7 8\nleg 3 1 1 2 5\npatch 300 300 310 310\nend\n"
+        foil = foil_by(text, "board 0\npatch 3\npatch 3\npatch 3\nleg 3 21\npatch 3\n")
+        root, pixel = drawn(foil), 1 / picture.Picture(foil, "", False, TABLE).scale
+        *seen, _ = elements(root, "rect", "missing")
+        at = [[float(box.get(name)) for name in ("x", "y", "width", "height")] for box in seen]
+        right = [[2, 2, 2, 18 + (picture.RIGHT - 8) * pixel], [5, 5, 4, 4], [7, 7, pixel, 1], [1, 1, 1, 4]]
+        self.assertEqual([[round(number, 2) for number in box] for box in at],
+                         [[round(number, 2) for number in box] for box in right])
+        self.assertEqual(title(seen[3]), "leg 3 1 1 2 5 refused (21): " + TABLE[21].says)
+        told = [text.text for text in elements(root, "text")]
+        self.assertIn("20 by 20 points, reach 0; no patches, no tracks, 5 refused", told)
+        self.assertIn("not in the picture: patch (3)", told)
+        self.assertLessEqual({"patch (3)", "leg 3 (21)"}, set(told))
+
+
 class Labels(unittest.TestCase):
     def covered(self, foil):
         """How many pairs of labels cover each other."""
@@ -182,14 +244,36 @@ class Labels(unittest.TestCase):
     def test_a_label_does_not_cover_a_small_patch(self):
         places = [labels.Place(0, 0, 0), labels.Place(20, 0, 0.1)]
         wish = labels.Wish("1", 10, 10, places, [])
-        self.assertEqual(labels.placed([wish], (-50, -50, 50, 50), [(-2, -2, 2, 2)]), places[1:])
-        self.assertEqual(labels.placed([wish], (-50, -50, 50, 50), [(-40, -40, 40, 40)]), places[:1])
+        for patch, right in (((-2, -2, 2, 2), places[1]), ((-40, -40, 40, 40), places[0])):
+            self.assertEqual(labels.placed([wish], (-50, -50, 50, 50), [patch]), [(wish, right)])
 
     def test_a_label_takes_the_next_place(self):
         places = [labels.Place(0, 0, 0), labels.Place(20, 0, 0.1)]
         wishes = [labels.Wish("1", 10, 10, places, []), labels.Wish("2", 10, 10, places, [])]
-        self.assertEqual(labels.placed(wishes, (-50, -50, 50, 50), []), places)
-        self.assertEqual(labels.placed(wishes[:1], (5, -50, 50, 50), []), places[1:])
+        self.assertEqual(labels.placed(wishes, (-50, -50, 50, 50), []), list(zip(wishes, places)))
+        self.assertEqual(labels.placed(wishes[:1], (5, -50, 50, 50), []), [(wishes[0], places[1])])
+
+    def test_a_label_without_room(self):
+        there, place = labels.Wish("1", 10, 10, [labels.Place(0, 0, 0)], []), labels.Place(0, 0, 0)
+        short = labels.Wish("s", 2, 2, [labels.Place(20, 0, 0)], [])
+        frame = (-50, -50, 50, 50)
+        for wish, right in ((there, (there, place)), (there._replace(left_out=True), None),
+                            (there._replace(shorter=short), (short, short.places[0]))):
+            made = labels.placed([there, wish], frame, [])
+            self.assertEqual(made, [(there, place)] + ([right] if right else []))
+
+    def test_names(self):
+        text = "board 60 40 0\npatch 30 10 50 20 # key: Page on\npatch 0 0 9 9\ntrack 7 5 30 50 30 # net: To the pins\n"
+        text += "track 8 5 34 5 34 # net: %s\nend\n" % ("very long " * 4)
+        read = textform.read(text)
+        run = lines.run_of(read.job, "board 0\npatch 0\npatch 0\ntrack 7 0 0 5,30 50,30\ntrack 8 0 0 5,34\n")
+        root = drawn(foils.foil_of(run, names.names_of(read)))
+        self.assertEqual([text.text for text in elements(root, "text", "key")], ["Page on"])
+        self.assertEqual([text.text for text in elements(root, "text", "label")],
+                         ["7 To the pins", "8 very long very l.."])
+        self.assertEqual([title(patch) for patch in elements(root, "rect", "patch")[:2]],
+                         ["patch 30 10 50 20: Page on", "patch 0 0 9 9"])
+        self.assertEqual(title(elements(root, "path")[0]), "net 7 (To the pins): no bends, length 45, from 5,30 to 50,30")
 
 
 class InTheRepository(unittest.TestCase):
