@@ -10,7 +10,7 @@ from desk import blocking, boxes, foils, job as jobs, lines, program, words
 from desk.blocking import point_box
 
 # how many things in the way are named; how often the program is asked for all steps of a job together
-NAMED, MOST = 3, 500
+NAMED, MOST = 3, 1000
 
 
 class Asked:
@@ -154,7 +154,7 @@ def no_way(case, asked):
     if not nets:
         return ["there is no track to lift: patches and the edge part its two points"]
     if asked.left < len(nets):
-        return ["which lift would open a way was not tried: there are too many such tracks"]
+        return ["lifts were not tried, after so many"]
     said = [(net, asked.laid_without(case.table, net, case.step)) for net in nets]
     opening = ["%d (%s, length %d)" % (net, words.count(told.bends, "bend"), told.length)
                for net, told in said if told and not told.number]

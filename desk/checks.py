@@ -22,17 +22,17 @@ class Finding(NamedTuple):
     where: str
 
 
-def findings(foil):
-    """The check list of a foil."""
+def findings(foil, most=LISTED):
+    """The check list of a foil, with so many lines for one thing."""
     made = []
     for matter, found in (
             ("open", [open_track(track) for track in dict.fromkeys(foil.refused)]),
             ("not on the foil", [missing(box) for box in dict.fromkeys(foil.missing)]),
             ("short", shorts(foil)), ("too near", narrows(foil)), ("too near the edge", at_the_edge(foil)),
             ("in parts", in_parts(foil)), ("nearly full", nearly_full(foil))):
-        made += [Finding(matter, where) for where in found[:LISTED]]
-        if len(found) > LISTED:
-            made.append(Finding(matter, "and %d more" % (len(found) - LISTED)))
+        made += [Finding(matter, where) for where in found[:most]]
+        if len(found) > most:
+            made.append(Finding(matter, "and %d more" % (len(found) - most)))
     return made
 
 

@@ -99,9 +99,10 @@ class Asked(unittest.TestCase):
     def test_the_program_is_asked_so_often_and_no_more(self):
         text = "board 60 60 0\npatch 0 30 60 31\n"
         text += "".join("track %d %d 0 %d 0\n" % (net, 2 * net, 2 * net) for net in range(1, 26))
-        text += "".join("track %d 1 0 1 50\n" % net for net in range(30, 60)) + "end\n"
+        text += "".join("track %d 1 0 1 50\n" % net for net in range(30, 90)) + "end\n"
         told = notes_of(text)
-        self.assertEqual([said[0].split()[0] for said in told], ["no"] * 20 + ["which"] * 10)
+        tried = advice.MOST // 25
+        self.assertEqual([said[0].split()[0] for said in told], ["no"] * tried + ["lifts"] * (60 - tried))
 
 
 class ByTheRule(unittest.TestCase):
