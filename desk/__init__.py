@@ -2,6 +2,7 @@
 
     command      the command ./foil
     asking       the commands ./foil-job, ./foil-save, ./foil-slip and ./foil-ohms
+    orders       the command ./foil-order; with carton, the page for the carton
     ohms         the ink's figures, and the ohms as they are read at the desk
     arguments    the words of a command
     sources      the text or the job file that it is given
@@ -9,6 +10,7 @@
     statuses     the exit statuses of all commands, and what ends one early
     console      their standard input, output and error
     textform     the text form of a job, to bytes and back
+    names        the names that a text's remarks give
     job          the bytes of a job file: records and steps, and where a file is at fault
     building     the proved programs: whether they are those of the sources, and building them where not
     progress     how far proving is
@@ -16,8 +18,11 @@
     program      running one
     lines        the program's lines, and which step each of them is about
     refusals     README's table: what a number says, and what to do
+    accounts     what came of a text: its job run, its foil, and all that is said of it
     words        what came of each line of a text
-    foils        the foil that a job leaves
+    advice       what would help with a refused step, by asking the program again; with blocking, the rule
+    foils        the foil that a job leaves, and what of it is open
+    checks       its check list
     picture      its picture; with legend, labels, colours, boxes and svg"""
 import sys
 

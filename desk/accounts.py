@@ -21,8 +21,9 @@ class Account(NamedTuple):
 
     def page(self, table, width=console.WIDTH, quiet=False):
         """The same as lines of a width, those of refusals only where that is asked for; then the check list."""
-        shown = [row for row in self.rows(table) if row.refused or not quiet]
-        return words.page(shown, width) + (checks.page(self.foil, width) if self.is_done else "")
+        said = words.page([row for row in self.rows(table) if row.refused or not quiet], width)
+        to_check = checks.page(self.foil, width) if self.is_done else ""
+        return "\n".join(part for part in (said, to_check) if part)
 
     @property
     def is_done(self):

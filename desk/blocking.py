@@ -1,5 +1,5 @@
-"""What blocks a point of a foil, by the rule of the router: a patch up to half + gap away, a leg up to 2 half + gap, and
-the edge where fewer than half + gap points lie between. It names what is in the way where the proved program has
+"""What blocks a point of a foil, by the rule of the router: a patch up to half + gap away, a leg up to 2 half + gap,
+and the edge where fewer than half + gap points lie between. It names what is in the way where the proved program has
 refused something, and colours zones of the picture; whether a point is free is for the program to say."""
 from desk.boxes import area, common, widened
 

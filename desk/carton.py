@@ -56,7 +56,8 @@ def page(order):
     """The page of an order."""
     open_tracks = [finding.where for finding in order.found if finding.matter == "open"]
     others = ["%s: %s" % finding for finding in order.found if finding.matter != "open"]
-    keys = ["%s: patch %d %d %d %d" % (order.foil.keys[box], *box) for box in order.foil.patches if box in order.foil.keys]
+    named = order.foil.keys
+    keys = ["%s: patch %d %d %d %d" % (named[box], *box) for box in dict.fromkeys(order.foil.patches) if box in named]
     return PAGE % {
         "name": escape(order.name), "date": escape(order.date), "columns": COLUMNS,
         "picture": base64.b64encode(order.drawn.encode()).decode("ascii"),

@@ -134,4 +134,4 @@ def page(foil, width):
     found = findings(foil)
     shown = [textwrap.fill("%s: %s" % finding, width, initial_indent=" " * 7, subsequent_indent=" " * 11,
                            break_long_words=False, break_on_hyphens=False) for finding in found]
-    return "".join(line + "\n" for line in ["", "check list:"] + shown) if found else ""
+    return "".join(line + "\n" for line in ["check list:"] + shown) if found else ""

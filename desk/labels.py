@@ -155,7 +155,8 @@ def about(box, wide, high):
     """Places for a label of a box: on its middle, then above and below that, then outside it."""
     x0, y0, x1, y1 = box
     x, y = (x0 + x1) / 2, (y0 + y1) / 2
-    rows = [(y, 0), ((y0 + y) / 2, NEXT), ((y + y1) / 2, NEXT), (y0 - high / 2 - 1, BESIDE), (y1 + high / 2 + 1, BESIDE)]
+    off = high / 2 + 1
+    rows = [(y, 0), ((y0 + y) / 2, NEXT), ((y + y1) / 2, NEXT), (y0 - off, BESIDE), (y1 + off, BESIDE)]
     beside = [(x0 - wide / 2 - 2, y, PAST), (x1 + wide / 2 + 2, y, PAST)]
     return [Place(*place) for place in [(x, row, cost) for row, cost in rows] + beside]
 

@@ -1,5 +1,5 @@
-"""The command ./foil-order: from each text of the day words, picture, job file, slip, ohms and the carton's page, beside
-each other in a folder by its name.
+"""The command ./foil-order: from each text of the day words, picture, job file, slip, ohms and the carton's page,
+beside each other in a folder by its name.
 
 All that is in the folder is of the text as it was last run: what an earlier run has left there goes first. A text that
 leaves no foil has its words and its job file, and nothing else."""
@@ -28,7 +28,7 @@ NO_INK = "there are no ohms: the ink's figures are not given (--sheet and --bend
 
 
 class Made(NamedTuple):
-    """What was made of a text: its files, by what they are called after its name; what is said of it; and the status."""
+    """Made of a text: its files, by what they are called after its name, what is said of it, and the status."""
     files: dict
     said: str
     status: int

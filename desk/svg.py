@@ -37,7 +37,7 @@ text { fill: #d7dde3 }
 .page { fill: #101316 }
 .sheet { fill: #191d22 }
 .hatch { stroke: #56606b }
-.kept { fill: #25221c }
+.kept { fill: #302a1e }
 .clearance { fill: #2f363f }
 .strip { fill: #15251f; stroke: #57a98f }
 .patch { fill: #5c6670; stroke: #a3aeb9 }

@@ -129,7 +129,8 @@ class ByTheRule(unittest.TestCase):
 
     def test_the_nearest_of_several_points(self):
         for strips, right in (([(0, 0, 5, 1), (7, 0, 9, 9)], (7, 5)), ([(0, 0, 9, 3), (0, 6, 9, 9)], (5, 6)),
-                              ([(5, 4, 6, 5), (4, 5, 5, 6), (6, 5, 7, 6)], (5, 4)), ([(4, 5, 5, 6), (6, 5, 7, 6)], (4, 5))):
+                              ([(5, 4, 6, 5), (4, 5, 5, 6), (6, 5, 7, 6)], (5, 4)),
+                              ([(4, 5, 5, 6), (6, 5, 7, 6)], (4, 5))):
             self.assertEqual(advice.nearest((5, 5), strips), right)
 
     def test_many_things_in_the_way(self):

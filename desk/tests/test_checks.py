@@ -14,7 +14,8 @@ def foil_by(text, written):
 def legs(board, *steps):
     """A foil of this board with these legs as they were booked."""
     text = "".join("leg %s\n" % step for step in steps)
-    return foil_by("board %s\n%send\n" % (board, text), "board 0\n" + "".join("leg %s 0\n" % s.split()[0] for s in steps))
+    written = "".join("leg %s 0\n" % step.split()[0] for step in steps)
+    return foil_by("board %s\n%send\n" % (board, text), "board 0\n" + written)
 
 
 class CheckList(unittest.TestCase):
@@ -54,8 +55,8 @@ class CheckList(unittest.TestCase):
                 self.hold(foil_by(board + steps + "end\n", "board 0\n" + written), *right)
 
     def test_patches_and_legs_that_are_missing(self):
-        text = "board 9 9 0\npatch 3 3 9 10  # key: Up\nleg 4 0 0 2 2\npatch 3 3 9 9\npatch 1 1 2 2\npatch 1 1 2 2\nend\n"
-        foil = foil_by(text, "board 0\npatch 3\nleg 4 3\npatch 0\npatch 21\npatch 0\n")
+        text = "board 9 9 0\npatch 3 3 9 10  # key: Up\nleg 4 0 0 2 2\npatch 3 3 9 9\n" + "patch 1 1 2 2\n" * 2
+        foil = foil_by(text + "end\n", "board 0\npatch 3\nleg 4 3\npatch 0\npatch 21\npatch 0\n")
         self.hold(foil, "not on the foil: patch 3 3 9 10 (Up) (3)", "not on the foil: leg 4 0 0 2 2 (3)")
 
     def test_two_nets_share_a_point(self):
@@ -84,13 +85,13 @@ class CheckList(unittest.TestCase):
             self.hold(legs("9 9 2", "1 " + leg), *told)
 
     def test_a_net_in_parts(self):
-        self.hold(legs("9 9 0", "1 0 0 4 1", "1 6 6 9 7"), "in parts: net 1 has 2 parts that do not meet, at 0,0 and 6,6")
-        self.hold(legs("9 9 0", "1 0 0 4 1", "1 4 1 5 7"), "in parts: net 1 has 2 parts that do not meet, at 0,0 and 4,1")
+        parts = "in parts: net 1 has 2 parts that do not meet, at "
+        self.hold(legs("9 9 0", "1 0 0 4 1", "1 6 6 9 7"), parts + "0,0 and 6,6")
+        self.hold(legs("9 9 0", "1 0 0 4 1", "1 4 1 5 7"), parts + "0,0 and 4,1")
         self.hold(legs("9 9 0", "1 0 0 4 1", "1 4 0 5 7"))
         self.hold(legs("9 9 0", "1 0 0 4 1", "1 6 6 9 7", "1 3 0 4 7", "1 3 6 7 7"))
         self.hold(legs("40 40 pen 1 0", "1 5 5 9 6", "1 5 8 9 9"))
-        self.hold(legs("40 40 pen 1 0", "1 5 5 9 6", "1 5 9 9 10"),
-                  "in parts: net 1 has 2 parts that do not meet, at 5,5 and 5,9")
+        self.hold(legs("40 40 pen 1 0", "1 5 5 9 6", "1 5 9 9 10"), parts + "5,5 and 5,9")
 
     def test_entries_past_110(self):
         for many in (110, 111, 128):
@@ -107,7 +108,7 @@ class CheckList(unittest.TestCase):
         foil = foil_by("board 9 9 0\ntrack 1 0 0 8 8 # net: %s\nend\n" % ("word " * 20), "board 0\ntrack 1 9\n")
         for width in (40, 60, 116):
             page = checks.page(foil, width)
-            self.assertTrue(page.startswith("\ncheck list:\n       open: net 1 (word word"))
+            self.assertTrue(page.startswith("check list:\n       open: net 1 (word word"))
             self.assertLessEqual(max(map(len, page.splitlines())), width)
 
 

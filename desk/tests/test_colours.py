@@ -39,9 +39,9 @@ def contrast(a, b):
     return (bright + 0.05) / (dark + 0.05)
 
 
-def sheets():
-    """The colour of the sheet on paper and in a dark window."""
-    return re.findall(r"\.sheet \{ fill: (#\w+) \}", svg.STYLE)
+def grounds(kind):
+    """The colour of a part of the ground on paper and in a dark window."""
+    return re.findall(r"\.%s \{ fill: (#\w+) \}" % kind, svg.STYLE)
 
 
 class Colours(unittest.TestCase):
@@ -53,9 +53,18 @@ class Colours(unittest.TestCase):
                     self.assertGreater(apart, 0.12, (a, b))
 
     def test_stand_out_from_the_sheet(self):
-        for six, sheet in zip((colours.PAPER, colours.DARK), sheets()):
-            for colour in six:
-                self.assertGreater(contrast(colour, sheet), 3)
+        for kind, least in (("sheet", 3), ("kept", 2.7), ("clearance", 2.4)):
+            for six, ground in zip((colours.PAPER, colours.DARK), grounds(kind)):
+                for colour in six:
+                    self.assertGreater(contrast(colour, ground), least, (kind, colour))
+
+    def test_zones_are_told_apart(self):
+        for at in (0, 1):
+            zones = [grounds(kind)[at] for kind in ("sheet", "kept", "clearance")]
+            for eyes in EYES:
+                for a, b in itertools.combinations(zones, 2):
+                    apart = sum((x - y) ** 2 for x, y in zip(seen(a, eyes), seen(b, eyes))) ** 0.5
+                    self.assertGreater(apart, 0.02, (a, b))
 
     def test_near_nets_differ(self):
         nets = [Net(at, [(0, 3 * at, 50, 3 * at + 1)], 0, 49, None) for at in range(40)]

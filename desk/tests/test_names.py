@@ -22,7 +22,8 @@ class Names(unittest.TestCase):
             self.assertEqual(self.names("patch 1 1 2 2, track 1 0 0 0 8 # " + remark), {})
 
     def test_names_that_name_nothing_are_told(self):
-        text = textform.read("# net: a heading\nboard 9 9 0 # key: a\npatch 1 1 2 2 # net: b\nlift 1 # net: c\nend # key: d")
+        text = textform.read("# net: a heading\nboard 9 9 0 # key: a\npatch 1 1 2 2 # net: b\nlift 1 # net: c\n"
+                             "end # key: d\n")
         self.assertEqual(names.strays(text), [
             (2, "`key: a` names no patch: there is none on this line"),
             (3, "`net: b` names no track: there is none on this line"),

@@ -133,7 +133,8 @@ class Orders(Folder):
             self.assertEqual((status, self.files()), (2, left), out + err)
 
     def test_a_text_without_a_foil(self):
-        status, out, _ = self.run_order(self.text("keys.txt", "board 0 0 0\nend\n"), programs=self.stand_in(("board 1\n",)))
+        path = self.text("keys.txt", "board 0 0 0\nend\n")
+        status, out, _ = self.run_order(path, programs=self.stand_in(("board 1\n",)))
         self.assertEqual((status, out), (2, "%s: there is no foil, and its words say why\n" % (self.to / "keys")))
         self.assertIn("refused (1)", self.made("keys-words.txt"))
 
@@ -214,14 +215,15 @@ class ByThePrograms(Folder):
         self.assertEqual((status, err), (2, ""))
         for name in given.NAMES:
             with self.subTest(name):
-                run = given.run_of(name)
-                folder = self.to / name
-                self.assertEqual(folder.joinpath(name + ".job").read_bytes(), given.SAMPLES.joinpath(name + ".job").read_bytes())
-                self.assertEqual(folder.joinpath(name + ".html").exists(), run.strips is not None)
+                run, order = given.run_of(name), self.to / name / name
+                made = given.SAMPLES.joinpath(name + ".job").read_bytes()
+                self.assertEqual(order.with_name(name + ".job").read_bytes(), made)
+                page = order.with_name(name + ".html")
+                self.assertEqual(page.exists(), run.strips is not None)
                 if run.strips is not None:
-                    slip = folder.joinpath(name + "-slip.txt").read_bytes()
+                    slip = order.with_name(name + "-slip.txt").read_bytes()
                     self.assertEqual(slip, test_answers.slip(run))
-                    self.assertIn('<pre id="slip">%s</pre>' % slip.decode(), folder.joinpath(name + ".html").read_text())
+                    self.assertIn('<pre id="slip">%s</pre>' % slip.decode(), page.read_text())
 
 
 class Script(unittest.TestCase):

@@ -202,8 +202,8 @@ class Many(unittest.TestCase):
             self.assertNotIn("refused", elements(root, "text")[1].text)
 
     def test_refused_patches_and_legs_are_drawn(self):
-        text = "board 20 20 0\npatch 2 2 4 30\npatch 9 9 5 5\npatch 7 7 7 8\nleg 3 1 1 2 5\npatch 300 300 310 310\nend\n"
-        foil = foil_by(text, "board 0\npatch 3\npatch 3\npatch 3\nleg 3 21\npatch 3\n")
+        text = "board 20 20 0\npatch 2 2 4 30\npatch 9 9 5 5\npatch 7 7 7 8\nleg 3 1 1 2 5\npatch 300 300 310 310\n"
+        foil = foil_by(text + "end\n", "board 0\npatch 3\npatch 3\npatch 3\nleg 3 21\npatch 3\n")
         root, pixel = drawn(foil), 1 / picture.Picture(foil, "", False, TABLE).scale
         *seen, _ = elements(root, "rect", "missing")
         at = [[float(box.get(name)) for name in ("x", "y", "width", "height")] for box in seen]
@@ -273,7 +273,8 @@ class Labels(unittest.TestCase):
                          ["7 To the pins", "8 very long very l.."])
         self.assertEqual([title(patch) for patch in elements(root, "rect", "patch")[:2]],
                          ["patch 30 10 50 20: Page on", "patch 0 0 9 9"])
-        self.assertEqual(title(elements(root, "path")[0]), "net 7 (To the pins): no bends, length 45, from 5,30 to 50,30")
+        self.assertEqual(title(elements(root, "path")[0]),
+                         "net 7 (To the pins): no bends, length 45, from 5,30 to 50,30")
 
 
 class InTheRepository(unittest.TestCase):

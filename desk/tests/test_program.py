@@ -83,12 +83,29 @@ class Program(unittest.TestCase):
             self.assertEqual(program.run(given.BUILT, again), program.run(given.BUILT, made))
 
     def foils_of_pens(self):
-        """Foils with a few tracks of a pen, by chance."""
+        """Foils with a few patches, and tracks of a pen, by chance."""
         for chance in given.seeds(60):
             half, gap = chance.randint(0, 3), chance.randint(0, 3)
             points = [" ".join(str(chance.randint(0, 59)) for _ in range(4)) for _ in range(8)]
             tracks = "".join("track %d %s\n" % track for track in enumerate(points, 1))
-            yield given.foil_of("board 60 60 pen %d %d\n%send\n" % (half, gap, tracks))
+            corners = [(chance.randint(0, 50), chance.randint(0, 50)) for _ in range(3)]
+            patches = "".join("patch %d %d %d %d\n" % (x, y, x + 5, y + 9) for x, y in corners)
+            yield given.foil_of("board 60 60 pen %d %d\n%s%send\n" % (half, gap, patches, tracks))
+
+    def test_what_is_white_in_the_picture_is_free(self):
+        for left in self.foils_of_pens():
+            left = left._replace(refused=[])
+            root = ET.fromstring(picture.picture(left, "a foil", False, TABLE))
+            free = {(x, y) for x in range(left.width) for y in range(left.height)}
+            for rect in root.find("{*}g").findall("{*}rect"):
+                if rect.get("class") in ("kept", "clearance", "edge", "patch"):
+                    x, y, wide, high = (round(float(rect.get(name))) for name in ("x", "y", "width", "height"))
+                    free -= {(at, row) for at in range(x, x + wide) for row in range(y, y + high)}
+            for net in left.nets:
+                for x0, y0, x1, y1 in net.legs:
+                    free -= {(x, y) for x in range(x0, x1) for y in range(y0, y1)}
+            strips = {(x, y) for x0, y0, x1, y1 in left.strips for x in range(x0, x1) for y in range(y0, y1)}
+            self.assertEqual(free, strips)
 
     def test_ink_keeps_the_gap_to_other_ink(self):
         for left in self.foils_of_pens():

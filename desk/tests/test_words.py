@@ -1,7 +1,7 @@
 """The words: README's table, what is said of each refusal, and what README shows."""
 import unittest
 
-from desk import console, lines, program, refusals, textform, words
+from desk import accounts, console, lines, program, refusals, textform, words
 from desk.tests import given
 
 README = refusals.README.read_text(encoding="utf-8")
@@ -112,11 +112,14 @@ class Pages(unittest.TestCase):
                 self.assertLessEqual(max(map(len, page.splitlines())), width)
                 self.assertEqual(words_in(page), words_in(words.page(rows)))
 
-    def test_readme_shows_what_is_printed(self):
-        shown = printed(given.text_of("less-ink"), given.written_for("less-ink"))
-        self.assertIn("".join("    %s\n" % line for line in shown.splitlines()), README)
+    def test_readme_shows_a_text_and_its_picture(self):
         self.assertIn("".join("    %s\n" % line for line in given.text_of("less-ink").splitlines()), README)
         self.assertTrue((program.ROOT / "docs" / "less-ink.svg").exists())
+
+    @given.with_program
+    def test_readme_shows_what_is_printed(self):
+        shown = accounts.account_of(textform.read(given.text_of("less-ink")), given.BUILT).page(TABLE)
+        self.assertIn("".join(("    " + line).rstrip() + "\n" for line in shown.splitlines()), README)
 
 
 if __name__ == "__main__":
