@@ -6,7 +6,7 @@ from desk import advice, checks, console, foils, lines, names, program, textform
 
 
 class Account(NamedTuple):
-    """A text whose job was run: by which program, what it wrote, what that says, the foil, and the names of steps."""
+    """A text whose job was run: by which program, what it wrote, what that says, the foil, and what steps are called."""
     text: textform.Text
     path: Path
     written: str
@@ -35,7 +35,7 @@ def account_of(text, path):
     """Runs the job of a text by the program at a path: what came of it."""
     written = program.run(path, text.job)
     run, named = lines.run_of(text.job, written), names.names_of(text)
-    return Account(text, path, written, run, foils.foil_of(run, named), named)
+    return Account(text, path, written, run, foils.foil_of(run, named), foils.called_by(run, named))
 
 
 def tell_strays(name, text):

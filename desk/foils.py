@@ -102,7 +102,7 @@ def foil_of(run, names={}):
     done = [outcome for outcome in run.outcomes if outcome.said]
     if not done or done[0].said.number:
         return None
-    table, called = tables(run)[-1], called_by(done, names)
+    table, called = tables(run)[-1], called_by(run, names)
     ends = {outcome.step.net: (outcome.said.corners[0], outcome.said.corners[-1]) for outcome in standing(done)}
     named = {outcome.step.net: called[outcome.key] for outcome in done
              if outcome.step.word in ("track", "leg") and not outcome.said.number}
@@ -117,10 +117,10 @@ def foil_of(run, names={}):
                 missing_of(done, table, called), keys)
 
 
-def called_by(done, names):
-    """The name of each step: its own, or for a track or a leg the last that was given to its net."""
+def called_by(run, names):
+    """The name of each step, by its key: its own, or for one of a net the last that was given to that."""
     called, of_net = {}, {}
-    for outcome in done:
+    for outcome in run.outcomes:
         name, net = names.get(outcome.key, ""), outcome.step.net
         if net is not None:
             name = of_net[net] = name or of_net.get(net, "")

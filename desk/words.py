@@ -58,7 +58,7 @@ class Told:
         """What came of a step on a line."""
         if outcome.said is None:
             return ["not done"]
-        name = '"%s" ' % self.names[outcome.key] if outcome.key in self.names else ""
+        name = '"%s" ' % self.names[outcome.key] if self.names.get(outcome.key) else ""
         if not outcome.said.number:
             return [name + accepted(outcome.step, outcome.said)]
         number, note = outcome.said.number, "; ".join(self.notes.get(outcome.key, []))

@@ -1,7 +1,8 @@
 """Names in remarks: which step each names, and where it shows."""
 import unittest
 
-from desk import foils, lines, names, refusals, textform, words
+from desk import accounts, foils, lines, names, refusals, textform, words
+from desk.tests import given
 
 TABLE = refusals.readme_table()
 
@@ -67,6 +68,12 @@ class Names(unittest.TestCase):
         page = words.page(words.rows(read, run, TABLE, names.names_of(read)))
         self.assertIn('patch 1 1 2 2    "A" drawn\n', page)
         self.assertIn('track 1 0 0 2 0  "One" laid: no bends, length 2\n', page)
+
+    def test_words_of_a_net_that_is_laid_again(self):
+        path, folder = given.replay("board 0\ntrack 1 0 0 0,0 2,0\nlift 1 0\ntrack 1 0 0 0,0 2,0\n")
+        self.addCleanup(folder.cleanup)
+        text = textform.read("board 9 9 0\ntrack 1 0 0 2 0 # net: One\nlift 1\ntrack 1 0 0 2 0\nend\n")
+        self.assertEqual(accounts.account_of(text, path).page(TABLE).count('"One" l'), 3)
 
 
 if __name__ == "__main__":
