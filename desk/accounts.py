@@ -6,7 +6,7 @@ from desk import advice, checks, console, foils, lines, names, program, textform
 
 
 class Account(NamedTuple):
-    """A text whose job was run: by which program, what it wrote, what that says, the foil, and what steps are called."""
+    """A text whose job was run: by which program, what it wrote, what that says, the foil, and the names of steps."""
     text: textform.Text
     path: Path
     written: str

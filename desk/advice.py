@@ -42,9 +42,9 @@ class Asked:
         return self.known.get(key)
 
     def laid_without(self, table, net, track):
-        """What is said of a track that is laid after a net is lifted; none where the lift is refused."""
+        """What is said of a track that is laid after a net is lifted."""
         run = self.run(table, jobs.Step("lift", (net,)), track)
-        return run.outcomes[1].said if run and not run.outcomes[0].said.number else None
+        return run and run.outcomes[1].said
 
 
 class Case(NamedTuple):

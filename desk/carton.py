@@ -20,19 +20,20 @@ PAGE = """<!DOCTYPE html>
 body { font: 11pt sans-serif; color: #000000; background: #ffffff; max-width: 180mm; margin: 0 auto }
 header { display: flex; justify-content: space-between; align-items: baseline; border-bottom: 1px solid #000000 }
 h1 { font-size: 20pt; margin: 0 }
-h2 { font-size: 12pt; margin: 5mm 0 1mm }
-img { display: block; max-width: 100%%; max-height: 150mm; margin: 3mm auto }
+h2 { font-size: 12pt; margin: 4mm 0 1mm; break-after: avoid }
+ul { margin: 0; columns: 2 }
+img { display: block; max-width: 100%%; max-height: 125mm; margin: 3mm auto }
 pre { font: 10pt monospace; margin: 0 }
-.slip { display: flex; gap: 4mm; break-inside: avoid }
-.columns { color: #555555 }
+.slip { display: flex; gap: 4mm }
+.columns { color: #555555; break-after: avoid }
 li { break-inside: avoid }
 </style>
 </head>
 <body>
 <header><h1>%(name)s</h1><span>%(date)s</span></header>
-<img alt="The foil of %(name)s" src="data:image/svg+xml;base64,%(picture)s">
 %(open)s
 %(checks)s
+<img alt="The foil of %(name)s" src="data:image/svg+xml;base64,%(picture)s">
 %(keys)s
 <h2>Slip</h2>
 <pre class="columns">%(columns)s</pre>

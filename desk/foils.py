@@ -6,8 +6,8 @@ from typing import NamedTuple
 
 from desk import boxes
 
-# the numbers of a track whose own number is at fault: a later track of that number does not stand for it
-MISNUMBERED = (4, 5)
+# the number of a track whose net was on the foil already: a track of that net that is laid later does not stand for it
+TAKEN = 5
 
 
 class Entry(NamedTuple):
@@ -103,7 +103,7 @@ def foil_of(run, names={}):
     if not done or done[0].said.number:
         return None
     table, called = tables(run)[-1], called_by(run, names)
-    ends = {outcome.step.net: (outcome.said.corners[0], outcome.said.corners[-1]) for outcome in standing(done)}
+    ends = {outcome.step.net: (outcome.said.corners[0], outcome.said.corners[-1]) for outcome in standing(run)}
     named = {outcome.step.net: called[outcome.key] for outcome in done
              if outcome.step.word in ("track", "leg") and not outcome.said.number}
     nets = [Net(net, legs, len(legs) - 1, sum(map(steps_in, legs)), ends.get(net), named[net])
@@ -128,14 +128,15 @@ def called_by(run, names):
     return called
 
 
-def standing(done):
+def standing(run):
     """The outcomes of the tracks that are on the foil at the end as they were laid."""
     laid = {}
-    for outcome in done:
-        if outcome.step.word == "track" and not outcome.said.number:
-            laid[outcome.step.net] = outcome
-        elif outcome.step.word == "lift" and not outcome.said.number:
-            laid.pop(outcome.step.net, None)
+    for outcome in run.outcomes:
+        if outcome.said and not outcome.said.number:
+            if outcome.step.word == "track":
+                laid[outcome.step.net] = outcome
+            elif outcome.step.word == "lift":
+                laid.pop(outcome.step.net, None)
     return list(laid.values())
 
 
@@ -147,17 +148,16 @@ class Stead(NamedTuple):
 
 
 def made_good(run):
-    """What is on the foil in the stead of each refused track that is not open, by its key."""
-    done = [outcome for outcome in run.outcomes if outcome.said]
+    """What is on the foil in the stead of each refused track that is not open, by its key. A net that is on the foil at
+    the end was laid after a track of its number was refused, unless that was for its being there."""
     legs = legs_of(tables(run)[-1])
-    laid = {outcome.step.net: outcome for outcome in standing(done)}
-    order = {outcome.key: at for at, outcome in enumerate(done)}
+    laid = {outcome.step.net: outcome for outcome in standing(run)}
     good = {}
     for outcome in run.refused:
         if outcome.step.word == "track":
             joining = [net for net, of in legs.items() if all(is_on(of, end) for end in points_of(outcome.step))]
             later = laid.get(outcome.step.net)
-            if later and order[later.key] > order[outcome.key] and outcome.said.number not in MISNUMBERED:
+            if later and outcome.said.number != TAKEN:
                 good[outcome.key] = Stead(later.step.net, later.place)
             elif joining:
                 good[outcome.key] = Stead(joining[0])

@@ -49,7 +49,8 @@ def read_words(given):
     asking.add_figures(parser, needed=False)
     parser.add_argument("texts", metavar="TEXT", nargs="+", help="a text or a job file; `-` is standard input")
     asked = parser.parse_args(given)
-    if (asked.sheet is None) != (asked.bend is None) or asked.sheet is None and (asked.width or asked.dead):
+    ink = {figure is not None for figure in (asked.sheet, asked.bend)}
+    if len(ink) > 1 or ink == {False} and (asked.width is not None or asked.dead is not None or asked.exact):
         parser.error("the ink has two figures at least: --sheet and --bend")
     return asked
 

@@ -29,6 +29,8 @@ OUTLINE = 1.4
 LINE, HALO, NEAR, RING = 1.4, 3.6, 6, 3.5
 # where so many are refused they are dim: the line and the ring of a track then, and how wide its label's characters are
 MANY, THIN, SPOT, NARROW_TEXT = 10, 0.8, 2, 5.4
+# how many refused tracks are drawn at most, and how many patches and legs
+DRAWN = 200
 # how many characters of a key's or a net's name there are in a label
 NAMED = 18
 # the least between two numbers of a ruler
@@ -105,8 +107,9 @@ class Picture:
         wide_head = LEFT + legend.CHARACTER * len(self.head)
         self.wide = max(LEFT + foil.width * self.scale + RIGHT, wide_head, NARROW)
         self.foot = TOP + foil.height * self.scale + BELOW
-        self.tracks = [(track, self.line_of(track)) for track in dict.fromkeys(foil.refused)]
-        self.boxes = [(box, self.box_of(box)) for box in dict.fromkeys(foil.missing)]
+        tracks, boxes = list(dict.fromkeys(foil.refused)), list(dict.fromkeys(foil.missing))
+        self.tracks = [(track, self.line_of(track) if at < DRAWN else None) for at, track in enumerate(tracks)]
+        self.boxes = [(box, self.box_of(box) if at < DRAWN else None) for at, box in enumerate(boxes)]
         self.crowded = len(self.tracks) + len(self.boxes) > MANY
         self.seen = [(track, line) for track, line in self.tracks if line]
         self.labels = self.placed_labels()

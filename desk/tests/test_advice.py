@@ -1,5 +1,6 @@
 """What would help with a refused step: by the rule of blocking, and by asking the job program, where it is built."""
 import unittest
+from unittest import mock
 
 from desk import accounts, advice, foils, lines, program, refusals, textform, words
 from desk.tests import given
@@ -103,6 +104,12 @@ class Asked(unittest.TestCase):
         told = notes_of(text)
         tried = advice.MOST // 25
         self.assertEqual([said[0].split()[0] for said in told], ["no"] * tried + ["lifts"] * (60 - tried))
+
+    def test_strips_are_asked_for_so_often_and_no_more(self):
+        text = "board 60 60 0\n" + "".join("patch %d 0 %d 9\ntrack 1 %d 0 50 50\n" % (x, x + 1, x) for x in (3, 6, 9))
+        with mock.patch.object(advice, "MOST", 2):
+            told = notes_of(text + "end\n")
+        self.assertEqual(["nearest" in said[0] for said in told], [True, True, False])
 
 
 class ByTheRule(unittest.TestCase):

@@ -42,6 +42,10 @@ class CheckList(unittest.TestCase):
                 # refused after it was laid: another track of that number
                 ("track 1 0 0 2 0\ntrack 1 4 4 8 4\n", "track 1 0 0 0,0 2,0\ntrack 1 5\n",
                  ["open: net 1 from 4,4 to 8,4 (5)"]),
+                # the other track of that number was laid again
+                ("track 1 0 0 2 0\ntrack 1 4 4 8 4\nlift 1\ntrack 1 0 0 2 0\n",
+                 "track 1 0 0 0,0 2,0\ntrack 1 5\nlift 1 0\ntrack 1 0 0 0,0 2,0\n",
+                 ["open: net 1 from 4,4 to 8,4 (5)"]),
                 # the same points again, one way or the other
                 ("track 1 0 0 2 0\ntrack 1 2 0 0 0\n", "track 1 0 0 0,0 2,0\ntrack 1 5\n", []),
                 # laid under another number
@@ -89,7 +93,7 @@ class CheckList(unittest.TestCase):
         self.hold(legs("9 9 0", "1 0 0 4 1", "1 6 6 9 7"), parts + "0,0 and 6,6")
         self.hold(legs("9 9 0", "1 0 0 4 1", "1 4 1 5 7"), parts + "0,0 and 4,1")
         self.hold(legs("9 9 0", "1 0 0 4 1", "1 4 0 5 7"))
-        self.hold(legs("9 9 0", "1 0 0 4 1", "1 6 6 9 7", "1 3 0 4 7", "1 3 6 7 7"))
+        self.hold(legs("9 9 0", "1 0 0 4 1", "1 6 6 9 7", "1 3 0 4 7", "1 3 6 7 7", "1 0 0 1 4", "1 8 6 9 9"))
         self.hold(legs("40 40 pen 1 0", "1 5 5 9 6", "1 5 8 9 9"))
         self.hold(legs("40 40 pen 1 0", "1 5 5 9 6", "1 5 9 9 10"), parts + "5,5 and 5,9")
 

@@ -221,6 +221,20 @@ class Command(unittest.TestCase):
             complaints = running.stderr.read()
         self.assertEqual((running.returncode, complaints, drawn.exists()), (4, b"", True))
 
+    def test_names_that_name_nothing_are_told(self):
+        path = self.text("board 5 5 0 # key: Up\nend\n")
+        status, _, err = self.run_foil(path, written="board 0\nstrip 0 0 5 5\n")
+        told = "%s, line 1: `key: Up` names no patch: there is none on this line\n"
+        self.assertEqual((status, err), (0, told % path))
+
+    def test_the_check_list_ends_the_words(self):
+        for options, begins in (((), "    2  board"), (("--quiet",), "    4  track 2")):
+            _, out, _ = self.run_sample("less-ink", *options)
+            self.assertTrue(out.startswith(begins), out)
+            self.assertTrue(out.endswith("\n\ncheck list:\n       open: net 2 from 1,5 to 7,3 (8)\n"), out)
+        for name in ("document-01", "cut-short", "board-size"):
+            self.assertNotIn("check list", self.run_sample(name)[1])
+
     def test_the_script(self):
         words = [program.ROOT / "foil", "--text", "samples/document-01.job"]
         done = subprocess.run(words, cwd=program.ROOT, capture_output=True, text=True)

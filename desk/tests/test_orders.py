@@ -12,7 +12,7 @@ import unittest
 import xml.etree.ElementTree as ET
 from unittest import mock
 
-from desk import building, orders, program
+from desk import building, orders, outputs, program
 from desk.tests import given, test_answers
 
 KEYS = """board 60 40 0
@@ -160,9 +160,14 @@ class Orders(Folder):
         self.assertEqual(status, 4)
         self.assertNotIn("a mistake", err)
 
+    def test_a_file_that_cannot_be_written(self):
+        with mock.patch.object(outputs, "write", side_effect=lambda path, content: path.suffix != ".svg"):
+            self.assertEqual(self.run_order(self.text("keys.txt"))[0], 4)
+
     def test_words_that_do_not_go_together(self):
         path = self.text("keys.txt")
-        for words in (("--sheet", "1", path), ("--bend", "1", path), ("--dead", "1", path), ("--width", "1", path), ()):
+        for words in (("--sheet", "1", path), ("--bend", "0", path), ("--dead", "0", path), ("--width", "1", path),
+                      ("--exact", path), ()):
             status, out, err = self.run_order(*words)
             self.assertEqual((status, out, err.splitlines()[-1]), (4, "", "./foil-order --help says how it is used"))
 

@@ -171,7 +171,7 @@ class Many(unittest.TestCase):
 
     def picture_of(self, many):
         """A foil with a track, and so many that were refused across it."""
-        tracks = [(net, net % 60, 59 - net % 60) for net in range(1, many + 1)]
+        tracks = [(net, net % 3, 59 - net % 3) for net in range(1, many + 1)]
         text = "board 60 60 0\ntrack 999 0 30 59 30\n" + "".join("track %d %d 0 %d 59\n" % track for track in tracks)
         told = "board 0\ntrack 999 0 0 0,30 59,30\n" + "".join("track %d 9\n" % net for net, _, _ in tracks)
         return drawn(foil_by(text + "end\n", told))
@@ -187,13 +187,19 @@ class Many(unittest.TestCase):
         self.assertEqual(len(elements(root, "text", "label")), 1 + picture.MANY)
 
     def test_many_are_dim_and_lie_under_the_tracks(self):
-        root = self.picture_of(400)
+        root, many = self.picture_of(picture.DRAWN), picture.DRAWN
         self.assertEqual(self.order(root), ["dim", "c0"])
-        self.assertEqual(len(elements(root, "line", "dim")), 400 + 1)
+        self.assertEqual(len(elements(root, "line", "dim")), many + 1)
         labelled = len(elements(root, "text", "faint"))
-        self.assertLess(labelled, 400)
-        self.assertIn("without a label: %d refused steps" % (400 - labelled), [e.text for e in elements(root, "text")])
+        self.assertTrue(0 < labelled < many)
+        self.assertIn("without a label: %d refused steps" % (many - labelled), [e.text for e in elements(root, "text")])
         self.assertEqual([text.text for text in elements(root, "text", "label")], ["999"])
+
+    def test_no_more_are_drawn_than_can_be_seen(self):
+        root = self.picture_of(picture.DRAWN + 40)
+        self.assertEqual(len(elements(root, "line", "dim")), picture.DRAWN + 1)
+        self.assertIn("not in the picture: 201 (9), 202 (9), 203 (9), 204 (9), 205 (9), 206 (9) and 34 more",
+                      [text.text for text in elements(root, "text")])
 
     def test_tracks_that_were_laid_later_are_not_drawn(self):
         for name in ("window", "reader-relaid", "wide-pen"):
@@ -268,7 +274,11 @@ class Labels(unittest.TestCase):
         read = textform.read(text)
         run = lines.run_of(read.job, "board 0\npatch 0\npatch 0\ntrack 7 0 0 5,30 50,30\ntrack 8 0 0 5,34\n")
         root = drawn(foils.foil_of(run, names.names_of(read)))
-        self.assertEqual([text.text for text in elements(root, "text", "key")], ["Page on"])
+        key, = elements(root, "text", "key")
+        scale = float(root.find(SVG + "g").get("transform").split("scale(")[1].rstrip(")"))
+        self.assertEqual(key.text, "Page on")
+        self.assertAlmostEqual(float(key.get("x")), picture.LEFT + 40 * scale, 2)
+        self.assertAlmostEqual(float(key.get("y")), picture.TOP + 15 * scale + 4, 2)
         self.assertEqual([text.text for text in elements(root, "text", "label")],
                          ["7 To the pins", "8 very long very l.."])
         self.assertEqual([title(patch) for patch in elements(root, "rect", "patch")[:2]],
