@@ -12,11 +12,11 @@
 static struct foil_sheet sheet;
 static size_t called;
 static struct foil_entry table[FOIL_PLACES];
-static uint16_t strips[4 * FOIL_STRIPS], corners[2 * 8192];
-static uint8_t bytes[FOIL_SLIP_LINE * FOIL_ENTRIES];
+static uint16_t strips[FOIL_STRIP_NUMBERS], corners[FOIL_CORNER_NUMBERS];
+static uint8_t bytes[FOIL_SLIP_BYTES];
 
-#define LENT &sheet, table, FOIL_PLACES, strips, 4 * FOIL_STRIPS
-#define CORNERS corners, 2 * 8192
+#define LENT &sheet, table, FOIL_PLACES, strips, FOIL_STRIP_NUMBERS
+#define CORNERS corners, FOIL_CORNER_NUMBERS
 
 /* 54 entries on each other foil */
 static void full(void)
@@ -142,7 +142,7 @@ static struct pair made(const char *foil)
 static struct foil_said led(int joins, const char *foil, int times)
 {
     static struct foil_entry made_table[FOIL_PLACES];
-    static uint16_t made_strips[4 * FOIL_STRIPS];
+    static uint16_t made_strips[FOIL_STRIP_NUMBERS];
     struct foil_said said = {0, 0, 0, 0, 0};
     struct pair p = made(foil);
     struct foil_entry end = {7, p.tx, p.ty, p.tx + 1, p.ty + 1};
@@ -192,7 +192,7 @@ static void wished(struct foil_wish *wishes)
 static struct foil_said forty(const char *how, int times)
 {
     static struct foil_entry made_table[FOIL_PLACES];
-    static uint16_t made_strips[4 * FOIL_STRIPS];
+    static uint16_t made_strips[FOIL_STRIP_NUMBERS];
     static struct foil_wish wishes[FOIL_WISHES];
     static struct foil_answer answers[FOIL_WISHES];
     struct foil_said said = {0, 0, 0, 0, 0};
@@ -209,9 +209,9 @@ static struct foil_said forty(const char *how, int times)
                 said = foil_lay(LENT, CORNERS, called, wishes[k].net, wishes[k].sx, wishes[k].sy, wishes[k].tx,
                                 wishes[k].ty);
         else
-            said = foil_lay_list(LENT, CORNERS, (uint16_t *)(void *)answers, 3 * FOIL_WISHES,
+            said = foil_lay_list(LENT, CORNERS, (uint16_t *)(void *)answers, FOIL_ANSWER_NUMBERS,
                                  (const uint16_t *)(const void *)wishes,
-                                 strcmp(how, "none") == 0 ? 0 : 5 * FOIL_WISHES, called);
+                                 strcmp(how, "none") == 0 ? 0 : FOIL_WISH_NUMBERS, called);
         sheet = made_sheet;
         memcpy(table, made_table, sizeof table);
         memcpy(strips, made_strips, sizeof strips);

@@ -1,12 +1,21 @@
-/* The calls on a foil of a sheet, for C: the functions that `rt staticlib host` exports, as crates/host/src/exported.rt
-   has them. A sheet is eight foils, numbered 0 to 7: their records, and one table for all of them, foil after foil by
-   number, unused places last. A sheet begins with records and table all zero. A call is lent the records, the table,
-   the strips of the foil called, and the foil's number. A list is lent by its address and its length. An entry of the
-   table is 5 numbers; a strip is 4 (x0, y0, x1, y1), a corner 2 (x, y). A call may be lent any lists: one that is too
-   short is refused by 12, and of a longer one the places past the first FOIL_PLACES or FOIL_STRIPS are neither read nor
-   written. Lists must not overlap each other nor the records. A refused call writes to no list, and to the records what
-   they held; a foil number above 7 is refused by 23, before all else. A lay, a join, a find, a list of nets, or a
-   record with a lay, needs up to 1.9 MB of stack. */
+/* The calls on a foil of a sheet, for C and C++: the functions that crates/host/src/exported.rt exports, in libfoil.
+   docs/HOST.md says how it is built, and more on what follows.
+
+   A sheet is eight foils, numbered 0 to 7: their records, and one table for all of them, foil after foil by number,
+   unused places last. A sheet begins with records and table all zero. A call is lent the records, the table, the strips
+   of the foil called, and the foil's number.
+
+   A list is lent by its address and its length, and the length is always in elements of the type that the address
+   points to: entries for a table, numbers of 16 bits for strips (4 a strip: x0, y0, x1, y1), corners (2 each: x, y),
+   wishes (5), answers (3) and reports (1), bytes for a file. FOIL_PLACES, FOIL_REPORT and the names in _NUMBERS and
+   _BYTES are lengths that are enough, in that unit.
+
+   A call may be lent any lists: one that is too short is refused by 12, and of a longer one the places past the first
+   FOIL_PLACES or FOIL_STRIPS are neither read nor written. Lists must not overlap each other nor the records. A refused
+   call writes to no list, and to the records what they held; a foil number above 7 is refused by 23, before all else.
+
+   Nothing is kept between calls but what is lent: sheets that share no list may be called from several threads at once.
+   A call needs up to FOIL_STACK bytes of stack. */
 #ifndef FOIL_H
 #define FOIL_H
 
@@ -14,26 +23,71 @@
 #include <stddef.h>
 #include <stdint.h>
 
+#ifdef __cplusplus
+extern "C" {
+#endif
+
+/* the numbers of the refusals: 0 for none */
+enum foil_refusal {
+    FOIL_ACCEPTED = 0,
+    FOIL_BAD_SIZE = 1,          /* the foil's width or height is not from 1 to 4,096 */
+    FOIL_BAD_REACH = 2,         /* the foil's reach is above 15 (in a job file) */
+    FOIL_BAD_SHAPE = 3,         /* the patch or leg is empty, reversed or past the foil, or the leg is too wide */
+    FOIL_BAD_NET = 4,           /* the net is not from 1 to 999 */
+    FOIL_NET_ON_FOIL = 5,       /* the net is on the foil already */
+    FOIL_NET_NOT_ON_FOIL = 6,   /* the net is not on the foil */
+    FOIL_OFF_FOIL = 7,          /* a point is off the foil */
+    FOIL_NOT_FREE = 8,          /* a point is not free */
+    FOIL_NO_PATH = 9,           /* no path leads from start to end */
+    FOIL_TABLE_FULL = 10,       /* the foil or the sheet would have too many entries */
+    FOIL_TOO_MANY_STRIPS = 11,  /* the foil would have more than FOIL_STRIPS strips */
+    FOIL_LENT_TOO_LITTLE = 12,  /* a list is too short, or a list of nets too long */
+    FOIL_BROKEN_STATE = 13,     /* what is lent is no foil's state: records, entries or strips break a rule */
+    FOIL_FILE_CUT_SHORT = 14,   /* the file ends inside a record or before its end mark */
+    FOIL_UNKNOWN_BIT = 15,      /* a record asks for something unknown */
+    FOIL_BOARD_MISPLACED = 16,  /* the first record has no board, or a later one has a board or a pen */
+    FOIL_BYTES_AFTER_END = 17,  /* bytes follow the end mark */
+    FOIL_FILE_TOO_LONG = 18,    /* the file has more than 60,000 bytes */
+    FOIL_NOT_A_WAY = 19,        /* the corners to book are no way over free points */
+    FOIL_BAD_PEN = 20,          /* the pen's half width is above 7, or its gap above 15 */
+    FOIL_CROSSED = 21,          /* a patch would block a point of a leg, or does */
+    FOIL_BAD_INK = 22,          /* a figure of the ink is out of its range */
+    FOIL_NO_SUCH_FOIL = 23      /* the foil's number is above 7 */
+};
+
 /* the foils of a sheet, and the places of their table; the entries that a foil may have, and those that it is sure of
-   whatever the others have; the strips that a foil's list must have room for; and the bytes that are enough to save any
-   foil: 12, 9 for each patch and 11 for each leg */
+   whatever the others have; the strips that a foil's list must have room for; the corners that are enough for any lay
+   or find, and for a join unless its net cannot be lifted (11); the nets that a list has at most; the nets that a report
+   must have room for */
 enum {
     FOIL_FOILS = 8,
     FOIL_PLACES = 512,
     FOIL_ENTRIES = 128,
     FOIL_SURE = 32,
     FOIL_STRIPS = 4096,
-    FOIL_BYTES = 12 + 11 * FOIL_ENTRIES
+    FOIL_CORNERS = 8192,
+    FOIL_WISHES = 40,
+    FOIL_REPORT = 128
 };
 
-/* the places of a report of nets: a carry asks for so many */
-enum { FOIL_REPORT = 128 };
+/* the lengths of lists of numbers that have room for these */
+enum {
+    FOIL_STRIP_NUMBERS = 4 * FOIL_STRIPS,
+    FOIL_CORNER_NUMBERS = 2 * FOIL_CORNERS,
+    FOIL_WISH_NUMBERS = 5 * FOIL_WISHES,
+    FOIL_ANSWER_NUMBERS = 3 * FOIL_WISHES
+};
 
-/* a line of a slip, its line feed included; a foil has no more nets than entries */
-enum { FOIL_SLIP_LINE = 33 };
+/* the bytes that are enough to save any foil: 12, 9 for each patch and 11 for each leg; those of a line of a slip, its
+   line feed included; and those of the longest slip, as a foil has no more nets than entries */
+enum {
+    FOIL_BYTES = 12 + 11 * FOIL_ENTRIES,
+    FOIL_SLIP_LINE = 33,
+    FOIL_SLIP_BYTES = FOIL_SLIP_LINE * FOIL_ENTRIES
+};
 
-/* the nets that a list has at most */
-enum { FOIL_WISHES = 40 };
+/* the bytes of stack that are enough for any call (docs/HOST.md: what was measured) */
+enum { FOIL_STACK = 8 * 1024 * 1024 };
 
 /* a foil's record, with the pen's half width and gap; all zero where the foil is not begun */
 struct foil_board {
@@ -188,5 +242,9 @@ struct foil_said foil_carry(struct foil_board *board, struct foil_entry *table, 
                             const struct foil_entry *old_table, size_t old_places, uint16_t *strips,
                             size_t strip_numbers, uint16_t *report, size_t report_numbers, const uint16_t *old_strips,
                             size_t old_strip_numbers, struct foil_old_board old);
+
+#ifdef __cplusplus
+}
+#endif
 
 #endif

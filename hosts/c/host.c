@@ -173,13 +173,13 @@ static void run_job(const uint8_t *bytes, size_t count)
 static void document_01(void)
 {
     static struct foil_entry own_table[FOIL_PLACES];
-    static uint16_t own_strips[4 * FOIL_STRIPS], own_corners[2 * 8192];
+    static uint16_t own_strips[FOIL_STRIP_NUMBERS], own_corners[FOIL_CORNER_NUMBERS];
     table = own_table;
     places = FOIL_PLACES;
     strips = own_strips;
-    strip_numbers = 4 * FOIL_STRIPS;
+    strip_numbers = FOIL_STRIP_NUMBERS;
     corners = own_corners;
-    corner_numbers = 2 * 8192;
+    corner_numbers = FOIL_CORNER_NUMBERS;
     /* nothing is begun yet: the lists hold zeros, which are no foil */
     printf("patch %u\n", foil_draw(LENT, foil, 2, 0, 3, 3).number);
     printf("board %u\n", foil_new_foil(LENT, foil, 0, 4, 0, 0).number);
@@ -241,7 +241,7 @@ static void drawn(void)
 static void saved(void)
 {
     static struct foil_entry read_table[FOIL_PLACES];
-    static uint16_t read_strips[4 * FOIL_STRIPS];
+    static uint16_t read_strips[FOIL_STRIP_NUMBERS];
     static uint8_t bytes[FOIL_BYTES];
     struct foil_entry *was_table = table;
     uint16_t *was_strips = strips;
@@ -415,7 +415,7 @@ static void listed(void)
     static struct foil_wish many[FOIL_WISHES + 1];
     unsigned k;
     new_bar();
-    show_list(four, 20, corner_numbers, 3 * FOIL_WISHES);
+    show_list(four, 20, corner_numbers, FOIL_ANSWER_NUMBERS);
     show_foil();
     /* 11 numbers are five places for corners, and 8 are two for answers */
     new_bar();
@@ -433,7 +433,7 @@ static void listed(void)
     for (k = 0; k < FOIL_WISHES; k++)
         many[k].net = 1000 + k;
     many[FOIL_WISHES - 1] = four[3];
-    show_list(many, 5 * FOIL_WISHES, corner_numbers, 3 * FOIL_WISHES);
+    show_list(many, FOIL_WISH_NUMBERS, corner_numbers, FOIL_ANSWER_NUMBERS);
     show_list(many, 5 * (FOIL_WISHES + 1), corner_numbers, 3 * (FOIL_WISHES + 1));
     /* a table that is too short, and strips that another program has spoiled: 12 for the list comes first */
     places = 511;
@@ -458,7 +458,7 @@ static uint32_t below(uint32_t n)
 static void lists_beside_lays(void)
 {
     static struct foil_entry list_table[FOIL_PLACES], *lays_table;
-    static uint16_t list_strips[4 * FOIL_STRIPS], list_corners[160], lays_corners[160], *lays_strips;
+    static uint16_t list_strips[FOIL_STRIP_NUMBERS], list_corners[160], lays_corners[160], *lays_strips;
     static struct foil_wish wishes[FOIL_WISHES];
     static struct foil_answer answers[FOIL_WISHES];
     struct foil_sheet list_sheet;
@@ -483,7 +483,7 @@ static void lists_beside_lays(void)
         list_sheet = sheet;
         memcpy(list_table, lays_table, sizeof list_table);
         memcpy(list_strips, lays_strips, sizeof list_strips);
-        different += foil_lay_list(&list_sheet, list_table, FOIL_PLACES, list_strips, 4 * FOIL_STRIPS, list_corners,
+        different += foil_lay_list(&list_sheet, list_table, FOIL_PLACES, list_strips, FOIL_STRIP_NUMBERS, list_corners,
                                    numbers, (uint16_t *)(void *)answers, 3 * nets, NUMBERS(wishes), 5 * nets, foil)
                          .number != 0;
         for (k = 0; k < nets; k++) {
@@ -560,7 +560,7 @@ static void longer_lists(struct pages t, struct pages s, struct pages b)
 {
     table = (struct foil_entry *)(void *)t.border - FOIL_PLACES;
     places = 600;
-    strips = (uint16_t *)(void *)s.border - 4 * FOIL_STRIPS;
+    strips = (uint16_t *)(void *)s.border - FOIL_STRIP_NUMBERS;
     strip_numbers = 4 * 5000;
     protect(t.border, t.behind, PROT_NONE);
     protect(s.border, s.behind, PROT_NONE);
@@ -671,7 +671,8 @@ static void refused_joins(struct pages t, struct pages s, struct pages c)
     show_join(5, 3, 0, 0);
     show_join(5, 1, 3, 3);
     printf("join 5 %u\n", foil_join(&sheet, table, 511, strips, strip_numbers, CORNERS, foil, 5, 1, 3).number);
-    printf("join 5 %u\n", foil_join(&sheet, table, places, strips, 4 * FOIL_STRIPS - 1, CORNERS, foil, 5, 1, 3).number);
+    printf("join 5 %u\n",
+           foil_join(&sheet, table, places, strips, FOIL_STRIP_NUMBERS - 1, CORNERS, foil, 5, 1, 3).number);
     /* a record that is not this foil's */
     BOARD.entries = 1;
     show_join(5, 1, 3, corner_numbers);
@@ -700,7 +701,7 @@ static void refused_joins(struct pages t, struct pages s, struct pages c)
 
 /* ---- eight foils on one sheet */
 
-static uint16_t sheet_strips[FOIL_FOILS][4 * FOIL_STRIPS];
+static uint16_t sheet_strips[FOIL_FOILS][FOIL_STRIP_NUMBERS];
 
 /* the calls are on foil k from here on, with its own strips; a number above 7 has no strips, and is lent foil 0's */
 static void on(size_t k)
@@ -717,7 +718,7 @@ static void empty_sheet(struct pages t)
     table = (struct foil_entry *)(void *)t.border - FOIL_PLACES;
     memset(table, 0, FOIL_PLACES * sizeof *table);
     places = 600;
-    strip_numbers = 4 * FOIL_STRIPS;
+    strip_numbers = FOIL_STRIP_NUMBERS;
     protect(t.border, t.behind, PROT_NONE);
 }
 
@@ -872,7 +873,7 @@ static void refused_for_all(struct pages t, struct pages s, struct pages c, stru
     printf("board %u\n", foil_new_foil(LENT, foil, 6, 4, 0, 0).number);
     writable(s);
     memcpy(s.border - sizeof sheet_strips[0], strips, sizeof sheet_strips[0]);
-    strips = (uint16_t *)(void *)s.border - 4 * FOIL_STRIPS;
+    strips = (uint16_t *)(void *)s.border - FOIL_STRIP_NUMBERS;
     read_only(t);
     read_only(s);
     read_only(c);
@@ -886,7 +887,7 @@ static void refused_for_all(struct pages t, struct pages s, struct pages c, stru
     foil = 0;
     show_numbers("no lists", bytes);
     places = 511;
-    strip_numbers = 4 * FOIL_STRIPS;
+    strip_numbers = FOIL_STRIP_NUMBERS;
     show_numbers("511 places", bytes);
     places = 512;
     strip_numbers--;
@@ -941,7 +942,7 @@ static struct foil_entry *old_table;
 static uint16_t *old_strips, *report;
 
 #define OLD old_table, FOIL_ENTRIES
-#define OLD_STRIPS old_strips, 4 * FOIL_STRIPS, old
+#define OLD_STRIPS old_strips, FOIL_STRIP_NUMBERS, old
 
 /* the old foil w by h of this reach, with these entries and the strips that it has by document 01 */
 static void old_foil(struct pages ot, struct pages os, uint16_t w, uint16_t h, uint16_t reach,
@@ -950,9 +951,9 @@ static void old_foil(struct pages ot, struct pages os, uint16_t w, uint16_t h, u
     writable(ot);
     writable(os);
     old_table = (struct foil_entry *)(void *)ot.border - FOIL_ENTRIES;
-    old_strips = (uint16_t *)(void *)os.border - 4 * FOIL_STRIPS;
+    old_strips = (uint16_t *)(void *)os.border - FOIL_STRIP_NUMBERS;
     memset(old_table, 0, FOIL_ENTRIES * sizeof *old_table);
-    memset(old_strips, 0, 4 * FOIL_STRIPS * sizeof *old_strips);
+    memset(old_strips, 0, FOIL_STRIP_NUMBERS * sizeof *old_strips);
     memcpy(old_table, entries, count * sizeof *entries);
     memcpy(old_strips, listed, 4 * strip_count * sizeof *listed);
     old.width = w;
@@ -983,7 +984,7 @@ static void carry_to_sheet(struct pages t)
 {
     empty_sheet(t);
     on(0);
-    memset(strips, 0xa5, 4 * FOIL_STRIPS * sizeof *strips);
+    memset(strips, 0xa5, FOIL_STRIP_NUMBERS * sizeof *strips);
     memset(report, 0xff, FOIL_REPORT * sizeof *report);
     show_carried(foil_carry(&BOARD, table, places, OLD, strips, strip_numbers, report, FOIL_REPORT, OLD_STRIPS));
     show_foil();
@@ -1065,13 +1066,13 @@ static void refused_carries(struct pages t, struct pages s, struct pages r, stru
     static const struct foil_entry bare[] = {{0, 0, 0, 2, 1}};
     static const uint16_t bare_strips[] = {3, 0, 12, 2, 0, 2, 12, 5}, edge_strips[] = {3, 1, 11, 2, 1, 2, 11, 4};
     static struct foil_entry lines[FOIL_ENTRIES];
-    static uint16_t cells[4 * FOIL_STRIPS];
+    static uint16_t cells[FOIL_STRIP_NUMBERS];
     struct foil_board was;
     size_t k;
     empty_sheet(t);
     on(0);
     was = BOARD;
-    strips = (uint16_t *)(void *)s.border - 4 * FOIL_STRIPS;
+    strips = (uint16_t *)(void *)s.border - FOIL_STRIP_NUMBERS;
     report = (uint16_t *)(void *)r.border - FOIL_REPORT;
     read_only(t);
     read_only(s);
@@ -1084,7 +1085,7 @@ static void refused_carries(struct pages t, struct pages s, struct pages r, stru
     show_carried(foil_carry(&BOARD, table, places, old_table, 127, strips, strip_numbers, report, FOIL_REPORT,
                             OLD_STRIPS));
     show_carried(foil_carry(&BOARD, table, places, OLD, strips, strip_numbers, report, FOIL_REPORT, old_strips,
-                            4 * FOIL_STRIPS - 1, old));
+                            FOIL_STRIP_NUMBERS - 1, old));
     old.width = 0;
     show_carried(foil_carry(&BOARD, table, places, OLD, strips, strip_numbers, report, 127, OLD_STRIPS));
     old.width = 6;
@@ -1102,7 +1103,7 @@ static void refused_carries(struct pages t, struct pages s, struct pages r, stru
     broken_at(ot, &old_table[1].x1, 2);
     broken_at(ot, &old_table[127].y1, 1);
     broken_at(os, &old_strips[2], 3);
-    broken_at(os, &old_strips[4 * FOIL_STRIPS - 1], 1);
+    broken_at(os, &old_strips[FOIL_STRIP_NUMBERS - 1], 1);
     /* strips by today's rules are no strips of document 01 */
     old_foil(ot, os, 12, 5, 1, bare, 1, edge_strips, 2);
     show_carried(foil_carry(&BOARD, table, places, OLD, strips, strip_numbers, report, FOIL_REPORT, OLD_STRIPS));
@@ -1139,12 +1140,12 @@ static void refused_carries(struct pages t, struct pages s, struct pages r, stru
 int main(void)
 {
     struct pages t = parted(FOIL_PLACES * sizeof(struct foil_entry), 88 * sizeof(struct foil_entry));
-    struct pages s = parted(4 * FOIL_STRIPS * sizeof(uint16_t), 4 * 904 * sizeof(uint16_t));
-    struct pages c = parted(2 * 8192 * sizeof(uint16_t), 0);
+    struct pages s = parted(FOIL_STRIP_NUMBERS * sizeof(uint16_t), 4 * 904 * sizeof(uint16_t));
+    struct pages c = parted(FOIL_CORNER_NUMBERS * sizeof(uint16_t), 0);
     struct pages b = parted(FOIL_BYTES, 64);
     struct pages r = parted(FOIL_REPORT * sizeof(uint16_t), 0);
     struct pages ot = parted(FOIL_ENTRIES * sizeof(struct foil_entry), 0);
-    struct pages os = parted(4 * FOIL_STRIPS * sizeof(uint16_t), 0);
+    struct pages os = parted(FOIL_STRIP_NUMBERS * sizeof(uint16_t), 0);
     document_01();
     drawn();
     saved();
