@@ -12,8 +12,8 @@
         print(int(way.refusal), way.refusal.name)
     print(foil.entries, foil.strips)
 
-hosts/build makes libfoil.so; FOIL_LIBRARY, or the argument of Sheet, names another one. Before a thread that makes calls
-is started: threading.stack_size(keyfoil.STACK). docs/HOST.md has the rest."""
+hosts/build makes libfoil.so; FOIL_LIBRARY, or the argument of Sheet, names another one. Before a thread that makes
+calls is started: threading.stack_size(keyfoil.STACK). docs/HOST.md has the rest."""
 from keyfoil.answers import (Answer, Board, Carried, Entry, Found, Ink, Listed, Ohms, Point, Record, Refusal, Step,
                              Strip, Way, Wish, Written)
 from keyfoil.library import NoLibrary, load

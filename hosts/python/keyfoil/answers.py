@@ -130,7 +130,7 @@ class Carried(Answer):
 
 @dataclass(frozen=True)
 class Step:
-    """A step of a record that was run: `board`, `patch`, `track`, `lift` or `leg`, and its answer, a Way for a track."""
+    """A step of a record that was run: board, patch, track, lift or leg, and its answer, a Way for a track."""
     word: str
     answer: Answer
 
