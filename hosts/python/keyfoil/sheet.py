@@ -143,13 +143,13 @@ class Foil:
     def __init__(self, sheet, k):
         self.sheet, self.k = sheet, k
 
-    def lent(self):
+    def _lent(self):
         """What every call is lent first."""
         lists = self.sheet.lists
         strips = lists.strips_of(self.k)
         return lists.records, lists.table, len(lists.table), strips, len(strips)
 
-    def corners(self):
+    def _corners(self):
         """Corner places, enough for a lay."""
         return self.sheet.lists.corners, len(self.sheet.lists.corners)
 
@@ -192,15 +192,15 @@ class Foil:
 
     def new(self, width, height, half=0, gap=0):
         """Begins the foil, with a pen of this half width and gap."""
-        return self.answer("foil_new_foil", width, height, half, gap)
+        return self._answer("foil_new_foil", width, height, half, gap)
 
     def draw(self, x0, y0, x1, y1):
         """Draws a patch."""
-        return self.answer("foil_draw", x0, y0, x1, y1)
+        return self._answer("foil_draw", x0, y0, x1, y1)
 
     def lay(self, net, start, end):
         """Lays a track of the net from a point to another: a Way."""
-        return self.way("foil_lay", net, *start, *end)
+        return self._way("foil_lay", net, *start, *end)
 
     def lay_list(self, wishes):
         """Lays the nets of a list, each with its start and end, one after the other: the answer to each."""
@@ -209,7 +209,7 @@ class Foil:
         answers = (ctypes.c_uint16 * (3 * count))()
         corners = (ctypes.c_uint16 * (2 * limits.CORNERS * max(1, count)))()
         with self.sheet.lock:
-            said = self.sheet.library.foil_lay_list(*self.lent(), corners, len(corners), answers, len(answers), flat,
+            said = self.sheet.library.foil_lay_list(*self._lent(), corners, len(corners), answers, len(answers), flat,
                                                     len(flat), self.k)
         if said.number:
             return Listed(Refusal(said.number))
@@ -221,24 +221,24 @@ class Foil:
 
     def join(self, net, point):
         """Joins a point to the net: a Way."""
-        return self.way("foil_join", net, *point)
+        return self._way("foil_join", net, *point)
 
     def book(self, net, corners):
         """Books a drawing, the corners of a way, as a track of the net: a Way."""
         corners = tuple(Point(x, y) for x, y in corners)
         lent = numbers(value for corner in corners for value in corner)
         with self.sheet.lock:
-            said = self.sheet.library.foil_book(*self.lent(), lent, len(lent), self.k, number(net))
+            said = self.sheet.library.foil_book(*self._lent(), lent, len(lent), self.k, number(net))
         return Way(Refusal(said.number), corners[:said.corners], said.bends)
 
     def lift(self, net):
         """Lifts a net."""
-        return self.answer("foil_lift", net)
+        return self._answer("foil_lift", net)
 
     def put_leg(self, net, x0, y0, x1, y1):
         """Puts a leg as it was booked."""
         with self.sheet.lock:
-            said = self.sheet.library.foil_put_leg(*self.lent(), self.k, entry((net, x0, y0, x1, y1)))
+            said = self.sheet.library.foil_put_leg(*self._lent(), self.k, entry((net, x0, y0, x1, y1)))
         return Answer(Refusal(said.number))
 
     def run_record(self, job, at=0):
@@ -246,7 +246,7 @@ class Foil:
         job = bytes(job)
         with self.sheet.lock:
             corners = self.sheet.lists.corners
-            said = self.sheet.library.foil_run_record(*self.lent(), *self.corners(), job, len(job), self.k, length(at))
+            said = self.sheet.library.foil_run_record(*self._lent(), *self._corners(), job, len(job), self.k, length(at))
             steps = []
             for word in STEPS:
                 step = getattr(said, word)
@@ -269,13 +269,13 @@ class Foil:
 
     def find(self, start, end):
         """The track that a lay from a point to another would lay: a Way."""
-        return self.way("foil_find", *start, *end)
+        return self._way("foil_find", *start, *end)
 
     def look_up(self, point):
         """The strip that holds a point: Found."""
         x, y = point
         with self.sheet.lock:
-            said = self.sheet.library.foil_look_up(*self.lent(), self.k, number(x), number(y))
+            said = self.sheet.library.foil_look_up(*self._lent(), self.k, number(x), number(y))
             if said.number:
                 return Found(Refusal(said.number))
             flat = self.sheet.lists.strips_of(self.k)[4 * said.place:4 * said.place + 4]
@@ -283,39 +283,39 @@ class Foil:
 
     def save(self):
         """The foil as a job file: Written."""
-        return self.written("foil_save", limits.FILE_BYTES)
+        return self._written("foil_save", limits.FILE_BYTES)
 
     def slip(self):
         """The packer's slip: Written, a line of 33 bytes for each net."""
-        return self.written("foil_slip", limits.SLIP_BYTES)
+        return self._written("foil_slip", limits.SLIP_BYTES)
 
     def ohms(self, net, ink):
         """The resistance of a net, by three figures of the ink: Ohms."""
         sheet, width, bend = ink
         with self.sheet.lock:
-            said = self.sheet.library.foil_ohms(*self.lent(), self.k, number(net), InkStruct(sheet, width, bend))
+            said = self.sheet.library.foil_ohms(*self._lent(), self.k, number(net), InkStruct(sheet, width, bend))
         return Ohms(Refusal(said.number), None if said.number else said.ohms)
 
     # how they are made
 
-    def answer(self, call, *values):
+    def _answer(self, call, *values):
         """Makes a call that answers nothing but its refusal."""
         values = [number(value) for value in values]
         with self.sheet.lock:
-            return Answer(Refusal(getattr(self.sheet.library, call)(*self.lent(), self.k, *values).number))
+            return Answer(Refusal(getattr(self.sheet.library, call)(*self._lent(), self.k, *values).number))
 
-    def way(self, call, *values):
+    def _way(self, call, *values):
         """Makes a call that answers a way."""
         values = [number(value) for value in values]
         with self.sheet.lock:
-            said = getattr(self.sheet.library, call)(*self.lent(), *self.corners(), self.k, *values)
+            said = getattr(self.sheet.library, call)(*self._lent(), *self._corners(), self.k, *values)
             return way_of(said, self.sheet.lists.corners)
 
-    def written(self, call, most):
+    def _written(self, call, most):
         """Makes a call that writes at most so many bytes."""
         data = (ctypes.c_uint8 * most)()
         with self.sheet.lock:
-            said = getattr(self.sheet.library, call)(*self.lent(), data, most, self.k)
+            said = getattr(self.sheet.library, call)(*self._lent(), data, most, self.k)
         return Written(Refusal(said.number), bytes(data[:said.bytes]))
 
 

@@ -124,10 +124,10 @@ fn eight_foils() {
             sheet.new_foil(k, 64, 64, Pen::default()).unwrap();
         }
         let mut drawn = [0; FOILS];
-        for k in 0..FOILS {
+        for (k, count) in drawn.iter_mut().enumerate() {
             for n in 0..ENTRIES as u16 {
                 match sheet.draw(k, n % 64, n / 64, n % 64 + 1, n / 64 + 1) {
-                    Ok(()) => drawn[k] += 1,
+                    Ok(()) => *count += 1,
                     Err(refusal) => assert_eq!(Refusal::TableFull, refusal),
                 }
             }
