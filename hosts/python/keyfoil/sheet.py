@@ -123,7 +123,7 @@ class OldFoil:
         """Carries the foil over to foil 0 of a sheet on which no foil is begun: the answer."""
         table = (EntryStruct * max(limits.ENTRIES, len(self.entries)))(*map(entry, self.entries))
         strips = (ctypes.c_uint16 * (4 * max(limits.STRIPS, len(self.strips))))(
-            *(number(value) for strip in self.strips for value in strip))
+            *(number(value) for x0, y0, x1, y1 in self.strips for value in (x0, y0, x1, y1)))
         record = OldBoardStruct(number(self.width), number(self.height), number(self.reach), len(self.entries),
                                 len(self.strips))
         report = (ctypes.c_uint16 * limits.REPORT)()
@@ -200,11 +200,12 @@ class Foil:
 
     def lay(self, net, start, end):
         """Lays a track of the net from a point to another: a Way."""
-        return self._way("foil_lay", net, *start, *end)
+        (sx, sy), (tx, ty) = start, end
+        return self._way("foil_lay", net, sx, sy, tx, ty)
 
     def lay_list(self, wishes):
         """Lays the nets of a list, each with its start and end, one after the other: the answer to each."""
-        flat = numbers(value for net, start, end in wishes for value in (net, *start, *end))
+        flat = numbers(value for net, (sx, sy), (tx, ty) in wishes for value in (net, sx, sy, tx, ty))
         count = len(flat) // 5
         answers = (ctypes.c_uint16 * (3 * count))()
         corners = (ctypes.c_uint16 * (2 * limits.CORNERS * max(1, count)))()
@@ -214,14 +215,15 @@ class Foil:
         if said.number:
             return Listed(Refusal(said.number))
         ways, first = [], 0
-        for refusal, length_of, bends in zip(answers[::3], answers[1::3], answers[2::3]):
-            ways.append(Way(Refusal(refusal), points(corners, first, length_of), bends))
-            first += length_of
+        for refusal, count, bends in zip(answers[::3], answers[1::3], answers[2::3]):
+            ways.append(Way(Refusal(refusal), points(corners, first, count), bends))
+            first += count
         return Listed(Refusal.ACCEPTED, tuple(ways))
 
     def join(self, net, point):
         """Joins a point to the net: a Way."""
-        return self._way("foil_join", net, *point)
+        x, y = point
+        return self._way("foil_join", net, x, y)
 
     def book(self, net, corners):
         """Books a drawing, the corners of a way, as a track of the net: a Way."""
@@ -269,7 +271,8 @@ class Foil:
 
     def find(self, start, end):
         """The track that a lay from a point to another would lay: a Way."""
-        return self._way("foil_find", *start, *end)
+        (sx, sy), (tx, ty) = start, end
+        return self._way("foil_find", sx, sy, tx, ty)
 
     def look_up(self, point):
         """The strip that holds a point: Found."""

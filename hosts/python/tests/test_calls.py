@@ -230,6 +230,14 @@ class Sheets(unittest.TestCase):
             self.assertRaises(ValueError, call)
         self.assertRaises(TypeError, lambda: foil.draw(0.5, 0, 1, 1))
 
+    def test_points_of_another_shape(self):
+        foil = given.begun(Sheet())
+        for call in (lambda: foil.lay(6, (1, 0, 1), (1, 2)), lambda: foil.lay(6, (1,), (0, 1, 2)),
+                     lambda: foil.join(5, (1, 0, 1)), lambda: foil.find((1, 0), (1, 2, 3)),
+                     lambda: foil.lay_list([(6, (1, 0, 1), (1,))]), lambda: foil.look_up((1,)),
+                     lambda: foil.book(6, [(1, 0, 1)])):
+            self.assertRaises(ValueError, call)
+
 
 class Carrying(unittest.TestCase):
     def test_carried(self):
