@@ -206,9 +206,10 @@ class Foil:
     def lay_list(self, wishes):
         """Lays the nets of a list, each with its start and end, one after the other: the answer to each."""
         flat = numbers(value for net, (sx, sy), (tx, ty) in wishes for value in (net, sx, sy, tx, ty))
-        count = len(flat) // 5
-        answers = (ctypes.c_uint16 * (3 * count))()
-        corners = (ctypes.c_uint16 * (2 * limits.CORNERS * max(1, count)))()
+        nets = len(flat) // 5
+        answers = (ctypes.c_uint16 * (3 * nets))()
+        # a longer list is refused
+        corners = (ctypes.c_uint16 * (2 * limits.CORNERS * min(nets, limits.WISHES)))()
         with self.sheet.lock:
             said = self.sheet.library.foil_lay_list(*self._lent(), corners, len(corners), answers, len(answers), flat,
                                                     len(flat), self.k)
@@ -248,7 +249,8 @@ class Foil:
         job = bytes(job)
         with self.sheet.lock:
             corners = self.sheet.lists.corners
-            said = self.sheet.library.foil_run_record(*self._lent(), *self._corners(), job, len(job), self.k, length(at))
+            said = self.sheet.library.foil_run_record(*self._lent(), *self._corners(), job, len(job), self.k,
+                                                      length(at))
             steps = []
             for word in STEPS:
                 step = getattr(said, word)

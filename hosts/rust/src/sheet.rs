@@ -2,7 +2,7 @@
 use crate::answers::{Bent, Pen, Point, Record, Refusal, Steps, Strip, Way, Wish};
 use crate::lent::{self, Board, Entry, Fresh, Ink, Lent, Old, OldBoard, Records, Shown};
 use crate::limits::{
-    CORNERS, CORNER_NUMBERS, ENTRIES, FILE_BYTES, FOILS, PLACES, REPORT, SLIP_BYTES, STRIPS, STRIP_NUMBERS,
+    CORNER_NUMBERS, ENTRIES, FILE_BYTES, FOILS, PLACES, REPORT, SLIP_BYTES, STRIPS, STRIP_NUMBERS, WISHES,
 };
 
 /// Eight foils, numbered 0 to 7, with all that the calls on them are lent. A call on another number is refused (23).
@@ -117,7 +117,8 @@ impl Sheet {
     pub fn lay_list(&mut self, k: usize, wishes: &[Wish]) -> Result<Vec<Result<Way, Refusal>>, Refusal> {
         let flat: Vec<u16> = wishes.iter().flat_map(|w| [w.net, w.start.0, w.start.1, w.end.0, w.end.1]).collect();
         let mut answers = vec![0; 3 * wishes.len()];
-        let mut corners = vec![0; 2 * CORNERS * wishes.len().max(1)];
+        // a longer list is refused
+        let mut corners = vec![0; CORNER_NUMBERS * wishes.len().min(WISHES)];
         lent::lay_list(self.lent(k), &mut corners, &mut answers, &flat, k)?;
         let mut rest = &corners[..];
         Ok(answers
