@@ -77,8 +77,9 @@ class Lists:
 
 class Sheet:
     """Eight foils on one sheet, with all that they are lent. Sheets have nothing in common, and each may be used from
-    any thread: one call on a sheet runs at a time, calls on several sheets at once. A thread needs limits.STACK bytes
-    of stack: call threading.stack_size(keyfoil.STACK) before it is started."""
+    any thread: one call on a sheet runs at a time, calls on several sheets at once; `with sheet.lock:` keeps several
+    calls or readings together. A thread needs limits.STACK bytes of stack: call threading.stack_size(keyfoil.STACK)
+    before it is started."""
 
     def __init__(self, library=None):
         """`library` is what `load` gave, the path of libfoil.so, or None for the one that `load` finds."""
