@@ -1,5 +1,5 @@
 -- What is proved beside the definitions; their other laws stand in the crates whose names end in _laws.
+pub mod Orders
 pub mod Starred
-pub mod LessInk
 pub mod Written
 pub mod Sheets

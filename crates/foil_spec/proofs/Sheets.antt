@@ -97,8 +97,7 @@ secondRow = entry 0 2 0 3 3 ∷ entry 5 0 0 1 4 ∷ entry 5 0 3 5 4 ∷ entry 5 
 abbrev later : List On
 later =
     on 0 (lift 9) ∷ on 7 (lookUp (point 0 0)) ∷ record { foil = 7; call = layList [] 0 }
-    ∷ on 0 (newFoil 5 5 (byPen (pen 1 0))) ∷ at 3 0 ∷ at 3 7 ∷ at 4 7 ∷ at 9 0
-    ∷ []
+    ∷ on 0 (newFoil 5 5 (byPen (pen 1 0))) ∷ at 3 0 ∷ at 3 7 ∷ at 4 7 ∷ at 9 0 ∷ []
 
 abbrev laterReplies : List Reply
 laterReplies =

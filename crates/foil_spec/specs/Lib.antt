@@ -19,3 +19,5 @@ pub mod Ohms
 pub mod Calls
 pub mod Sequence
 pub mod Sheet
+pub mod Orders
+pub mod Starred
