@@ -9,10 +9,10 @@ use Rattle.foil_spec.specs.Ledger.{find, book, slip, join, carry, cleara
 use Rattle.foil_spec.specs.Job.{recordChecks}
 use Rattle.foil_spec.specs.Ohms.{ohmsRefusals}
 use Rattle.foil_spec.specs.Calls.{wholeRefusals, listRefusals}
-use Rattle.foil_spec.specs.Orders.{numbers, order, InOrder}
+use Rattle.foil_spec.specs.Orders.{numbersFrom, order, InOrder}
 
-steps-in-order : (r : Room) (l : Layout) (s : Step) → numbers (refusals s r l) ≡ order s
-unfolding order refusals clearanceRefusal
+steps-in-order : (r : Room) (l : Layout) (s : Step) → numbersFrom (refusals s r l) ≡ order s
+unfolding numbersFrom order refusals clearanceRefusal
 steps-in-order r l (newFoil W H (byPen p)) = refl
 steps-in-order r l (newFoil W H (byReach d)) = refl
 steps-in-order r l (draw x0 y0 x1 y1) = refl
@@ -28,7 +28,7 @@ steps-in-order r l (join net S) = refl
 steps-in-order r l (carry o) = refl
 
 in-order : (r : Room) (broken : Bool) (l : Layout) → InOrder r broken l
-unfolding afterLent wholeRefusals recordChecks ohmsRefusals listRefusals
+unfolding numbersFrom afterLent wholeRefusals recordChecks ohmsRefusals listRefusals
 in-order r broken l =
     record {
       of-step = λ s. rw (steps-in-order r l s) refl;

@@ -12,8 +12,8 @@ use Rattle.foil_spec.specs.Calls.{wholeRefusals, listRefusals}
 use Rattle.foil_spec.specs.declared.Ink.{Ink}
 
 -- the numbers of some refusals
-abbrev pub numbers : List Refusal → List ℕ
-numbers rs = map (λ (r : Refusal). r .number) rs
+unfoldable pub numbersFrom : List Refusal → List ℕ
+numbersFrom rs = map (λ (r : Refusal). r .number) rs
 
 -- the numbers that a step meets after 12 and 13
 unfoldable pub order : Step → List ℕ
@@ -33,9 +33,9 @@ order (carry o) = 12 ∷ 12 ∷ 13 ∷ 10 ∷ 11 ∷ []
 
 -- so they are tried in any room, on any foil: of a step, of a record as a whole, of the ohms, of a list of lays
 pub record InOrder (r : Room) (broken : Bool) (l : Layout) : Type 0 where
-  pub of-step : (s : Step) → numbers (afterLent r broken (refusals s r l)) ≡ 12 ∷ 13 ∷ order s
+  pub of-step : (s : Step) → numbersFrom (afterLent r broken (refusals s r l)) ≡ 12 ∷ 13 ∷ order s
   pub of-record : (bs : List ℕ) (at : ℕ)
-      → numbers (wholeRefusals r broken bs at) ≡ 18 ∷ 12 ∷ 13 ∷ 14 ∷ 15 ∷ 16 ∷ 17 ∷ 14 ∷ []
+      → numbersFrom (wholeRefusals r broken bs at) ≡ 18 ∷ 12 ∷ 13 ∷ 14 ∷ 15 ∷ 16 ∷ 17 ∷ 14 ∷ []
   pub of-ohms : (net : ℕ) (i : Ink)
-      → numbers (afterLent r broken (ohmsRefusals net i l)) ≡ 12 ∷ 13 ∷ 4 ∷ 6 ∷ 22 ∷ []
-  pub of-list : (ws : List ℕ) (n : ℕ) → numbers (listRefusals r broken ws n) ≡ 12 ∷ 12 ∷ 13 ∷ []
+      → numbersFrom (afterLent r broken (ohmsRefusals net i l)) ≡ 12 ∷ 13 ∷ 4 ∷ 6 ∷ 22 ∷ []
+  pub of-list : (ws : List ℕ) (n : ℕ) → numbersFrom (listRefusals r broken ws n) ≡ 12 ∷ 12 ∷ 13 ∷ []

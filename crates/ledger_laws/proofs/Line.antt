@@ -1,8 +1,8 @@
 -- Each step of the ledger keeps what lists of calls ask of it.
-use Prim.Native.Nat.{ℕ, _+_, _-_, _/_, min, _≤_, _<_}
+use Prim.Native.Nat.{ℕ, _+_, _/_, min, _≤_, _<_}
 use native.Mathlib.Omega.{arith}
 use mathlib.Core.Path.{_≡_, refl, sym, ap, _∙_}
-use mathlib.Core.Bool.{Bool, true, false, cond, not, _&&_, _||_, or-true, true≢false}
+use mathlib.Core.Bool.{Bool, true, false, not, _&&_, _||_, or-true, true≢false}
 use mathlib.Core.List.{List, [], _∷_, _++_, append-nil}
 use mathlib.Core.Logic.{inl, inr}
 use mathlib.Core.Option.{Option, none, some, Option·getD}
@@ -35,6 +35,7 @@ use Rattle.strip_laws.proofs.Strips.{Held}
 use Rattle.strip_laws.proofs.Laws.{one-strip, no-strip}
 use Rattle.ledger_laws.specs.Line.{Line, Lacks, corners, joint, bytes, page, LacksOld, but, numbersFrom}
 use Rattle.ledger_laws.specs.Line.{ownNumbers, noCarry}
+use Rattle.ledger_laws.specs.Demand2.{rim, bare, inner, BareStrips}
 use Rattle.ledger_laws.proofs.Refusals.{no-rule, no-more, none-applies, first-passes}
 use Rattle.zones.proofs.Free.{free-inside, free-far, bare-free}
 use Rattle.ledger_laws.proofs.Legs.{legs-ok}
@@ -45,30 +46,24 @@ use Rattle.ledger_laws.proofs.Carried.{carried-ok}
 
 -- ---- what the steps leave
 
--- a foil without entries
-abbrev pub bare : ℕ → ℕ → Pen → Layout
-bare W H p = record { width = W; height = H; pen = p; entries = [] }
-
 module _ (W H : ℕ) (p : Pen) where
-  -- how far away its edge blocks
   abbrev m : ℕ
-  m = p .half + p .gap
+  m = rim p
 
-  -- what the edge leaves of it
-  abbrev inner : Strip
-  inner = record { x0 = m; y0 = m; x1 = W - m; y1 = H - m }
+  -- what the edge leaves of a foil without entries
+  abbrev box : Strip
+  box = inner W H p
 
-  inner-free : (q : Point) → Held q inner → free (bare W H p) (q .x) (q .y) ≡ true
+  inner-free : (q : Point) → Held q box → free (bare W H p) (q .x) (q .y) ≡ true
   inner-free q k =
       bare-free p W H (q .x) (q .y) (k .right) (omega (arith, k .left)) (k .below) (omega (arith, k .above))
 
-  free-inner : (q : Point) → free (bare W H p) (q .x) (q .y) ≡ true → Held q inner
+  free-inner : (q : Point) → free (bare W H p) (q .x) (q .y) ≡ true → Held q box
   free-inner q e =
       let (left, right, above, below) = free-far (bare W H p) (q .x) (q .y) e in
       record { right = left; left = omega arith; below = above; above = omega arith }
 
-  -- its strips: that as the only one, or none where nothing is left
-  pub bare-strips : stripsOf (bare W H p) ≡ cond (ltb (m + m) W && ltb (m + m) H) (inner ∷ []) []
+  pub bare-strips : BareStrips W H p
   unfolding stripsOf
   bare-strips =
       both (ltb (m + m) W && ltb (m + m) H)
@@ -76,11 +71,11 @@ module _ (W H : ℕ) (p : Pen) where
       let across = ltb-true (m + m) W (and-l _ _ e) in
       let down = ltb-true (m + m) H (and-r (ltb (m + m) W) _ e) in
       rw e
-      (one-strip (free (bare W H p)) W H inner inner-free free-inner (omega arith) (omega arith) (omega arith)
+      (one-strip (free (bare W H p)) W H box inner-free free-inner (omega arith) (omega arith) (omega arith)
       (omega arith)))
       (λ e.
       rw e
-      (no-strip (free (bare W H p)) W H inner inner-free free-inner
+      (no-strip (free (bare W H p)) W H box inner-free free-inner
       (λ q k.
       clash
       (and-i (lt-ltb (m + m) W (omega (arith, k .right, k .left)))

@@ -3,7 +3,7 @@ use Prim.Native.Nat.{ℕ}
 use native.Mathlib.Omega.{arith}
 use mathlib.Core.Path.{_≡_, refl, sym, ap, _∙_, subst}
 use mathlib.Core.Bool.{Bool, true, false, cond}
-use mathlib.Core.List.{List, [], _∷_, map, append-nil}
+use mathlib.Core.List.{List, [], _∷_, append-nil}
 use mathlib.Core.Option.{Option, none, some}
 use lib.Ieee.{Float}
 use Rattle.foil_spec.specs.Foil.{Layout}
@@ -11,21 +11,16 @@ use Rattle.foil_spec.specs.Ledger.{Room, Step, Answer, After}
 use Rattle.foil_spec.specs.Lent.{Lent, stepOn}
 use Rattle.foil_spec.specs.Job.{steps}
 use Rattle.foil_spec.specs.Wishes.{wishes}
-use Rattle.foil_spec.specs.Calls.{Call, step, runRecord, ohms, layList, Reply, answered, ran, laidAll, ohmsReply}
-use Rattle.foil_spec.specs.Calls.{endsJob, andThen, actAll, actRecord, inFront, actEach, actList, reply, callOn}
-use Rattle.foil_spec.specs.Calls.{answersIn}
+use Rattle.foil_spec.specs.Calls.{Call, step, runRecord, ohms, layList, ran, laidAll, ohmsReply, endsJob, andThen}
+use Rattle.foil_spec.specs.Calls.{actAll, actRecord, inFront, actEach, actList, reply, callOn, answersIn}
 use Rattle.foil_spec.specs.Sequence.{Lending, front, roomFor, lend}
 use Rattle.ledger_laws.specs.Moments.{Moment, momentOf, momentsOf, momentsEach, stepsRun, isList, momentsBy}
-use Rattle.ledger_laws.specs.Moments.{moments}
-
--- the answers at some steps
-abbrev answers : List Moment → List Answer
-answers ks = map (λ (k : Moment). k .answer) ks
+use Rattle.ledger_laws.specs.Moments.{moments, answersAt, NoneLeftOut}
 
 module _ (c : Lending) (m : Lent) where
   then-answers : (t : Bool) (a : Answer) (x : Lent) (ks : List Moment) (b : After (List Answer) Lent)
-      → answers ks ≡ b .answer
-      → a ∷ answers (cond t [] ks)
+      → answersAt ks ≡ b .answer
+      → a ∷ answersAt (cond t [] ks)
       ≡ cond {A = After (List Answer) Lent} t
       (record { answer = a ∷ []; state = x })
       (record { answer = a ∷ b .answer; state = b .state }) .answer
@@ -36,7 +31,7 @@ module _ (c : Lending) (m : Lent) where
   r = roomFor c m
 
   steps-answers : (ss : List Step) (n : Lent) (out : List ℕ) (l : Layout)
-      → answers (momentsOf c m ss n out l) ≡ actAll (stepOn r) ss n .answer
+      → answersAt (momentsOf c m ss n out l) ≡ actAll (stepOn r) ss n .answer
   unfolding momentsOf momentOf actAll andThen
   steps-answers [] n out l = refl
   steps-answers (s ∷ ss) n out l =
@@ -44,7 +39,7 @@ module _ (c : Lending) (m : Lent) where
       (actAll (stepOn r) ss (stepOn r s n .state)) (steps-answers ss (stepOn r s n .state) _ _)
 
   each-answers : (ss : List Step) (q : Room) (n : Lent) (out : List ℕ) (l : Layout)
-      → answers (momentsEach c m q ss n out l) ≡ actEach stepOn q ss n .answer
+      → answersAt (momentsEach c m q ss n out l) ≡ actEach stepOn q ss n .answer
   unfolding momentsEach momentOf actEach inFront
   each-answers [] q n out l = refl
   each-answers (s ∷ ss) q n out l =
@@ -53,19 +48,19 @@ module _ (c : Lending) (m : Lent) where
   module _ (n : Lent) (out : List ℕ) (l : Layout) where
     -- the answers at the steps of a call, where k is what it calls and n what it is lent
     abbrev stepAnswers : Call → List Answer
-    stepAnswers k = answers (momentsBy c m k (stepsRun k (callOn r k n .answer)) n out l)
+    stepAnswers k = answersAt (momentsBy c m k (stepsRun k (callOn r k n .answer)) n out l)
 
     of-step : (s : Step) → stepAnswers (step s) ≡ answersIn (callOn r (step s) n .answer)
     unfolding callOn reply stepsRun isList momentsBy answersIn momentsOf momentOf
     of-step s = go (endsJob (stepOn r s n .answer))
       where
-        go : (t : Bool) → stepOn r s n .answer ∷ answers (cond t [] []) ≡ stepOn r s n .answer ∷ []
+        go : (t : Bool) → stepOn r s n .answer ∷ answersAt (cond t [] []) ≡ stepOn r s n .answer ∷ []
         go true = refl
         go false = refl
 
     of-record : (o : Option ℕ) (e : Bool) (bs : List ℕ) (at p : ℕ) (given : List Answer) (place : Option ℕ)
         → actRecord (stepOn r) o e (steps bs at) p n .answer ≡ ran given place
-        → answers
+        → answersAt
         (momentsOf c m (stepsRun (runRecord bs at) (actRecord (stepOn r) o e (steps bs at) p n .answer)) n out l)
         ≡ given
     unfolding actRecord stepsRun
@@ -97,7 +92,7 @@ module _ (c : Lending) (m : Lent) where
 
     of-list : (o : Option ℕ) (ws : List ℕ) (k : ℕ) (given : List Answer)
         → actList stepOn o r (wishes ws) n .answer ≡ laidAll given
-        → answers
+        → answersAt
         (momentsEach c m r (stepsRun (layList ws k) (actList stepOn o r (wishes ws) n .answer)) n out l)
         ≡ given
     unfolding actList stepsRun
@@ -111,17 +106,17 @@ module _ (c : Lending) (m : Lent) where
     unfolding callOn reply isList momentsBy
     of-lays ws k given h = of-list _ ws k given h
 
-  one-call : (l : Layout) → answers (moments m l (c ∷ [])) ≡ stepAnswers (front c m) (c .output) l (c .call)
+  one-call : (l : Layout) → answersAt (moments m l (c ∷ [])) ≡ stepAnswers (front c m) (c .output) l (c .call)
   unfolding moments lend
   one-call l =
-      ap answers
+      ap answersAt
       (append-nil
       (momentsBy c m (c .call) (stepsRun (c .call) (callOn r (c .call) (front c m) .answer)) (front c m) (c .output)
       l))
 
   -- a call that is one step runs that step
   pub step-told : (l : Layout) (s : Step) → c .call ≡ step s
-      → answers (moments m l (c ∷ [])) ≡ answersIn (lend c m .answer)
+      → answersAt (moments m l (c ∷ [])) ≡ answersIn (lend c m .answer)
   unfolding lend
   step-told l s e =
       one-call l
@@ -131,16 +126,20 @@ module _ (c : Lending) (m : Lent) where
 
   -- a record that is not refused as a whole runs the steps that it answers
   pub record-told : (l : Layout) (given : List Answer) (place : Option ℕ) → lend c m .answer ≡ ran given place
-      → answers (moments m l (c ∷ [])) ≡ given
+      → answersAt (moments m l (c ∷ [])) ≡ given
   unfolding lend
   record-told l given place h = one-call l ∙ of-call (front c m) (c .output) l (c .call) given place h
 
   -- a list of lays that is not refused as a whole runs the lays that it answers
   pub list-told : (l : Layout) (ws : List ℕ) (k : ℕ) (given : List Answer) → c .call ≡ layList ws k
-      → lend c m .answer ≡ laidAll given → answers (moments m l (c ∷ [])) ≡ given
+      → lend c m .answer ≡ laidAll given → answersAt (moments m l (c ∷ [])) ≡ given
   unfolding lend
   list-told l ws k given e h =
       one-call l
       ∙ subst
       (λ (j : Call). callOn r j (front c m) .answer ≡ laidAll given → stepAnswers (front c m) (c .output) l j ≡ given)
       (sym e) (of-lays (front c m) (c .output) l ws k given) h
+
+  pub none-left-out : (l : Layout) → NoneLeftOut c m l
+  none-left-out l =
+      record { of-step = step-told l; of-record = record-told l; of-list = list-told l }

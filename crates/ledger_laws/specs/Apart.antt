@@ -8,7 +8,7 @@ use Rattle.foil_spec.specs.Foil.{Point, Entry, Layout}
 use Rattle.foil_spec.specs.Paths.{gap}
 use Rattle.foil_spec.specs.Corners.{drawn}
 use Rattle.foil_spec.specs.Ledger.{legs, lay, book, laid, booked}
-use Rattle.list_laws.proofs.Members.{In}
+use Rattle.list_laws.specs.Members.{In}
 use Rattle.ledger_laws.specs.Moments.{Moment, AtEvery}
 
 -- the entry has the point: x0 ≤ x < x1 and y0 ≤ y < y1

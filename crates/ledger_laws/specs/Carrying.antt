@@ -13,7 +13,7 @@ use Rattle.foil_spec.specs.Foil.{Point, Entry, Layout, blocks}
 use Rattle.foil_spec.specs.Carrying.{Old, oldShort, oldSound, oldEntries}
 use Rattle.foil_spec.specs.Ledger.{carry, refused, wrote, short}
 use Rattle.foil_spec.specs.Lent.{sound}
-use Rattle.list_laws.proofs.Members.{In, Sorted}
+use Rattle.list_laws.specs.Members.{In, Sorted}
 use Rattle.ledger_laws.specs.Moments.{Moment, AtEvery}
 use Rattle.ledger_laws.specs.Apart.{Has}
 use Rattle.ledger_laws.specs.Numbers.{among}

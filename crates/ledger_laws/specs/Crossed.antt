@@ -6,7 +6,7 @@ use mathlib.Core.List.{List}
 use mathlib.Core.Logic.{_↔_}
 use Rattle.foil_spec.specs.Foil.{Point, Entry, entry, Pen, netOk, boxOk, entryOk, blocks}
 use Rattle.foil_spec.specs.Ledger.{draw, putLeg, refused, short}
-use Rattle.list_laws.proofs.Members.{In}
+use Rattle.list_laws.specs.Members.{In}
 use Rattle.ledger_laws.specs.Moments.{Moment, AtEvery}
 use Rattle.ledger_laws.specs.Apart.{Has}
 

@@ -2,7 +2,7 @@
 use Prim.Native.Nat.{ℕ, _<_}
 use mathlib.Core.Path.{_≡_}
 use mathlib.Core.Bool.{Bool, true, false, not, _||_}
-use mathlib.Core.List.{List, map}
+use mathlib.Core.List.{List}
 use mathlib.Core.Option.{none, some}
 use mathlib.Core.Logic.{_⊎_}
 use lib.Dec.{ltb, eqb}
@@ -15,16 +15,13 @@ use Rattle.foil_spec.specs.Slip.{slipOf}
 use Rattle.foil_spec.specs.Carrying.{Old, oldShort}
 use Rattle.foil_spec.specs.Ledger.{cornersOf, joinCorners, Room, cornerRoom, Step, newFoil, draw, lay, lift, lookUp}
 use Rattle.foil_spec.specs.Ledger.{putLeg, save, find, book, slip, join, carry, numberOf, next, says}
-use Rattle.foil_spec.specs.Ledger.{Refusal, first, reads, refusals}
+use Rattle.foil_spec.specs.Ledger.{first, reads, refusals}
 use Rattle.foil_spec.specs.Lent.{layoutOk}
+unfoldable pub use Rattle.foil_spec.specs.Orders.{numbersFrom}
 
 -- every number but n
 unfoldable pub but : ℕ → ℕ → Bool
 but n k = not (eqb n k)
-
--- the numbers of some refusals
-unfoldable pub numbersFrom : List Refusal → List ℕ
-numbersFrom rs = map (λ (c : Refusal). c .number) rs
 
 -- the numbers of a step's own refusals, whatever foil it is lent; 12 is for its output list and not counted
 unfoldable pub ownNumbers : Step → List ℕ

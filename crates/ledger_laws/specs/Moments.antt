@@ -3,7 +3,8 @@
 use Prim.Native.Nat.{ℕ}
 use mathlib.Core.Path.{_≡_}
 use mathlib.Core.Bool.{Bool, true, false, cond}
-use mathlib.Core.List.{List, [], _∷_, _++_}
+use mathlib.Core.List.{List, [], _∷_, _++_, map}
+use mathlib.Core.Option.{Option}
 use lib.ListN.{length, drop}
 use Rattle.foil_spec.specs.Foil.{Layout}
 use Rattle.foil_spec.specs.Ledger.{Step, Answer, Room, ledgerStep}
@@ -11,7 +12,7 @@ use Rattle.foil_spec.specs.Lent.{Lent, held, sound, stepOn, outputAfter, number
 use Rattle.foil_spec.specs.Wishes.{wishes}
 use Rattle.foil_spec.specs.Job.{steps}
 use Rattle.foil_spec.specs.Calls.{Call, step, runRecord, ohms, layList, Reply, answered, ran, atEnd, measured, laidAll}
-use Rattle.foil_spec.specs.Calls.{endsJob}
+use Rattle.foil_spec.specs.Calls.{endsJob, answersIn}
 use Rattle.foil_spec.specs.Sequence.{Lending, Begins, front, roomFor, back, lend, told}
 
 -- a step that is run: the room that it has, what it answers, the record and the whole lists before it and after it, its
@@ -93,6 +94,19 @@ moments m l [] = []
 moments m l (c ∷ cs) =
     momentsBy c m (c .call) (stepsRun (c .call) (lend c m .answer)) (front c m) (c .output) l
     ++ moments (lend c m .state) (told m c l .state) cs
+
+-- the answers at some steps
+abbrev pub answersAt : List Moment → List Answer
+answersAt ks = map (λ (k : Moment). k .answer) ks
+
+-- no step of the call c is left out, on the whole lists m, where the ledger holds l: a call that is one step runs that
+-- step; a record, or a list of lays, that is not refused as a whole runs the steps that it answers
+pub record NoneLeftOut (c : Lending) (m : Lent) (l : Layout) : Type 0 where
+  pub of-step : (s : Step) → c .call ≡ step s → answersAt (moments m l (c ∷ [])) ≡ answersIn (lend c m .answer)
+  pub of-record : (given : List Answer) (place : Option ℕ) → lend c m .answer ≡ ran given place
+      → answersAt (moments m l (c ∷ [])) ≡ given
+  pub of-list : (ws : List ℕ) (k : ℕ) (given : List Answer) → c .call ≡ layList ws k
+      → lend c m .answer ≡ laidAll given → answersAt (moments m l (c ∷ [])) ≡ given
 
 -- where a list of calls starts, m being what the lists hold and l what the ledger holds: with a call that begins a
 -- foil, both m and l being anything; or on a foil that is there already, carried over

@@ -1,2 +1,2 @@
 -- What is proved of the lines.
-pub mod JobOutput
+pub mod Jobs

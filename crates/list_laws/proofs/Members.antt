@@ -1,4 +1,4 @@
--- Members of lists, and lists in order.
+-- Laws of members of lists, and of lists in order.
 use Prim.Native.Nat.{ℕ, zero, suc, _+_, _≤_, _<_}
 use native.Mathlib.Omega.{arith}
 use native.Mathlib.Nat.{add-zero}
@@ -12,12 +12,9 @@ use lib.ListN.{length, getD}
 use borrow.Author.Tests.{lt-ltb}
 use Rattle.foil_spec.specs.Lists.{range, keep, consIf, all, any, each}
 use Rattle.list_laws.proofs.Tests.{both, clash, and-l, and-r, and-i, or-l, or-r, or-cases, or-il, or-ir}
+pub use Rattle.list_laws.specs.Members.{In, Sorted}
 
 module _ {A : Type 0} where
-  abbrev pub In : A → List A → Type 0
-  In x [] = ⊥
-  In x (y ∷ ys) = (x ≡ y) ⊎ In x ys
-
   pub in-place : (xs : List A) (i : ℕ) (d : A) → i < length xs → In (getD xs i d) xs
   in-place [] i d l = absurd (omega arith)
   in-place (x ∷ xs) zero d l = inl refl
@@ -97,11 +94,6 @@ module _ {A : Type 0} where
   pub length-keep : (p : A → Bool) (xs : List A) → length (keep p xs) ≤ length xs
   length-keep p [] = omega arith
   length-keep p (x ∷ xs) = keep-fewer (p x) x (keep p xs) xs (length-keep p xs)
-
-  -- a list in order: each element comes before all that follow
-  abbrev pub Sorted : (A → A → Bool) → List A → Type 0
-  Sorted r [] = Unit {0}
-  Sorted r (x ∷ xs) = ((y : A) → In y xs → r x y ≡ true) × Sorted r xs
 
   pub sorted-append : (r : A → A → Bool) (xs ys : List A) → Sorted r xs → Sorted r ys
       → ((x y : A) → In x xs → In y ys → r x y ≡ true) → Sorted r (xs ++ ys)

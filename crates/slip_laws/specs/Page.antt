@@ -11,7 +11,7 @@ use Rattle.foil_spec.specs.Nets.{inUse, legsOf, netLength, firstPoint}
 use Rattle.foil_spec.specs.Text.{decimal}
 use Rattle.foil_spec.specs.Slip.{slipOf}
 use Rattle.foil_spec.specs.Lent.{layoutOk}
-use Rattle.list_laws.proofs.Members.{In, Sorted}
+use Rattle.list_laws.specs.Members.{In, Sorted}
 
 -- the character in a column of a line; the first column is 1
 unfoldable pub character : List ℕ → ℕ → ℕ

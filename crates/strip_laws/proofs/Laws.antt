@@ -13,7 +13,7 @@ use Rattle.foil_spec.specs.Foil.{Point, point}
 use Rattle.foil_spec.specs.Strips.{Run, runs, starts, isRun, rowOf, Strip, strips, holds, placeOf}
 use Rattle.list_laws.proofs.Tests.{both, clash, and-i, parts}
 use Rattle.list_laws.proofs.Members.{In, in-keep, of-keep, Sorted, sorted-keep}
-use Rattle.strip_laws.specs.Rules.{IsRun, columns, IsStrip, stripBefore, Stop}
+use Rattle.strip_laws.specs.Rules.{IsRun, columns, IsStrip, stripBefore, Stop, FoundStrip}
 use Rattle.strip_laws.proofs.Stop.{stop-of, starts-zero, starts-after, starts-not}
 use Rattle.strip_laws.proofs.Runs.{isRun-yes, run-starts, run-lt, run-Stop}
 use Rattle.strip_laws.proofs.Runs.{of-runs, in-runs, fromBefore, sorted-runs}
@@ -177,10 +177,7 @@ module _ (f : ℕ → ℕ → Bool) (W H : ℕ) where
       e))))
 
   -- the lookup gives the one strip that holds the point, by its place in the list
-  pub found-strip : (p : Point) (d : Strip) → p .x < W → p .y < H → f (p .x) (p .y) ≡ true
-      → (placeOf p (strips f W H) < length (strips f W H))
-      × (holds p (getD (strips f W H) (placeOf p (strips f W H)) d) ≡ true)
-      × ((s : Strip) → In s (strips f W H) → holds p s ≡ true → s ≡ getD (strips f W H) (placeOf p (strips f W H)) d)
+  pub found-strip : FoundStrip f W H
   found-strip p d lx ly free =
       let a = in-a-strip p lx ly free in
       let r = place-in p (a .0) d (strips f W H) (a .1) (a .2) in (

@@ -4,7 +4,10 @@ use mathlib.Core.Path.{_≡_}
 use mathlib.Core.Bool.{Bool, true, false, _&&_, _||_}
 use mathlib.Core.Logic.{_⊎_}
 use lib.Dec.{ltb, eqb}
-use Rattle.foil_spec.specs.Strips.{Run, run, rowOf, Strip}
+use lib.ListN.{length, getD}
+use Rattle.foil_spec.specs.Foil.{Point}
+use Rattle.foil_spec.specs.Strips.{Run, run, rowOf, Strip, strips, holds, placeOf}
+use Rattle.list_laws.specs.Members.{In}
 
 -- a run: a longest unbroken row of free points, where g tests the points of one row
 pub record IsRun (g : ℕ → Bool) (W : ℕ) (r : Run) : Type 0 where
@@ -36,3 +39,12 @@ pub record IsStrip (f : ℕ → ℕ → Bool) (W H : ℕ) (s : Strip) : Type 0 w
 -- smaller y0 first, then smaller x0
 unfoldable pub stripBefore : Strip → Strip → Bool
 stripBefore s t = ltb (s .y0) (t .y0) || eqb (s .y0) (t .y0) && ltb (s .x0) (t .x0)
+
+-- of a free point: the strip at the place that is looked up holds it, and no other strip of the foil does; d is what a
+-- place past the end would give
+abbrev pub FoundStrip : (ℕ → ℕ → Bool) → ℕ → ℕ → Type 0
+FoundStrip f W H =
+    (p : Point) (d : Strip) → p .x < W → p .y < H → f (p .x) (p .y) ≡ true
+    → (placeOf p (strips f W H) < length (strips f W H))
+    × (holds p (getD (strips f W H) (placeOf p (strips f W H)) d) ≡ true)
+    × ((s : Strip) → In s (strips f W H) → holds p s ≡ true → s ≡ getD (strips f W H) (placeOf p (strips f W H)) d)

@@ -1,0 +1,2 @@
+-- What statements about lists are written with.
+pub mod Members
