@@ -138,6 +138,7 @@ unfoldable pub fourWishes : List ℕ
 fourWishes =
     5 ∷ 0 ∷ 0 ∷ 4 ∷ 0 ∷ 5 ∷ 1 ∷ 0 ∷ 1 ∷ 1 ∷ 6 ∷ 1 ∷ 0 ∷ 1 ∷ 2 ∷ 7 ∷ 5 ∷ 0 ∷ 5 ∷ 3 ∷ 8 ∷ 1 ∷ 0 ∷ []
 
+-- its answers
 abbrev pub fourAnswers : List Answer
 fourAnswers =
     laid jobCorners 2 ∷ refused 5 ∷ laid (point 1 0 ∷ point 1 2 ∷ []) 0 ∷ laid (point 5 0 ∷ point 5 3 ∷ []) 0 ∷ []
@@ -146,6 +147,7 @@ fourAnswers =
 unfoldable pub threeWishes : List ℕ
 threeWishes = 5 ∷ 0 ∷ 0 ∷ 4 ∷ 0 ∷ 6 ∷ 1 ∷ 0 ∷ 1 ∷ 2 ∷ 7 ∷ 5 ∷ 0 ∷ 5 ∷ 0 ∷ []
 
+-- its answers
 abbrev pub threeAnswers : List Answer
 threeAnswers = laid jobCorners 2 ∷ refused 12 ∷ laid (point 5 0 ∷ []) 0 ∷ []
 
@@ -159,7 +161,7 @@ faultyJob =
 abbrev pub forTwo : ℕ → Room
 forTwo n = record { table = jobRoom .table; strips = jobRoom .strips; output = n; limit = 2 }
 
--- 3 by 2 with a leg along its upper edge, and between the two points that it leaves a patch
+-- 3 by 2 with a leg over its first row and a patch in the middle of the other
 abbrev pub twoEntries : List Call
 twoEntries = step (begin 3 2 0) ∷ step (putLeg (entry 3 0 0 3 1)) ∷ step (draw 1 1 2 2) ∷ []
 
@@ -177,6 +179,7 @@ half = fin false 1 (negsuc 0)
 unfoldable pub bits : ℕ → Float
 bits n = ofBits binary64 n
 
+-- the cases
 unfoldable pub cases : List Case
 cases =
     -- 3 by 3 empty
