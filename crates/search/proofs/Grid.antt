@@ -18,8 +18,8 @@ use Rattle.courses.specs.Best.{On}
 use Rattle.grid.specs.Targets.{inBoxes, target}
 use Rattle.grid.proofs.Board.{grid-marks, grid-steady, grid-links}
 use Rattle.labels.proofs.Faithful.{Faithful, faithful}
-use Rattle.search.specs.Grid.{mostLines, Aimed, Axis, Grid}
-use Rattle.search.specs.Seeds.{Has, boxed, clearAt, aimedAt}
+use Rattle.sowing.specs.Seeds.{boxed, clearAt, aimedAt}
+use Rattle.search.specs.Grid.{mostLines, Aimed, Has, Axis, Grid}
 use Rattle.search.specs.Search.{LabelRoom}
 
 -- an axis has few lines

@@ -1,8 +1,5 @@
 -- Laws of the search.
 pub mod Grid
-pub mod Seeds
-pub mod Boxed
-pub mod Near
 pub mod Choice
 pub mod Written
 pub mod Search

@@ -31,12 +31,12 @@ use Rattle.labels.proofs.Meaning.{Labelled, Measured, rounds-pos, rounds-labels
 use Rattle.labels.proofs.Meaning.{rounds-grounded, rounds-stuck}
 use Rattle.labels.proofs.First.{coords}
 use Rattle.search.specs.Grid.{Aimed, Grid}
-use Rattle.search.specs.Seeds.{Sown}
+use Rattle.sowing.specs.Seeds.{Sown}
 use Rattle.search.specs.Choice.{Choosing, Choice, labelAt}
 use Rattle.search.specs.Search.{Labelling, Starts, nowhere, goes, Trails, turns, pathCorners, Searched}
 use Rattle.search.specs.declared.Start.{Start}
 use Rattle.search.proofs.Grid.{level-faithful, upright-faithful, level-aimed, upright-aimed}
-use Rattle.search.proofs.Seeds.{sown-same, sown-labels, sown-inks, sown-below, sown-lean}
+use Rattle.sowing.proofs.Seeds.{sown-same, sown-labels, sown-inks, sown-below, sown-lean}
 use Rattle.search.proofs.Choice.{choice-some, fewest-level, fewest-upright, walk-level, walk-upright}
 
 -- the coordinates of a walk's crossings

@@ -1,9 +1,9 @@
--- The question that the search is asked, and the escape grid that is made for it.
-use Prim.Native.Nat.{ℕ, _+_, _*_, _≤_}
+-- The question that the search is asked, the escape grid that is made for it, and where points stand on its lines.
+use Prim.Native.Nat.{ℕ, _+_, _*_, _≤_, _<_}
 use mathlib.Core.Path.{_≡_}
 use mathlib.Core.Bool.{Bool, true, false}
 use mathlib.Core.List.{List}
-use lib.ListN.{length}
+use lib.ListN.{getD, length}
 use Rattle.foil_spec.specs.Foil.{Point}
 use Rattle.zones.specs.Boxes.{boxFree, maxBoxes, Boxes}
 use Rattle.grid.specs.Size.{stride}
@@ -35,6 +35,15 @@ pub record GridRoom (n : ℕ) (cols rows kl ku mark : List ℕ) : Type 0 where
   pub level-links : mostLines n * stride ≤ length kl
   pub upright-links : mostLines n * stride ≤ length ku
   pub marks : 4096 ≤ length mark
+
+-- x is among the first n lines
+abbrev pub Has : List ℕ → ℕ → ℕ → Type 0
+Has lines n x = (k : ℕ) × (k < n) × (getD lines k 0 ≡ x)
+
+-- r is the place of x among the first n lines
+pub record Placed (lines : List ℕ) (n x r : ℕ) : Type 0 where
+  pub below : r < n
+  pub at : getD lines r 0 ≡ x
 
 -- the first m numbers of a list are the lines of the grid that cross an axis, with a line at p
 pub record Axis (z : List ℕ) (n : ℕ) (t : List ℕ) (k : ℕ) (upright : Bool) (size p : ℕ) (lines : List ℕ) (m : ℕ)

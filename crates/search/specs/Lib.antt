@@ -1,5 +1,4 @@
 -- What the contracts of the search say.
 pub mod Grid
-pub mod Seeds
 pub mod Choice
 pub mod Search

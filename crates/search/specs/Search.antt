@@ -11,7 +11,7 @@ use Rattle.foil_spec.specs.Corners.{pointNumbers}
 use Rattle.grid.specs.Size.{stride, area}
 use Rattle.labels.specs.Rounds.{Ended}
 use Rattle.labels.specs.Walk.{Trail, Walkable}
-use Rattle.search.specs.Seeds.{Blank, Sown, aimedAt}
+use Rattle.sowing.specs.Seeds.{Blank, Sown, aimedAt}
 use Rattle.search.specs.Choice.{Choice, labelAt}
 use Rattle.search.specs.declared.Start.{Start}
 

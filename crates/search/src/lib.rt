@@ -5,8 +5,6 @@
 // directions, `il` and `iu` for their inks, `kl` and `ku` for the level and the upright links between crossings (STRIDE
 // places for each line that there may be), `ql` and `qu` for queues of crossings (two numbers for each label), `cols`
 // and `rows` for the lines of the grid (STRIDE places), and `mark` for marks on an axis (4,096 places).
-mod sowing;
-
 use grid::AREA;
 use grid::STRIDE;
 use grid::collect;
@@ -29,8 +27,7 @@ ghost use Rattle.zones.specs.Boxes.{boxFree, maxBoxes, Boxes};
 ghost use Rattle.grid.specs.Size.{stride};
 ghost use Rattle.grid.specs.Lines.{Lines};
 ghost use Rattle.grid.specs.Targets.{target};
-ghost use Rattle.search.specs.Grid.{mostLines, Posed, Aimed, GridRoom, Axis, Grid};
-ghost use Rattle.search.specs.Seeds.{Has, Placed};
+ghost use Rattle.search.specs.Grid.{mostLines, Posed, Aimed, GridRoom, Has, Placed, Axis, Grid};
 ghost use Rattle.search.specs.Choice.{Choosing, Choice};
 ghost use Rattle.search.specs.Search.{LabelRoom, Labelling, Starts, Ready, Searched, Walked, Found};
 

@@ -2,8 +2,8 @@
 use native.Mathlib.Omega.{arith}
 use mathlib.Core.Path.{_∙_}
 use borrow.Author.Needs.{needs}
-use Rattle.search.proofs.Seeds.{sown-none, begun}
-use Rattle.search.proofs.Boxed.{aimed-twin}
+use Rattle.sowing.proofs.Seeds.{sown-none, begun}
+use Rattle.sowing.proofs.Boxed.{aimed-twin}
 use Rattle.search.proofs.label.Statement.{statement}
 use Rattle.search.proofs.label.Tie as tie
 

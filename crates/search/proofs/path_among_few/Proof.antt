@@ -1,7 +1,7 @@
 -- The lists hold what few boxes ask for.
 use native.Mathlib.Omega.{arith}
 use borrow.Author.Needs.{needs}
-use Rattle.search.proofs.Seeds.{blank}
+use Rattle.sowing.proofs.Seeds.{blank}
 use Rattle.search.proofs.path_among_few.Statement.{statement}
 use Rattle.search.proofs.path_among_few.Tie as tie
 

@@ -2,7 +2,7 @@
 use native.Mathlib.Omega.{arith}
 use borrow.Author.Needs.{needs}
 use Rattle.grid.specs.Size.{area}
-use Rattle.search.proofs.Seeds.{blank}
+use Rattle.sowing.proofs.Seeds.{blank}
 use Rattle.search.proofs.path_among_many.Statement.{statement}
 use Rattle.search.proofs.path_among_many.Tie as tie
 

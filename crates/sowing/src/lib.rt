@@ -15,8 +15,8 @@ ghost use Rattle.foil_spec.specs.Lent.{entryAt};
 ghost use Rattle.zones.specs.Boxes.{covers, Boxes};
 ghost use Rattle.grid.specs.Extent.{turned, Solid};
 ghost use Rattle.grid.specs.Lines.{Lines};
-ghost use Rattle.search.specs.Seeds.{boxed, overlap, Enough, BlockSown, Sowable, Sown, Sows, clearAt};
-ghost use Rattle.search.specs.Seeds.{aimedAt, aimedOne};
+ghost use Rattle.sowing.specs.Seeds.{boxed, overlap, Enough, BlockSown, Sowable, Sown, Sows, clearAt};
+ghost use Rattle.sowing.specs.Seeds.{aimedAt, aimedOne};
 
 // Whether box k of a table has the point (x, y), or (y, x) if upright.
 fn box_has(boxes: &[u16], k: usize, upright: bool, x: u16, y: u16) -> bool

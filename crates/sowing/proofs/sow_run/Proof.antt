@@ -3,10 +3,10 @@ use Prim.Native.Nat.{_+_, _-_, _≤_}
 use native.Mathlib.Omega.{arith}
 use mathlib.Core.Path.{_≡_, refl, _∙_}
 use lib.ListN.{length}
-use Rattle.search.specs.Seeds.{BlockSown, clearAt}
-use Rattle.search.proofs.Seeds.{run-none, run-more, block-done, sowable-after}
-use Rattle.search.proofs.sowing.sow_run.Statement.{statement}
-use Rattle.search.proofs.sowing.sow_run.Tie as tie
+use Rattle.sowing.specs.Seeds.{BlockSown, clearAt}
+use Rattle.sowing.proofs.Seeds.{run-none, run-more, block-done, sowable-after}
+use Rattle.sowing.proofs.sow_run.Statement.{statement}
+use Rattle.sowing.proofs.sow_run.Tie as tie
 
 abbrev Inv-loop : tie.InvT-loop
 Inv-loop labels₀ inks₀ queue₀ boxes n upright lines cross line lo hi q end₀ k₀ labels inks queue end k =

@@ -1,9 +1,9 @@
 -- Side after side.
 use native.Mathlib.Omega.{arith}
 use borrow.Author.Needs.{needs}
-use Rattle.search.proofs.Boxed.{no-ahead, no-past, no-above, by-last}
-use Rattle.search.proofs.sowing.box_has.Statement.{statement}
-use Rattle.search.proofs.sowing.box_has.Tie as tie
+use Rattle.sowing.proofs.Boxed.{no-ahead, no-past, no-above, by-last}
+use Rattle.sowing.proofs.box_has.Statement.{statement}
+use Rattle.sowing.proofs.box_has.Tie as tie
 
 extent-of-requires : tie.Need-extent-of-requires
 extent-of-requires c κs = search needs

@@ -2,10 +2,10 @@
 use native.Mathlib.Omega.{arith}
 use mathlib.Core.Path.{_≡_, ap}
 use borrow.Author.Needs.{needs}
-use Rattle.search.proofs.Boxed.{block-ordered, box-sown}
-use Rattle.search.proofs.Near.{near-sown}
-use Rattle.search.proofs.sowing.sow_box.Statement.{statement}
-use Rattle.search.proofs.sowing.sow_box.Tie as tie
+use Rattle.sowing.proofs.Boxed.{block-ordered, box-sown}
+use Rattle.sowing.proofs.Near.{near-sown}
+use Rattle.sowing.proofs.sow_box.Statement.{statement}
+use Rattle.sowing.proofs.sow_box.Tie as tie
 
 -- back to the start, to the boxes that are near, and to the four ends of the block
 abbrev atStart : tie.After-boxes-near → tie.Start

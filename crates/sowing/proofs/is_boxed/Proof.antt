@@ -3,10 +3,10 @@ use Prim.Native.Nat.{_-_, _≤_}
 use native.Mathlib.Omega.{arith}
 use mathlib.Core.Path.{_≡_, sym, _∙_}
 use mathlib.Core.Bool.{false}
-use Rattle.search.specs.Seeds.{boxed}
-use Rattle.search.proofs.Boxed.{boxed-none, boxed-here, unboxed-more, unboxed-done}
-use Rattle.search.proofs.sowing.is_boxed.Statement.{statement}
-use Rattle.search.proofs.sowing.is_boxed.Tie as tie
+use Rattle.sowing.specs.Seeds.{boxed}
+use Rattle.sowing.proofs.Boxed.{boxed-none, boxed-here, unboxed-more, unboxed-done}
+use Rattle.sowing.proofs.is_boxed.Statement.{statement}
+use Rattle.sowing.proofs.is_boxed.Tie as tie
 
 abbrev Inv-loop : tie.InvT-loop
 Inv-loop boxes n upright x y k₀ k = (k ≤ n) × (boxed k boxes upright x y ≡ false)

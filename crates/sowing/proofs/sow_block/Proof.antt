@@ -3,10 +3,10 @@ use Prim.Native.Nat.{_+_, _-_, _≤_}
 use native.Mathlib.Omega.{arith}
 use mathlib.Core.Path.{_≡_, refl, _∙_}
 use lib.ListN.{length}
-use Rattle.search.specs.Seeds.{BlockSown, clearAt}
-use Rattle.search.proofs.Seeds.{block-none, block-more, block-done, sowable-after}
-use Rattle.search.proofs.sowing.sow_block.Statement.{statement}
-use Rattle.search.proofs.sowing.sow_block.Tie as tie
+use Rattle.sowing.specs.Seeds.{BlockSown, clearAt}
+use Rattle.sowing.proofs.Seeds.{block-none, block-more, block-done, sowable-after}
+use Rattle.sowing.proofs.sow_block.Statement.{statement}
+use Rattle.sowing.proofs.sow_block.Tie as tie
 
 abbrev Inv-loop : tie.InvT-loop
 Inv-loop labels₀ inks₀ queue₀ boxes n upright lines cross a b lo hi q end₀ line₀ labels inks queue end line =

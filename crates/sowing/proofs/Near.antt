@@ -13,9 +13,9 @@ use Rattle.list_laws.proofs.Tests.{both, clash, and-l, and-r}
 use Rattle.zones.specs.Boxes.{inside, covers}
 use Rattle.zones.proofs.Free.{of-inside}
 use Rattle.grid.specs.Extent.{turned}
-use Rattle.search.specs.Seeds.{boxed, overlap, Enough, clearAt, aimedOne, Sows}
-use Rattle.search.proofs.Boxed.{boxed-more}
-use Rattle.search.proofs.Seeds.{sows-same}
+use Rattle.sowing.specs.Seeds.{boxed, overlap, Enough, clearAt, aimedOne, Sows}
+use Rattle.sowing.proofs.Boxed.{boxed-more}
+use Rattle.sowing.proofs.Seeds.{sows-same}
 
 -- ---- two boxes
 

@@ -4,10 +4,10 @@ use native.Mathlib.Omega.{arith}
 use mathlib.Core.Path.{_≡_, refl, _∙_}
 use lib.ListN.{length}
 use Rattle.grid.proofs.Covers.{solid}
-use Rattle.search.specs.Seeds.{Sown, aimedAt}
-use Rattle.search.proofs.Boxed.{targets-none, targets-more, targets-done}
-use Rattle.search.proofs.sowing.sow_targets.Statement.{statement}
-use Rattle.search.proofs.sowing.sow_targets.Tie as tie
+use Rattle.sowing.specs.Seeds.{Sown, aimedAt}
+use Rattle.sowing.proofs.Boxed.{targets-none, targets-more, targets-done}
+use Rattle.sowing.proofs.sow_targets.Statement.{statement}
+use Rattle.sowing.proofs.sow_targets.Tie as tie
 
 abbrev Inv-loop : tie.InvT-loop
 Inv-loop labels₀ inks₀ queue₀ boxes n targets k upright lines m cross c end₀ e₀ labels inks queue end e =

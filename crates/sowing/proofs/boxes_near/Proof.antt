@@ -2,10 +2,10 @@
 use native.Mathlib.Omega.{arith}
 use mathlib.Core.Path.{refl}
 use borrow.Author.Needs.{needs}
-use Rattle.search.specs.Seeds.{Enough}
-use Rattle.search.proofs.Near.{enough-all, enough-less, enough-none}
-use Rattle.search.proofs.sowing.boxes_near.Statement.{statement}
-use Rattle.search.proofs.sowing.boxes_near.Tie as tie
+use Rattle.sowing.specs.Seeds.{Enough}
+use Rattle.sowing.proofs.Near.{enough-all, enough-less, enough-none}
+use Rattle.sowing.proofs.boxes_near.Statement.{statement}
+use Rattle.sowing.proofs.boxes_near.Tie as tie
 
 abbrev Inv-loop : tie.InvT-loop
 Inv-loop boxes n target k₀ k = Enough n boxes target k

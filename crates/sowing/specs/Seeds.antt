@@ -1,4 +1,4 @@
--- Where points stand on the lines of the grid, and the labels before the first round: those of the targets.
+-- The labels before the first round: those of the targets.
 use Prim.Native.Nat.{ℕ, _+_, _-_, _*_, _≤_, _<_}
 use mathlib.Core.Path.{_≡_}
 use mathlib.Core.Bool.{Bool, true, false, not, _&&_, _||_}
@@ -14,18 +14,9 @@ use Rattle.grid.specs.Extent.{turned}
 use Rattle.labels.specs.Line.{along}
 use Rattle.labels.specs.Pass.{Queued, Room}
 
--- x is among the first n lines
-abbrev pub Has : List ℕ → ℕ → ℕ → Type 0
-Has lines n x = (k : ℕ) × (k < n) × (getD lines k 0 ≡ x)
-
 -- no crossing has a label
 abbrev pub Blank : List ℕ → Type 0
 Blank lab = (p : ℕ) → getD lab p 0 ≡ 0
-
--- r is the place of x among the first n lines
-pub record Placed (lines : List ℕ) (n x r : ℕ) : Type 0 where
-  pub below : r < n
-  pub at : getD lines r 0 ≡ x
 
 -- one of the first k boxes of the table t has the point (x, y), or (y, x) if upright
 unfoldable pub boxed : ℕ → List ℕ → Bool → ℕ → ℕ → Bool

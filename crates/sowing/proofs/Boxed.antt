@@ -21,8 +21,8 @@ use Rattle.grid.specs.Extent.{turned, extent, Solid}
 use Rattle.grid.specs.Links.{FirstFrom}
 use Rattle.grid.specs.declared.Extent.{Extent}
 use Rattle.grid.proofs.Covers.{coversOn, turned-covers, misses-ahead, misses-past, misses-above}
-use Rattle.search.specs.Seeds.{boxed, clearAt, Sown, Sows, inBlock, BlockSown, aimedAt, aimedOne}
-use Rattle.search.proofs.Seeds.{sown-same, sows-same}
+use Rattle.sowing.specs.Seeds.{boxed, clearAt, Sown, Sows, inBlock, BlockSown, aimedAt, aimedOne}
+use Rattle.sowing.proofs.Seeds.{sown-same, sows-same}
 
 -- where three of the four sides leave the point in, the last one decides
 last-side : (upright : Bool) (e : Entry) (x y : ℕ) → extent upright e .from ≤ x → x < extent upright e .to

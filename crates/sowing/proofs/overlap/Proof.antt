@@ -1,7 +1,7 @@
 -- Side after side.
-use Rattle.search.proofs.Near.{right-of, left-of, below, by-last}
-use Rattle.search.proofs.sowing.overlap.Statement.{statement}
-use Rattle.search.proofs.sowing.overlap.Tie as tie
+use Rattle.sowing.proofs.Near.{right-of, left-of, below, by-last}
+use Rattle.sowing.proofs.overlap.Statement.{statement}
+use Rattle.sowing.proofs.overlap.Tie as tie
 
 returns : tie.Need-returns
 returns c = right-of _ _ (c .if1 .taken)

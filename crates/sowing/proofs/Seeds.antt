@@ -21,7 +21,7 @@ use Rattle.labels.specs.Pass.{Below, Queued, Room, Push, stays, puts}
 use Rattle.labels.specs.Rounds.{Begun}
 use Rattle.labels.proofs.Runs.{zeros-set, zeros-le, zeros-some}
 use Rattle.labels.proofs.Meaning.{Says, Labelled, Measures, Measured}
-use Rattle.search.specs.Seeds.{Blank, Sown, orElse, Sows, inBlock, BlockSown, Sowable}
+use Rattle.sowing.specs.Seeds.{Blank, Sown, orElse, Sows, inBlock, BlockSown, Sowable}
 
 -- a fresh list has no label
 pub blank : (n p : ℕ) → _≡_ {A = ℕ} (getD (replicate n 0) p 0) 0

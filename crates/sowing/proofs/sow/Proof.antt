@@ -2,9 +2,9 @@
 use native.Mathlib.Omega.{arith}
 use borrow.Author.Needs.{needs}
 use Rattle.labels.proofs.Runs.{room-line}
-use Rattle.search.proofs.Seeds.{cell-sown}
-use Rattle.search.proofs.sowing.sow.Statement.{statement}
-use Rattle.search.proofs.sowing.sow.Tie as tie
+use Rattle.sowing.proofs.Seeds.{cell-sown}
+use Rattle.sowing.proofs.sow.Statement.{statement}
+use Rattle.sowing.proofs.sow.Tie as tie
 
 -- back to the start
 abbrev atStart : tie.After-slice-known3 → tie.Start

@@ -2,10 +2,10 @@
 use native.Mathlib.Omega.{arith}
 use mathlib.Core.Path.{sym, _∙_}
 use borrow.Author.Needs.{needs}
-use Rattle.search.proofs.Boxed.{not-clear, is-clear}
-use Rattle.search.proofs.Seeds.{cell-clear, cell-blocked}
-use Rattle.search.proofs.sowing.sow_clear.Statement.{statement}
-use Rattle.search.proofs.sowing.sow_clear.Tie as tie
+use Rattle.sowing.proofs.Boxed.{not-clear, is-clear}
+use Rattle.sowing.proofs.Seeds.{cell-clear, cell-blocked}
+use Rattle.sowing.proofs.sow_clear.Statement.{statement}
+use Rattle.sowing.proofs.sow_clear.Tie as tie
 
 -- back to the start
 abbrev atStart : tie.After-shared-slice-known5 → tie.Start

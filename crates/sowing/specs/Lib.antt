@@ -1,0 +1,2 @@
+-- What the contracts of the labels before the first round say.
+pub mod Seeds
