@@ -15,8 +15,8 @@ use Rattle.courses.proofs.Course.{span-refl, span-sym, span-trans, span-start, 
 use Rattle.courses.proofs.Slide.{near}
 use Rattle.grid.specs.Lines.{hasMark, Collected}
 use Rattle.grid.specs.Links.{Links}
-use Rattle.labels.specs.Line.{Linked}
-use Rattle.labels.proofs.Line.{linked-sym, linked-at, linked-part}
+use Rattle.runs.specs.Line.{Linked}
+use Rattle.runs.proofs.Line.{linked-sym, linked-at, linked-part}
 
 -- m lines with n crossings each: a next corner c anywhere has one on the grid that is on a path no longer, and no
 -- later, or on a shorter one

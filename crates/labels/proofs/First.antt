@@ -12,9 +12,9 @@ use Rattle.foil_spec.specs.Paths.{gap}
 use Rattle.list_laws.proofs.Tests.{clash}
 use Rattle.courses.specs.Course.{flip, Span, Within, ink, TargetFree, Greedy}
 use Rattle.courses.proofs.Course.{within-course}
-use Rattle.labels.specs.Line.{along, across, Linked, isStop, Stop}
+use Rattle.runs.specs.Line.{along, across, Linked, isStop, Stop}
 use Rattle.labels.specs.Walk.{Trail, done, step}
-use Rattle.labels.proofs.Line.{of-stop, to-stop}
+use Rattle.runs.proofs.Line.{of-stop, to-stop}
 use Rattle.labels.proofs.Faithful.{Faithful}
 use Rattle.labels.proofs.Meaning.{Labelled, Measured, step-span, exact, step-within}
 

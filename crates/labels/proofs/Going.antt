@@ -8,8 +8,8 @@ use mathlib.Core.Bool.{false}
 use mathlib.Core.List.{List}
 use Rattle.grid.specs.Size.{area}
 use Rattle.grid.specs.Lines.{Lines}
-use Rattle.labels.specs.Line.{along}
-use Rattle.labels.specs.Ink.{Inked, Lean}
+use Rattle.runs.specs.Line.{along}
+use Rattle.runs.specs.Ink.{Inked, Lean}
 use Rattle.labels.specs.Pass.{zeros, Cell, kept, none, new, Pass, Below, floor, Full, Queued, Room, Added, PassTo}
 use Rattle.labels.specs.Rounds.{Twin, Begun, Rounds, start, more, Ended, stuck}
 use Rattle.labels.proofs.Pass.{visited-all, visited-full, passing-room}

@@ -1,6 +1,4 @@
 -- What is proved of the labels' code, and what labels mean.
-pub mod Line
-pub mod Inks
 pub mod Runs
 pub mod Pass
 pub mod Going

@@ -11,12 +11,12 @@ use lib.ListN.{getD}
 use Rattle.foil_spec.specs.Paths.{gap}
 use Rattle.courses.specs.Course.{flip, Span, Course, Within, TargetFree}
 use Rattle.courses.proofs.Course.{span-sym, span-start, within-more, within-course, course-within}
-use Rattle.labels.specs.Line.{along, across, Linked, isStop}
-use Rattle.labels.specs.Ink.{LeastInk, Inked}
+use Rattle.runs.specs.Line.{along, across, Linked, isStop}
+use Rattle.runs.specs.Ink.{LeastInk, Inked}
 use Rattle.labels.specs.Pass.{Cell, kept, none, new, Pass, Below}
 use Rattle.labels.specs.Rounds.{Rounds, start, more}
 use Rattle.labels.specs.Walk.{Grounded}
-use Rattle.labels.proofs.Line.{linked-sym, of-stop, to-stop}
+use Rattle.runs.proofs.Line.{linked-sym, of-stop, to-stop}
 use Rattle.labels.proofs.Going.{cell-keep, pass-below}
 use Rattle.labels.proofs.Faithful.{Faithful}
 

@@ -9,14 +9,14 @@ use mathlib.Core.List.{List}
 use lib.ListN.{getD}
 use borrow.Author.Count.{below-more}
 use Rattle.grid.specs.Size.{stride}
-use Rattle.labels.specs.Line.{along, across, Linked, RunStart, RunEnd, Left}
-use Rattle.labels.specs.Ink.{Blank, RunInked, LeastInk, Inked}
+use Rattle.runs.specs.Line.{along, across, Linked, RunStart, RunEnd, Left}
+use Rattle.runs.specs.Ink.{Blank, RunInked, LeastInk, Inked}
 use Rattle.labels.specs.Pass.{zeros, Cell, kept, none, new, Pass, floor, Joined, Full, Queued, Room}
 use Rattle.labels.specs.Pass.{Fill, held, fresh}
 use Rattle.labels.specs.Pass.{RunFilled, RunPushed, Visit, passed, left, ran, Part, stood, got}
 use Rattle.labels.specs.Pass.{Done, labelled, waits, Visited, Added}
 use Rattle.labels.specs.Pass.{PassTo}
-use Rattle.labels.proofs.Line.{linked-sym, linked-trans, in-run, run-joined}
+use Rattle.runs.proofs.Line.{linked-sym, linked-trans, in-run, run-joined}
 
 -- a visit of a crossing whose run has labels
 pub visit-passed : {other inks edge cross l w t : List ℕ} {line n k v low q : ℕ} → low ≡ floor v →

@@ -10,7 +10,7 @@ use lib.ListN.{getD, set, length, length-set}
 use lib.Seq.{getD-set-same, getD-set-other}
 use borrow.Author.Count.{below-more}
 use Rattle.grid.specs.Size.{stride}
-use Rattle.labels.specs.Line.{along}
+use Rattle.runs.specs.Line.{along}
 use Rattle.labels.specs.Pass.{zeros, Room, Push, stays, puts, Fill, held, fresh, RunFilled, RunPushed}
 
 -- Places without a label.

@@ -8,9 +8,9 @@ use mathlib.Core.Bool.{true}
 use mathlib.Core.List.{List, [], _∷_}
 use lib.ListN.{getD}
 use Rattle.list_laws.proofs.Tests.{clash}
-use Rattle.labels.specs.Line.{along, across, Linked, isStop, Stop}
+use Rattle.runs.specs.Line.{along, across, Linked, isStop, Stop}
 use Rattle.labels.specs.Walk.{Grounded, Trail, done, step, put, levelOut, uprightOut, LevelWalk, UprightWalk}
-use Rattle.labels.proofs.Line.{of-stop}
+use Rattle.runs.proofs.Line.{of-stop}
 
 -- from a label above 1 there is a next crossing
 pub grounded-next : {own other wown wother edge cross : List ℕ} {m n : ℕ} (line k v q : ℕ) →

@@ -1,6 +1,4 @@
 -- What the contracts of the labels' code say, of lists only.
-pub mod Line
-pub mod Ink
 pub mod Pass
 pub mod Rounds
 pub mod Walk

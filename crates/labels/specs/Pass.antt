@@ -5,8 +5,8 @@ use mathlib.Core.Logic.{_≢_}
 use mathlib.Core.List.{List, [], _∷_}
 use lib.ListN.{getD, set, length}
 use Rattle.grid.specs.Size.{stride, area}
-use Rattle.labels.specs.Line.{along, across, Linked, RunStart, RunEnd, Left}
-use Rattle.labels.specs.Ink.{RunInked, Inked}
+use Rattle.runs.specs.Line.{along, across, Linked, RunStart, RunEnd, Left}
+use Rattle.runs.specs.Ink.{RunInked, Inked}
 
 -- how many places have no label
 unfoldable pub zeros : List ℕ → ℕ

@@ -8,8 +8,8 @@ use mathlib.Core.List.{List}
 use lib.ListN.{length}
 use Rattle.grid.specs.Size.{stride}
 use Rattle.grid.specs.Lines.{Lines}
-use Rattle.labels.specs.Line.{along, labelTop}
-use Rattle.labels.specs.Ink.{Inked, Lean}
+use Rattle.runs.specs.Line.{along, labelTop}
+use Rattle.runs.specs.Ink.{Inked, Lean}
 use Rattle.labels.specs.Pass.{Pass, Below, Queued, Room}
 
 -- the grid's lines, and the sizes of its lists: labels l and u, inks wl and wu, edges el and eu, level and upright

@@ -5,8 +5,8 @@ use mathlib.Core.List.{List, [], _∷_}
 use mathlib.Core.Bool.{true}
 use lib.ListN.{getD, set, length}
 use Rattle.labels.specs.Rounds.{Sized}
-use Rattle.labels.specs.Line.{along, Linked, isStop, Stop, labelTop}
-use Rattle.labels.specs.Ink.{Lean}
+use Rattle.runs.specs.Line.{along, Linked, isStop, Stop, labelTop}
+use Rattle.runs.specs.Ink.{Lean}
 use Rattle.labels.specs.Pass.{Below}
 
 -- every label but the first rests on one of the other direction, a segment away, and its ink on the ink there

@@ -6,24 +6,22 @@
 // crossings, `labels` and `own` have the labels and inks of its own direction, and `other` and `inks` those of the
 // other one. Where both directions meet, `il` and `iu` are the level and the upright inks, `el` and `eu` the edges, and
 // `ql` and `qu` the queues.
-pub mod run;
-
 use grid::STRIDE;
-use run::ahead_of;
-use run::behind_of;
-use run::ink_blank;
-use run::ink_run;
-use run::is_left;
-use run::next_stop;
-use run::run_end;
-use run::run_start;
+use runs::ahead_of;
+use runs::behind_of;
+use runs::ink_blank;
+use runs::ink_run;
+use runs::is_left;
+use runs::next_stop;
+use runs::run_end;
+use runs::run_start;
 ghost use mathlib.Core.Path.{_≡_};
 ghost use Prim.Native.Nat.{_+_, _-_, _*_, _≤_, _<_};
 ghost use lib.ListN.{length};
 ghost use Rattle.grid.specs.Size.{stride, area};
 ghost use Rattle.grid.specs.Lines.{Lines};
-ghost use Rattle.labels.specs.Line.{along, across, labelTop};
-ghost use Rattle.labels.specs.Ink.{Low, Lean, Blank};
+ghost use Rattle.runs.specs.Line.{along, across, labelTop};
+ghost use Rattle.runs.specs.Ink.{Low, Lean, Blank};
 ghost use Rattle.labels.specs.Pass.{floor, Joined, Full, Queued, Room, Push, RunPushed, Visit, PassTo};
 ghost use Rattle.labels.specs.Rounds.{Sized, Begun, Ended};
 ghost use Rattle.labels.specs.Walk.{put, Walkable, LevelWalk, UprightWalk};

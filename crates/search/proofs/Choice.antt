@@ -16,7 +16,7 @@ use Rattle.labels.proofs.Walk.{grounded-next}
 use Rattle.labels.proofs.Faithful.{Faithful}
 use Rattle.labels.proofs.Meaning.{Says, Labelled, Measured}
 use Rattle.labels.proofs.First.{coords, coords-length, trail-length, trail-greedy, first-stop, trail-stop, stop-first}
-use Rattle.labels.specs.Line.{along, Stop}
+use Rattle.runs.specs.Line.{along, Stop}
 use Rattle.search.specs.Choice.{Choice, level-only, upright-only, level-less, upright-less}
 use Rattle.search.specs.Choice.{here, tie-level, tie-upright}
 use Rattle.search.specs.Choice.{labelAt}

@@ -19,12 +19,12 @@ use Rattle.courses.proofs.FirstPath.{best-first, none-first, fewest-first}
 use Rattle.grid.specs.Size.{stride}
 use Rattle.grid.specs.Lines.{Lines}
 use Rattle.grid.specs.Targets.{inBoxes, target}
-use Rattle.labels.specs.Line.{along, labelTop}
-use Rattle.labels.specs.Ink.{Lean}
+use Rattle.runs.specs.Line.{along, labelTop}
+use Rattle.runs.specs.Ink.{Lean}
 use Rattle.labels.specs.Pass.{Pass, Below}
 use Rattle.labels.specs.Rounds.{Rounds, Ended, found, stuck}
 use Rattle.labels.specs.Walk.{Grounded}
-use Rattle.labels.proofs.Inks.{lean-low}
+use Rattle.runs.proofs.Inks.{lean-low}
 use Rattle.labels.proofs.Going.{rounds-lean}
 use Rattle.labels.proofs.Faithful.{Faithful}
 use Rattle.labels.proofs.Meaning.{Labelled, Measured, rounds-pos, rounds-labels, rounds-inks, rounds-below}

@@ -10,7 +10,7 @@ use lib.Seq.{sets, sets-eq}
 use Rattle.foil_spec.specs.Lists.{each}
 use Rattle.foil_spec.specs.Foil.{Point, point}
 use Rattle.foil_spec.specs.Corners.{pointNumbers}
-use Rattle.labels.specs.Line.{along}
+use Rattle.runs.specs.Line.{along}
 use Rattle.labels.specs.Walk.{put, levelOut, uprightOut, LevelWalk, UprightWalk}
 use Rattle.labels.proofs.First.{trail-length}
 use Rattle.search.specs.Choice.{labelAt}

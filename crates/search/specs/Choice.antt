@@ -4,8 +4,8 @@ use mathlib.Core.Path.{_≡_}
 use mathlib.Core.Logic.{_≢_, _⊎_}
 use mathlib.Core.Bool.{Bool, true, false}
 use mathlib.Core.List.{List}
-use Rattle.labels.specs.Line.{along, labelTop, Stop}
-use Rattle.labels.specs.Ink.{Low}
+use Rattle.runs.specs.Line.{along, labelTop, Stop}
+use Rattle.runs.specs.Ink.{Low}
 
 -- what the choice is asked of: the crossing has a label, and the inks of the upright line's stops are small
 pub record Choosing (l u wl : List ℕ) (nr i j : ℕ) : Type 0 where

@@ -13,7 +13,7 @@ use grid::mark_lines;
 use labels::level_step;
 use labels::put_corner;
 use labels::rounds;
-use labels::run::next_stop;
+use runs::next_stop;
 use labels::upright_step;
 use sowing::sow_targets;
 ghost use mathlib.Core.Path.{_≡_};

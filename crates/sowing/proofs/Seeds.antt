@@ -15,8 +15,8 @@ use Rattle.zones.proofs.Free.{inside-yes, of-inside}
 use Rattle.courses.specs.Course.{Course, Within}
 use Rattle.grid.specs.Size.{stride, area}
 use Rattle.grid.specs.Lines.{Lines}
-use Rattle.labels.specs.Line.{along}
-use Rattle.labels.specs.Ink.{Lean}
+use Rattle.runs.specs.Line.{along}
+use Rattle.runs.specs.Ink.{Lean}
 use Rattle.labels.specs.Pass.{Below, Queued, Room, Push, stays, puts}
 use Rattle.labels.specs.Rounds.{Begun}
 use Rattle.labels.proofs.Runs.{zeros-set, zeros-le, zeros-some}

@@ -11,7 +11,7 @@ use Rattle.foil_spec.specs.Lent.{entryAt}
 use Rattle.zones.specs.Boxes.{inside, covers}
 use Rattle.grid.specs.Size.{stride}
 use Rattle.grid.specs.Extent.{turned}
-use Rattle.labels.specs.Line.{along}
+use Rattle.runs.specs.Line.{along}
 use Rattle.labels.specs.Pass.{Queued, Room}
 
 -- no crossing has a label

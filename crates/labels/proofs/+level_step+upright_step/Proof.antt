@@ -1,7 +1,7 @@
 -- The two steps of the walk call each other by turns; the label falls by one at each call.
 use native.Mathlib.Omega.{arith}
 use mathlib.Core.Path.{_∙_}
-use Rattle.labels.proofs.Inks.{lean-low}
+use Rattle.runs.proofs.Inks.{lean-low}
 use Rattle.labels.proofs.Walk.{grounded-next, level-done, level-more, upright-done, upright-more}
 use Prim.Native.Nat.{ℕ, _<_}
 use borrow.Fn.Kinds.{In}
@@ -12,7 +12,7 @@ use Rattle.labels.proofs.+level_step+upright_step.Lts-level_step as lev
 use Rattle.labels.proofs.upright_step.Reads as upright-step
 use Rattle.labels.proofs.upright_step.Kinds as upright-step-kinds
 use Rattle.labels.proofs.+level_step+upright_step.Lts-upright_step as upright-lts
-use Rattle.labels.proofs.run.next_stop.Reads as next-stop-reads
+use Rattle.runs.proofs.next_stop.Reads as next-stop-reads
 use Rattle.labels.proofs.put_corner.Reads as put-corner-reads
 use Rattle.labels.proofs.+level_step+upright_step.{statement}
 use Rattle.labels.proofs.+level_step+upright_step.Tie.{close}

@@ -5,7 +5,7 @@ use mathlib.Core.Path.{_≡_, refl, _∙_}
 use lib.ListN.{length}
 use borrow.Author.Needs.{needs}
 use Rattle.labels.specs.Pass.{PassTo}
-use Rattle.labels.proofs.Inks.{lean-low}
+use Rattle.runs.proofs.Inks.{lean-low}
 use Rattle.labels.proofs.Runs.{room-line}
 use Rattle.labels.proofs.Pass.{passing-none, passing-room, passing-more, passing-done}
 use Rattle.labels.proofs.label_queue.Statement.{statement}

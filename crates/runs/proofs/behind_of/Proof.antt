@@ -1,0 +1,136 @@
+-- From the first crossing of the run up to the last, the least over the stops so far is carried along.
+use Prim.Native.Nat.{_-_}
+use native.Mathlib.Omega.{arith}
+use mathlib.Core.Path.{_≡_, refl, _∙_}
+use lib.ListN.{length, length-set}
+use Rattle.runs.proofs.Inks.{rises, Up, up-start, up-more, up-done}
+use Rattle.runs.proofs.behind_of.Statement.{statement}
+use Rattle.runs.proofs.behind_of.Tie as tie
+
+abbrev Inv-loop : tie.InvT-loop
+Inv-loop behind₀ other inks cross line n lo hi h v top best₀ k₀ behind best k =
+    (length behind ≡ length behind₀) × Up other inks cross line v lo hi k best behind
+
+abbrev μ-loop : tie.MeasureT-loop
+μ-loop behind₀ other inks cross line n lo hi h v top best₀ k₀ behind best k = hi - k
+
+-- back to the start and the loop's head
+abbrev atStartFromLoop : tie.After-shared-slice-known4 Inv-loop μ-loop → tie.Start Inv-loop μ-loop
+atStartFromLoop c = c .before .before .before .before .before
+
+abbrev atStart : tie.After-shared-slice-known6 Inv-loop μ-loop → tie.Start Inv-loop μ-loop
+atStart c = c .before .before .before .before .before .before .before
+
+abbrev atLoop : tie.After-shared-slice-known7 Inv-loop μ-loop → tie.At-loop Inv-loop μ-loop
+atLoop c = c .before .before
+
+mul-top : tie.Need-mul-top Inv-loop μ-loop
+mul-top c = omega arith
+
+shared-slice-read-top : tie.Need-shared-slice-read-top Inv-loop μ-loop
+shared-slice-read-top c = omega arith
+
+cast-top : tie.Need-cast-top Inv-loop μ-loop
+cast-top c = omega (arith, atStartFromLoop c .pre .0 .1 .below (atStartFromLoop c .args .lo) (omega arith))
+
+sub-top : tie.Need-sub-top Inv-loop μ-loop
+sub-top c = omega (arith, atStartFromLoop c .pre .0 .1 .below (atStartFromLoop c .args .lo) (omega arith))
+
+mul-best : tie.Need-mul-best Inv-loop μ-loop
+mul-best c = omega arith
+
+add-best : tie.Need-add-best Inv-loop μ-loop
+add-best c = omega arith
+
+mul-best-2 : tie.Need-mul-best-2 Inv-loop μ-loop
+mul-best-2 c = omega arith
+
+shared-slice-read-best : tie.Need-shared-slice-read-best Inv-loop μ-loop
+shared-slice-read-best c = omega arith
+
+mul-best-3 : tie.Need-mul-best-3 Inv-loop μ-loop
+mul-best-3 c = omega arith
+
+shared-slice-read-best-2 : tie.Need-shared-slice-read-best-2 Inv-loop μ-loop
+shared-slice-read-best-2 c = omega arith
+
+cast-best : tie.Need-cast-best Inv-loop μ-loop
+cast-best c = omega (arith, atStart c .pre .0 .1 .below (atStart c .args .h) (omega arith))
+
+sub-best : tie.Need-sub-best Inv-loop μ-loop
+sub-best c = omega (arith, atStart c .pre .0 .1 .below (atStart c .args .h) (omega arith))
+
+sub-best-2 : tie.Need-sub-best-2 Inv-loop μ-loop
+sub-best-2 c =
+    omega (arith, rises (atStart c .pre .0 .1) (atStart c .args .lo) (atStart c .args .h) (omega arith) (omega arith))
+
+add-best-2 : tie.Need-add-best-2 Inv-loop μ-loop
+add-best-2 c = omega (arith, atStart c .pre .1 .1 .0 .le (atStart c .args .h) (omega arith) (atStart c .pre .1 .1 .1))
+
+add-best-3 : tie.Need-add-best-3 Inv-loop μ-loop
+add-best-3 c = omega (arith, atStart c .pre .1 .1 .0 .le (atStart c .args .h) (omega arith) (atStart c .pre .1 .1 .1))
+
+loop-holds : tie.Need-loop-holds Inv-loop μ-loop
+loop-holds c =
+    let pre = atStart c .pre in (
+      refl,
+      up-start (pre .0 .1) (pre .0 .2) (atStart c .args .h) (pre .0 .3) (pre .0 .4) (pre .1 .1 .0)
+          (pre .1 .1 .1) _,
+    )
+
+mul-carry : tie.Need-mul-carry Inv-loop μ-loop
+mul-carry c = omega arith
+
+shared-slice-read-carry : tie.Need-shared-slice-read-carry Inv-loop μ-loop
+shared-slice-read-carry c = omega arith
+
+cast-carry : tie.Need-cast-carry Inv-loop μ-loop
+cast-carry c = omega (arith, atStart (atLoop c .before) .pre .0 .1 .below (atLoop c .loop .k) (omega arith))
+
+sub-carry : tie.Need-sub-carry Inv-loop μ-loop
+sub-carry c = omega (arith, atStart (atLoop c .before) .pre .0 .1 .below (atLoop c .loop .k) (omega arith))
+
+carry-requires : tie.Need-carry-requires Inv-loop μ-loop
+carry-requires c κs =
+    let pre = atStart (atLoop c .before) .pre in (
+      (pre .0 .0, omega (arith, pre .0 .1 .few), pre .0 .5, omega arith),
+      (
+        (omega (arith, pre .1 .0 .0), omega (arith, pre .1 .0 .1)),
+        pre .1 .1 .0 .le (atLoop c .loop .k) (omega arith),
+      ),
+    )
+
+mul-behind : tie.Need-mul-behind Inv-loop μ-loop
+mul-behind c = omega arith
+
+slice-write-behind : tie.Need-slice-write-behind Inv-loop μ-loop
+slice-write-behind c = omega (arith, atLoop (c .before) .loop .inv .0)
+
+add-k : tie.Need-add-k Inv-loop μ-loop
+add-k c = omega arith
+
+loop-less : tie.Need-loop-less Inv-loop μ-loop
+loop-less c = omega arith
+
+loop-again : tie.Need-loop-again Inv-loop μ-loop
+loop-again c =
+    let at-test = c .before .before in
+    let at-loop = at-test .before in
+    let pre = atStart (at-loop .before) .pre in
+    let inv = at-loop .loop .inv in (
+      length-set (at-loop .loop .behind) (at-loop .loop .k) (c .carry .result) ∙ inv .0,
+      up-more (pre .0 .1) (pre .0 .2) (at-test .loop-test .taken) (omega arith) (inv .1) (c .carry .ensures),
+    )
+
+same-length : tie.Need-same-length Inv-loop μ-loop
+same-length c = c .before .loop .inv .0
+
+returns : tie.Need-returns Inv-loop μ-loop
+returns c = up-done (omega arith) (c .before .loop .inv .1)
+
+pub behind-of-spec : {M : Type 1} → statement M
+behind-of-spec =
+    tie.close (tie.spec Inv-loop μ-loop mul-top shared-slice-read-top cast-top sub-top mul-best add-best mul-best-2
+    shared-slice-read-best mul-best-3 shared-slice-read-best-2 cast-best sub-best sub-best-2 add-best-2 add-best-3
+    loop-holds mul-carry shared-slice-read-carry cast-carry sub-carry carry-requires mul-behind slice-write-behind
+    add-k loop-less loop-again same-length returns)

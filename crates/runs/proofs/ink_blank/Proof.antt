@@ -1,0 +1,99 @@
+-- Crossing after crossing gets the least from both sides.
+use Prim.Native.Nat.{_-_, _≤_}
+use native.Mathlib.Omega.{arith}
+use Rattle.runs.specs.Ink.{puts, RunInked}
+use Rattle.runs.proofs.Inks.{inked-none, inked-next, inked-done}
+use Rattle.runs.proofs.ink_blank.Statement.{statement}
+use Rattle.runs.proofs.ink_blank.Tie as tie
+
+abbrev Inv-loop : tie.InvT-loop
+Inv-loop own₀ ahead behind labels other inks cross line n lo hi v k₀ own k =
+    (lo ≤ k) × (k ≤ hi) × RunInked other inks cross line v lo hi k labels own₀ own
+
+abbrev μ-loop : tie.MeasureT-loop
+μ-loop own₀ ahead behind labels other inks cross line n lo hi v k₀ own k = hi - k
+
+-- back to the start and the loop's head
+abbrev atStart : tie.After-shared-slice-known9 Inv-loop μ-loop → tie.Start Inv-loop μ-loop
+atStart c = c .before .before .before .before .before .before .before .before .before .before .before .before
+
+abbrev atLoop : tie.After-shared-slice-known9 Inv-loop μ-loop → tie.At-loop Inv-loop μ-loop
+atLoop c = c .before .before .before .before
+
+loop-holds : tie.Need-loop-holds Inv-loop μ-loop
+loop-holds c = (omega arith, omega arith, inked-none _ _)
+
+mul-ink-of : tie.Need-mul-ink-of Inv-loop μ-loop
+mul-ink-of c = omega arith
+
+shared-slice-read-ink-of : tie.Need-shared-slice-read-ink-of Inv-loop μ-loop
+shared-slice-read-ink-of c = omega arith
+
+mul-ink-of-2 : tie.Need-mul-ink-of-2 Inv-loop μ-loop
+mul-ink-of-2 c = omega arith
+
+shared-slice-read-ink-of-2 : tie.Need-shared-slice-read-ink-of-2 Inv-loop μ-loop
+shared-slice-read-ink-of-2 c = omega arith
+
+mul-ink-of-3 : tie.Need-mul-ink-of-3 Inv-loop μ-loop
+mul-ink-of-3 c = omega arith
+
+shared-slice-read-ink-of-3 : tie.Need-shared-slice-read-ink-of-3 Inv-loop μ-loop
+shared-slice-read-ink-of-3 c = omega arith
+
+ink-of-requires : tie.Need-ink-of-requires Inv-loop μ-loop
+ink-of-requires c κs =
+    let pre = atStart c .pre in
+    let k = atLoop c .loop .k in
+    let inv = atLoop c .loop .inv in
+    let sweeps = pre .1 .1 .1 in (
+      omega (arith, pre .0 .1 .below k (omega arith)),
+      sweeps .0 .at k (inv .0) (omega arith) .above,
+      sweeps .1 .at k (omega arith) (inv .0) .above,
+    )
+
+mul-own : tie.Need-mul-own Inv-loop μ-loop
+mul-own c = omega arith
+
+add-own : tie.Need-add-own Inv-loop μ-loop
+add-own c = omega arith
+
+mul-own-2 : tie.Need-mul-own-2 Inv-loop μ-loop
+mul-own-2 c = omega arith
+
+slice-write-own : tie.Need-slice-write-own Inv-loop μ-loop
+slice-write-own c =
+    let pre = atStart (c .before) .pre in
+    omega (arith, atLoop (c .before) .loop .inv .2 .size, pre .1 .1 .0 .0, pre .0 .1 .few)
+
+add-k : tie.Need-add-k Inv-loop μ-loop
+add-k c = omega arith
+
+loop-less : tie.Need-loop-less Inv-loop μ-loop
+loop-less c = omega arith
+
+loop-again : tie.Need-loop-again Inv-loop μ-loop
+loop-again c =
+    let at-loop = atLoop (c .before) in
+    let pre = atStart (c .before) .pre in
+    let k = at-loop .loop .k in
+    let inv = at-loop .loop .inv in
+    let sweeps = pre .1 .1 .1 in (
+      omega arith,
+      omega arith,
+      inked-next (inv .0) (omega (arith, pre .1 .1 .0 .0, pre .0 .1 .few)) (inv .2)
+          (sweeps .1 .at k (omega arith) (inv .0) .least) (sweeps .0 .at k (inv .0) (omega arith) .least)
+          (c .ink-of .ensures) (puts (pre .1 .1 .0 .1 .none k (inv .0) (omega arith))),
+    )
+
+same-length : tie.Need-same-length Inv-loop μ-loop
+same-length c = c .before .loop .inv .2 .size
+
+returns : tie.Need-returns Inv-loop μ-loop
+returns c = inked-done (omega arith) (c .before .loop .inv .2)
+
+pub ink-blank-spec : {M : Type 1} → statement M
+ink-blank-spec =
+    tie.close (tie.spec Inv-loop μ-loop loop-holds mul-ink-of shared-slice-read-ink-of mul-ink-of-2
+    shared-slice-read-ink-of-2 mul-ink-of-3 shared-slice-read-ink-of-3 ink-of-requires mul-own add-own mul-own-2
+    slice-write-own add-k loop-less loop-again same-length returns)

@@ -1,0 +1,31 @@
+-- The scan begins at the start of the run.
+use native.Mathlib.Omega.{arith}
+use borrow.Author.Needs.{needs}
+use Rattle.runs.proofs.Line.{stop-of}
+use Rattle.runs.proofs.next_stop.Statement.{statement}
+use Rattle.runs.proofs.next_stop.Tie as tie
+
+-- back to the start
+abbrev atStart : tie.After-shared-slice-known5 → tie.Start
+atStart c = c .before .before .before .before .before .before
+
+run-start-requires : tie.Need-run-start-requires
+run-start-requires c κs = search needs
+
+mul-scan : tie.Need-mul-scan
+mul-scan c = omega arith
+
+shared-slice-read-scan : tie.Need-shared-slice-read-scan
+shared-slice-read-scan c = omega arith
+
+scan-requires : tie.Need-scan-requires
+scan-requires c κs =
+    let pre = atStart c .pre in
+    let start = c .before .run-start .ensures in
+    ((pre .0 .0, pre .0 .1, omega (arith, start .le, pre .0 .2), pre .0 .3, pre .0 .4), pre .1)
+
+returns : tie.Need-returns
+returns c = stop-of (c .before .before .run-start .ensures) (c .scan .ensures)
+
+pub next-stop-spec : {M : Type 1} → statement M
+next-stop-spec = tie.close (tie.spec run-start-requires mul-scan shared-slice-read-scan scan-requires returns)

@@ -1,0 +1,352 @@
+// One line of the escape grid: the run of a crossing, the stops on it, which are the crossings with a given label in
+// the other direction, and the inks of the run over these stops, by two sweeps.
+use grid::STRIDE;
+ghost use Prim.Native.Nat.{_+_, _-_, _*_, _≤_, _<_, min};
+ghost use mathlib.Core.Path.{_≡_};
+ghost use mathlib.Core.Bool.{true};
+ghost use lib.ListN.{length};
+ghost use Rattle.foil_spec.specs.Paths.{gap};
+ghost use Rattle.grid.specs.Size.{stride};
+ghost use Rattle.grid.specs.Lines.{Lines};
+ghost use Rattle.runs.specs.Line.{across, RunStart, RunEnd, Left, isStop, Scanned, Stop, labelTop};
+ghost use Rattle.runs.specs.Ink.{Low, Carried, Ahead, Behind, InkPut, Blank, RunInked};
+
+// How many steps two numbers are apart.
+pub fn steps(a: u16, b: u16) -> u32
+    ensures { λ r. ⌜ (r ≡ gap a b) × (r ≤ 65535) ⌝ }
+{
+    if a < b {
+        return (b - a) as u32;
+    }
+    (a - b) as u32
+}
+
+// The smaller number.
+fn lesser(a: u32, b: u32) -> u32
+    ensures { λ r. ⌜ r ≡ min a b ⌝ }
+{
+    if a < b {
+        return a;
+    }
+    b
+}
+
+// The smaller number.
+fn nearer(a: usize, b: usize) -> usize
+    ensures { λ r. ⌜ r ≡ min a b ⌝ }
+{
+    if a < b {
+        return a;
+    }
+    b
+}
+
+// The first crossing of a line that is joined with the crossing `at`.
+fn back_from(edge: &[u8], line: usize, at: usize) -> usize
+    requires { ⌜ (line < stride) × (at ≤ stride) × (line * stride + stride ≤ length (now edge)) ⌝ }
+    ensures { λ r. ⌜ RunStart (now (edge .entry)) line at r ⌝ }
+{
+    let mut lo = at;
+    while 0 < lo {
+        if edge[line * STRIDE + (lo - 1)] != 1 {
+            return lo;
+        }
+        lo -= 1;
+    }
+    lo
+}
+
+// The same. It is no more than `at`: with that said once more, the compiler does not carry a place of every list along
+// the scan.
+pub fn run_start(edge: &[u8], line: usize, at: usize) -> usize
+    requires { ⌜ (line < stride) × (at ≤ stride) × (line * stride + stride ≤ length (now edge)) ⌝ }
+    ensures { λ r. ⌜ RunStart (now (edge .entry)) line at r ⌝ }
+{
+    nearer(back_from(edge, line, at), at)
+}
+
+// The first crossing after the crossing `at`, of n on a line, that is not joined with it.
+pub fn run_end(edge: &[u8], line: usize, n: usize, at: usize) -> usize
+    requires { ⌜ (line < stride) × (n ≤ stride) × (at < n) × (line * stride + stride ≤ length (now edge)) ⌝ }
+    ensures { λ r. ⌜ RunEnd (now (edge .entry)) line n at r ⌝ }
+{
+    let mut hi = at + 1;
+    while hi < n {
+        if edge[line * STRIDE + (hi - 1)] != 1 {
+            return hi;
+        }
+        hi += 1;
+    }
+    hi
+}
+
+// Whether the visit of crossing `at` can be left to one before it: in the first round, where a crossing before it that
+// is joined with it has the label v in the other direction as well. So the run of many targets is visited once.
+pub fn is_left(other: &[u32], edge: &[u8], line: usize, at: usize, v: u32) -> bool
+    requires { ⌜ (line < stride) × (at ≤ stride) × (at * stride ≤ length (now other))
+        × (line * stride + stride ≤ length (now edge)) ⌝ }
+    ensures { λ r. ⌜ (r ≡ true → Left (now (other .entry)) (now (edge .entry)) line at v) ⌝ }
+{
+    if v != 1 {
+        return false;
+    }
+    let mut j = at;
+    while 0 < j {
+        if edge[line * STRIDE + (j - 1)] != 1 {
+            return false;
+        }
+        j -= 1;
+        if other[j * STRIDE + line] == v {
+            return true;
+        }
+    }
+    false
+}
+
+// Whether crossing k of a line is a stop for the label v, over which s steps lead from x.
+fn is_stop(
+    other: &[u32],
+    inks: &[u32],
+    cross: &[u16],
+    line: usize,
+    k: usize,
+    x: u16,
+    v: u32,
+    s: u32,
+) -> bool
+    requires { ⌜ (line < stride) × (k < stride) × (k < length (now cross)) × (v < labelTop) ⌝ }
+    requires { ⌜ (k * stride + stride ≤ length (now other)) × (k * stride + stride ≤ length (now inks)) ⌝ }
+    requires { ⌜ (across (now other) line k ≡ v → across (now inks) line k ≤ 4095 * v) ⌝ }
+    ensures { λ r. ⌜ r ≡ isStop (now (other .entry)) (now (inks .entry)) (now (cross .entry)) line x v s k ⌝ }
+{
+    if other[k * STRIDE + line] != v {
+        return false;
+    }
+    if inks[k * STRIDE + line] + steps(x, cross[k]) != s {
+        return false;
+    }
+    true
+}
+
+// The first such stop from the crossing lo on, and joined with it, or n.
+fn scan(
+    other: &[u32],
+    inks: &[u32],
+    edge: &[u8],
+    cross: &[u16],
+    line: usize,
+    n: usize,
+    lo: usize,
+    x: u16,
+    v: u32,
+    s: u32,
+) -> usize
+    requires { ⌜ (line < stride) × Lines (now cross) n × (lo ≤ n) × (v < labelTop)
+        × (line * stride + stride ≤ length (now edge)) ⌝ }
+    requires { ⌜ (n * stride ≤ length (now other)) × (n * stride ≤ length (now inks))
+        × Low (now other) (now inks) line n v ⌝ }
+    ensures { λ r. ⌜ Scanned (now (other .entry)) (now (inks .entry)) (now (edge .entry)) (now (cross .entry))
+        line n lo x v s r ⌝ }
+{
+    let mut k = lo;
+    while k < n {
+        if is_stop(other, inks, cross, line, k, x, v, s) {
+            return k;
+        }
+        if edge[line * STRIDE + k] != 1 {
+            return n;
+        }
+        k += 1;
+    }
+    n
+}
+
+// The first stop for the label v joined with the crossing `at`, over which s steps lead from there, or n.
+pub fn next_stop(
+    other: &[u32],
+    inks: &[u32],
+    edge: &[u8],
+    cross: &[u16],
+    line: usize,
+    n: usize,
+    at: usize,
+    v: u32,
+    s: u32,
+) -> usize
+    requires { ⌜ (line < stride) × Lines (now cross) n × (at < n) × (v < labelTop)
+        × (line * stride + stride ≤ length (now edge)) ⌝ }
+    requires { ⌜ (n * stride ≤ length (now other)) × (n * stride ≤ length (now inks))
+        × Low (now other) (now inks) line n v ⌝ }
+    ensures { λ r. ⌜ Stop (now (other .entry)) (now (inks .entry)) (now (edge .entry)) (now (cross .entry))
+        line n at v s r ⌝ }
+{
+    scan(
+        other,
+        inks,
+        edge,
+        cross,
+        line,
+        n,
+        run_start(edge, line, at),
+        cross[at],
+        v,
+        s,
+    )
+}
+
+// The least of `best` and, where crossing k of a line is a stop for the label v, its ink and x more.
+fn carry(other: &[u32], inks: &[u32], line: usize, k: usize, v: u32, x: u32, best: u32) -> u32
+    requires { ⌜ (line < stride) × (k < stride) × (v < labelTop) × (x ≤ 4096) ⌝ }
+    requires { ⌜ (k * stride + stride ≤ length (now other)) × (k * stride + stride ≤ length (now inks)) ⌝ }
+    requires { ⌜ (across (now other) line k ≡ v → across (now inks) line k ≤ 4095 * v) ⌝ }
+    ensures { λ r. ⌜ Carried (now (other .entry)) (now (inks .entry)) line v k x best r ⌝ }
+{
+    if other[k * STRIDE + line] != v {
+        return best;
+    }
+    lesser(inks[k * STRIDE + line] + x, best)
+}
+
+// The sweep down the crossings lo to hi, hi excluded, of a run: the least ink at each over the stops for the label v
+// from it on, and its number more. Crossing h of the run is a stop.
+pub fn ahead_of(
+    ahead: &mut [u32],
+    other: &[u32],
+    inks: &[u32],
+    cross: &[u16],
+    line: usize,
+    n: usize,
+    lo: usize,
+    hi: usize,
+    h: usize,
+    v: u32,
+)
+    requires { ⌜ (line < stride) × Lines (now cross) n × (hi ≤ n) × (lo ≤ h) × (h < hi) × (v < labelTop) ⌝ }
+    requires { ⌜ (n * stride ≤ length (now other)) × (n * stride ≤ length (now inks))
+        × (stride ≤ length (now ahead)) ⌝ }
+    requires { ⌜ Low (now other) (now inks) line n v × (across (now other) line h ≡ v) ⌝ }
+    ensures { λ _. ⌜ Ahead (now (other .entry)) (now (inks .entry)) (now (cross .entry)) line v lo hi lo
+        (now (ahead .exit)) ⌝ }
+{
+    let top = cross[hi - 1] as u32;
+    let mut best = inks[h * STRIDE + line] + (top - cross[h] as u32) + top;
+    let mut k = hi;
+    while lo < k {
+        k -= 1;
+        best = carry(other, inks, line, k, v, cross[k] as u32, best);
+        ahead[k] = best;
+    }
+}
+
+// The sweep up: the least ink at each over the stops up to it, and as much more as its number is below 4,096.
+pub fn behind_of(
+    behind: &mut [u32],
+    other: &[u32],
+    inks: &[u32],
+    cross: &[u16],
+    line: usize,
+    n: usize,
+    lo: usize,
+    hi: usize,
+    h: usize,
+    v: u32,
+)
+    requires { ⌜ (line < stride) × Lines (now cross) n × (hi ≤ n) × (lo ≤ h) × (h < hi) × (v < labelTop) ⌝ }
+    requires { ⌜ (n * stride ≤ length (now other)) × (n * stride ≤ length (now inks))
+        × (stride ≤ length (now behind)) ⌝ }
+    requires { ⌜ Low (now other) (now inks) line n v × (across (now other) line h ≡ v) ⌝ }
+    ensures { λ _. ⌜ Behind (now (other .entry)) (now (inks .entry)) (now (cross .entry)) line v lo hi hi
+        (now (behind .exit)) ⌝ }
+{
+    let top = 4096 - cross[lo] as u32;
+    let mut best = inks[h * STRIDE + line] + (top - (4096 - cross[h] as u32)) + top;
+    let mut k = lo;
+    while k < hi {
+        best = carry(other, inks, line, k, v, 4096 - cross[k] as u32, best);
+        behind[k] = best;
+        k += 1;
+    }
+}
+
+// The ink of a crossing with the number x, from what the two sweeps say of it.
+fn ink_of(ahead: u32, behind: u32, x: u16) -> u32
+    requires { ⌜ (x ≤ 4096) × (x ≤ ahead) × (4096 - x ≤ behind) ⌝ }
+    ensures { λ r. ⌜ r ≡ min (behind - (4096 - x)) (ahead - x) ⌝ }
+{
+    let up = behind - (4096 - x as u32);
+    let down = ahead - x as u32;
+    lesser(up, down)
+}
+
+// Gives crossing k of a line the ink s, if it has no label.
+fn put_ink(own: &mut [u32], labels: &[u32], line: usize, k: usize, s: u32)
+    requires { ⌜ (line < stride) × (k < stride) × (line * stride + stride ≤ length (now own))
+        × (line * stride + stride ≤ length (now labels)) ⌝ }
+    ensures { λ _. ⌜ InkPut line k s (now (labels .entry)) (now (own .entry)) (now (own .exit)) ⌝ }
+{
+    if labels[line * STRIDE + k] != 0 {
+        return;
+    }
+    own[line * STRIDE + k] = s;
+}
+
+// Gives each of the crossings lo to hi of a run that has no label its ink, the least over all stops of the run.
+pub fn ink_run(
+    own: &mut [u32],
+    ahead: &[u32],
+    behind: &[u32],
+    labels: &[u32],
+    other: &[u32],
+    inks: &[u32],
+    cross: &[u16],
+    line: usize,
+    n: usize,
+    lo: usize,
+    hi: usize,
+    v: u32,
+)
+    requires { ⌜ (line < stride) × Lines (now cross) n × (hi ≤ n) × (lo ≤ hi) ⌝ }
+    requires { ⌜ (stride ≤ length (now ahead)) × (stride ≤ length (now behind)) ⌝ }
+    requires { ⌜ (line * stride + stride ≤ length (now own))
+        × (line * stride + stride ≤ length (now labels)) ⌝ }
+    requires { ⌜ Ahead (now other) (now inks) (now cross) line v lo hi lo (now ahead)
+        × Behind (now other) (now inks) (now cross) line v lo hi hi (now behind) ⌝ }
+    ensures { λ _. ⌜ RunInked (now (other .entry)) (now (inks .entry)) (now (cross .entry)) line v lo hi hi
+        (now (labels .entry)) (now (own .entry)) (now (own .exit)) ⌝ }
+{
+    let mut k = lo;
+    while k < hi {
+        put_ink(own, labels, line, k, ink_of(ahead[k], behind[k], cross[k]));
+        k += 1;
+    }
+}
+
+// The same where none of them has a label.
+pub fn ink_blank(
+    own: &mut [u32],
+    ahead: &[u32],
+    behind: &[u32],
+    labels: &[u32],
+    other: &[u32],
+    inks: &[u32],
+    cross: &[u16],
+    line: usize,
+    n: usize,
+    lo: usize,
+    hi: usize,
+    v: u32,
+)
+    requires { ⌜ (line < stride) × Lines (now cross) n × (hi ≤ n) × (lo ≤ hi) ⌝ }
+    requires { ⌜ (stride ≤ length (now ahead)) × (stride ≤ length (now behind)) ⌝ }
+    requires { ⌜ (line * stride + stride ≤ length (now own)) × Blank (now labels) line lo hi ⌝ }
+    requires { ⌜ Ahead (now other) (now inks) (now cross) line v lo hi lo (now ahead)
+        × Behind (now other) (now inks) (now cross) line v lo hi hi (now behind) ⌝ }
+    ensures { λ _. ⌜ RunInked (now (other .entry)) (now (inks .entry)) (now (cross .entry)) line v lo hi hi
+        (now (labels .entry)) (now (own .entry)) (now (own .exit)) ⌝ }
+{
+    let mut k = lo;
+    while k < hi {
+        own[line * STRIDE + k] = ink_of(ahead[k], behind[k], cross[k]);
+        k += 1;
+    }
+}
