@@ -1,5 +1,6 @@
 // The body of the call that lays a list of nets (`lay_list_in`): one lay after the other, each lent the corner places
-// that are still unused. The foil keeps the rules before each of them, so that none checks it again.
+// that are still unused. The foil keeps the rules before each of them, so that none checks it again. A list that is too
+// long, or has too few places for its answers, is told by `too_many`.
 use foil::Answer;
 use foil_spec::Board;
 use laying::lay_in;
@@ -9,12 +10,12 @@ ghost use Prim.Native.Nat.{_+_, _*_, _/_, _≤_};
 ghost use lib.ListN.{length};
 ghost use Rattle.foil_spec.specs.Limits.{maxEntries};
 ghost use Rattle.foil_spec.specs.Lent.{lent, sound};
-ghost use Rattle.foil_spec.specs.Wishes.{wishAt};
+ghost use Rattle.foil_spec.specs.Wishes.{wishAt, tooMany};
 ghost use Rattle.listing.specs.Contract.{inNumbers, ListIn};
 ghost use Rattle.listing.specs.Parts.{layOf, MayLay, GoesOn, Fits, PutAt};
 
 // How many nets a list has at most.
-pub const MAX_WISHES: usize = 40;
+const MAX_WISHES: usize = 40;
 
 // A net to lay from (sx, sy) to (tx, ty).
 struct Wish {
@@ -40,6 +41,17 @@ pub struct Listed {
     pub board: Board,
     pub used: usize,
     pub laid: bool,
+}
+
+// Whether the wishes are more than 40, or more than these places for their answers.
+pub fn too_many(wishes: &[u16], places: usize) -> bool
+    ensures { λ r. ⌜ r ≡ tooMany (now (wishes .entry)) places ⌝ }
+{
+    let n = wishes.len() / 5;
+    if MAX_WISHES < n {
+        return true;
+    }
+    places < n
 }
 
 // Lays the nets of a list, five numbers each, on a foil that keeps the rules and may have so many entries: their

@@ -1,15 +1,14 @@
 -- A list of nets on a foil of a sheet: its checks, and its end.
-use Prim.Native.Nat.{ℕ, _*_, _/_, _≤_, _<_}
+use Prim.Native.Nat.{ℕ, _/_, _≤_, _<_}
 use native.Mathlib.Omega.{arith}
 use mathlib.Core.Path.{_≡_, refl, sym, ap, ap₂, _∙_, subst}
 use mathlib.Core.Bool.{Bool, true, false, not, _||_}
 use mathlib.Core.List.{List, [], _∷_}
 use mathlib.Core.Option.{Option, none, some}
-use lib.Dec.{ltb}
 use lib.ListN.{length, getD}
-use borrow.Author.Tests.{lt-ltb, le-ltb, ltb-false}
+use borrow.Author.Tests.{lt-ltb, le-ltb}
 use Rattle.foil_spec.specs.Lists.{each, any}
-use Rattle.foil_spec.specs.Limits.{tableSize, maxWishes}
+use Rattle.foil_spec.specs.Limits.{tableSize, sheetFoils}
 use Rattle.foil_spec.specs.Ledger.{Room, Answer, refused, accepted, laid, found, wrote, booked, first, afterLent}
 use Rattle.foil_spec.specs.Ledger.{After}
 use Rattle.foil_spec.specs.Lent.{Lent, lent, sound, roomIn, stepOn, overFront, outputAfter, numbersOut}
@@ -22,7 +21,6 @@ use Rattle.foil.specs.Contract.{answerOf}
 use Rattle.foil.specs.declared.Answer.the-variants.{Accepted}
 use Rattle.foil.specs.declared.lent.Checked.{Checked}
 use Rattle.foil.specs.declared.lent.Checked.the-variants as checked
-use Rattle.list_laws.proofs.Tests.{parts}
 use Rattle.listing.specs.Contract.{inNumbers, answerNumbers, took, ListGave, ListIn}
 use Rattle.listing.specs.declared.Listed.{Listed}
 use Rattle.sheet_laws.specs.Answers.{taken}
@@ -39,25 +37,16 @@ use Rattle.sheet.proofs.Closing.{accepts-taken, answers, may-close, lea
 
 -- ---- 23, the list's own 12, and the checks that other calls begin with too
 
--- by the tests of the code
-pub many : (ws : List ℕ) (n : ℕ) → maxWishes < length ws / 5 → true ≡ tooMany ws n
-unfolding tooMany
-many ws n l = rw (lt-ltb maxWishes (length ws / 5) l) refl
-
-pub not-many : (ws : List ℕ) (n : ℕ) → length ws / 5 ≤ maxWishes → ltb n (length ws / 5) ≡ tooMany ws n
-unfolding tooMany
-not-many ws n l = rw (le-ltb maxWishes (length ws / 5) l) refl
-
 module _ (k : ℕ) (m : SheetLent) (ws : List ℕ) (n : ℕ) where
-  pub list-no-foil : 7 < k → ListOpening k m ws n [] (checked.Refused 23)
+  pub list-no-foil : sheetFoils ≤ k → ListOpening k m ws n [] (checked.Refused 23)
   unfolding sheetRefusal first
-  list-no-foil l output = refused-on k m (layList ws n) output 23 (rw (lt-ltb 7 k l) refl)
+  list-no-foil l output = refused-on k m (layList ws n) output 23 (rw (lt-ltb 7 k (omega arith)) refl)
 
-  module _ (here : k ≤ 7) (b : Bool) (is : b ≡ tooMany ws n) where
+  module _ (here : k < sheetFoils) (b : Bool) (is : b ≡ tooMany ws n) where
     pub list-many : b ≡ true → ListOpening k m ws n [] (checked.Refused 12)
     unfolding sheetRefusal opening first
     list-many e output =
-        refused-on k m (layList ws n) output 12 (rw (le-ltb 7 k here, sym is ∙ e) refl)
+        refused-on k m (layList ws n) output 12 (rw (le-ltb 7 k (omega arith), sym is ∙ e) refl)
 
     pub list-opened : b ≡ false → (rows : List ℕ) (x : Checked) → Opening k m rows x → ListOpening k m ws n rows x
     unfolding readsFoil
@@ -71,11 +60,6 @@ module _ (k : ℕ) (m : SheetLent) (ws : List ℕ) (n : ℕ) where
     pub list-not-out : ListOpening k m ws n rows x → (i : ℕ) → x ≡ checked.Refused i → (output : ℕ)
         → onSheet k (layList ws n) m output ≡ refusedOn i m
     list-not-out h i e = subst (ListOpening k m ws n rows) e h
-
--- a list that is not too many has places for its answers
-pub places : (ws ans : List ℕ) → tooMany ws (length ans / 3) ≡ false → length ws / 5 * 3 ≤ length ans
-unfolding tooMany
-places ws ans e = let few = ltb-false (length ans / 3) (length ws / 5) (search parts) in omega arith
 
 -- ---- its end
 

@@ -4,7 +4,7 @@ use foil::Checked;
 use foil::lent_refusal;
 use foil_spec::MAX_BYTES;
 use foil_spec::STRIPS_SIZE;
-use listing::MAX_WISHES;
+use listing::too_many;
 use sheet_rows::FOILS;
 use sheet_rows::SHEET_SIZE;
 use sheet_rows::Sheet;
@@ -13,7 +13,6 @@ use sheet_rows::counts_ok;
 use sheet_rows::take_out;
 ghost use mathlib.Core.Path.{_≡_};
 ghost use mathlib.Core.List.{[]};
-ghost use Rattle.foil_spec.specs.Wishes.{tooMany};
 ghost use Rattle.booking.specs.Rows.{rowsOf};
 ghost use Rattle.foil.specs.Contract.{FirstChecked};
 ghost use Rattle.sheet_rows.specs.Rows.{sheetLent};
@@ -92,24 +91,13 @@ pub(crate) fn open_for_list(
     ensures { λ r. ⌜ ListOpening k (sheetLent (sheet .boards) (now (table .entry)) (now (strips .entry)))
         (now (wishes .entry)) places (now (rows .exit)) r ⌝ }
 {
-    if 7 < k {
+    if FOILS <= k {
         return Checked::Refused(23);
     }
     if too_many(wishes, places) {
         return Checked::Refused(12);
     }
     open_foil(rows, table, strips, sheet, k)
-}
-
-// Whether the wishes are more than 40, or more than these places for their answers.
-fn too_many(wishes: &[u16], places: usize) -> bool
-    ensures { λ r. ⌜ r ≡ tooMany (now (wishes .entry)) places ⌝ }
-{
-    let n = wishes.len() / 5;
-    if MAX_WISHES < n {
-        return true;
-    }
-    places < n
 }
 
 // The checks before a record of the bytes is looked at: 18 comes after 23. Where they are passed, foil k's entries are

@@ -2,8 +2,9 @@
 use native.Mathlib.Omega.{arith}
 use mathlib.Core.Path.{refl}
 use Rattle.booking.proofs.Filling.{no-rows}
+use Rattle.listing.proofs.Many.{places}
 use Rattle.sheet.proofs.Checking.{keeps-rules, limit-most}
-use Rattle.sheet.proofs.Listing.{list-out, list-not-out, places, list-refused, list-closable, list-done}
+use Rattle.sheet.proofs.Listing.{list-out, list-not-out, list-refused, list-closable, list-done}
 use borrow.Author.Needs.{needs}
 use Rattle.sheet.proofs.list.lay_list.Statement.{statement}
 use Rattle.sheet.proofs.list.lay_list.Tie as tie

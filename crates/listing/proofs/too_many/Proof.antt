@@ -1,7 +1,7 @@
--- `sheet::checks::too_many` tests both numbers.
-use Rattle.sheet.proofs.Listing.{many, not-many}
-use Rattle.sheet.proofs.checks.too_many.Statement.{statement}
-use Rattle.sheet.proofs.checks.too_many.Tie as tie
+-- `too_many` tests both numbers.
+use Rattle.listing.proofs.Many.{many, not-many}
+use Rattle.listing.proofs.too_many.Statement.{statement}
+use Rattle.listing.proofs.too_many.Tie as tie
 
 returns : tie.Need-returns
 returns c = many _ _ (c .if1 .taken)
