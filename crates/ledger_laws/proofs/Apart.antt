@@ -1,40 +1,41 @@
--- Each point of a way is free, and so keeps its distance from every leg and every patch that is on the foil, and from
--- the edge.
-use Prim.Native.Nat.{ℕ, _+_, _*_, _<_}
+-- A point is free exactly if it keeps its distance from every leg and every patch that is on the foil, and from the
+-- edge; and each point of a way is free.
+use Prim.Native.Nat.{ℕ, _+_, _-_, _*_, _≤_, _<_, min, max}
 use native.Mathlib.Omega.{arith}
 use mathlib.Core.Path.{_≡_, refl, sym, ap, _∙_, subst}
-use mathlib.Core.Bool.{true, false}
+use mathlib.Core.Bool.{true, false, not}
 use mathlib.Core.List.{List, _++_}
 use mathlib.Core.Logic.{inl, inr, ⊎-elim}
 use mathlib.Core.Option.{Option, none, some}
-use borrow.Author.Tests.{ne-eqb}
-use Rattle.foil_spec.specs.Foil.{Point, Entry, Layout, blocks, penRule, margin, free}
+use borrow.Author.Tests.{lt-ltb, ne-eqb}
+use Rattle.foil_spec.specs.Lists.{all}
+use Rattle.foil_spec.specs.Foil.{Point, point, Entry, Layout, entryOk, within, blocks, penRule, margin, freeBy, free}
 use Rattle.foil_spec.specs.Paths.{gap, at, isWay}
 use Rattle.foil_spec.specs.Corners.{drawn}
 use Rattle.foil_spec.specs.Ledger.{legs, Room, Step, lay, book, laid, booked, reads, next, says}
 use Rattle.foil_spec.specs.Ledger.{first, refusals, settle, refusalOf, ledgerStep}
 use Rattle.foil_spec.specs.Lent.{Lent}
-use Rattle.list_laws.proofs.Tests.{clash, and-i, not-ff, lt-or-le}
-use Rattle.list_laws.proofs.Members.{In}
+use Rattle.list_laws.proofs.Tests.{both, clash, and-l, and-r, and-i, not-f, not-ff, lt-or-le}
+use Rattle.list_laws.proofs.Members.{In, of-all, to-all}
 use Rattle.path_laws.proofs.Ways.{path-way}
-use Rattle.zones.proofs.Free.{within-yes, free-far}
+use Rattle.zones.proofs.Free.{within-yes, free-far, far}
 use Rattle.ledger_laws.specs.Moments.{Moment}
-use Rattle.ledger_laws.specs.Apart.{Has, Apart, KeepsApart, TracksApart}
+use Rattle.ledger_laws.specs.Apart.{Has, Apart, KeepsOff, FreeExactly, KeepsApart, TracksApart}
 use Rattle.ledger_laws.proofs.Refusals.{none-applies, unrefused-own}
 use Rattle.ledger_laws.proofs.Legs.{legs-free}
-use Rattle.ledger_laws.proofs.Crossing.{free-unblocked, patch-margin}
+use Rattle.ledger_laws.proofs.Crossing.{Full, ok-full, of-within, free-unblocked, patch-margin}
 use Rattle.ledger_laws.proofs.Lay.{lay-seeks, of-laid, first-laid}
 use Rattle.ledger_laws.proofs.Moments.{Goes, at-every}
 use Rattle.ledger_laws.proofs.Demand3.{goes-on, answer-is}
 
--- ---- what is not blocked is apart
+-- ---- what is not blocked is apart, and the other way round
 
 unblocked-apart : (d : ℕ) (e : Entry) (p q : Point) → blocks d e (p .x) (p .y) ≡ false → Has e q → Apart d p q
 unfolding blocks
 unblocked-apart d e p q b on =
-    ⊎-elim inl
+    ⊎-elim (λ x. inl (omega arith))
     (λ x.
-    ⊎-elim inr
+    ⊎-elim (λ y. inr (omega arith))
     (λ y.
     clash
     (and-i
@@ -44,28 +45,93 @@ unblocked-apart d e p q b on =
     (lt-or-le d (gap (p .y) (q .y))))
     (lt-or-le d (gap (p .x) (q .x)))
 
+closer : {d d′ : ℕ} (p q : Point) → d′ ≤ d → Apart d p q → Apart d′ p q
+closer p q le = ⊎-elim (λ x. inl (omega arith)) (λ y. inr (omega arith))
+
+-- of the numbers from lo up to hi the one that is nearest to v
+nearest : ℕ → ℕ → ℕ → ℕ
+nearest lo hi v = max lo (min v (hi - 1))
+
+-- an entry that is not empty and blocks the point has one that is not apart from it
+blocked-near : (d : ℕ) (e : Entry) (p : Point) → Full e → blocks d e (p .x) (p .y) ≡ true
+    → (q : Point) × Has e q × (Apart d p q → ⊥)
+unfolding blocks nearest
+blocked-near d e p full b =
+    let across = of-within (e .x0) (e .x1) d (p .x) (and-l _ _ b) in
+    let down = of-within (e .y0) (e .y1) d (p .y) (and-r (within (e .x0) (e .x1) d (p .x)) _ b) in
+    let wide = full .wide in
+    let high = full .high in (
+      point (nearest (e .x0) (e .x1) (p .x)) (nearest (e .y0) (e .y1) (p .y)),
+      record { from-x = omega arith; to-x = omega arith; from-y = omega arith; to-y = omega arith },
+      ⊎-elim (λ x. omega (arith, across, x)) (λ y. omega (arith, down, y)),
+    )
+
 module _ (l : Layout) where
   leg-margin : (e : Entry) → 0 < e .net → margin (penRule (l .pen)) e ≡ 2 * l .pen .half + l .pen .gap
   unfolding margin penRule
   leg-margin e n = rw (ne-eqb (e .net) 0 (λ z. omega arith)) (omega arith)
 
-  -- the legs of a way over free points keep apart from all entries and from the edge
-  pub way-apart : (net : ℕ) (cs : List Point) → isWay (free l) cs ≡ true → KeepsApart l (legs net cs)
-  way-apart net cs w =
+  -- a free point keeps off
+  pub free-keeps-off : (p : Point) → free l (p .x) (p .y) ≡ true → KeepsOff l p
+  free-keeps-off p f =
+      let (left, right, above, below) = free-far l (p .x) (p .y) f in
       record {
-        from-legs = λ e i n part j p q on-part on-e. clears e i (leg-margin e n) part j p q on-part on-e;
-        from-patches = λ e i n part j p q on-part on-e. clears e i (patch-margin l e n) part j p q on-part on-e;
-        from-edge = λ part j p on.
-            let (left, right, above, below) = free-far l (p .x) (p .y) (legs-free (free l) net cs w part j p on) in
-            record { left = left; right = right; above = above; below = below };
+        from-legs = λ e i n q on. apart e i (omega (arith, leg-margin e n)) q on;
+        from-patches = λ e i n q on. apart e i (omega (arith, patch-margin l e n)) q on;
+        from-edge = record { left = left; right = right; above = above; below = below };
       }
     where
-      clears : (e : Entry) → In e (l .entries) → {d : ℕ} → margin (penRule (l .pen)) e ≡ d
-          → (part : Entry) → In part (legs net cs) → (p q : Point) → Has part p → Has e q → Apart d p q
-      clears e i m part j p q on-part on-e =
-          subst (λ (d : ℕ). Apart d p q) m
-          (unblocked-apart (margin (penRule (l .pen)) e) e p q
-          (free-unblocked l p (legs-free (free l) net cs w part j p on-part) e i) on-e)
+      apart : (e : Entry) → In e (l .entries) → {d : ℕ} → d ≤ margin (penRule (l .pen)) e
+          → (q : Point) → Has e q → Apart d p q
+      apart e i far-enough q on =
+          closer p q far-enough
+          (unblocked-apart (margin (penRule (l .pen)) e) e p q (free-unblocked l p f e i) on)
+
+  -- and a point that keeps off is free
+  module _ (p : Point) (k : KeepsOff l p) where
+    apart-by : (e : Entry) → In e (l .entries) → (q : Point) → Has e q → Apart (margin (penRule (l .pen)) e) p q
+    apart-by e i q on =
+        ⊎-elim
+        (λ n. closer p q (omega (arith, leg-margin e n)) (k .from-legs e i n q on))
+        (λ n.
+        let patch : e .net ≡ 0 = omega arith in
+        closer p q (omega (arith, patch-margin l e patch)) (k .from-patches e i patch q on))
+        (lt-or-le 0 (e .net))
+
+    unblocked : (e : Entry) → In e (l .entries) → Full e
+        → blocks (margin (penRule (l .pen)) e) e (p .x) (p .y) ≡ false
+    unblocked e i full =
+        both (blocks (margin (penRule (l .pen)) e) e (p .x) (p .y))
+        (λ b.
+        let near = blocked-near (margin (penRule (l .pen)) e) e p full b in
+        absurd (near .2 (apart-by e i (near .0) (near .1))))
+        (λ b. b)
+
+    keeps-off-free : all (entryOk (l .width) (l .height)) (l .entries) ≡ true → free l (p .x) (p .y) ≡ true
+    unfolding free freeBy penRule
+    keeps-off-free ok =
+        let m : ℕ = l .pen .half + l .pen .gap in
+        let edge = k .from-edge in
+        and-i
+        (and-i
+        (and-i (lt-ltb (p .x) (l .width) (omega (arith, edge .right)))
+        (lt-ltb (p .y) (l .height) (omega (arith, edge .below))))
+        (simp (
+          far m (l .width) (p .x) (edge .left) (edge .right),
+          far m (l .height) (p .y) (edge .above) (edge .below),
+        )))
+        (to-all (λ (e : Entry). not (blocks (margin (penRule (l .pen)) e) e (p .x) (p .y))) (l .entries)
+        (λ e i.
+        not-f
+        (unblocked e i
+        (ok-full (l .width) (l .height) e (of-all (entryOk (l .width) (l .height)) e (l .entries) ok i)))))
+
+  -- the legs of a way over free points keep apart from all entries and from the edge
+  pub way-apart : (net : ℕ) (cs : List Point) → isWay (free l) cs ≡ true → KeepsApart l (legs net cs)
+  way-apart net cs w part j p on = free-keeps-off p (legs-free (free l) net cs w part j p on)
+
+pub free-exactly : FreeExactly
+free-exactly l p ok = (free-keeps-off l p, λ k. keeps-off-free l p k ok)
 
 -- ---- in a list of calls
 

@@ -35,7 +35,7 @@ ok-full W H e h =
     let b : ltb (e .y0) (e .y1) ≡ true = search parts depth 9 in
     record { wide = ltb-true (e .x0) (e .x1) a; high = ltb-true (e .y0) (e .y1) b }
 
-of-within : (lo hi d v : ℕ) → within lo hi d v ≡ true → (lo ≤ v + d) × (v < hi + d)
+pub of-within : (lo hi d v : ℕ) → within lo hi d v ≡ true → (lo ≤ v + d) × (v < hi + d)
 unfolding within
 of-within lo hi d v h = (leb-true lo (v + d) (and-l _ _ h), ltb-true v (hi + d) (and-r (leb lo (v + d)) _ h))
 
