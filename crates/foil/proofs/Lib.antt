@@ -7,3 +7,4 @@ pub mod Beginning
 pub mod Adding
 pub mod Lifting
 pub mod Looking
+pub mod Listed

@@ -3,3 +3,4 @@ pub mod Orders
 pub mod Starred
 pub mod Written
 pub mod Sheets
+pub mod Outputs

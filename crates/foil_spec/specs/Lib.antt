@@ -19,5 +19,6 @@ pub mod Ohms
 pub mod Calls
 pub mod Sequence
 pub mod Sheet
+pub mod Outputs
 pub mod Orders
 pub mod Starred

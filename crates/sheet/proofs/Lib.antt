@@ -4,3 +4,4 @@ pub mod Closing
 pub mod Reading
 pub mod Recording
 pub mod Listing
+pub mod Listed
