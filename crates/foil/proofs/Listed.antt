@@ -1,13 +1,13 @@
 -- What a list of calls lists of a step is what the step left.
 use Prim.Native.Nat.{ℕ}
-use mathlib.Core.Path.{_≡_, refl, sym, ap, _∙_, subst}
-use mathlib.Core.List.{List, _∷_}
+use mathlib.Core.Path.{_≡_, refl, sym, ap, _∙_}
+use mathlib.Core.List.{List}
 use Rattle.foil_spec.specs.Ledger.{Step, Answer, After}
 use Rattle.foil_spec.specs.Lent.{Lent, lent, stepOn}
 use Rattle.foil_spec.specs.Calls.{Call, step, Reply, answered, reply, callOn, outputBy}
 use Rattle.foil_spec.specs.Sequence.{Lending, front, roomFor, back, lend, Left, leaves, runLent}
-use Rattle.foil.specs.Contract.{Gave, Wrote}
-use Rattle.foil.specs.Listed.{Listed, WroteListed}
+use Rattle.foil.specs.Contract.{Gave}
+use Rattle.foil.specs.Listed.{WroteListed}
 use Rattle.foil.specs.declared.Done.{Done}
 
 -- what a step gave

@@ -1,13 +1,11 @@
 -- What a call leaves in its output list.
 use Prim.Native.Nat.{ℕ}
-use mathlib.Core.Path.{_≡_, refl, sym, ap, _∙_, subst}
+use mathlib.Core.Path.{_≡_, refl, ap, _∙_, subst}
 use mathlib.Core.Bool.{Bool, true, false, _||_, true≢false}
 use mathlib.Core.List.{List, [], _∷_, _++_}
-use mathlib.Core.Option.{Option}
 use lib.ListN.{length, take, drop}
 use lib.Seq.{take-append-seam, drop-append-seam}
 use Rattle.foil_spec.specs.Lists.{any, each}
-use Rattle.foil_spec.specs.Foil.{Point}
 use Rattle.foil_spec.specs.Corners.{pointNumbers}
 use Rattle.foil_spec.specs.Ledger.{Answer, refused, accepted, laid, found, wrote, booked}
 use Rattle.foil_spec.specs.Lent.{overFront, outputAfter, numbersOut}

@@ -2,17 +2,19 @@
 -- edge; and each point of a way is free.
 use Prim.Native.Nat.{ℕ, _+_, _-_, _*_, _≤_, _<_, min, max}
 use native.Mathlib.Omega.{arith}
-use mathlib.Core.Path.{_≡_, refl, sym, ap, _∙_, subst}
+use mathlib.Core.Path.{_≡_, refl, sym, ap, _∙_, subst, subst₂}
 use mathlib.Core.Bool.{true, false, not}
 use mathlib.Core.List.{List, _++_}
 use mathlib.Core.Logic.{inl, inr, ⊎-elim}
 use mathlib.Core.Option.{Option, none, some}
 use borrow.Author.Tests.{lt-ltb, ne-eqb}
 use Rattle.foil_spec.specs.Lists.{all}
-use Rattle.foil_spec.specs.Foil.{Point, point, Entry, Layout, entryOk, within, blocks, penRule, margin, freeBy, free}
+use Rattle.foil_spec.specs.Foil.{Point, point, Entry, Layout, netOk, entryOk, within, blocks, penRule, margin, freeBy}
+use Rattle.foil_spec.specs.Foil.{free}
 use Rattle.foil_spec.specs.Paths.{gap, at, isWay}
 use Rattle.foil_spec.specs.Corners.{drawn}
-use Rattle.foil_spec.specs.Ledger.{legs, Room, Step, lay, book, laid, booked, reads, next, says}
+use Rattle.foil_spec.specs.Nets.{inUse}
+use Rattle.foil_spec.specs.Ledger.{legs, withEntries, Room, Step, lay, book, laid, booked, reads, next, says}
 use Rattle.foil_spec.specs.Ledger.{first, refusals, settle, refusalOf, ledgerStep}
 use Rattle.foil_spec.specs.Lent.{Lent}
 use Rattle.list_laws.proofs.Tests.{both, clash, and-l, and-r, and-i, not-f, not-ff, lt-or-le}
@@ -20,12 +22,12 @@ use Rattle.list_laws.proofs.Members.{In, of-all, to-all}
 use Rattle.path_laws.proofs.Ways.{path-way}
 use Rattle.zones.proofs.Free.{within-yes, free-far, far}
 use Rattle.ledger_laws.specs.Moments.{Moment}
-use Rattle.ledger_laws.specs.Apart.{Has, Apart, KeepsOff, FreeExactly, KeepsApart, TracksApart}
+use Rattle.ledger_laws.specs.Apart.{Has, Apart, KeepsOff, FreeExactly, KeepsApart, Tracks, TracksApart}
 use Rattle.ledger_laws.proofs.Refusals.{none-applies, unrefused-own}
 use Rattle.ledger_laws.proofs.Legs.{legs-free}
 use Rattle.ledger_laws.proofs.Crossing.{Full, ok-full, of-within, free-unblocked, patch-margin}
-use Rattle.ledger_laws.proofs.Lay.{lay-seeks, of-laid, first-laid}
-use Rattle.ledger_laws.proofs.Moments.{Goes, at-every}
+use Rattle.ledger_laws.proofs.Lay.{lay-seeks, of-laid, first-laid, passed}
+use Rattle.ledger_laws.proofs.Moments.{Goes, Onward, Standing, at-every}
 use Rattle.ledger_laws.proofs.Demand3.{goes-on, answer-is}
 
 -- ---- what is not blocked is apart, and the other way round
@@ -147,21 +149,26 @@ unfolding settle
 settled-booked none i n j k new old h = refl
 settled-booked (some x) i n j k new old h = absurd (let z : _≡_ {A = ℕ} 0 1 = cc in omega arith)
 
--- a lay or a booking that is accepted draws a way over free points, and its legs are appended
-record Drew (r : Room) (s : Step) (l : Layout) (net : ℕ) (cs : List Point) : Type 0 where
-  way : isWay (free l) cs ≡ true
-  added : ledgerStep r s l .state .entries ≡ l .entries ++ legs net cs
+-- a lay or a booking that is accepted draws a way over free points for a net that was not in use, and appends its legs
+pub record Drew (r : Room) (s : Step) (l : Layout) (net : ℕ) (cs : List Point) : Type 0 where
+  pub allowed : netOk net ≡ true
+  pub unused : inUse net (l .entries) ≡ false
+  pub way : isWay (free l) cs ≡ true
+  pub left : ledgerStep r s l .state ≡ withEntries l (l .entries ++ legs net cs)
 
 lay-drew : (r : Room) (l : Layout) (net : ℕ) (S T : Point) (cs : List Point) (n : ℕ)
     → ledgerStep r (lay net S T) l .answer ≡ laid cs n → Drew r (lay net S T) l net cs
 unfolding next
 lay-drew r l net S T cs n h =
     let a = of-laid (lay-seeks net S T) r l cs n h in
+    let p = passed r l net S T (unrefused-own r (lay net S T) l false (a .unrefused)) in
     record {
+      allowed = p .allowed;
+      unused = p .unused;
       way = path-way (free l) S (at T) cs (first-laid (lay-seeks net S T) r false l cs n a .0 .path);
-      added =
-          ap (λ (x : Layout). x .entries) (unrefused-state r (lay net S T) l (a .unrefused))
-          ∙ ap (λ (ds : List Point). l .entries ++ legs net ds) (sym (a .corners));
+      left =
+          unrefused-state r (lay net S T) l (a .unrefused)
+          ∙ ap (λ (ds : List Point). withEntries l (l .entries ++ legs net ds)) (sym (a .corners));
     }
 
 book-drew : (r : Room) (l : Layout) (net : ℕ) (ks : List ℕ) (i n : ℕ)
@@ -171,28 +178,35 @@ book-drew r l net ks i n h =
     let o = settled-booked (refusalOf r false (book net ks) l) _ _ i n _ _ h in
     let own : first (refusals (book net ks) r l) ≡ none = unrefused-own r (book net ks) l false o in
     record {
-      way = not-ff _ (search none-applies);
-      added = ap (λ (x : Layout). x .entries) (unrefused-state r (book net ks) l o);
+      allowed = not-ff (netOk net) (search none-applies);
+      unused = search none-applies;
+      way = not-ff (isWay (free l) (drawn ks)) (search none-applies);
+      left = unrefused-state r (book net ks) l o;
     }
 
-module _ (m : Lent) (k : Moment) (s : Step) (net : ℕ) (cs : List Point) (g : Goes m k) (is : k .step ≡ s) where
-  kept-apart : Drew (k .room) s (k .ledgerBefore) net cs
-      → (k .ledgerAfter .entries ≡ k .ledgerBefore .entries ++ legs net cs) × KeepsApart (k .ledgerBefore) (legs net cs)
-  kept-apart d = (
-    ap (λ (x : Layout). x .entries)
-        (g .left ∙ ap (λ (x : Step). ledgerStep (k .room) x (k .ledgerBefore) .state) is)
-        ∙ d .added,
-    way-apart (k .ledgerBefore) net cs (d .way),
-  )
+-- so does a step of a list of calls that lays or books a track
+pub tracks-drew : (m : Lent) (k : Moment) (later : List Moment) (net : ℕ) (cs : List Point) → Standing m k later
+    → Tracks k net cs
+    → Goes m k × Onward m (k .ledgerAfter) later × Drew (k .room) (k .step) (k .ledgerBefore) net cs
+unfolding reads
+tracks-drew m k later net cs w (inl (S, T, n, s, h)) =
+    let g = goes-on m k later (lay net S T) w s refl in (
+      g .0,
+      g .1,
+      subst (λ (x : Step). Drew (k .room) x (k .ledgerBefore) net cs) (sym s)
+          (lay-drew (k .room) (k .ledgerBefore) net S T cs n (sym (answer-is m k (lay net S T) (g .0) s) ∙ h)),
+    )
+tracks-drew m k later net cs w (inr (ks, i, n, s, is, h)) =
+    let g = goes-on m k later (book net ks) w s refl in (
+      g .0,
+      g .1,
+      subst₂ (λ (x : Step) (ds : List Point). Drew (k .room) x (k .ledgerBefore) net ds) (sym s) is
+          (book-drew (k .room) (k .ledgerBefore) net ks i n (sym (answer-is m k (book net ks) (g .0) s) ∙ h)),
+    )
 
 pub tracks-apart : TracksApart
-unfolding reads
-tracks-apart m l cs b earlier k later e net ds (inl (S, T, n, s, h)) =
-    let g = goes-on m k later (lay net S T) (at-every m l cs b earlier k later e) s refl .0 in
-    kept-apart m k (lay net S T) net ds g s
-    (lay-drew (k .room) (k .ledgerBefore) net S T ds n (sym (answer-is m k (lay net S T) g s) ∙ h))
-tracks-apart m l cs b earlier k later e net ds (inr (ks, i, n, s, is, h)) =
-    let g = goes-on m k later (book net ks) (at-every m l cs b earlier k later e) s refl .0 in
-    kept-apart m k (book net ks) net ds g s
-    (subst (Drew (k .room) (book net ks) (k .ledgerBefore) net) is
-    (book-drew (k .room) (k .ledgerBefore) net ks i n (sym (answer-is m k (book net ks) g s) ∙ h)))
+tracks-apart m l cs b earlier k later e net ds t =
+    let d = tracks-drew m k later net ds (at-every m l cs b earlier k later e) t in (
+      ap (λ (x : Layout). x .entries) (d .0 .left ∙ d .2 .left),
+      way-apart (k .ledgerBefore) net ds (d .2 .way),
+    )

@@ -38,14 +38,14 @@ module _ (m : Lent) (l : Layout) (n : Lent) (s : Shows m l n) where
   abbrev count : ℕ
   count = n .board .strips
 
-  counted : count ≡ length (stripsOf l)
+  pub counted : count ≡ length (stripsOf l)
   unfolding store boardOf
   counted = ap (λ (x : Lent). x .board .strips) (s .is)
 
   strips-are : n .strips ≡ store l m .strips
   strips-are = ap (λ (x : Lent). x .strips) (s .is)
 
-  listed : listedStrips (n .strips) count ≡ stripsOf l
+  pub listed : listedStrips (n .strips) count ≡ stripsOf l
   unfolding store
   listed =
       ap₂ (λ (ns : List ℕ) (c : ℕ). listedStrips ns c) strips-are counted
@@ -58,7 +58,7 @@ module _ (m : Lent) (l : Layout) (n : Lent) (s : Shows m l n) where
   unfolding store written
   long-list = rw strips-are (simp (length-append, length-replicate, length-drop) (omega (arith, fits)))
 
-  in-list : (k : ℕ) → k < count → In (listedStrip (n .strips) k) (stripsOf l)
+  pub in-list : (k : ℕ) → k < count → In (listedStrip (n .strips) k) (stripsOf l)
   unfolding listedStrips
   in-list k lt =
       subst (In (listedStrip (n .strips) k)) listed
@@ -77,7 +77,7 @@ module _ (m : Lent) (l : Layout) (n : Lent) (s : Shows m l n) where
       ap₂ (λ (x : List ℕ) (j : ℕ). getD x j 0) strips-are (sym q)
       ∙ written-zero stripsSize ns (m .strips) fits (i - length ns) (omega (arith, q))
 
-  strips-right : StripsRight l n
+  pub strips-right : StripsRight l n
   unfolding stripsOf
   strips-right =
       record {

@@ -1,29 +1,28 @@
--- Demand 3: from a call that begins a foil on, every list of calls behaves as the ledger, and each lay and the lift
--- after it do what the ledger's lines promise.
+-- Demand 3: from a call that begins a foil on, every list of calls behaves as the ledger, and each lay does what the
+-- ledger's line promises.
 use Prim.Native.Nat.{ℕ}
-use mathlib.Core.Path.{_≡_, refl, sym, ap, ap₂, _∙_, subst}
-use mathlib.Core.Bool.{true, false}
+use mathlib.Core.Path.{_≡_, refl, sym, ap, _∙_, subst}
+use mathlib.Core.Bool.{true}
 use mathlib.Core.List.{List, [], _∷_}
 use mathlib.Core.Logic.{_↔_}
 use lib.ListN.{length, drop}
 use Rattle.foil_spec.specs.Lists.{each}
 use Rattle.foil_spec.specs.Foil.{Point, Layout, free}
 use Rattle.foil_spec.specs.Paths.{isPath}
-use Rattle.foil_spec.specs.Ledger.{Step, reads, lay, lift, Answer, refused, accepted, laid, short, After, ledgerStep}
+use Rattle.foil_spec.specs.Ledger.{Step, reads, lay, Answer, refused, laid, ledgerStep}
 use Rattle.foil_spec.specs.Corners.{pointNumbers, cornersIn}
 use Rattle.foil_spec.specs.Lent.{Lent, store, layoutOk, overFront, outputAfter}
 use Rattle.foil_spec.specs.Sequence.{Lending, front, roomFor, lend, told, Left, leaves, runLent, runLedger}
 use Rattle.list_laws.proofs.Tests.{clash}
 use Rattle.ledger_laws.specs.Moments.{Moment}
-use Rattle.ledger_laws.specs.Demand3.{BehavesAsLedger, NoWay, LaysFirst, LiftsBack}
+use Rattle.ledger_laws.specs.Demand3.{BehavesAsLedger, NoWay, LaysFirst}
 use Rattle.ledger_laws.proofs.CornerLists.{corners-read}
 use Rattle.ledger_laws.proofs.Stored.{Long}
-use Rattle.ledger_laws.proofs.Rules.{of-ok}
 use Rattle.ledger_laws.proofs.Kept.{call-kept}
 use Rattle.ledger_laws.proofs.Steps.{shown}
-use Rattle.ledger_laws.proofs.Lay.{ledger-9, lay-seeks, ledger-first, ledger-lifts}
+use Rattle.ledger_laws.proofs.Lay.{ledger-9, lay-seeks, ledger-first}
 use Rattle.ledger_laws.proofs.Lending.{long-front, long-whole, lend-is, begun, lend-begun}
-use Rattle.ledger_laws.proofs.Moments.{Goes, Chain, Onward, Standing, opens, runs-on, at-every}
+use Rattle.ledger_laws.proofs.Moments.{Goes, Onward, Standing, opens, runs-on, at-every}
 
 -- ---- the whole list
 
@@ -50,7 +49,7 @@ behaves-as-ledger m l c cs h =
     let k = long-whole c m (long-front c m (b .long)) in
     run-first m c cs m l (lend-begun c l m b) (run-is m k cs (told m c l .state) (unfold told in b .kept))
 
--- ---- each lay, and the lift after it
+-- ---- each lay
 
 -- a step that reads the foil is not the new foil that begins the list
 pub goes-on : (m : Lent) (k : Moment) (later : List Moment) (s : Step) → Standing m k later → k .step ≡ s
@@ -90,26 +89,3 @@ lays-first m l cs b earlier k later e net S T ds n s h =
     let a = answer-is m k (lay net S T) g s in
     let f = ledger-first (lay-seeks net S T) (k .room) (k .ledgerBefore) ds n (sym a ∙ h) in
     (f .0, f .1, corners-front m k ds n g h)
-
--- what the ledger makes of the lift after it
-lift-line : (k next : Moment) (net : ℕ) (S T : Point) (cs : List Point) (n : ℕ) (m : Lent) → Goes m k
-    → k .step ≡ lay net S T → k .answer ≡ laid cs n → next .ledgerBefore ≡ k .ledgerAfter → next .step ≡ lift net
-    → short (next .room) ≡ false
-    → ledgerStep (next .room) (next .step) (next .ledgerBefore) ≡ record { answer = accepted; state = k .ledgerBefore }
-lift-line k next net S T cs n m g s h q u long =
-    let laid-on : next .ledgerBefore ≡ ledgerStep (k .room) (lay net S T) (k .ledgerBefore) .state =
-    q ∙ g .left ∙ ap (λ (x : Step). ledgerStep (k .room) x (k .ledgerBefore) .state) s in
-    ap₂ (λ (x : Step) (y : Layout). ledgerStep (next .room) x y) u laid-on
-    ∙ ledger-lifts (k .room) (next .room) (k .ledgerBefore) net S T cs n
-    (of-ok (k .ledgerBefore) (g .before .kept) .fine) (sym (answer-is m k (lay net S T) g s) ∙ h) long
-
-pub lifts-back : LiftsBack
-lifts-back m l cs b earlier k later e net S T ds n s h next rest q u long =
-    let p = lay-goes m k later net S T (at-every m l cs b earlier k later e) s in
-    let w = subst (λ (js : List Moment). Chain m (k .ledgerAfter) js (p .1 .end)) q (p .1 .chain) in
-    let line = lift-line k next net S T ds n m (p .0) s h (w .0) u long in
-    let back-is : next .ledgerAfter ≡ k .ledgerBefore =
-    w .1 .left ∙ ap (λ (a : After Answer Layout). a .state) line in (
-      w .1 .answer ∙ ap (λ (a : After Answer Layout). a .answer) line,
-      w .1 .after .is ∙ ap (λ (x : Layout). store x m) back-is ∙ sym (p .0 .before .is),
-    )

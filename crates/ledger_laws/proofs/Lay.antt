@@ -1,4 +1,4 @@
--- On the ledger lay answers 9 exactly where there is no path, lays the first one, and lift takes it back.
+-- On the ledger lay answers 9 exactly where there is no path and lays the first one, and lift takes a track back.
 use Prim.Native.Nat.{ℕ}
 use native.Mathlib.Omega.{arith}
 use mathlib.Core.Path.{_≡_, refl, sym, ap, _∙_, subst}
@@ -11,7 +11,7 @@ use borrow.Author.Tests.{eq-eqb, lt-leb}
 use lib.ListN.{length}
 use Rattle.foil_spec.specs.Lists.{keep, any}
 use Rattle.foil_spec.specs.Foil.{Point, Entry, Layout, netOk, free}
-use Rattle.foil_spec.specs.Paths.{at, isPath, isPathTo, bends}
+use Rattle.foil_spec.specs.Paths.{at, isPath, bends}
 use Rattle.foil_spec.specs.Nets.{ofNet, inUse}
 use Rattle.foil_spec.specs.Ledger.{pathOf, noPath, cornersOf, leg, legsFrom, legs, withEntries}
 use Rattle.foil_spec.specs.Ledger.{offFoil, blocked, Room, short, cornerRoom, tooLong, tooFine, next, says, _⇒_, first}
@@ -194,18 +194,12 @@ unfolding inUse
 used-right net [] ds h = h
 used-right net (e ∷ es) ds h = or-ir (ofNet net e) (used-right net es ds h)
 
-legs-used : (net : ℕ) (p : Point) (cs : List Point) → inUse net (legs net (p ∷ cs)) ≡ true
+pub legs-used : (net : ℕ) (p : Point) (cs : List Point) → inUse net (legs net (p ∷ cs)) ≡ true
 unfolding inUse legs legsFrom
 legs-used net p [] = rw (leg-net net p p) refl
 legs-used net p (q ∷ cs) = rw (leg-net net p q) refl
 
-path-used : (f : ℕ → ℕ → Bool) (S T : Point) (net : ℕ) (cs : List Point) → isPath f S T cs ≡ true
-    → inUse net (legs net cs) ≡ true
-unfolding isPathTo
-path-used f S T net [] h = clash h refl
-path-used f S T net (p ∷ cs) h = legs-used net p cs
-
-lifted : (r : Room) (l : Layout) (net : ℕ) (cs : List Point) → netOk net ≡ true → inUse net (l .entries) ≡ false
+pub lifted : (r : Room) (l : Layout) (net : ℕ) (cs : List Point) → netOk net ≡ true → inUse net (l .entries) ≡ false
     → inUse net (legs net cs) ≡ true → tooFine l ≡ false → short r ≡ false
     → ledgerStep r (lift net) (withEntries l (l .entries ++ legs net cs)) ≡ record { answer = accepted; state = l }
 unfolding ledgerStep refusalOf afterLent refusals first settle says next
@@ -240,21 +234,3 @@ passed r l net S T h =
       short-enough = search none-applies depth 12;
       coarse-enough = search none-applies depth 12;
     }
-
-laid-state : (r : Room) (l : Layout) (net : ℕ) (S T : Point) → refusalOf r false (lay net S T) l ≡ none
-    → ledgerStep r (lay net S T) l .state ≡ withEntries l (l .entries ++ legs net (cornersOf l S T))
-unfolding ledgerStep settle next
-laid-state r l net S T h = rw h refl
-
--- a lift of the net that was laid last is accepted and gives the layout back
-pub ledger-lifts : (r r′ : Room) (l : Layout) (net : ℕ) (S T : Point) (cs : List Point) (n : ℕ) → tooFine l ≡ false
-    → ledgerStep r (lay net S T) l .answer ≡ laid cs n → short r′ ≡ false
-    → ledgerStep r′ (lift net) (ledgerStep r (lay net S T) l .state) ≡ record { answer = accepted; state = l }
-ledger-lifts r r′ l net S T cs n fine h long =
-    let a = of-laid (lay-seeks net S T) r l cs n h in
-    let q = passed r l net S T (unrefused-own r (lay net S T) l false (a .unrefused)) in
-    let p = ledger-first (lay-seeks net S T) r l cs n h .0 .path in
-    let used : inUse net (legs net (cornersOf l S T)) ≡ true =
-    ap (λ (ds : List Point). inUse net (legs net ds)) (sym (a .corners)) ∙ path-used (free l) S T net cs p in
-    ap (ledgerStep r′ (lift net)) (laid-state r l net S T (a .unrefused))
-    ∙ lifted r′ l net (cornersOf l S T) (q .allowed) (q .unused) used fine long

@@ -19,8 +19,10 @@ pub mod Moments
 pub mod Told
 pub mod Demand2
 pub mod Demand3
+pub mod LookUp
 pub mod Drawn
 pub mod Apart
+pub mod Lifting
 pub mod Join
 pub mod Joins
 pub mod Crossed

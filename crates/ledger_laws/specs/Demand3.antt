@@ -14,6 +14,7 @@ use Rattle.foil_spec.specs.Lent.{Lent}
 use Rattle.foil_spec.specs.Sequence.{Lending, Begins, runLent, told, runLedger}
 use Rattle.path_laws.specs.First.{IsFirst}
 use Rattle.ledger_laws.specs.Moments.{Moment, AtEvery}
+use Rattle.ledger_laws.specs.Apart.{Tracks}
 
 -- m is what the lists hold at first and l what the ledger held before, both anything. From a call that begins a foil
 -- on, all replies, the record, the table, the strips and the output lists are the ledger's.
@@ -49,11 +50,11 @@ LaysFirstAt k later =
 abbrev pub LaysFirst : Type 0
 LaysFirst = AtEvery LaysFirstAt
 
--- lifting it as the next step, in the same record or by another call, lent any front parts that are long enough and any
--- output list, is accepted and gives back the record, the table and the strips
+-- a track that is laid or booked: lifting it as the next step, in the same record or by another call, lent any front
+-- parts that are long enough and any output list, is accepted and gives back the record, the table and the strips
 abbrev pub LiftsBackAt : Moment → List Moment → Type 0
 LiftsBackAt k later =
-    (net : ℕ) (S T : Point) (cs : List Point) (n : ℕ) → k .step ≡ lay net S T → k .answer ≡ laid cs n
+    (net : ℕ) (cs : List Point) → Tracks k net cs
     → (next : Moment) (rest : List Moment) → later ≡ next ∷ rest → next .step ≡ lift net → short (next .room) ≡ false
     → (next .answer ≡ accepted) × (next .after ≡ k .before)
 

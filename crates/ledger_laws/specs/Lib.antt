@@ -2,9 +2,10 @@
 pub mod Line
 pub mod Moments
 pub mod Demand2
+pub mod Apart
+pub mod LookUp
 pub mod Demand3
 pub mod Drawn
-pub mod Apart
 pub mod Joins
 pub mod Crossed
 pub mod OldJobs

@@ -1,10 +1,10 @@
 -- What a list of calls on a sheet lists of a call is what the call left.
 use Prim.Native.Nat.{ℕ}
 use mathlib.Core.Path.{_≡_, refl, sym, ap, ap₂, _∙_, subst}
-use mathlib.Core.List.{List, [], _∷_}
+use mathlib.Core.List.{List}
 use lib.ListN.{length}
 use Rattle.foil_spec.specs.Ledger.{After}
-use Rattle.foil_spec.specs.Calls.{Call, step, runRecord, ohms, layList, Reply, outputBy}
+use Rattle.foil_spec.specs.Calls.{Call, step, runRecord, ohms, Reply, outputBy}
 use Rattle.foil_spec.specs.Sheet.{SheetLent, Sheet, SheetLending, sheetFront, sheetBack, roomOn, calledOn, lendSheet}
 use Rattle.foil_spec.specs.Sheet.{SheetLeft, leavesSheet, runSheet}
 use Rattle.foil_spec.specs.Job.{has}

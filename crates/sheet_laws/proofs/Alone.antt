@@ -24,6 +24,7 @@ use Rattle.foil_spec.specs.Sheet.{roomOn, calledOn, lendSheet}
 use Rattle.foil_spec.specs.declared.Board.{Board}
 use Rattle.list_laws.proofs.Tests.{both}
 use Rattle.ledger_laws.specs.Demand2.{StripsRight}
+use Rattle.ledger_laws.specs.LookUp.{LooksUpAt}
 use Rattle.ledger_laws.specs.Demand3.{NoWayAt, LaysFirstAt, LiftsBackAt}
 use Rattle.ledger_laws.specs.Drawn.{FindsNoWayAt, FindsFirstAt, BooksWaysAt}
 use Rattle.ledger_laws.specs.Apart.{TracksApartAt}
@@ -33,7 +34,9 @@ use Rattle.ledger_laws.specs.Moments.{Started, begins as by-call, carried as ca
 use Rattle.ledger_laws.proofs.Lending.{step-short, back-front as lists-back}
 use Rattle.ledger_laws.proofs.Opening.{begins-told}
 use Rattle.ledger_laws.proofs.Demand2.{strips-stay-right}
-use Rattle.ledger_laws.proofs.Demand3.{no-way, lays-first, lifts-back}
+use Rattle.ledger_laws.proofs.LookUp.{looks-up}
+use Rattle.ledger_laws.proofs.Demand3.{no-way, lays-first}
+use Rattle.ledger_laws.proofs.Lifting.{lifts-back}
 use Rattle.ledger_laws.proofs.Drawn.{finds-no-way, finds-first, books-ways}
 use Rattle.ledger_laws.proofs.Apart.{tracks-apart}
 use Rattle.ledger_laws.proofs.Crossed.{none-crossed, turns-patch-down, turns-leg-down}
@@ -43,7 +46,7 @@ use Rattle.sheet_laws.specs.Alone.{EightFoils, foilOf, aloneCall, aloneC
 use Rattle.sheet_laws.specs.Alone.{SheetNoWay, SheetLaysFirst, SheetLiftsBack, SheetNoJoin, SheetJoinsFirst}
 use Rattle.sheet_laws.specs.Alone.{SheetStripsRight, SheetTracksApart, SheetJoinsApart, SheetJoinBends}
 use Rattle.sheet_laws.specs.Alone.{SheetLiftsWhole, SheetFindsNoWay, SheetFindsFirst, SheetBooksWays, OthersStay}
-use Rattle.sheet_laws.specs.Alone.{SheetNoneCrossed, SheetTurnsPatchDown, SheetTurnsLegDown}
+use Rattle.sheet_laws.specs.Alone.{SheetLooksUp, SheetNoneCrossed, SheetTurnsPatchDown, SheetTurnsLegDown}
 use Rattle.sheet_laws.specs.Alone.{StartedOn, begins, carried, AlsoOnSheet}
 use Rattle.sheet_laws.proofs.Counts.{ok-total, ok-at}
 use Rattle.sheet_laws.proofs.Parts.{part-few, parts-append}
@@ -445,6 +448,9 @@ sheet-lifts-back = also-on-sheet LiftsBackAt lifts-back
 
 pub sheet-strips-right : SheetStripsRight
 sheet-strips-right = also-on-sheet (λ j later. StripsRight (j .ledgerAfter) (j .after)) strips-stay-right
+
+pub sheet-looks-up : SheetLooksUp
+sheet-looks-up = also-on-sheet LooksUpAt looks-up
 
 pub sheet-no-join : SheetNoJoin
 sheet-no-join = also-on-sheet NoJoinAt no-join

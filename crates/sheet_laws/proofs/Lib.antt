@@ -12,5 +12,6 @@ pub mod Alone
 pub mod Starting
 pub mod Sheet
 pub mod Saved
+pub mod Drawn
 pub mod Back
 pub mod Jobs

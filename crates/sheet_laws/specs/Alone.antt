@@ -17,6 +17,7 @@ use Rattle.foil_spec.specs.Sheet.{lendSheet}
 use Rattle.foil_spec.specs.Calls.{outputBy}
 use Rattle.foil_spec.specs.declared.Board.{Board}
 use Rattle.ledger_laws.specs.Demand2.{StripsRight}
+use Rattle.ledger_laws.specs.LookUp.{LooksUpAt}
 use Rattle.ledger_laws.specs.Demand3.{NoWayAt, LaysFirstAt, LiftsBackAt}
 use Rattle.ledger_laws.specs.Drawn.{FindsNoWayAt, FindsFirstAt, BooksWaysAt}
 use Rattle.ledger_laws.specs.Apart.{TracksApartAt}
@@ -106,7 +107,7 @@ abbrev pub AlsoOnSheet : Type 1
 AlsoOnSheet = (P : Moment → List Moment → Type 0) → AtEvery P → OnSheet P
 
 -- so no way and fewest bends are about the foil's own points, a lift as the next step on the foil gives it back as it
--- was before the lay, and its strips stay right
+-- was before the track, its strips stay right, and a look up answers the place of one of them
 abbrev pub SheetNoWay : Type 0
 SheetNoWay = OnSheet NoWayAt
 
@@ -118,6 +119,9 @@ SheetLiftsBack = OnSheet LiftsBackAt
 
 abbrev pub SheetStripsRight : Type 0
 SheetStripsRight = OnSheet (λ j later. StripsRight (j .ledgerAfter) (j .after))
+
+abbrev pub SheetLooksUp : Type 0
+SheetLooksUp = OnSheet LooksUpAt
 
 -- so are no way and fewest bends of a join
 abbrev pub SheetNoJoin : Type 0

@@ -6,5 +6,6 @@ pub mod Alone
 pub mod Shares
 pub mod Places
 pub mod Saved
+pub mod Drawn
 pub mod Back
 pub mod Jobs

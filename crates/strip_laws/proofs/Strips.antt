@@ -230,7 +230,7 @@ module _ (f : ℕ → ℕ → Bool) (W H : ℕ) (p : Point) where
           above = goes-on;
         }
 
-not-before-itself : (s : Strip) → stripBefore s s ≡ true → ⊥
+pub not-before-itself : (s : Strip) → stripBefore s s ≡ true → ⊥
 unfolding stripBefore
 not-before-itself s h =
     ⊎-elim
