@@ -54,7 +54,7 @@ closer p q le = ⊎-elim (λ x. inl (omega arith)) (λ y. inr (omega arith))
 nearest : ℕ → ℕ → ℕ → ℕ
 nearest lo hi v = max lo (min v (hi - 1))
 
--- an entry that is not empty and blocks the point has one that is not apart from it
+-- an entry that is not empty and blocks the point has a point that is not apart from it
 blocked-near : (d : ℕ) (e : Entry) (p : Point) → Full e → blocks d e (p .x) (p .y) ≡ true
     → (q : Point) × Has e q × (Apart d p q → ⊥)
 unfolding blocks nearest
