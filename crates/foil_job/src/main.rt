@@ -6,8 +6,12 @@ use job_report::OUT_SIZE;
 use job_report::report_record;
 use sheet_rows::SHEET_SIZE;
 use sheet_rows::no_board;
-ghost use Prim.Native.Nat.{_≤_};
+ghost use Prim.Native.Nat.{_+_, _<_};
+ghost use mathlib.Core.Path.{_≡_};
 ghost use lib.ListN.{length};
+ghost use Rattle.foil_spec.specs.Limits.{maxBytes};
+ghost use Rattle.lines.specs.Output.{output};
+ghost use Rattle.job_report.specs.Writing.{NextOf};
 
 // One byte more than a job file may have, so that a longer one is known.
 const BYTES: usize = 60001;
@@ -17,18 +21,29 @@ const RECORDS: usize = 60001;
 
 fn main() {
     let mut bytes = [0u8; BYTES];
-    let n = io::read_full(0, &mut bytes);
+    write_input(&mut bytes);
+}
+
+// Reads a job file from standard input into `bytes`, and writes its output.
+fn write_input(bytes: &mut [u8])
+    requires { ⌜ maxBytes < length (now bytes) ⌝ }
+{
+    let n = io::read_full(0, bytes);
     write_job(&bytes[..n]);
 }
 
-// Runs the records of a job file in turn, on foil 0 of a sheet else empty, and writes the lines of each.
-fn write_job(bytes: &[u8]) {
+// Runs the records of a job file in turn, on foil 0 of a sheet else empty, and writes the lines of each; how many bytes
+// they are in all.
+fn write_job(bytes: &[u8]) -> usize
+    ensures { λ r. ⌜ r ≡ length (output (now (bytes .entry))) ⌝ }
+{
     let mut out = [0u8; OUT_SIZE];
     let mut table = [0u16; SHEET_SIZE];
     let mut strips = [0u16; STRIPS_SIZE];
     let mut corners = [0u16; CORNERS_SIZE];
     let mut board = no_board();
     let mut at: usize = 0;
+    let mut written: usize = 0;
     for _ in 0..RECORDS {
         let done = report_record(
             &mut out,
@@ -39,26 +54,30 @@ fn write_job(bytes: &[u8]) {
             bytes,
             at,
         );
-        write_lines(&out, done.size);
+        write_lines(&mut written, &out, done.size, bytes);
         let next = done.next;
         let Next::At(place) = next else {
-            return;
+            return written;
         };
         board = done.board;
         at = place;
     }
+    written
 }
 
-// Writes the first n bytes of what a record gave.
-fn write_lines(out: &[u8; OUT_SIZE], n: usize)
-    requires { ⌜ n ≤ 131072 ⌝ }
+// Writes the first n bytes of what a record gave, which are the next of the job's output, and counts them.
+fn write_lines(written: &mut usize, out: &[u8; OUT_SIZE], n: usize, bytes: &[u8])
+    requires { ⌜ NextOf (output (now bytes)) (now written) (now out) n ⌝ }
+    ensures { λ _. ⌜ now (written .exit) ≡ now (written .entry) + n ⌝ }
 {
-    write_front(out, n);
+    write_front(written, out, n, bytes);
 }
 
-// Writes the first n bytes of a list.
-fn write_front(out: &[u8], n: usize)
-    requires { ⌜ n ≤ length (now out) ⌝ }
+// Writes the first n bytes of a list, which are the next of the job's output, and counts them.
+fn write_front(written: &mut usize, list: &[u8], n: usize, bytes: &[u8])
+    requires { ⌜ NextOf (output (now bytes)) (now written) (now list) n ⌝ }
+    ensures { λ _. ⌜ now (written .exit) ≡ now (written .entry) + n ⌝ }
 {
-    io::write_all(1, &out[..n]);
+    io::write_all(1, &list[..n]);
+    *written = *written + n;
 }

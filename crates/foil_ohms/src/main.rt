@@ -9,9 +9,10 @@ use figures::ink_of;
 use foil_spec::Ink;
 use foil_spec::MAX_ENTRIES;
 use foil_spec::STRIPS_SIZE;
+use io::print_decimal;
+use io::write_all;
 use job_foil::Ended;
 use job_foil::run_job;
-use job_foil::tell;
 use sheet::ohms;
 use sheet_rows::SHEET_SIZE;
 use sheet_rows::Sheet;
@@ -35,7 +36,7 @@ fn write_job(bytes: &[u8], ink: Ink) {
     let mut strips = [0u16; STRIPS_SIZE];
     let ended = run_job(&mut table, &mut strips, bytes);
     let Ended::AtMark(board) = ended else {
-        tell(1, ended);
+        tell(ended);
         return;
     };
     write_nets(&table, &strips, only_foil_0(board), ink);
@@ -61,4 +62,20 @@ fn write_net(
     if in_use(table, MAX_ENTRIES, net) {
         show::answer(net, ohms(table, strips, sheet, 0, net, ink));
     }
+}
+
+// Writes the line of a job that ended before its end mark, `file N` or `board N`.
+fn tell(ended: Ended) {
+    match ended {
+        Ended::AtMark(_) => {}
+        Ended::ByBoard(number) => tell_number(b"board ", number),
+        Ended::ByFile(number) => tell_number(b"file ", number),
+    }
+}
+
+// Writes a line of a word, a blank after it, and a number.
+fn tell_number(word: &[u8], number: u8) {
+    write_all(1, word);
+    print_decimal(1, number as u64);
+    write_all(1, b"\n");
 }

@@ -18,7 +18,7 @@ use Rattle.job.specs.declared.Next.the-variants.{At, Nowhere}
 use Rattle.job.specs.declared.Replied.{Replied}
 use Rattle.sheet_laws.specs.Jobs.{onlyFoil0}
 use Rattle.job_report.specs.Report.{ranRecord, RecordRan}
-use Rattle.job_report.proofs.Places.{Later, call-later}
+use Rattle.job_report.proofs.Places.{Later, call-later, at-place, nowhere}
 use Rattle.job_foil.specs.Left.{endedOf, jobEnd, boardLeft, JobLeft}
 use Rattle.job_foil.specs.Parts.{nextIn, endedBy}
 use Rattle.job_foil.specs.declared.Ended.{Ended}
@@ -46,16 +46,6 @@ next-is on (ran given place) = refl
 next-is on atEnd = refl
 next-is on (measured x) = refl
 next-is on (laidAll given) = refl
-
-at-place : (o : Option ℕ) (p : ℕ) → nextOf o ≡ At p → o ≡ some p
-unfolding nextOf
-at-place none p e = absurd (let z : _≡_ {A = ℕ} 0 1 = cc in omega arith)
-at-place (some n) p e = let same : n ≡ p = cc in rw same refl
-
-nowhere : (o : Option ℕ) → nextOf o ≡ Nowhere → o ≡ none
-unfolding nextOf
-nowhere none e = refl
-nowhere (some n) e = absurd (let z : _≡_ {A = ℕ} 0 1 = cc in omega arith)
 
 module _ (bs : List ℕ) (m₀ : SheetLent) (count at : ℕ) (m : SheetLent) (now : ToCome bs m₀ count at m) where
   abbrev done : After Outcome SheetLent

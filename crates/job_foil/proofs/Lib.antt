@@ -3,3 +3,4 @@ pub mod Telling
 pub mod Reading
 pub mod Ending
 pub mod Leaving
+pub mod Answering

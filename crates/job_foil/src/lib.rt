@@ -1,11 +1,16 @@
 // The foil that a job leaves: the records of a job file are run in turn on foil 0 of a sheet else empty, without their
-// lines, for programs that ask something of the foil at its end.
+// lines, for programs that ask something of the foil at its end. `asking` asks for what is one step of a sheet, and
+// writes its answer.
+mod asking;
+
+pub use asking::INPUT_SIZE;
+pub use asking::Question;
+pub use asking::answer_input;
+pub use asking::put_line;
 use foil::Answer;
 use foil_spec::Board;
 use foil_spec::CORNERS_SIZE;
 use foil_spec::STRIPS_SIZE;
-use io::print_decimal;
-use io::write_all;
 use job::Answers;
 use job::Next;
 use job::Replied;
@@ -92,39 +97,4 @@ fn board_number(answers: Answers) -> u8
         return 0;
     };
     number
-}
-
-// Writes the line of a job that ended before its end mark, `file N` or `board N`.
-pub fn tell(fd: i32, ended: Ended) {
-    match ended {
-        Ended::AtMark(_) => {}
-        Ended::ByBoard(number) => tell_number(fd, b"board ", number),
-        Ended::ByFile(number) => tell_number(fd, b"file ", number),
-    }
-}
-
-// Writes a line of a word, a blank after it, and a number.
-pub fn tell_number(fd: i32, word: &[u8], number: u8) {
-    write_all(fd, word);
-    print_decimal(fd, number as u64);
-    write_all(fd, b"\n");
-}
-
-// Writes what a call left at the front of `out`; or, where it was refused, a line on standard error of a
-// word, a blank after it, and the number.
-pub fn write_answer(out: &[u8], answer: Answer, word: &[u8]) {
-    match answer {
-        Answer::Refused(number) => tell_number(2, word, number),
-        Answer::Accepted => {}
-        Answer::Laid(_, _) => {}
-        Answer::Found(_) => {}
-        Answer::Wrote(n) => write_front(out, n),
-    }
-}
-
-// Writes the first n bytes of a list.
-fn write_front(out: &[u8], n: usize) {
-    if n <= out.len() {
-        write_all(1, &out[..n]);
-    }
 }

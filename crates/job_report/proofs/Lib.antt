@@ -5,3 +5,4 @@ pub mod Output
 pub mod Answering
 pub mod Telling
 pub mod Reporting
+pub mod Writing

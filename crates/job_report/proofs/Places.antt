@@ -19,6 +19,9 @@ use Rattle.foil_spec.specs.Calls.{reply, ledgerCall, placeAfter}
 use Rattle.foil_spec.specs.Sheet.{SheetLent, view, sheetStep, unless, sheetCall}
 use Rattle.ledger_laws.proofs.Refusals.{none-applies}
 use Rattle.ledger_laws.proofs.Lending.{board-first, own-checks}
+use Rattle.job.specs.Contract.{nextOf}
+use Rattle.job.specs.declared.Next.{Next}
+use Rattle.job.specs.declared.Next.the-variants.{At, Nowhere}
 
 pub record Later (bs : List ℕ) (at n : ℕ) : Type 0 where
   pub after : at < n
@@ -115,3 +118,15 @@ module _ (r : Room) (bs : List ℕ) (x : SheetLent) where
       let g = sheet-goes 0 n h in
       let set = board-first bs (own-checks r broken bs 0 (g .unrefused)) in
       omega (arith, fields-board bs 0 5 set, g .place)
+
+-- ---- the next place as the code has it
+
+pub at-place : (o : Option ℕ) (p : ℕ) → nextOf o ≡ At p → o ≡ some p
+unfolding nextOf
+at-place none p e = absurd (let z : _≡_ {A = ℕ} 0 1 = cc in omega arith)
+at-place (some n) p e = let same : n ≡ p = cc in rw same refl
+
+pub nowhere : (o : Option ℕ) → nextOf o ≡ Nowhere → o ≡ none
+unfolding nextOf
+nowhere none e = refl
+nowhere (some n) e = absurd (let z : _≡_ {A = ℕ} 0 1 = cc in omega arith)

@@ -20,7 +20,7 @@ ghost use Rattle.job_report.specs.Told.{numberIn, layLine, toldLine, ans
 ghost use Rattle.job_report.specs.Told.{InList, FromBit, FromBits};
 
 // The number of a step's line: that of its refusal, 0 if it is accepted.
-fn number_of(answer: Answer) -> u8
+pub fn number_of(answer: Answer) -> u8
     ensures { λ r. ⌜ r ≡ numberIn answer ⌝ }
 {
     let Answer::Refused(number) = answer else {

@@ -4,6 +4,7 @@
 mod answers;
 mod strip_lines;
 
+pub use answers::number_of;
 use answers::put_answers;
 use foil_spec::Board;
 use foil_spec::CORNERS_SIZE;

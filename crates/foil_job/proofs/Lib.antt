@@ -1,0 +1,2 @@
+-- What is proved of the job program's writing.
+pub mod Still
