@@ -36,7 +36,8 @@ use Rattle.job_report.specs.Writing.{NextOf}
 use Rattle.job_report.proofs.Writing.{put-front}
 use Rattle.job_foil.specs.Left.{endedOf, jobEnd, boardLeft, JobLeft}
 use Rattle.job_foil.specs.Asked.{unused, endOf, Said, toOutput, toError, stepOf, wordOf, bytesOf, askedOf}
-use Rattle.job_foil.specs.Asked.{answerSaid, replySaid, endSaid, saidOf, Reached, Given, given-number, given-bytes}
+use Rattle.job_foil.specs.Asked.{answerSaid, replySaid, endSaid, saidOf, Reached}
+use Rattle.job_foil.specs.Asked.{Given, given-number, given-bytes}
 use Rattle.job_foil.specs.declared.Ended.{Ended}
 use Rattle.job_foil.specs.declared.Ended.the-variants.{AtMark, ByBoard, ByFile}
 use Rattle.job_foil.specs.declared.asking.Question.{Question}
@@ -98,7 +99,8 @@ module _ (x : Said) (word out : List ℕ) (r : Answer) (n : ℕ) (told : r ≡ W
   bytes-next (given-number k e is) small = absurd (not-both r k n e told)
   bytes-next (given-bytes bs e is long front) small =
       let same : n ≡ length bs = same-count r n (length bs) told e in
-      whole-next x (pos 1) bs is out n same (omega arith) (ap (λ (k : ℕ). take k out) same ∙ front) written none-yet small
+      whole-next x (pos 1) bs is out n same (omega arith) (ap (λ (k : ℕ). take k out) same ∙ front) written none-yet
+      small
 
   pub bytes-written : Given x word out r → (written′ : ℕ) → written′ ≡ written + n → written′ ≡ length (x .bytes)
   bytes-written (given-number k e is) written′ q = absurd (not-both r k n e told)

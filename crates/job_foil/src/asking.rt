@@ -1,5 +1,5 @@
-// A question to the foil that a job leaves: the job file is read from standard input and run, and the answer's bytes are
-// written. Each function here that writes is told how many bytes are written already, and adds its own.
+// A question to the foil that a job leaves: the job file is read from standard input and run, and the answer's bytes
+// are written. Each function here that writes is told how many bytes are written already, and adds its own.
 use crate::Ended;
 use crate::run_job;
 use foil::Answer;

@@ -1,6 +1,7 @@
 -- An element of a list of bytes is below 256.
-use borrow.Author.Needs.{needs}
 use native.Mathlib.Omega.{arith}
+use mathlib.Core.Path.{refl}
+use borrow.Author.Needs.{needs}
 use Rattle.foil_ohms.proofs.figures.byte.Statement.{statement}
 use Rattle.foil_ohms.proofs.figures.byte.Tie as tie
 
@@ -11,7 +12,8 @@ cast-result : tie.Need-cast-result
 cast-result c = omega (arith, c .shared-slice-known .given (c .before .args .at))
 
 returns : tie.Need-returns
-returns c = search needs
+returns c = (refl, c .shared-slice-known .given (c .before .args .at) .fits)
 
 pub byte-spec : {M : Type 1} → statement M
-byte-spec = tie.close (tie.spec shared-slice-read-result cast-result returns)
+byte-spec =
+    tie.close (tie.spec shared-slice-read-result cast-result returns)

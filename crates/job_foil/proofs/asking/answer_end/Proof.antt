@@ -57,7 +57,6 @@ returns-2 c = search needs
 returns-3 : tie.Need-returns-3
 returns-3 c = search needs
 
-
 pub answer-end-spec : {M : Type 1} → statement M
 answer-end-spec =
     tie.close (tie.spec enum-known-ended ask-requires enum-known-ended-2 slice-aggregate-tell tell-requires

@@ -48,8 +48,7 @@ give-requires c κs =
 returns : tie.Need-returns
 returns c = search needs
 
-
 pub ask-file-spec : {M : Type 1} → statement M
 ask-file-spec =
-    tie.close (tie.spec slice-aggregate-save only-foil-0-requires save-requires slice-aggregate-give slice-aggregate-give-2
-    give-requires returns)
+    tie.close (tie.spec slice-aggregate-save only-foil-0-requires save-requires slice-aggregate-give
+    slice-aggregate-give-2 give-requires returns)

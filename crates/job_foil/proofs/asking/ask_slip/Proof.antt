@@ -48,8 +48,7 @@ give-requires c κs =
 returns : tie.Need-returns
 returns c = search needs
 
-
 pub ask-slip-spec : {M : Type 1} → statement M
 ask-slip-spec =
-    tie.close (tie.spec slice-aggregate-slip only-foil-0-requires slip-requires slice-aggregate-give slice-aggregate-give-2
-    give-requires returns)
+    tie.close (tie.spec slice-aggregate-slip only-foil-0-requires slip-requires slice-aggregate-give
+    slice-aggregate-give-2 give-requires returns)

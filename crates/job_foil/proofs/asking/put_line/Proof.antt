@@ -47,7 +47,8 @@ returns c =
     let number = atNumber feed in
     let blank = atBlank number in
     put-then
-    (put-then (atWord blank .put-bytes .ensures) (put-then (blank .put-bytes2 .ensures) (number .put-number .ensures .0)))
+    (put-then (atWord blank .put-bytes .ensures)
+    (put-then (blank .put-bytes2 .ensures) (number .put-number .ensures .0)))
     (feed .put-bytes3 .ensures)
 
 pub put-line-spec : {M : Type 1} → statement M

@@ -17,7 +17,6 @@ add-written c = search needs
 returns : tie.Need-returns
 returns c = search needs
 
-
 pub write-front-spec : {M : Type 1} → statement M
 write-front-spec =
     tie.close (tie.spec slice-aggregate-write-all write-all-requires add-written returns)
