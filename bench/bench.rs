@@ -13,9 +13,10 @@ use std::time::Instant;
 // callgrind, where it would take minutes.
 const POINTS: usize = 1 << 27;
 
-// Has the C library fill blocks by vectors, in both programs: callgrind counts a fill by `rep stos` as an instruction a
-// byte, and a program that fills many lists then seems to do more than it does.
-const BY_VECTORS: &str = "glibc.cpu.x86_rep_stosb_threshold=1000000000";
+// Has the C library fill and copy blocks by vectors, in both programs: callgrind counts `rep stos` and `rep movs` as an
+// instruction a byte, and a program that fills or copies many lists then seems to do more than it does.
+const BY_VECTORS: &str =
+    "glibc.cpu.x86_rep_stosb_threshold=1000000000:glibc.cpu.x86_rep_movsb_threshold=1000000000";
 
 // The costliest to join of 60 pairs of points, on the scattered patches of the largest foil.
 const COSTLIEST: ([usize; 2], [usize; 2]) = ([165, 3959], [1253, 3576]);
@@ -166,11 +167,12 @@ fn main() {
     let mut bench = Bench { ours, plain, room, counted: HashMap::new() };
     let mut figures = Vec::new();
     of_samples(&mut bench, &samples);
-    by_size(&mut bench, &mut figures);
+    by_size(&mut bench);
     rounded(&mut bench);
     by_entries(&mut bench);
     by_bends(&mut bench);
     largest(&mut bench, &mut figures);
+    costliest(&mut bench);
     finest_foil(&mut bench, &mut figures);
     long_jobs(&bench, &mut figures);
     parts(&mut bench);
@@ -207,11 +209,10 @@ fn of_samples(bench: &mut Bench, samples: &Path) {
 }
 
 // One board of 64 by 64 with 120 patches, scaled.
-fn by_size(bench: &mut Bench, figures: &mut Vec<Figure>) {
+fn by_size(bench: &mut Bench) {
     heading("Growth with W x H: 120 patches of a 64 by 64 foil, scaled", "Foil");
     let small = scattered(64, 120, 2);
     let (s, t) = UNEVEN;
-    let mut counts: [Vec<f64>; 3] = Default::default();
     for by in [1, 4, 16, 64] {
         let table = small.scaled(by);
         let lay = track(7, s.map(|n| n * by), t.map(|n| n * by));
@@ -220,15 +221,10 @@ fn by_size(bench: &mut Bench, figures: &mut Vec<Figure>) {
             ("lay", bench.step(&table, &[], &lay)),
             ("lift", bench.step(&table, &lay, &lift(7))),
         ];
-        for (k, (step, cost)) in costs.iter().enumerate() {
+        for (step, cost) in &costs {
             row(&format!("{0} x {0}", table.side), step, cost);
-            counts[k].push(cost.ours as f64);
         }
     }
-    let spread = |c: &Vec<f64>| c.iter().copied().fold(0.0, f64::max) / c.iter().copied().fold(f64::MAX, f64::min);
-    let widest = counts.iter().map(spread).fold(0.0, f64::max);
-    let what = "64 x 64 to 4,096 x 4,096, the same table";
-    figures.push(Figure { what, asked: 1.3, measured: widest, unit: " times" });
 }
 
 // The 120 scattered patches of the largest foil, rounded to coarser ones.
@@ -310,6 +306,13 @@ fn largest(bench: &mut Bench, figures: &mut Vec<Figure>) {
     figures.push(Figure { what: "lay, 126 staggered bars", asked: 13.0, measured: worst, unit: " M" });
     row("126 staggered bars", "draw", &bench.step(&bars, &[], &patch([0, 0, 9, 9])));
     row("126 staggered bars", "lift of a net not there", &bench.step(&bars, &[], &lift(7)));
+}
+
+// The lay that costs most of all that were tried.
+fn costliest(bench: &mut Bench) {
+    heading("The costliest lay found: 123 entries on 512 x 512, bench/worst-lay.job", "Board");
+    let (table, s, t) = worst();
+    row("worst-lay", "lay", &bench.step(&table, &[], &track(7, s, t)));
 }
 
 // Steps at 4,096 strips.

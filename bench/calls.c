@@ -1,8 +1,8 @@
 /* One call by its name, `times` times, on foil 0 of a sheet, which is made first: calls NAME TIMES, and then a point
-   for a look up, a foil by its name for a lay and a join, how 40 nets are laid, or how many entries are legs, for a look
-   up of a point that is blocked, which is the check of the state. Where `full` stands before the name, the other foils
-   have 378 entries. The difference of the instructions of two runs, with one call and with two, is the cost of a call:
-   what is made first, and the first touch of the stack, is in both. */
+   for a look up, a foil by its name for a lay, a join and a carry, how 40 nets are laid, or how many entries are legs,
+   for a look up of a point that is blocked, which is the check of the state. Where `full` stands before the name, the
+   other foils have 378 entries. The difference of the instructions of two runs, with one call and with two, is the cost
+   of a call: what is made first, and the first touch of the stack, is in both. */
 #include <stdio.h>
 #include <stdlib.h>
 #include <string.h>
@@ -219,6 +219,29 @@ static struct foil_said forty(const char *how, int times)
     return said;
 }
 
+/* carries the foil of 4,096 strips over, or (`legs`) one of 64 legs and 64 patches, so many times: with a pen of 0 and
+   0 it is also what document 01 makes of its entries. No net is lifted, but each patch is held against each leg */
+static struct foil_said carried(const char *foil, int times)
+{
+    static struct foil_entry new_table[FOIL_ENTRIES];
+    static uint16_t new_strips[4 * FOIL_STRIPS], report[FOIL_REPORT];
+    struct foil_board *made_board = &sheet.boards[called], board = {0, 0, 0, 0, 0, 0};
+    struct foil_old_board old = {0, 0, 0, 0, 0};
+    struct foil_said said = {0, 0, 0, 0, 0};
+    if (strcmp(foil, "legs") == 0)
+        above_bars(64);
+    else
+        finest();
+    old.width = made_board->width;
+    old.height = made_board->height;
+    old.entries = made_board->entries;
+    old.strips = made_board->strips;
+    for (; times > 0; times--)
+        said = foil_carry(&board, new_table, FOIL_ENTRIES, table, FOIL_PLACES, new_strips, 4 * FOIL_STRIPS, report,
+                          FOIL_REPORT, strips, 4 * FOIL_STRIPS, old);
+    return said;
+}
+
 /* stairs of n corners from (0, 0) */
 static size_t stairs(unsigned n)
 {
@@ -260,6 +283,8 @@ int main(int argc, char **argv)
         said = led(*name == 'j', argc > 3 ? argv[3] : "", times);
     } else if (strcmp(name, "forty") == 0) {
         said = forty(argc > 3 ? argv[3] : "", times);
+    } else if (strcmp(name, "carry") == 0) {
+        said = carried(argc > 3 ? argv[3] : "", times);
     } else if (strcmp(name, "find") == 0) {
         for (bars(120); times > 0; times--)
             said = foil_find(LENT, CORNERS, called, 0, 20, 4000, 4090);

@@ -146,3 +146,16 @@ pub fn finest() -> Table {
     let level = (0..63).map(|k| [0, 2 * k + 1, 127, 2 * k + 2]);
     Table { side: 127, patches: upright.chain(level).collect() }
 }
+
+// The board of the costliest lay found, by climbing from board to board, and the points that it joins.
+pub fn worst() -> (Table, [usize; 2], [usize; 2]) {
+    let job = include_bytes!("worst-lay.job");
+    let numbers = |record: &[u8]| -> Vec<usize> {
+        record[1..].chunks_exact(2).map(|n| n[0] as usize | (n[1] as usize) << 8).collect()
+    };
+    let (board, steps) = job.split_at(7);
+    let (patches, lay) = steps.split_at(steps.len() - 12);
+    let patches = patches.chunks_exact(9).map(|p| numbers(p).try_into().expect("a patch")).collect();
+    let ends = numbers(lay);
+    (Table { side: numbers(board)[0], patches }, [ends[1], ends[2]], [ends[3], ends[4]])
+}
