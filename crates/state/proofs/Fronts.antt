@@ -3,9 +3,11 @@ use Prim.Native.Nat.{ℕ, _+_, _≤_, _<_}
 use native.Mathlib.Omega.{arith}
 use mathlib.Core.Path.{_≡_, sym, ap, _∙_}
 use mathlib.Core.List.{List}
+use mathlib.Core.Bool.{Bool, true, false}
 use borrow.Author.Count.{below-more}
 use lib.ListN.{length, getD, take}
 use lib.Seq.{ext-getD, getD-take, length-take-le}
+use Rattle.strips.specs.Told.{Told}
 use Rattle.state.specs.Tests.{Zeros}
 
 module _ (l : List ℕ) (a : ℕ) where
@@ -33,11 +35,18 @@ module _ (a b : List ℕ) where
   pub agree-none : Agree a b 0
   agree-none = record { same-at = λ k l. absurd (omega arith) }
 
-  pub agree-more : (i : ℕ) → getD a i 0 ≡ getD b i 0 → Agree a b i → Agree a b (i + 1)
+  agree-more : (i : ℕ) → getD a i 0 ≡ getD b i 0 → Agree a b i → Agree a b (i + 1)
   agree-more i e s = record { same-at = below-more (λ (k : ℕ). getD a k 0 ≡ getD b k 0) i (s .same-at) e }
 
+  pub differs : (i : ℕ) → (getD a i 0 ≡ getD b i 0 → ⊥) → Agree a b (i + 1) → ⊥
+  differs i d s = d (s .same-at i (omega arith))
+
+  pub told-more : (i : ℕ) (t : Bool) → getD a i 0 ≡ getD b i 0 → Told (Agree a b i) t → Told (Agree a b (i + 1)) t
+  told-more i true e s = agree-more i e s
+  told-more i false e d = λ s. d (record { same-at = λ k l. s .same-at k (omega arith) })
+
   module _ (n : ℕ) (la : n ≤ length a) (lb : n ≤ length b) where
-    pub agree-all : (i : ℕ) → n ≤ i → Agree a b i → take n a ≡ take n b
+    agree-all : (i : ℕ) → n ≤ i → Agree a b i → take n a ≡ take n b
     agree-all i le s =
         let p : length (take n a) ≡ n = length-take-le n a la in
         ext-getD 0 (take n a) (take n b) (p ∙ sym (length-take-le n b lb))
@@ -45,6 +54,12 @@ module _ (a b : List ℕ) where
         let m : k < n = omega arith in
         getD-take n a k 0 m ∙ s .same-at k (omega arith) ∙ sym (getD-take n b k 0 m))
 
-    pub agree-not : (i : ℕ) → i < n → (getD a i 0 ≡ getD b i 0 → ⊥) → take n a ≡ take n b → ⊥
-    agree-not i l d e =
-        d (sym (getD-take n a i 0 l) ∙ ap (λ (x : List ℕ). getD x i 0) e ∙ getD-take n b i 0 l)
+    pub told-all : (i : ℕ) (t : Bool) → i ≤ n → n ≤ i → Told (Agree a b i) t → Told (take n a ≡ take n b) t
+    told-all i true le ge s = agree-all i ge s
+    told-all i false le ge d =
+        λ e.
+        d (record {
+          same-at = λ k l.
+              let m : k < n = omega arith in
+              sym (getD-take n a k 0 m) ∙ ap (λ (x : List ℕ). getD x k 0) e ∙ getD-take n b k 0 m;
+        })

@@ -211,17 +211,19 @@ fn zeros(list: &[u16], a: usize, b: usize) -> bool
     true
 }
 
-// Whether the first n numbers of the lists are the same.
+// Whether the first n numbers of the lists are the same. It goes on where they differ: a loop that is left at one place
+// only is compiled to vectors, and every check of a state has it.
 fn same_front(a: &[u16], b: &[u16], n: usize) -> bool
     requires { ⌜ (n ≤ length (now a)) × (n ≤ length (now b)) ⌝ }
     ensures { λ r. ⌜ Told (take n (now (a .entry)) ≡ take n (now (b .entry))) r ⌝ }
 {
+    let mut same = true;
     let mut i = 0;
     while i < n {
         if a[i] != b[i] {
-            return false;
+            same = false;
         }
         i += 1;
     }
-    true
+    same
 }

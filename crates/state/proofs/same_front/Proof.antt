@@ -1,15 +1,17 @@
--- `state::same_front` meets its contract: the first i numbers are the same.
+-- `state::same_front` meets its contract: `same` says whether the first i numbers are the same.
 use native.Mathlib.Omega.{arith}
 use Prim.Native.Nat.{_≤_, _-_}
-use Rattle.state.proofs.Fronts.{Agree, agree-none, agree-more, agree-all, agree-not}
+use Rattle.strips.specs.Told.{Told}
+use mathlib.Core.Logic.{⊎-elim}
+use Rattle.state.proofs.Fronts.{Agree, agree-none, differs, told-more, told-all}
 use Rattle.state.proofs.same_front.Statement.{statement}
 use Rattle.state.proofs.same_front.Tie as tie
 
 abbrev Inv-loop : tie.InvT-loop
-Inv-loop a b n i₀ i = (i ≤ n) × Agree a b i
+Inv-loop a b n same₀ i₀ same i = (i ≤ n) × Told (Agree a b i) same
 
 abbrev μ-loop : tie.MeasureT-loop
-μ-loop a b n i₀ i = n - i
+μ-loop a b n same₀ i₀ same i = n - i
 
 -- back to the loop's head
 abbrev atLoop : tie.After-shared-slice-known2 Inv-loop μ-loop → tie.At-loop Inv-loop μ-loop
@@ -30,12 +32,6 @@ mul-if1-2 c = omega arith
 shared-slice-read-if1-2 : tie.Need-shared-slice-read-if1-2 Inv-loop μ-loop
 shared-slice-read-if1-2 c = omega arith
 
-returns : tie.Need-returns Inv-loop μ-loop
-returns c =
-    agree-not (atLoop (c .before) .before .args .a .now)
-    (atLoop (c .before) .before .args .b .now) (atLoop (c .before) .before .args .n)
-    (omega arith) (omega arith) _ (omega arith) (c .if1 .taken)
-
 add-i : tie.Need-add-i Inv-loop μ-loop
 add-i c = omega arith
 
@@ -43,12 +39,17 @@ loop-less : tie.Need-loop-less Inv-loop μ-loop
 loop-less c = omega arith
 
 loop-again : tie.Need-loop-again Inv-loop μ-loop
-loop-again c = (omega arith, agree-more _ _ _ (c .if1 .left) (atLoop (c .before) .loop .inv .1))
+loop-again c =
+    let at-loop = atLoop (c .before) in
+    ⊎-elim (λ w. rw (w .1) (omega arith, differs _ _ _ (w .0 .taken)))
+    (λ w. rw (w .1) (omega arith, told-more _ _ _ (at-loop .loop .same) (w .0 .left) (at-loop .loop .inv .1)))
+    (c .if1 .came)
 
-returns-2 : tie.Need-returns-2 Inv-loop μ-loop
-returns-2 c =
-    agree-all (c .before .before .args .a .now) (c .before .before .args .b .now) (c .before .before .args .n)
-    (omega arith) (omega arith) _ (omega arith) (c .before .loop .inv .1)
+returns : tie.Need-returns Inv-loop μ-loop
+returns c =
+    let start = c .before .before in
+    told-all (start .args .a .now) (start .args .b .now) (start .args .n) (omega arith) (omega arith) _
+    (c .before .loop .same) (omega arith) (omega arith) (c .before .loop .inv .1)
 
 pub same-front-spec : {M : Type 1} → statement M
 same-front-spec =
@@ -61,8 +62,7 @@ same-front-spec =
     shared-slice-read-if1
     mul-if1-2
     shared-slice-read-if1-2
-    returns
     add-i
     loop-less
     loop-again
-    returns-2)
+    returns)
