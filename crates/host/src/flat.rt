@@ -7,9 +7,9 @@ use foil_spec::Ink;
 use foil_spec::OldBoard;
 use ohms::Resistance;
 use sheet::SheetDone;
-use sheet_rows::SHEET_ENTRIES;
 use sheet_rows::SHEET_SIZE;
 use sheet_rows::Sheet;
+use sheet_rows::places_lent;
 ghost use mathlib.Core.Path.{_≡_};
 ghost use mathlib.Core.List.{[]};
 ghost use Prim.Native.Nat.{_*_, _<_};
@@ -21,7 +21,7 @@ ghost use Rattle.foil_spec.specs.Ledger.{join as joins, save as saves, find as 
 ghost use Rattle.foil_spec.specs.Ledger.{lookUp};
 ghost use Rattle.foil_spec.specs.Lent.{entryAt};
 ghost use Rattle.strips.specs.Told.{Told};
-ghost use Rattle.host.specs.Flats.{setFive, placesLent, numbersLent, entriesOf};
+ghost use Rattle.host.specs.Flats.{setFive, numbersLent, entriesOf};
 ghost use Rattle.host.specs.Calls.{saidOf, ohmsSaid, FlatDone, FlatWrote, FlatListed, HostRead, HostOhms};
 ghost use Rattle.host.specs.Carried.{oldOf, FlatCarried};
 
@@ -125,14 +125,7 @@ pub fn same(a: Entry, b: Entry) -> bool
     a.y1 == b.y1
 }
 
-// How many places are lent on of a table of n: its first 512.
-pub fn places_lent(n: usize) -> usize
-    ensures { λ r. ⌜ r ≡ placesLent n ⌝ }
-{
-    if n < SHEET_ENTRIES { n } else { SHEET_ENTRIES }
-}
-
-// How many numbers these places have, five each.
+// How many numbers are lent on of a table of n places: five for each of its first 512.
 pub fn numbers_lent(n: usize) -> usize
     ensures { λ r. ⌜ r ≡ numbersLent n ⌝ }
 {

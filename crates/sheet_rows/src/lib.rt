@@ -6,6 +6,7 @@ mod table;
 use foil_spec::Board;
 pub use limits::counts_ok;
 pub use limits::limit;
+pub use table::places_lent;
 pub use table::put_back;
 pub use table::take_out;
 ghost use mathlib.Core.Path.{_≡_};

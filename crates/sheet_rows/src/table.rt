@@ -1,5 +1,6 @@
 // The table that the foils of a sheet share: a foil's entries taken out, and put back.
 use crate::FOILS;
+use crate::SHEET_ENTRIES;
 use crate::SHEET_SIZE;
 use crate::Sheet;
 use crate::counts_of;
@@ -9,16 +10,23 @@ use foil_spec::Board;
 ghost use mathlib.Core.Path.{_≡_};
 ghost use mathlib.Core.Bool.{true};
 ghost use mathlib.Core.List.{[], _++_};
-ghost use Prim.Native.Nat.{_+_, _-_, _*_, _<_, _≤_};
+ghost use Prim.Native.Nat.{_+_, _-_, _*_, _<_, _≤_, min};
 ghost use lib.ListN.{length, take, drop};
 ghost use lib.Seq.{paste};
-ghost use Rattle.foil_spec.specs.Limits.{tableSize, sheetFoils, sheetSize};
+ghost use Rattle.foil_spec.specs.Limits.{tableSize, sheetFoils, sheetEntries, sheetSize};
 ghost use Rattle.foil_spec.specs.Lent.{written};
 ghost use Rattle.foil_spec.specs.Sheet.{counts as countsIn, countsOk, limitOf, tableAt};
 ghost use Rattle.booking.specs.Rows.{rowsOf};
 ghost use Rattle.sheet_laws.specs.Places.{before, behind};
 ghost use Rattle.sheet_laws.specs.Alone.{EightFoils};
 ghost use Rattle.sheet_rows.specs.Rows.{PutBack};
+
+// How many places of a lent table of n a call goes over: the first 512.
+pub fn places_lent(n: usize) -> usize
+    ensures { λ r. ⌜ r ≡ min n sheetEntries ⌝ }
+{
+    if n < SHEET_ENTRIES { n } else { SHEET_ENTRIES }
+}
 
 // Puts foil k's entries into rows that are empty.
 pub fn take_out(rows: &mut [u16], table: &[u16], sheet: Sheet, k: usize)

@@ -63,7 +63,7 @@ use Rattle.foil_spec.proofs.Entry as T
 use Rattle.foil_spec.proofs.Entry.Laws as T′
 use Rattle.host.proofs.flat.Flat as TF
 use Rattle.host.proofs.flat.Flat.Laws as TF′
-use Rattle.host.proofs.flat.places_lent as counted
+use Rattle.sheet_rows.proofs.places_lent as counted
 use Rattle.host.proofs.flat.pick as picked
 use Rattle.host.proofs.flat.same as compared
 use Rattle.host.proofs.table.store as f
@@ -377,7 +377,7 @@ store-spec 𝓤 H 𝓜 𝓖 𝓡 =
     (f.Code.unfolded 𝓤 H 𝓜 𝓡)
     (meets 𝓤 H (𝓖 .A) (givenOf 𝓤 H 𝓜 𝓖) (𝓜 .mem) (𝓡 .run) (tablesOf 𝓤 H 𝓜 (tables 𝓤 H 𝓜 𝓡 f.Code.env))
     (cited 𝓤 H (tripleOf 𝓤 H (𝓖 .A) counted.signature (counted.spec 𝓤 H (𝓖 .A) (𝓜 .mem) (𝓡 .run))) 𝓜 𝓡 f.Code.env
-    counted.Symbol.name counted.Symbol.routine f.Code.calls-host·flat·places-lent (counted.Met.met 𝓤 H 𝓜 𝓖 𝓡))
+    counted.Symbol.name counted.Symbol.routine f.Code.calls-sheet-rows·places-lent (counted.Met.met 𝓤 H 𝓜 𝓖 𝓡))
     (cited 𝓤 H (tripleOf 𝓤 H (𝓖 .A) picked.signature (picked.spec 𝓤 H (𝓖 .A) (𝓜 .mem) (𝓡 .run))) 𝓜 𝓡 f.Code.env
     picked.Symbol.name picked.Symbol.routine f.Code.calls-host·flat·pick (picked.Met.met 𝓤 H 𝓜 𝓖 𝓡))
     (cited 𝓤 H (tripleOf 𝓤 H (𝓖 .A) compared.signature (compared.spec 𝓤 H (𝓖 .A) (𝓜 .mem) (𝓡 .run))) 𝓜 𝓡 f.Code.env

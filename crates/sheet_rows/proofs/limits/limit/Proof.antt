@@ -1,6 +1,7 @@
 -- `sheet_rows::limits::limit` is `limit_by` of the foils' numbers of entries.
-use mathlib.Core.Path.{ap, _∙_}
 use Prim.Native.Nat.{ℕ}
+use native.Mathlib.Omega.{arith}
+use mathlib.Core.Path.{ap, _∙_}
 use mathlib.Core.List.{List}
 use Rattle.foil_spec.specs.Sheet.{countsOk, limitOf}
 use borrow.Author.Needs.{needs}
@@ -13,7 +14,7 @@ counts-of-requires c κs = search needs
 limit-by-requires : tie.Need-limit-by-requires
 limit-by-requires c κs =
     let s = c .before in
-    (s .pre .0, ap countsOk (c .counts-of .ensures) ∙ s .pre .1)
+    (omega arith, ap countsOk (c .counts-of .ensures) ∙ s .pre .1)
 
 returns : tie.Need-returns
 returns c =
