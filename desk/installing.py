@@ -68,7 +68,7 @@ def commands():
 
 def refuse(prefix):
     """Refuses a folder in which something would be written over that ./install has not put there."""
-    if prefix.resolve() == ROOT:
+    if os.path.realpath(prefix) == str(ROOT):
         raise statuses.Misused("PREFIX is this clone: name another folder")
     for folder in (prefix / OWN, prefix / PAGES):
         if folder.exists() and any(folder.iterdir()) and not folder.joinpath(MARK).is_file():

@@ -1,5 +1,6 @@
 """The files that a command writes beside its answer. They are refused before anything is run where they would be
 written over something else, and written after the answer is printed, so that none is lost for them."""
+import os
 import pathlib
 from typing import NamedTuple
 
@@ -32,16 +33,16 @@ def refuse(outputs, given):
         if place(path) in taken:
             raise statuses.Misused("%s would be written over: give the %s another name" % (taken[place(path)], kind))
         taken[place(path)] = path
-        if path.is_file() and not is_kind(path, kind):
+        if os.path.isfile(path) and not is_kind(path, kind):
             raise statuses.Misused("%s is there and is no %s: give another name, or remove it" % (path, kind))
 
 
 def place(path):
-    """What tells a file from others, whatever leads to it."""
+    """What tells a file from others, whatever leads to it; its path where it cannot be looked at."""
     try:
-        found = path.stat()
+        found = os.stat(path)
     except OSError:
-        return path.resolve()
+        return os.path.realpath(path)
     return found.st_dev, found.st_ino
 
 

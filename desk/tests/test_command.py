@@ -136,6 +136,12 @@ class Command(unittest.TestCase):
             self.assertEqual((status, out, err), (4, right, "%s: No such file or directory\n" % nowhere))
             self.assertTrue(kept.stat().st_size)
             kept.unlink()
+        loop = self.folder / "loop"
+        loop.symlink_to("loop")
+        for path, why in ((self.folder / ("x" * 300), "File name too long"), (self.folder, "Is a directory"),
+                          (loop, "Too many levels of symbolic links")):
+            for option in ("--picture", "--job"):
+                self.assertEqual(self.run_sample("less-ink", option, path), (4, right, "%s: %s\n" % (path, why)))
         status, out, err = self.run_sample("less-ink", "--picture", "/dev/full", "--lines")
         self.assertEqual((status, out, err), (4, given.written_for("less-ink"), "/dev/full: No space left on device\n"))
 
