@@ -132,14 +132,13 @@ def ask(question, given=None):
         parser.error("a job file is nothing for a terminal: send it to a file, > SAVED.job")
     text = sources.source(asked.file).text()
     run, answer = answered(question, asked, text.job)
-    status = status_of(run, answer)
     try:
         console.put(answer.printed)
     finally:
-        told = said_besides(question, text, run, answer, status)
+        told = said_besides(question, text, run, answer)
         if told:
             console.complain(told)
-    return status
+    return status_of(run, answer)
 
 
 def answered(question, asked, job):
@@ -168,29 +167,31 @@ def status_of(run, answer):
     return statuses.of_run(run) or (statuses.DEAD if answer.dead else statuses.ACCEPTED)
 
 
-def said_besides(question, text, run, answer, status):
-    """What is to be said besides the answer, in words that fit standard error: why nothing is printed, where that is
-    so, the nets that are dead, and the steps that were refused."""
+def said_besides(question, text, run, answer):
+    """What is to be said besides the answer, in words that fit standard error: its heads, and the refused steps."""
     table, wide = refusals.readme_table(), console.width()
-    heads = []
-    if status == statuses.NO_FOIL:
-        why = "the job cannot be read to its end" if run.fault else "its board was refused"
-        heads.append("nothing is printed, since %s:" % why)
-    elif status == statuses.NO_ANSWER:
-        heads += words.turned_down("nothing is printed, since it was refused", answer.refused[1], table)
-        heads[1:1] = answer.why
-        heads += [many_refused(run) + ":"] if run.refused else []
-    else:
-        heads += [answer.dead] if answer.dead else []
-        heads += [question.none] if not answer.printed else []
-        heads += ["%s, and what is printed is of the foil without %s:" % (
-            many_refused(run), "it" if len(run.refused) == 1 else "them")] if run.refused else []
+    heads = heads_of(question, run, answer, table)
     if not heads:
         return ""
     heads[0] = "%s: %s" % (arguments.called(question.command), heads[0])
-    rows = words.rows(text, run, table)
-    page = words.page([row for row in rows if row.refused], wide)
+    page = words.page([row for row in words.rows(text, run, table) if row.refused], wide)
     return "\n".join([textwrap.fill(head, wide) for head in heads] + page.splitlines())
+
+
+def heads_of(question, run, answer, table):
+    """Why nothing is printed, where that is so; otherwise that nets are dead, that there is none, or that steps were
+    refused."""
+    status = status_of(run, answer)
+    if status == statuses.NO_FOIL:
+        why = "the job cannot be read to its end" if run.fault else "its board was refused"
+        return ["nothing is printed, since %s:" % why]
+    if status == statuses.NO_ANSWER:
+        says, *to_do = words.turned_down("nothing is printed, since it was refused", answer.refused[1], table)
+        return [says, *answer.why, *to_do] + [many_refused(run) + ":"] * bool(run.refused)
+    without = "it" if len(run.refused) == 1 else "them"
+    heads = [answer.dead, not answer.printed and question.none, bool(run.refused) and
+             "%s, and what is printed is of the foil without %s:" % (many_refused(run), without)]
+    return [head for head in heads if head]
 
 
 def many_refused(run):
