@@ -12,7 +12,14 @@ class TwoRuns(unittest.TestCase):
     def setUp(self):
         self.scratch = Scratch()
         self.addCleanup(self.scratch.remove)
+        self.addCleanup(self.rest)
         self.scratch.write("../tools/slow", "0.8\n")
+
+    def rest(self):
+        """Waits until no check runs any more."""
+        patience = time.monotonic() + 20
+        while self.scratch.tools.joinpath("busy").exists() and time.monotonic() < patience:
+            time.sleep(0.01)
 
     def start(self, name):
         """A run that asks for a program."""
@@ -57,6 +64,7 @@ class TwoRuns(unittest.TestCase):
         self.assertEqual(self.scratch.calls(), ["check foil_job"])
 
     def test_the_lock_does_not_go_with_target(self):
+        self.scratch.write("../tools/slow", "2\n")
         first = self.begun("foil_job")
         shutil.rmtree(self.scratch.root / "target")
         second = self.start("foil_job")
