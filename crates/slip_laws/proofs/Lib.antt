@@ -3,3 +3,4 @@ pub mod Wide
 pub mod Columns
 pub mod Reading
 pub mod Pages
+pub mod Slips

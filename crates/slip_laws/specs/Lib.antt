@@ -1,2 +1,3 @@
 -- What a packer reads on a slip.
 pub mod Page
+pub mod Slips
