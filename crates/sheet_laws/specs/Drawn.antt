@@ -24,8 +24,8 @@ inPlaceOf c s out =
 -- that the lay leaves; and all calls after these go as they did
 abbrev pub FindsAndBooks : Type 0
 FindsAndBooks =
-    (x : Sheet) (c : SheetLending) (cs : List SheetLending) (o : SheetLeft) (os : List SheetLeft) (net : ℕ) (S T : Point)
-    (ds : List Point) (n : ℕ) (out : List ℕ) → c .call ≡ step (lay net S T) → runSheet x (c ∷ cs) ≡ o ∷ os
+    (x : Sheet) (c : SheetLending) (cs : List SheetLending) (o : SheetLeft) (os : List SheetLeft) (net : ℕ)
+    (S T : Point) (ds : List Point) (n : ℕ) (out : List ℕ) → c .call ≡ step (lay net S T) → runSheet x (c ∷ cs) ≡ o ∷ os
     → o .reply ≡ answered (laid ds n)
     → runSheet x (
     inPlaceOf c (find S T) (c .output) ∷ inPlaceOf c (book net (take (length ds * 2) (o .output))) out ∷ cs)
