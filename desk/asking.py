@@ -81,7 +81,7 @@ def add_figures(parser, needed=True):
 
 
 def in_ohms(written, asked, job):
-    """The answer of foil_ohms: a line `ohms NET 0 BITS` for each net, or one of a refusal."""
+    """The answer of ohms_main: a line `ohms NET 0 BITS` for each net, or one of a refusal."""
     ink, rows = ohms.ink_of(asked, job), []
     for line in written.out.decode("ascii", errors="replace").splitlines():
         row = ohms.row_of(line)
@@ -104,10 +104,10 @@ def no_bytes(asked, job):
     return b""
 
 
-SAVE = Question("foil-save", SAVE_HELP, "foil_save", no_words, no_bytes, as_written)
-SLIP = Question("foil-slip", SLIP_HELP, "foil_slip", no_words, no_bytes, as_written,
+SAVE = Question("foil-save", SAVE_HELP, "save_main", no_words, no_bytes, as_written)
+SLIP = Question("foil-slip", SLIP_HELP, "slip_main", no_words, no_bytes, as_written,
                 "there is no net on the foil, so its slip is empty")
-OHMS = Question("foil-ohms", OHMS_HELP, "foil_ohms", add_figures, lambda asked, job: ohms.ink_of(asked, job).bits,
+OHMS = Question("foil-ohms", OHMS_HELP, "ohms_main", add_figures, lambda asked, job: ohms.ink_of(asked, job).bits,
                 in_ohms, "there is no net on the foil, so there are no ohms")
 
 
@@ -116,7 +116,7 @@ def job_lines(given=None):
     parser = arguments.Parser("foil-job", JOB_HELP)
     parser.add_source()
     job = sources.source(parser.parse_args(given).file).text().job
-    path, = building.built("foil_job")
+    path, = building.built("job_main")
     written = program.written(path, job).out
     console.put(written)
     return statuses.of_run(lines.run_of(job, written.decode("ascii", errors="replace")))
@@ -143,12 +143,12 @@ def ask(question, given=None):
 
 def answered(question, asked, job):
     """What came of a job, and what a question's program answers for the foil that it leaves."""
-    runs, answers = building.built("foil_job", question.program)
+    runs, answers = building.built("job_main", question.program)
     run = lines.run_of(job, program.run(runs, job))
     answer = question.read(program.written(answers, question.given(asked, job) + job), asked, job)
     early = ended_early(run)
     if answer.refused != early and (early or answer.refused[0] in ("file", "board")):
-        raise lines.Strange("the programs foil_job and %s do not agree on how the job ended" % question.program)
+        raise lines.Strange("the programs job_main and %s do not agree on how the job ended" % question.program)
     return run, answer
 
 

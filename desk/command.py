@@ -65,7 +65,7 @@ def show_text(source, table):
 def run(asked, source, table, path):
     """Runs the job of a text, shows what came of it, and writes what is to be kept: the status."""
     text = source.text()
-    account = accounts.account_of(text, path or building.built("foil_job")[0])
+    account = accounts.account_of(text, path or building.built("job_main")[0])
     try:
         put(account.written if asked.lines else account.page(table, width(sys.stdout), asked.quiet))
     finally:

@@ -21,7 +21,7 @@ is. What is installed never proves, and does not need this clone or the toolchai
 
 Where something stands already that ./install has put there, it is put anew; nothing else is written over. The toolchain
 that is asked for is named in tools/KIT-ID."""
-PROGRAMS = ("foil_job", "foil_save", "foil_slip", "foil_ohms")
+PROGRAMS = ("job_main", "save_main", "slip_main", "ohms_main")
 # where the library is built, and the files that hosts/build puts there
 BUILT = ROOT / "target" / "install"
 LIBRARY = ("lib/libfoil.a", "lib/libfoil.so", "lib/pkgconfig/foil.pc", "include/foil.h")

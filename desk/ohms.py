@@ -1,6 +1,6 @@
 """The ohms of the nets on a foil: the ink's figures, and the answer as it is read at the desk.
 
-The program foil_ohms takes the three figures of the ink as the bits of an f64 each, and answers in such bits. Its
+The program ohms_main takes the three figures of the ink as the bits of an f64 each, and answers in such bits. Its
 numbers are shown in thousandths of an ohm, or whole on demand; nothing is reckoned here."""
 import math
 import re

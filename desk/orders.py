@@ -108,7 +108,7 @@ def order(source, asked):
 def made_of(source, text, asked):
     """What is made of a text."""
     table = refusals.readme_table()
-    account = accounts.account_of(text, building.built("foil_job")[0])
+    account = accounts.account_of(text, building.built("job_main")[0])
     files = {"-words.txt": account.page(table).encode(), ".job": text.job}
     if not account.is_done:
         return Made(files, "there is no foil, and its words say why", statuses.NO_FOIL)

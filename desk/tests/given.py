@@ -9,7 +9,7 @@ from desk import foils, job, lines, program, textform
 
 SAMPLES = program.ROOT / "samples"
 NAMES = sorted(path.stem for path in SAMPLES.glob("*.txt"))
-BUILT = pathlib.Path(os.environ.get("FOIL_JOB") or program.ROOT / "target" / "bin" / "foil_job")
+BUILT = pathlib.Path(os.environ.get("FOIL_JOB") or program.ROOT / "target" / "bin" / "job_main")
 
 NOT_BUILT = "the job program is not built (%s): ./foil-job builds it, or FOIL_JOB names another" % BUILT
 with_program = unittest.skipUnless(os.access(BUILT, os.X_OK), NOT_BUILT)

@@ -33,8 +33,8 @@ for name; do
 done
 """
 # libraries, and programs over them
-CRATES = {"laws": "", "foil": "laws io", "other": "", "foil_job": "foil laws io libc", "foil_slip": "foil io libc",
-          "foil_save": "foil io libc", "foil_ohms": "foil io libc"}
+CRATES = {"laws": "", "foil": "laws io", "other": "", "job_main": "foil laws io libc", "slip_main": "foil io libc",
+          "save_main": "foil io libc", "ohms_main": "foil io libc"}
 
 
 class Scratch:

@@ -113,7 +113,7 @@ class Asking(unittest.TestCase):
                            ("cut-short", ("", "file 15\n")), ("board-size", ("", "slip 12\n"))):
             status, out, err = self.ask(asking.SLIP, [], name, *told)
             self.assertEqual((status, out), (5, ""))
-            self.assertIn("foil_job and foil_slip do not agree", err)
+            self.assertIn("job_main and slip_main do not agree", err)
 
     def test_lines_that_are_none_of_a_program(self):
         for question, words, told in ((asking.SLIP, [], ("", "no slip\n")), (asking.OHMS, INK, ("ohms 5 0 40\n", ""))):
@@ -149,8 +149,8 @@ class Streams(unittest.TestCase):
     def setUpClass(cls):
         script = "#!/bin/sh\ncat > /dev/null\nprintf '%s'\n"
         cls.scratch = Scratch(
-            foil_job=script % given.written_for("less-ink").replace("\n", "\\n"), foil_slip=script % SLIP_LINES,
-            foil_save=script % "!", foil_ohms=script % "ohms 1 0 400c000000000000\\n")
+            job_main=script % given.written_for("less-ink").replace("\n", "\\n"), slip_main=script % SLIP_LINES,
+            save_main=script % "!", ohms_main=script % "ohms 1 0 400c000000000000\\n")
         cls.addClassCleanup(cls.scratch.remove)
         cls.commands = [("foil-job",), ("foil-slip",), ("foil-save",), ("foil-ohms", *INK)]
         for command in cls.commands:

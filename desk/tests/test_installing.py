@@ -25,9 +25,9 @@ COMMANDS = ["foil", "foil-job", "foil-ohms", "foil-save", "foil-slip"]
 class Installing(unittest.TestCase):
     def setUp(self):
         self.scratch = Scratch(
-            foil_job=SCRIPT % given.written_for("document-01").replace("\n", "\\n"),
-            foil_slip=SCRIPT % "  5    3      10     0     0    \\n", foil_save=SCRIPT % "!",
-            foil_ohms=SCRIPT % "ohms 5 0 4026000000000000\\n")
+            job_main=SCRIPT % given.written_for("document-01").replace("\n", "\\n"),
+            slip_main=SCRIPT % "  5    3      10     0     0    \\n", save_main=SCRIPT % "!",
+            ohms_main=SCRIPT % "ohms 5 0 4026000000000000\\n")
         self.addCleanup(self.scratch.remove)
         shutil.copy(program.ROOT / "install", self.scratch.root)
         for name in ("docs", "samples"):
@@ -54,7 +54,7 @@ class Installing(unittest.TestCase):
     def test_all_is_put_under_the_folder(self):
         status, out, err = self.install()
         self.assertEqual(status, 0, err)
-        self.assertEqual(self.scratch.calls(), ["check foil_job foil_save foil_slip foil_ohms"])
+        self.assertEqual(self.scratch.calls(), ["check job_main save_main slip_main ohms_main"])
         self.assertIn("the toolchain is a kit 1\n", err)
         self.assertTrue(out.startswith("installed under %s:\n" % self.prefix))
         names = set(self.tree())
@@ -80,7 +80,7 @@ class Installing(unittest.TestCase):
 
     def test_a_program_that_is_not_the_one_that_was_installed(self):
         self.install()
-        path = self.prefix / "lib" / "foil" / "bin" / "foil_job"
+        path = self.prefix / "lib" / "foil" / "bin" / "job_main"
         whole = path.read_bytes()
         for harm in (lambda: path.write_bytes(whole + b"\n"), path.unlink):
             harm()
@@ -93,7 +93,7 @@ class Installing(unittest.TestCase):
         self.scratch.write("crates/laws/src/lib.rt", "// another\n")
         sample = given.SAMPLES / "document-01.txt"
         self.assertEqual(self.scratch.run("foil-job", sample)[0], 0)
-        self.assertEqual(self.scratch.calls(), ["check foil_job"])
+        self.assertEqual(self.scratch.calls(), ["check job_main"])
         self.assertEqual(self.installed("foil-job", str(sample))[0], 0)
         self.assertEqual(self.scratch.calls(), [])
 
@@ -132,7 +132,7 @@ class Installing(unittest.TestCase):
 
     def test_the_toolchain_is_named_where_the_clone_builds_by_another(self):
         self.scratch.write("../tools/version", "a kit 2\n")
-        status, _, err = self.scratch.run("tools/built", "foil_job")
+        status, _, err = self.scratch.run("tools/built", "job_main")
         self.assertEqual((status, err.splitlines()[0]), (0, "this repository asks for the toolchain `a kit 1`, and `rt "
                          "version` says `a kit 2`: what is proved is then proved by that one"))
 

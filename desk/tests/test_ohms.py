@@ -1,5 +1,5 @@
 """The ohms as they are read at the desk: the width of the pen, thousandths and whole numbers, dead nets, and which
-figure is out of its range. A program that answers stored lines stands for foil_ohms."""
+figure is out of its range. A program that answers stored lines stands for ohms_main."""
 import contextlib
 import io
 import os
@@ -11,7 +11,7 @@ from desk import asking, building, ohms, program, refusals, statuses, textform
 from desk.tests import given
 
 TABLE = refusals.readme_table()
-BUILT = given.BUILT.with_name("foil_ohms")
+BUILT = given.BUILT.with_name("ohms_main")
 INK = ["--sheet", "0.5", "--bend", "0.5"]
 
 

@@ -27,7 +27,7 @@ SLIP = "  7    1      15     5     5    \n"
 OHMS = "ohms 7 0 400c000000000000\n"
 INK = ("--sheet", "0.5", "--bend", "0.5")
 ALL = ["keys-ohms.txt", "keys-slip.txt", "keys-words.txt", "keys.html", "keys.job", "keys.svg"]
-BUILT = {name: given.BUILT.with_name(name) for name in ("foil_job", "foil_slip", "foil_ohms")}
+BUILT = {name: given.BUILT.with_name(name) for name in ("job_main", "slip_main", "ohms_main")}
 
 
 class Folder(unittest.TestCase):
@@ -44,10 +44,10 @@ class Folder(unittest.TestCase):
         path.write_text(content)
         return path
 
-    def stand_in(self, foil_job=(LINES,), foil_slip=(SLIP,), foil_ohms=(OHMS,)):
+    def stand_in(self, job_main=(LINES,), slip_main=(SLIP,), ohms_main=(OHMS,)):
         """Programs that write these lines, and say these on standard error."""
         made = {}
-        for name, written in (("foil_job", foil_job), ("foil_slip", foil_slip), ("foil_ohms", foil_ohms)):
+        for name, written in (("job_main", job_main), ("slip_main", slip_main), ("ohms_main", ohms_main)):
             made[name], folder = given.replay(*written)
             self.addCleanup(folder.cleanup)
         return made
@@ -106,7 +106,7 @@ class Orders(Folder):
 
     def test_ohms_that_are_refused(self):
         status, out, _ = self.run_order("--sheet", "0", "--bend", "0.5", self.text("keys.txt"),
-                                        programs=self.stand_in(foil_ohms=("ohms 7 22\n",)))
+                                        programs=self.stand_in(ohms_main=("ohms 7 22\n",)))
         self.assertEqual((status, self.files()), (3, ALL[1:]))
         self.assertIn("\n    no ohms, since the ink was refused (22): --sheet 0: ", out)
 

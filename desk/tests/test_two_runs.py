@@ -44,53 +44,53 @@ class TwoRuns(unittest.TestCase):
         return "%s\n" % (self.scratch.root / "target" / "bin" / name)
 
     def test_the_second_waits_and_finds_the_program_built(self):
-        first, second = self.begun("foil_job"), self.start("foil_job")
-        self.assertEqual(self.ended(second), (0, self.path("foil_job"), building.WAITS + "\n"))
+        first, second = self.begun("job_main"), self.start("job_main")
+        self.assertEqual(self.ended(second), (0, self.path("job_main"), building.WAITS + "\n"))
         status, out, err = self.ended(first)
-        self.assertEqual((status, out, building.WAITS in err), (0, self.path("foil_job"), False))
-        self.assertEqual(self.scratch.calls(), ["check foil_job"])
+        self.assertEqual((status, out, building.WAITS in err), (0, self.path("job_main"), False))
+        self.assertEqual(self.scratch.calls(), ["check job_main"])
 
     def test_runs_for_two_programs(self):
-        first, second = self.begun("foil_job"), self.start("foil_slip")
+        first, second = self.begun("job_main"), self.start("slip_main")
         status, out, err = self.ended(second)
-        self.assertEqual((status, out, err.splitlines()[0]), (0, self.path("foil_slip"), building.WAITS))
-        self.assertEqual(self.ended(first)[:2], (0, self.path("foil_job")))
-        self.assertEqual(self.scratch.calls(), ["check foil_job", "check foil_slip"])
+        self.assertEqual((status, out, err.splitlines()[0]), (0, self.path("slip_main"), building.WAITS))
+        self.assertEqual(self.ended(first)[:2], (0, self.path("job_main")))
+        self.assertEqual(self.scratch.calls(), ["check job_main", "check slip_main"])
 
     def test_many_runs_from_the_start(self):
-        runs = [self.start("foil_job") for _ in range(5)]
+        runs = [self.start("job_main") for _ in range(5)]
         for status, out, err in map(self.ended, runs):
-            self.assertEqual((status, out), (0, self.path("foil_job")), err)
-        self.assertEqual(self.scratch.calls(), ["check foil_job"])
+            self.assertEqual((status, out), (0, self.path("job_main")), err)
+        self.assertEqual(self.scratch.calls(), ["check job_main"])
 
     def test_the_lock_does_not_go_with_target(self):
         self.scratch.write("../tools/slow", "2\n")
-        first = self.begun("foil_job")
+        first = self.begun("job_main")
         shutil.rmtree(self.scratch.root / "target")
-        second = self.start("foil_job")
-        self.assertEqual(self.ended(second), (0, self.path("foil_job"), building.WAITS + "\n"))
+        second = self.start("job_main")
+        self.assertEqual(self.ended(second), (0, self.path("job_main"), building.WAITS + "\n"))
         self.assertEqual(self.ended(first)[0], 0)
-        self.assertEqual(self.scratch.calls(), ["check foil_job"])
+        self.assertEqual(self.scratch.calls(), ["check job_main"])
 
     def test_a_check_outlives_the_run_that_began_it(self):
-        first = self.begun("foil_job")
+        first = self.begun("job_main")
         first.kill()
-        second = self.start("foil_job")
+        second = self.start("job_main")
         status, out, err = self.ended(second)
-        self.assertEqual((status, out, err.splitlines()[0]), (0, self.path("foil_job"), building.WAITS))
+        self.assertEqual((status, out, err.splitlines()[0]), (0, self.path("job_main"), building.WAITS))
         self.ended(first)
         self.assertNotIn("two checks at once", self.scratch.calls())
 
     def test_a_check_that_fails_is_told_by_both(self):
         self.scratch.write("../tools/fails", "rt: laws NOT PROVED\n")
-        first, second = self.begun("foil_job"), self.start("foil_job")
+        first, second = self.begun("job_main"), self.start("job_main")
         for status, out, err in map(self.ended, (first, second)):
             self.assertEqual((status != 0, out, "rt: laws NOT PROVED" in err, "PATH" in err), (True, "", True, False))
-        self.assertEqual(self.scratch.calls(), ["check foil_job"] * 2)
+        self.assertEqual(self.scratch.calls(), ["check job_main"] * 2)
 
     def test_a_run_that_is_stopped(self):
-        first = self.begun("foil_job")
-        second = self.start("foil_job")
+        first = self.begun("job_main")
+        second = self.start("job_main")
         self.assertEqual(second.stderr.readline(), building.WAITS + "\n")
         for running in (first, second):
             running.send_signal(signal.SIGINT)

@@ -30,11 +30,11 @@ class Ways(unittest.TestCase):
     def setUpClass(cls):
         written = given.written_for("less-ink").replace("\n", "\\n")
         cls.scratch = Scratch(
-            foil_job=SCRIPT % ("", written), foil_slip=SCRIPT % ("", "  1    3      12     1     1    \\n"),
-            foil_save=SCRIPT % ("", "!"),
-            foil_ohms=SCRIPT % ("head -c 24 > /dev/null; ", "ohms 1 0 400c000000000000\\n"))
+            job_main=SCRIPT % ("", written), slip_main=SCRIPT % ("", "  1    3      12     1     1    \\n"),
+            save_main=SCRIPT % ("", "!"),
+            ohms_main=SCRIPT % ("head -c 24 > /dev/null; ", "ohms 1 0 400c000000000000\\n"))
         cls.addClassCleanup(cls.scratch.remove)
-        for name in ("foil_job", "foil_slip", "foil_save", "foil_ohms"):
+        for name in ("job_main", "slip_main", "save_main", "ohms_main"):
             cls.scratch.run("tools/built", name)
         cls.scratch.calls()
         cls.folder = cls.scratch.root.parent / "jobs"

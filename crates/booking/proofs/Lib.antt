@@ -1,6 +1,7 @@
--- Laws that the proofs of the booking use.
-pub mod Filling
-pub mod Appending
-pub mod Copying
-pub mod Nets
-pub mod Taking
+-- Laws of drawn ways, and of booking them.
+pub mod Clear
+pub mod Segments
+pub mod Walking
+pub mod Booking
+pub mod Tracking
+pub mod Checking

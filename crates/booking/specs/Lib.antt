@@ -1,4 +1,5 @@
--- What the contracts of the booking cite.
-pub mod Rows
-pub mod Legs
-pub mod Booked
+-- What the contracts of book cite.
+pub mod Clear
+pub mod Segments
+pub mod Booking
+pub mod Tracks

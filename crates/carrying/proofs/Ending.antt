@@ -32,11 +32,11 @@ use Rattle.ledger_laws.proofs.Carried.{old-known, old-keeps}
 use Rattle.ledger_laws.proofs.Carrying.{carried-fits}
 use Rattle.zones.specs.Table.{Table}
 use Rattle.zones.proofs.Tables.{table-of, pen-small, foil-sized}
-use Rattle.booking.specs.Rows.{rowsOf}
-use Rattle.booking.specs.Booked.{Stored, Booking}
-use Rattle.booking.specs.declared.Booked.{Booked}
-use Rattle.booking.specs.declared.Booked.the-variants.{Taken, TooFine}
-use Rattle.booking.proofs.Filling.{read-rows, length-rows}
+use Rattle.tables.specs.Rows.{rowsOf}
+use Rattle.tables.specs.Booked.{Stored, Booking}
+use Rattle.tables.specs.declared.Booked.{Booked}
+use Rattle.tables.specs.declared.Booked.the-variants.{Taken, TooFine}
+use Rattle.tables.proofs.Filling.{read-rows, length-rows}
 use Rattle.foil.specs.Contract.{answerOf, Gave, Wrote, refusedBy, TooShort}
 use Rattle.foil.specs.declared.Answer.the-variants.{Wrote as WroteNets}
 use Rattle.foil.specs.declared.Done.{Done}

@@ -3,8 +3,6 @@
 // writes stays on 128 places.
 mod nets;
 
-use booking::Booked;
-use booking::take_over;
 use foil::Answer;
 use foil::Done;
 use foil::lists_short;
@@ -18,6 +16,8 @@ use nets::keep_unmarked;
 use nets::mark_nets;
 use nets::report_nets;
 use state::old_sound;
+use tables::Booked;
+use tables::take_over;
 ghost use Prim.Native.Nat.{_≤_};
 ghost use mathlib.Core.List.{map};
 ghost use lib.ListN.{length};

@@ -1,12 +1,12 @@
 // The body of the call find (`find_in`): writes the corners of the first path of fewest bends, and changes nothing
 // else. What it seeks by is open to lay.
-use booking::bend_count;
 use foil::Answer;
 use foil::Checked;
 use foil_spec::Board;
 use search::first_path;
 use strips::Place;
 use strips::locate;
+use tables::bend_count;
 use zones::BOXES_SIZE;
 use zones::pen_zones;
 ghost use mathlib.Core.Path.{_≡_};

@@ -20,7 +20,7 @@ use Rattle.ledger_laws.proofs.Rules.{of-ok}
 use Rattle.ledger_laws.proofs.Line.{patch-ok}
 use Rattle.ledger_laws.proofs.Sound.{Sound, of-sound, length-read}
 use Rattle.zones.specs.Table.{Table}
-use Rattle.booking.specs.Rows.{rowsOf, Appended}
+use Rattle.tables.specs.Rows.{rowsOf, Appended}
 use Rattle.foil.specs.Contract.{Gave, StepIn, refusedBy, takenOver, withEntry, entryAdded}
 use Rattle.foil.specs.declared.Done.{Done}
 use Rattle.foil.proofs.Giving.{gave-refused, own-done, own-step}

@@ -17,7 +17,7 @@ use Rattle.ledger_laws.proofs.Refusals.{no-rule}
 use Rattle.ledger_laws.proofs.Line.{new-fine, pen-allowed}
 use Rattle.zones.specs.Table.{Table}
 use Rattle.zones.proofs.Tables.{pen-small, foil-sized}
-use Rattle.booking.proofs.Filling.{no-rows}
+use Rattle.tables.proofs.Filling.{no-rows}
 use Rattle.foil.specs.Contract.{Gave, refusedBy, takenOver}
 use Rattle.foil.specs.declared.Done.{Done}
 use Rattle.foil.proofs.Giving.{step-refused}

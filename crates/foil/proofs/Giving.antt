@@ -20,7 +20,7 @@ use Rattle.list_laws.proofs.Tests.{lt-or-le}
 use Rattle.ledger_laws.proofs.Refusals.{own-refused}
 use Rattle.ledger_laws.proofs.Stored.{Long}
 use Rattle.ledger_laws.proofs.Lending.{long-lists}
-use Rattle.booking.specs.Booked.{Stored, Unchanged}
+use Rattle.tables.specs.Booked.{Stored, Unchanged}
 use Rattle.foil.specs.declared.Answer.the-variants.{Accepted}
 use Rattle.foil.specs.declared.Done.{Done}
 use Rattle.foil.specs.declared.lent.Checked.{Checked}

@@ -16,7 +16,7 @@ use Rattle.list_laws.proofs.Tests.{all-keep}
 use Rattle.ledger_laws.proofs.Rules.{of-ok}
 use Rattle.ledger_laws.proofs.Sound.{Sound, of-sound}
 use Rattle.zones.specs.Table.{Table}
-use Rattle.booking.specs.Rows.{rowsOf, otherNets, Kept}
+use Rattle.tables.specs.Rows.{rowsOf, otherNets, Kept}
 use Rattle.foil.specs.Contract.{Gave, refusedBy, takenOver}
 use Rattle.foil.specs.declared.Done.{Done}
 use Rattle.foil.proofs.Giving.{own-done, own-step}

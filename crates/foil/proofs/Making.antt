@@ -14,9 +14,9 @@ use Rattle.ledger_laws.proofs.Stored.{entries-fit}
 use Rattle.ledger_laws.proofs.Sound.{Sound}
 use Rattle.zones.specs.Table.{Small, Sized, Table}
 use Rattle.zones.proofs.Tables.{table-of}
-use Rattle.booking.specs.Rows.{rowsOf}
-use Rattle.booking.proofs.Filling.{length-rows, read-rows}
-use Rattle.booking.proofs.Taking.{copied}
+use Rattle.tables.specs.Rows.{rowsOf}
+use Rattle.tables.proofs.Filling.{length-rows, read-rows}
+use Rattle.tables.proofs.Taking.{copied}
 
 -- rows of some entries, as a list that is read by place
 module _ (rows : List ℕ) (es : List Entry) (n : ℕ) (count : length es ≡ n) (is : rows ≡ rowsOf es) where

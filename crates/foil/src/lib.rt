@@ -5,12 +5,6 @@
 mod lent;
 mod pens;
 
-use booking::Booked;
-use booking::append;
-use booking::copy_front;
-use booking::in_use;
-use booking::take_over;
-use booking::without;
 use foil_spec::Board;
 use foil_spec::Entry;
 use foil_spec::TABLE_SIZE;
@@ -29,6 +23,12 @@ use state::size_ok;
 use state::under_patch;
 use strips::Place;
 use strips::locate;
+use tables::Booked;
+use tables::append;
+use tables::copy_front;
+use tables::in_use;
+use tables::take_over;
+use tables::without;
 ghost use mathlib.Core.Path.{_≡_};
 ghost use Prim.Native.Nat.{_≤_};
 ghost use mathlib.Core.Bool.{true, false};
@@ -40,7 +40,7 @@ ghost use Rattle.foil_spec.specs.Foil.{point, entryOk, penRule};
 ghost use Rattle.foil_spec.specs.Ledger.{newFoil, draw as draws, lift as lifts, lookUp, putLeg, Room, short};
 ghost use Rattle.foil_spec.specs.Lent.{lent, entryAt, layoutOf, penIn, sound, stepOn};
 ghost use Rattle.zones.specs.Table.{Table};
-ghost use Rattle.booking.specs.Rows.{rowsOf};
+ghost use Rattle.tables.specs.Rows.{rowsOf};
 ghost use Rattle.foil.specs.Contract.{clearanceOf, Gave, StepIn, ReadIn, takenOver};
 ghost use Rattle.foil.specs.Contract.{entryAdded, refusedBy};
 

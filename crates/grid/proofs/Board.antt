@@ -13,7 +13,7 @@ use Rattle.foil_spec.specs.Foil.{Entry, point}
 use Rattle.foil_spec.specs.Lent.{entryAt}
 use Rattle.list_laws.proofs.Members.{any-place, of-any, of-map, of-range}
 use Rattle.list_laws.proofs.Tests.{and-l, and-r, and-i, both, clash}
-use Rattle.courses.specs.Course.{Span, Marks, Steady}
+use Rattle.course_laws.specs.Course.{Span, Marks, Steady}
 use Rattle.zones.specs.Boxes.{covers, boxFree, maxBoxes}
 use Rattle.zones.proofs.Free.{inside-yes, of-inside, box-free-at, not-covered}
 use Rattle.grid.specs.Size.{stride}

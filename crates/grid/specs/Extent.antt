@@ -3,7 +3,7 @@ use Prim.Native.Nat.{ℕ, _≤_, _<_}
 use mathlib.Core.Bool.{Bool, true, false}
 use mathlib.Core.Path.{_≡_}
 use Rattle.foil_spec.specs.Foil.{Entry}
-use Rattle.courses.specs.Course.{flip}
+use Rattle.course_laws.specs.Course.{flip}
 use Rattle.zones.specs.Boxes.{covers}
 use Rattle.grid.specs.declared.Extent.{Extent}
 

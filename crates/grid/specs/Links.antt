@@ -6,7 +6,7 @@ use mathlib.Core.List.{List}
 use mathlib.Core.Path.{_≡_}
 use lib.ListN.{getD, length}
 use Rattle.foil_spec.specs.Lent.{entryAt}
-use Rattle.courses.specs.Course.{Span}
+use Rattle.course_laws.specs.Course.{Span}
 use Rattle.grid.specs.Size.{stride}
 use Rattle.grid.specs.Extent.{Misses}
 use Rattle.grid.specs.Lines.{Lines}

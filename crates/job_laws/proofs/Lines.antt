@@ -28,8 +28,8 @@ use Rattle.ledger_laws.proofs.Kept.{step-keeps, call-keeps}
 use Rattle.ledger_laws.proofs.Lay.{Laid, lay-seeks, first-laid}
 use Rattle.ledger_laws.proofs.Line.{clearance-number}
 use Rattle.ledger_laws.proofs.Numbers.{answer-passes}
-use Rattle.bend_bound.specs.Room.{asksFew}
-use Rattle.bend_bound.proofs.Room.{corners-few, step-passes, Fine, small, fine-kept, no-foil-fine}
+use Rattle.bend_laws.specs.Room.{asksFew}
+use Rattle.bend_laws.proofs.Room.{corners-few, step-passes, Fine, small, fine-kept, no-foil-fine}
 use Rattle.lines.specs.Lines.{stripLine}
 use Rattle.lines.specs.Output.{trackLine, stepLine, stepLines, replyLines, outputFrom, output}
 use Rattle.job_laws.specs.JobLines.{Line, board, patch, refusedTrack, laidTrack, lifted, leg, strip, file}

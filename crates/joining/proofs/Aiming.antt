@@ -21,8 +21,8 @@ use Rattle.list_laws.proofs.Tests.{all-keep}
 use Rattle.zones.specs.Boxes.{boxFree, Boxes, Zoned}
 use Rattle.zones.specs.Table.{Table}
 use Rattle.zones.proofs.Zoning.{zoned-free}
-use Rattle.booking.specs.Rows.{otherNets, Kept}
-use Rattle.booking.proofs.Filling.{read-rows}
+use Rattle.tables.specs.Rows.{otherNets, Kept}
+use Rattle.tables.proofs.Filling.{read-rows}
 use Rattle.foil.proofs.Making.{rows-layout, rows-table}
 use Rattle.grid.specs.Targets.{target}
 use Rattle.search.specs.Grid.{Aimed}

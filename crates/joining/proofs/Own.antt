@@ -15,8 +15,8 @@ use Rattle.foil_spec.specs.Nets.{ofNet, legsOf}
 use Rattle.foil_spec.specs.Lent.{entryAt}
 use Rattle.list_laws.proofs.Tests.{both}
 use Rattle.list_laws.proofs.Members.{keep-append, map-last, length-range}
-use Rattle.booking.specs.Rows.{rowsOf, Appended, otherNets, Kept}
-use Rattle.booking.proofs.Filling.{length-rows}
+use Rattle.tables.specs.Rows.{rowsOf, Appended, otherNets, Kept}
+use Rattle.tables.proofs.Filling.{length-rows}
 use Rattle.joining.specs.Sought.{Own}
 
 -- the net's legs of the first k entries

@@ -16,8 +16,8 @@ use Rattle.ledger_laws.proofs.Join.{for-inside, join-from-9}
 use Rattle.foil.specs.Contract.{OutputIn}
 use Rattle.foil.specs.declared.Done.{Done}
 use Rattle.search.specs.Search.{Found}
-use Rattle.drawn.specs.Tracks.{mostCorners, MayTrack, Searched, trackLaid, Tracked}
-use Rattle.drawn.proofs.Tracking.{none-counted, may-track, step-tracked}
+use Rattle.booking.specs.Tracks.{mostCorners, MayTrack, Searched, trackLaid, Tracked}
+use Rattle.booking.proofs.Tracking.{none-counted, may-track, step-tracked}
 use Rattle.joining.specs.Ready.{ReadyToJoin}
 
 module _ (b : Board) (t s : List ℕ) (net : ℕ) (S : Point) (y : ReadyToJoin (lent b t s) net S) where

@@ -11,7 +11,7 @@ use Rattle.foil_spec.specs.Ledger.{freeFor}
 use Rattle.foil_spec.specs.Lent.{entryAt, layoutOf}
 use Rattle.zones.specs.Boxes.{Zoned}
 use Rattle.zones.specs.Table.{Table}
-use Rattle.booking.specs.Rows.{rowsOf}
+use Rattle.tables.specs.Rows.{rowsOf}
 
 -- the net's legs, of the first n entries of the table t, stand in the rows, and j counts them
 pub record Own (rows t : List ℕ) (net n j : ℕ) : Type 0 where

@@ -1,11 +1,8 @@
 // The body of the call join (`join_in`): finds the first path of fewest bends from a point to a net, over points that
 // are free for the net, and books it under the same net.
-use booking::append;
-use booking::in_use;
-use booking::without;
-use drawn::PATH_SIZE;
-use drawn::book_found;
-use drawn::is_way;
+use booking::PATH_SIZE;
+use booking::book_found;
+use booking::is_way;
 use foil::Done;
 use foil::refuse;
 use foil_spec::Board;
@@ -13,6 +10,9 @@ use foil_spec::TABLE_SIZE;
 use foil_spec::entry_at;
 use search::first_path_to;
 use state::net_ok;
+use tables::append;
+use tables::in_use;
+use tables::without;
 use zones::BOXES_SIZE;
 use zones::pen_rule;
 use zones::pen_zones;
@@ -27,7 +27,7 @@ ghost use Rattle.foil_spec.specs.Foil.{point};
 ghost use Rattle.foil_spec.specs.Ledger.{join as joins, freeFor, joinOf};
 ghost use Rattle.foil_spec.specs.Lent.{lent, layoutOf, penIn, sound};
 ghost use Rattle.foil.specs.Contract.{OutputIn};
-ghost use Rattle.booking.specs.Rows.{rowsOf};
+ghost use Rattle.tables.specs.Rows.{rowsOf};
 ghost use Rattle.search.specs.Search.{Found};
 ghost use Rattle.joining.specs.Sought.{Own, Known, Asked};
 ghost use Rattle.joining.specs.Ready.{ReadyToJoin};

@@ -10,9 +10,9 @@ use mathlib.Core.List.{List}
 use lib.ListN.{getD}
 use borrow.Author.Tests.{eq-eqb, eqb-true}
 use Rattle.foil_spec.specs.Paths.{gap}
-use Rattle.courses.specs.Course.{flip, Span, Within, Marks, Steady}
-use Rattle.courses.proofs.Course.{span-refl, span-sym, span-trans, span-start, span-end, span-part}
-use Rattle.courses.proofs.Slide.{near}
+use Rattle.course_laws.specs.Course.{flip, Span, Within, Marks, Steady}
+use Rattle.course_laws.proofs.Course.{span-refl, span-sym, span-trans, span-start, span-end, span-part}
+use Rattle.course_laws.proofs.Slide.{near}
 use Rattle.grid.specs.Lines.{hasMark, Collected}
 use Rattle.grid.specs.Links.{Links}
 use Rattle.runs.specs.Line.{Linked}

@@ -10,8 +10,8 @@ use mathlib.Core.List.{List, [], _∷_}
 use lib.ListN.{getD, length}
 use Rattle.foil_spec.specs.Paths.{gap}
 use Rattle.list_laws.proofs.Tests.{clash}
-use Rattle.courses.specs.Course.{flip, Span, Within, ink, TargetFree, Greedy}
-use Rattle.courses.proofs.Course.{within-course}
+use Rattle.course_laws.specs.Course.{flip, Span, Within, ink, TargetFree, Greedy}
+use Rattle.course_laws.proofs.Course.{within-course}
 use Rattle.runs.specs.Line.{along, across, Linked, isStop, Stop}
 use Rattle.labels.specs.Walk.{Trail, done, step}
 use Rattle.runs.proofs.Line.{of-stop, to-stop}

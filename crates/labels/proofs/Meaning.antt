@@ -9,8 +9,8 @@ use mathlib.Core.Bool.{Bool, true}
 use mathlib.Core.List.{List}
 use lib.ListN.{getD}
 use Rattle.foil_spec.specs.Paths.{gap}
-use Rattle.courses.specs.Course.{flip, Span, Course, Within, TargetFree}
-use Rattle.courses.proofs.Course.{span-sym, span-start, within-more, within-course, course-within}
+use Rattle.course_laws.specs.Course.{flip, Span, Course, Within, TargetFree}
+use Rattle.course_laws.proofs.Course.{span-sym, span-start, within-more, within-course, course-within}
 use Rattle.runs.specs.Line.{along, across, Linked, isStop}
 use Rattle.runs.specs.Ink.{LeastInk, Inked}
 use Rattle.labels.specs.Pass.{Cell, kept, none, new, Pass, Below}

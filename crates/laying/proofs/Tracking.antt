@@ -18,8 +18,8 @@ use Rattle.ledger_laws.proofs.Lay.{lay-from-9}
 use Rattle.foil.specs.Contract.{OutputIn}
 use Rattle.foil.specs.declared.Done.{Done}
 use Rattle.finding.specs.Found.{Found}
-use Rattle.drawn.specs.Tracks.{mostCorners, MayTrack, Searched, trackLaid, Tracked}
-use Rattle.drawn.proofs.Tracking.{may-track, step-tracked}
+use Rattle.booking.specs.Tracks.{mostCorners, MayTrack, Searched, trackLaid, Tracked}
+use Rattle.booking.proofs.Tracking.{may-track, step-tracked}
 use Rattle.laying.specs.Ready.{ReadyToLay}
 
 module _ (b : Board) (t s : List ℕ) (net : ℕ) (S T : Point) (y : ReadyToLay (lent b t s) net S T) where

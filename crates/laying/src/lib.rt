@@ -1,8 +1,7 @@
-// The body of the call lay (`lay_in`): finds the first path of fewest bends as `finding` does, and books it as `drawn`
+// The body of the call lay (`lay_in`): finds the first path of fewest bends as `finding` does, and books it as `booking`
 // does.
-use booking::in_use;
-use drawn::PATH_SIZE;
-use drawn::book_found;
+use booking::PATH_SIZE;
+use booking::book_found;
 use finding::path_between;
 use finding::points_refusal;
 use foil::Checked;
@@ -10,6 +9,7 @@ use foil::Done;
 use foil::refuse;
 use foil_spec::Board;
 use state::net_ok;
+use tables::in_use;
 ghost use mathlib.Core.Path.{_≡_};
 ghost use Prim.Native.Nat.{_≤_};
 ghost use mathlib.Core.Bool.{true};

@@ -1,9 +1,9 @@
 // The resistance of a laid net, from the ink's three figures: `net_ohms` is the body of the call. Nothing is
 // changed.
-use booking::in_use;
 use foil_spec::Ink;
 use nets::measure;
 use state::net_ok;
+use tables::in_use;
 ghost use mathlib.Core.Path.{_≡_};
 ghost use Rattle.foil_spec.specs.Ohms.{inkOk, formula as formulaOf};
 ghost use Rattle.nets.specs.Measured.{Boxes};

@@ -6,10 +6,10 @@ use mathlib.Core.Logic.{_≢_, _⊎_, inl, inr}
 use mathlib.Core.Bool.{Bool, true, false}
 use mathlib.Core.List.{List, [], _∷_}
 use lib.ListN.{getD, length}
-use Rattle.courses.specs.Course.{Course, flip, Path, ink, TargetFree}
-use Rattle.courses.specs.Best.{PathD, inkD, LexD, Best}
-use Rattle.courses.proofs.Greedy.{path-course, path-within}
-use Rattle.courses.proofs.Best.{Fewest, level-fewest, upright-fewest, best-level, best-upright}
+use Rattle.course_laws.specs.Course.{Course, flip, Path, ink, TargetFree}
+use Rattle.course_laws.specs.Best.{PathD, inkD, LexD, Best}
+use Rattle.course_laws.proofs.Greedy.{path-course, path-within}
+use Rattle.course_laws.proofs.Best.{Fewest, level-fewest, upright-fewest, best-level, best-upright}
 use Rattle.grid.specs.Lines.{Rising}
 use Rattle.labels.specs.Walk.{Grounded, Trail}
 use Rattle.labels.proofs.Walk.{grounded-next}

@@ -13,8 +13,8 @@ use Rattle.foil_spec.specs.Lent.{entryAt}
 use Rattle.list_laws.proofs.Tests.{both}
 use Rattle.zones.specs.Boxes.{covers, boxFree}
 use Rattle.zones.proofs.Free.{not-covered}
-use Rattle.courses.specs.Course.{flip}
-use Rattle.courses.specs.Best.{On}
+use Rattle.course_laws.specs.Course.{flip}
+use Rattle.course_laws.specs.Best.{On}
 use Rattle.grid.specs.Targets.{inBoxes, target}
 use Rattle.grid.proofs.Board.{grid-marks, grid-steady, grid-links}
 use Rattle.labels.proofs.Faithful.{Faithful, faithful}

@@ -11,11 +11,11 @@ use Rattle.foil_spec.specs.Paths.{firstPathTo}
 use Rattle.zones.specs.Boxes.{boxFree}
 use Rattle.zones.proofs.Free.{not-covered}
 use Rattle.list_laws.proofs.Tests.{clash, and-r}
-use Rattle.courses.specs.Course.{Course, flip, TargetFree}
-use Rattle.courses.specs.Best.{PathD, Best, corners, On}
-use Rattle.courses.proofs.Greedy.{path-course}
-use Rattle.courses.proofs.Best.{Fewest}
-use Rattle.courses.proofs.FirstPath.{best-first, none-first, fewest-first}
+use Rattle.course_laws.specs.Course.{Course, flip, TargetFree}
+use Rattle.course_laws.specs.Best.{PathD, Best, corners, On}
+use Rattle.course_laws.proofs.Greedy.{path-course}
+use Rattle.course_laws.proofs.Best.{Fewest}
+use Rattle.course_laws.proofs.FirstPath.{best-first, none-first, fewest-first}
 use Rattle.grid.specs.Size.{stride}
 use Rattle.grid.specs.Lines.{Lines}
 use Rattle.grid.specs.Targets.{inBoxes, target}

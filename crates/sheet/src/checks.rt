@@ -13,7 +13,7 @@ use sheet_rows::counts_ok;
 use sheet_rows::take_out;
 ghost use mathlib.Core.Path.{_≡_};
 ghost use mathlib.Core.List.{[]};
-ghost use Rattle.booking.specs.Rows.{rowsOf};
+ghost use Rattle.tables.specs.Rows.{rowsOf};
 ghost use Rattle.foil.specs.Contract.{FirstChecked};
 ghost use Rattle.sheet_rows.specs.Rows.{sheetLent};
 ghost use Rattle.sheet.specs.Parts.{sheetOpening, Lending, ListOpening, RecordLending, Opening};

@@ -9,9 +9,9 @@ mod list;
 mod queries;
 mod record;
 
+use booking::book_in;
 use checks::lend_foil;
 use checks::open_foil;
-use drawn::book_in;
 use finishing::finish;
 use finishing::refuse;
 use foil::Answer;

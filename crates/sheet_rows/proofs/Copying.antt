@@ -9,7 +9,7 @@ use lib.ListN.{length, getD, set, take, drop, replicate, length-set, length-take
 use lib.Seq.{paste, paste-zero, paste-suc, getD-drop, take-at, drop-append-add, length-take-le}
 use Rattle.foil_spec.specs.Limits.{sheetSize}
 use Rattle.foil_spec.specs.Lent.{written}
-use Rattle.booking.proofs.Taking.{copied}
+use Rattle.tables.proofs.Taking.{copied}
 
 -- i numbers of s stand in what was d, from place `at` on
 pub record Pasted (d : List ℕ) (at : ℕ) (s : List ℕ) (n : ℕ) (l : List ℕ) (i : ℕ) : Type 0 where

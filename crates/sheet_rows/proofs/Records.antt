@@ -11,7 +11,7 @@ use denote.Struct.Laws as LL
 use Rattle.foil_spec.specs.Limits.{sheetFoils}
 use Rattle.foil_spec.specs.Sheet.{noBoard, counts}
 use Rattle.foil_spec.specs.declared.Board.{Board}
-use Rattle.booking.proofs.Copying.{Copied, copied-none, copied-more, copied-all}
+use Rattle.tables.proofs.Copying.{Copied, copied-none, copied-more, copied-all}
 use Rattle.sheet_laws.proofs.Views.{counts-length, counts-at}
 use Rattle.sheet_rows.specs.declared.Sheet.{Sheet}
 use Rattle.sheet_rows.proofs.Sheet as T

@@ -13,7 +13,7 @@ use Rattle.foil_spec.specs.Lent.{lent, written}
 use Rattle.foil_spec.specs.Sheet.{total, reserved, eachFew, countsOk, limitOf, counts, tableAt, putBack}
 use Rattle.foil_spec.specs.declared.Board.{Board}
 use Rattle.list_laws.proofs.Tests.{not-t}
-use Rattle.booking.specs.Rows.{rowsOf}
+use Rattle.tables.specs.Rows.{rowsOf}
 use Rattle.sheet_laws.specs.Places.{startOf, before, behind}
 use Rattle.sheet_laws.specs.Alone.{EightFoils}
 use Rattle.sheet_laws.proofs.Counts.{reserved-has, few-at, ok-few, ok-reserved, ok-total, fits}

@@ -16,7 +16,7 @@ ghost use lib.Seq.{paste};
 ghost use Rattle.foil_spec.specs.Limits.{tableSize, sheetFoils, sheetEntries, sheetSize};
 ghost use Rattle.foil_spec.specs.Lent.{written};
 ghost use Rattle.foil_spec.specs.Sheet.{counts as countsIn, countsOk, limitOf, tableAt};
-ghost use Rattle.booking.specs.Rows.{rowsOf};
+ghost use Rattle.tables.specs.Rows.{rowsOf};
 ghost use Rattle.sheet_laws.specs.Places.{before, behind};
 ghost use Rattle.sheet_laws.specs.Alone.{EightFoils};
 ghost use Rattle.sheet_rows.specs.Rows.{PutBack};

@@ -12,7 +12,7 @@ use borrow.Author.Count.{below-more}
 use Rattle.list_laws.proofs.Tests.{both, clash, and-l, and-r, and-i, or-cases, or-il, or-ir, or-l, or-r, same-test}
 use Rattle.zones.specs.Boxes.{inside}
 use Rattle.zones.proofs.Free.{inside-yes, of-inside}
-use Rattle.courses.specs.Course.{Course, Within}
+use Rattle.course_laws.specs.Course.{Course, Within}
 use Rattle.grid.specs.Size.{stride, area}
 use Rattle.grid.specs.Lines.{Lines}
 use Rattle.runs.specs.Line.{along}

@@ -17,8 +17,8 @@ use Rattle.list_laws.proofs.Tests.{both, clash, not-f, same-test, parts}
 use Rattle.list_laws.proofs.Members.{In, in-keep, of-keep, in-any, of-any, not-any, none-of, in-map, of-map, in-range}
 use Rattle.list_laws.proofs.Members.{of-range, any-place, no-place}
 use Rattle.ledger_laws.proofs.Crossing.{leg-crosses, patch-crossed, of-no-crossing, to-no-crossing}
-use Rattle.booking.specs.Rows.{otherNets, Kept}
-use Rattle.booking.proofs.Filling.{read-rows, kept-long}
+use Rattle.tables.specs.Rows.{otherNets, Kept}
+use Rattle.tables.proofs.Filling.{read-rows, kept-long}
 
 -- ---- two boxes, comparison by comparison
 

@@ -1,9 +1,9 @@
 // Patches across legs (document 02, P8).
-use booking::without;
 use foil_spec::Board;
 use foil_spec::Entry;
 use foil_spec::TABLE_SIZE;
 use foil_spec::entry_at;
+use tables::without;
 ghost use mathlib.Core.Path.{_≡_};
 ghost use Prim.Native.Nat.{_+_, _*_, _≤_};
 ghost use mathlib.Core.List.{map};

@@ -1,6 +1,6 @@
 -- `carrying::carry_rows` meets its contract: nets are marked, the rows of the others taken over, the marked reported.
 use mathlib.Core.Path.{refl}
-use Rattle.booking.proofs.Filling.{no-rows}
+use Rattle.tables.proofs.Filling.{no-rows}
 use Rattle.carrying.proofs.Ending.{small-nets, report-room, rows-again, rows-table, too-fine, taken}
 use borrow.Author.Needs.{needs}
 use Rattle.carrying.proofs.carry_rows.Statement.{statement}

@@ -2,7 +2,7 @@
 use native.Mathlib.Omega.{arith}
 use Rattle.ledger_laws.proofs.Sound.{of-sound, sound-long}
 use Rattle.foil.proofs.Limits.{held-limits}
-use Rattle.booking.proofs.Filling.{no-rows}
+use Rattle.tables.proofs.Filling.{no-rows}
 use Rattle.foil.proofs.Lifting.{no-net, not-there, lifted-again, lifted-table, lifted}
 use borrow.Author.Needs.{needs}
 use Rattle.foil.proofs.lift_in.Statement.{statement}

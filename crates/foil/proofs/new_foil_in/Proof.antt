@@ -8,7 +8,7 @@ use Rattle.foil_spec.specs.Foil.{sizeOk, penOk}
 use Rattle.foil_spec.specs.Ledger.{clearanceRefusal, first}
 use Rattle.foil.specs.Contract.{clearanceOf}
 use Rattle.foil.proofs.Giving.{none-first, number-first}
-use Rattle.booking.proofs.Filling.{no-rows}
+use Rattle.tables.proofs.Filling.{no-rows}
 use Rattle.foil.proofs.Beginning.{passed-pen, bare-table, no-width, no-height, no-pen, begun}
 use borrow.Author.Needs.{needs}
 use Rattle.foil.proofs.new_foil_in.Statement.{statement}

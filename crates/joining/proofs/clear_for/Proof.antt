@@ -1,7 +1,7 @@
 -- The boxes of the other nets, and the way of one corner.
 use native.Mathlib.Omega.{arith}
 use borrow.Author.Needs.{needs}
-use Rattle.booking.proofs.Filling.{no-rows}
+use Rattle.tables.proofs.Filling.{no-rows}
 use Rattle.joining.proofs.Aiming.{others-table, clear-is}
 use Rattle.joining.proofs.clear_for.Statement.{statement}
 use Rattle.joining.proofs.clear_for.Tie as tie

@@ -1,7 +1,7 @@
 -- The rows of the other nets and of the net's legs, the boxes of the first, and the path between them.
 use native.Mathlib.Omega.{arith}
 use borrow.Author.Needs.{needs}
-use Rattle.booking.proofs.Filling.{no-rows}
+use Rattle.tables.proofs.Filling.{no-rows}
 use Rattle.joining.proofs.Aiming.{others-table, net-aimed, net-found}
 use Rattle.joining.proofs.path_to_net.Statement.{statement}
 use Rattle.joining.proofs.path_to_net.Tie as tie

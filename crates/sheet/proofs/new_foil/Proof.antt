@@ -3,7 +3,7 @@ use native.Mathlib.Omega.{arith}
 use mathlib.Core.Path.{refl}
 use Rattle.foil_spec.specs.Sheet.{writes}
 use Rattle.foil.specs.Contract.{clearanceOf}
-use Rattle.booking.proofs.Filling.{no-rows}
+use Rattle.tables.proofs.Filling.{no-rows}
 use Rattle.sheet.proofs.Checking.{taken-out, not-out, step-unopened}
 use Rattle.sheet.proofs.Closing.{gave-refused, may-finish, finished}
 use borrow.Author.Needs.{needs}

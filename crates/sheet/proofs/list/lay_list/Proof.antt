@@ -1,7 +1,7 @@
 -- `sheet::list::lay_list` takes foil k out, is `lay_list_in` of it, and puts it back.
 use native.Mathlib.Omega.{arith}
 use mathlib.Core.Path.{refl}
-use Rattle.booking.proofs.Filling.{no-rows}
+use Rattle.tables.proofs.Filling.{no-rows}
 use Rattle.listing.proofs.Many.{places}
 use Rattle.sheet.proofs.Checking.{keeps-rules, limit-most}
 use Rattle.sheet.proofs.Listing.{list-out, list-not-out, list-refused, list-closable, list-done}

@@ -2,7 +2,7 @@
 use mathlib.Core.Path.{refl}
 use Rattle.foil_spec.specs.Ledger.{reads}
 use Rattle.foil_spec.specs.Sheet.{writes}
-use Rattle.booking.proofs.Filling.{no-rows}
+use Rattle.tables.proofs.Filling.{no-rows}
 use Rattle.sheet.specs.Parts.{readsFoil}
 use Rattle.sheet.proofs.Checking.{opened, not-opened, keeps-rules}
 use Rattle.sheet.proofs.Reading.{read-refused, read-done}

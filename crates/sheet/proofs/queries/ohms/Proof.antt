@@ -1,6 +1,6 @@
 -- `sheet::queries::ohms` takes foil k out, and answers for the net of it.
 use mathlib.Core.Path.{refl}
-use Rattle.booking.proofs.Filling.{no-rows}
+use Rattle.tables.proofs.Filling.{no-rows}
 use Rattle.nets.proofs.Measuring.{sound-boxes}
 use Rattle.sheet.specs.Parts.{readsFoil}
 use Rattle.sheet.proofs.Checking.{opened, not-opened, keeps-rules}

@@ -1,7 +1,7 @@
 -- `sheet::record::run_record` takes foil k out, is `run_record_in` of it, and puts it back.
 use native.Mathlib.Omega.{arith}
 use mathlib.Core.Path.{refl}
-use Rattle.booking.proofs.Filling.{no-rows}
+use Rattle.tables.proofs.Filling.{no-rows}
 use Rattle.sheet.proofs.Checking.{limit-most}
 use Rattle.sheet.proofs.Recording.{record-out, record-not-out, record-refused, record-closable, record-done}
 use borrow.Author.Needs.{needs}

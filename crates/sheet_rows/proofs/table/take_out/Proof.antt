@@ -3,7 +3,7 @@ use native.Mathlib.Omega.{arith}
 use mathlib.Core.Path.{ap}
 use mathlib.Core.List.{[]}
 use lib.ListN.{length}
-use Rattle.booking.proofs.Filling.{length-rows}
+use Rattle.tables.proofs.Filling.{length-rows}
 use Rattle.sheet_rows.proofs.Tables.{counts-fine, in-counts, part-in, part-few, taking}
 use borrow.Author.Needs.{needs}
 use Rattle.sheet_rows.proofs.table.take_out.Statement.{statement}

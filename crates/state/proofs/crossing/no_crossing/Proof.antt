@@ -1,7 +1,7 @@
 -- `state::crossing::no_crossing` meets its contract: no entry before place i is a patch over one of the legs.
 use Prim.Native.Nat.{_-_}
 use native.Mathlib.Omega.{arith}
-use Rattle.booking.proofs.Filling.{no-rows}
+use Rattle.tables.proofs.Filling.{no-rows}
 use Rattle.state.proofs.Crossings.{Clear, without-none, legs-fit, clear-more, clear-not, clear-all}
 use borrow.Author.Needs.{needs}
 use Rattle.state.proofs.crossing.no_crossing.Statement.{statement}

@@ -1,5 +1,0 @@
--- What the contracts of book cite.
-pub mod Clear
-pub mod Segments
-pub mod Booking
-pub mod Tracks

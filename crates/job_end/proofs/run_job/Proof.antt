@@ -1,0 +1,78 @@
+-- After each record, what is still to come leaves what the whole file does; the loop is left by its last reply.
+use Prim.Native.Nat.{_≤_, _-_}
+use native.Mathlib.Omega.{arith}
+use borrow.Author.Needs.{needs}
+use Rattle.foil_spec.specs.Sheet.{noBoard}
+use Rattle.sheet_laws.specs.Jobs.{onlyFoil0}
+use Rattle.job_end.proofs.Leaving.{ToCome, all-to-come, goes-on, stops}
+use Rattle.job_end.proofs.run_job.Statement.{statement}
+use Rattle.job_end.proofs.run_job.Tie as tie
+
+abbrev Inv-loop : tie.InvT-loop
+Inv-loop table₀ strips₀ bytes _ _ _ _ table strips _ board at counter =
+    (counter ≤ 60001) × ToCome bytes (onlyFoil0 noBoard table₀ strips₀) counter at (onlyFoil0 board table strips)
+
+abbrev μ-loop : tie.MeasureT-loop
+μ-loop _ _ _ _ _ _ _ _ _ _ _ _ counter = 60001 - counter
+
+-- back to next_of, from the end of the job and from the loop's end; to run_one and the loop's head
+abbrev lastNext : tie.After-how-ended Inv-loop μ-loop → tie.After-next-of Inv-loop μ-loop
+lastNext c = c .before .before .before
+
+abbrev thisNext : tie.After-board Inv-loop μ-loop → tie.After-next-of Inv-loop μ-loop
+thisNext c = c .before .before .before .before
+
+abbrev afterRunOne : tie.After-next-of Inv-loop μ-loop → tie.After-run-one Inv-loop μ-loop
+afterRunOne c = c .before
+
+abbrev atLoop : tie.After-next-of Inv-loop μ-loop → tie.At-loop Inv-loop μ-loop
+atLoop c = afterRunOne c .before .before .before .before .before
+
+no-board-requires : tie.Need-no-board-requires Inv-loop μ-loop
+no-board-requires c κs = search needs
+
+loop-holds : tie.Need-loop-holds Inv-loop μ-loop
+loop-holds c = (omega arith, all-to-come _ _ _ _ (c .no-board .ensures))
+
+run-one-requires : tie.Need-run-one-requires Inv-loop μ-loop
+run-one-requires c κs = search needs
+
+next-of-requires : tie.Need-next-of-requires Inv-loop μ-loop
+next-of-requires c κs = search needs
+
+enum-known-next : tie.Need-enum-known-next Inv-loop μ-loop
+enum-known-next c = search needs
+
+enum-told : tie.Need-enum-told Inv-loop μ-loop
+enum-told c = search needs
+
+how-ended-requires : tie.Need-how-ended-requires Inv-loop μ-loop
+how-ended-requires c κs = search needs
+
+returns : tie.Need-returns Inv-loop μ-loop
+returns c =
+    let met = lastNext c in
+    stops _ _ _ _ _ (atLoop met .loop .inv .1) _ _ _ _ _ (afterRunOne met .run-one .ensures) _ (met .next-of .ensures)
+    (c .before .enum-told .given .1) _ (c .how-ended .ensures)
+
+add-counter : tie.Need-add-counter Inv-loop μ-loop
+add-counter c = search needs
+
+loop-less : tie.Need-loop-less Inv-loop μ-loop
+loop-less c = search needs
+
+loop-again : tie.Need-loop-again Inv-loop μ-loop
+loop-again c =
+    let met = thisNext c in (
+      omega arith,
+      goes-on _ _ _ _ _ (atLoop met .loop .inv .1) _ _ _ _ _ (afterRunOne met .run-one .ensures) _
+          (met .next-of .ensures) _ (c .before .before .next .given .1),
+    )
+
+returns-2 : tie.Need-returns-2 Inv-loop μ-loop
+returns-2 c = absurd (omega (arith, c .before .loop .inv .1 .counted))
+
+pub run-job-spec : {M : Type 1} → statement M
+run-job-spec =
+    tie.close (tie.spec Inv-loop μ-loop no-board-requires loop-holds run-one-requires next-of-requires enum-known-next
+    enum-told how-ended-requires returns add-counter loop-less loop-again returns-2)

@@ -1,0 +1,81 @@
+-- What a record gave comes next in the job's output; and after the last one all of it is written.
+use Prim.Native.Nat.{ℕ, _≤_, _-_}
+use native.Mathlib.Omega.{arith}
+use lib.ListN.{length-replicate}
+use borrow.Author.Needs.{needs}
+use Rattle.foil_spec.specs.Limits.{sheetSize}
+use Rattle.sheet_laws.specs.Jobs.{onlyFoil0}
+use Rattle.job_main.proofs.Still.{Still, none-yet, next-lines, goes-on, ends, all-told}
+use Rattle.job_main.proofs.write_job.Statement.{statement}
+use Rattle.job_main.proofs.write_job.Tie as tie
+
+abbrev Inv-loop : tie.InvT-loop
+Inv-loop bytes _ _ _ _ _ _ _ _ _ table strips _ board at written counter =
+    (counter ≤ 60001) × Still bytes written counter at (onlyFoil0 board table strips)
+
+abbrev μ-loop : tie.MeasureT-loop
+μ-loop _ _ _ _ _ _ _ _ _ _ _ _ _ _ _ _ counter = 60001 - counter
+
+-- back to report_record and to the loop's head; and from the end of the job and of the loop to write_lines
+abbrev reported : tie.After-out2 Inv-loop μ-loop → tie.After-report-record Inv-loop μ-loop
+reported c = c .before .before
+
+abbrev atLoop : tie.After-report-record Inv-loop μ-loop → tie.At-loop Inv-loop μ-loop
+atLoop c = c .before .before .before .before .before .before
+
+abbrev lastLines : tie.After-enum-told Inv-loop μ-loop → tie.After-write-lines Inv-loop μ-loop
+lastLines c = c .before .before
+
+abbrev theseLines : tie.After-board Inv-loop μ-loop → tie.After-write-lines Inv-loop μ-loop
+theseLines c = c .before .before .before .before
+
+no-board-requires : tie.Need-no-board-requires Inv-loop μ-loop
+no-board-requires c κs = search needs
+
+loop-holds : tie.Need-loop-holds Inv-loop μ-loop
+loop-holds c = (omega arith, none-yet _ _ _ _ (c .no-board .ensures) (length-replicate {A = ℕ} sheetSize 0))
+
+report-record-requires : tie.Need-report-record-requires Inv-loop μ-loop
+report-record-requires c κs = search needs
+
+write-lines-requires : tie.Need-write-lines-requires Inv-loop μ-loop
+write-lines-requires c κs =
+    let done = reported c in
+    next-lines _ _ _ _ _ (atLoop done .loop .inv .1) (omega arith) _ _ _ _ _ _ _ (done .report-record .ensures .0)
+    (done .report-record .ensures .1)
+
+enum-known-next : tie.Need-enum-known-next Inv-loop μ-loop
+enum-known-next c = search needs
+
+enum-told : tie.Need-enum-told Inv-loop μ-loop
+enum-told c = search needs
+
+returns : tie.Need-returns Inv-loop μ-loop
+returns c =
+    let lines = lastLines c in
+    let done = reported (lines .before) in
+    ends _ _ _ _ _ (atLoop done .loop .inv .1) (omega arith) _ _ _ _ _ _ _ (done .report-record .ensures .0)
+    (done .report-record .ensures .1) _ (lines .write-lines .ensures) (c .enum-told .given .1)
+
+add-counter : tie.Need-add-counter Inv-loop μ-loop
+add-counter c = search needs
+
+loop-less : tie.Need-loop-less Inv-loop μ-loop
+loop-less c = search needs
+
+loop-again : tie.Need-loop-again Inv-loop μ-loop
+loop-again c =
+    let lines = theseLines c in
+    let done = reported (lines .before) in (
+      omega arith,
+      goes-on _ _ _ _ _ (atLoop done .loop .inv .1) (omega arith) _ _ _ _ _ _ _ (done .report-record .ensures .0)
+          (done .report-record .ensures .1) _ (lines .write-lines .ensures) _ (c .before .before .next .given .1),
+    )
+
+returns-2 : tie.Need-returns-2 Inv-loop μ-loop
+returns-2 c = all-told _ _ _ _ _ (c .before .loop .inv .1) (omega arith)
+
+pub write-job-spec : {M : Type 1} → statement M
+write-job-spec =
+    tie.close (tie.spec Inv-loop μ-loop no-board-requires loop-holds report-record-requires
+    write-lines-requires enum-known-next enum-told returns add-counter loop-less loop-again returns-2)

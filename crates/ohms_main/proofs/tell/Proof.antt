@@ -1,0 +1,39 @@
+-- The line is all that is to be written.
+use native.Mathlib.Omega.{arith}
+use borrow.Author.Needs.{needs}
+use Rattle.ohms_main.proofs.Printing.{line-next, line-written}
+use Rattle.ohms_main.proofs.tell.Statement.{statement}
+use Rattle.ohms_main.proofs.tell.Tie as tie
+
+-- back to put_line and the start
+abbrev atLine : tie.After-line3 → tie.After-put-line
+atLine c = c .before .before .before
+
+abbrev atStart : tie.After-put-line → tie.Start
+atStart c = c .before .before .before .before .before
+
+slice-aggregate-put-line : tie.Need-slice-aggregate-put-line
+slice-aggregate-put-line c = search needs
+
+put-line-requires : tie.Need-put-line-requires
+put-line-requires c κs = search needs
+
+slice-aggregate-write-front : tie.Need-slice-aggregate-write-front
+slice-aggregate-write-front c = search needs
+
+write-front-requires : tie.Need-write-front-requires
+write-front-requires c κs =
+    let line = atLine c in
+    let start = atStart line in
+    line-next _ _ (start .pre .1) (line .put-line .ensures) _ (start .pre .0 .0) (omega arith)
+
+returns : tie.Need-returns
+returns c =
+    let line = atLine (c .before) in
+    let start = atStart line in
+    line-written _ _ (start .pre .1) (line .put-line .ensures) _ (start .pre .0 .0) _ (c .write-front .ensures)
+
+pub tell-spec : {M : Type 1} → statement M
+tell-spec =
+    tie.close (tie.spec slice-aggregate-put-line put-line-requires slice-aggregate-write-front write-front-requires
+    returns)

@@ -1,0 +1,4 @@
+-- What the contracts of a table in the making cite.
+pub mod Rows
+pub mod Legs
+pub mod Booked

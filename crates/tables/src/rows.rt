@@ -1,0 +1,80 @@
+// The rows of a table in the making: 128 places of five numbers, unused ones zero.
+use foil_spec::entry_at;
+ghost use mathlib.Core.Path.{_≡_};
+ghost use Prim.Native.Nat.{_+_, _*_, _<_, _≤_};
+ghost use mathlib.Core.List.{[], map};
+ghost use lib.ListN.{length};
+ghost use lib.Seq.{paste};
+ghost use Rattle.foil_spec.specs.Lists.{range};
+ghost use Rattle.foil_spec.specs.Limits.{maxEntries, tableSize};
+ghost use Rattle.foil_spec.specs.Foil.{entry};
+ghost use Rattle.foil_spec.specs.Nets.{inUse};
+ghost use Rattle.foil_spec.specs.Lent.{entryAt};
+ghost use Rattle.tables.specs.Rows.{rowsOf, Appended, Kept};
+
+// Copies the first n numbers of `from` to the front of `to`.
+pub fn copy_front(to: &mut [u16], from: &[u16], n: usize)
+    requires { ⌜ (n ≤ length (now to)) × (n ≤ length (now from)) ⌝ }
+    ensures { λ _. ⌜ now (to .exit) ≡ paste (now (to .entry)) 0 (now (from .entry)) n ⌝ }
+{
+    let mut i = 0;
+    while i < n {
+        to[i] = from[i];
+        i += 1;
+    }
+}
+
+// Puts an entry at place n, the first unused one.
+pub fn append(rows: &mut [u16], n: usize, net: u16, x0: u16, y0: u16, x1: u16, y1: u16)
+    requires { ⌜ (n < maxEntries) × (tableSize ≡ length (now rows)) ⌝ }
+    ensures { λ _. ⌜ Appended (now (rows .entry)) (now (rows .exit)) n (entry net x0 y0 x1 y1) ⌝ }
+{
+    rows[n * 5] = net;
+    rows[n * 5 + 1] = x0;
+    rows[n * 5 + 2] = y0;
+    rows[n * 5 + 3] = x1;
+    rows[n * 5 + 4] = y1;
+}
+
+// Whether one of the first n entries of the table is of the net.
+pub fn in_use(table: &[u16], n: usize, net: u16) -> bool
+    requires { ⌜ n * 5 ≤ length (now table) ⌝ }
+    ensures { λ r. ⌜ r ≡ inUse net (map (entryAt (now (table .entry))) (range 0 n)) ⌝ }
+{
+    let mut k = 0;
+    while k < n {
+        if entry_at(table, k).net == net {
+            return true;
+        }
+        k += 1;
+    }
+    false
+}
+
+// Puts the entries of all other nets, of the first n of the table, into rows that are empty, in their
+// order, and answers how many they are.
+pub fn without(rows: &mut [u16], table: &[u16], n: usize, net: u16) -> usize
+    requires { ⌜ (n ≤ maxEntries) × (n * 5 ≤ length (now table)) × (now rows ≡ rowsOf []) ⌝ }
+    ensures { λ r. ⌜ Kept (now (rows .exit)) (now (table .entry)) net n r ⌝ }
+{
+    let mut j = 0;
+    let mut k = 0;
+    while k < n {
+        j = keep_other(rows, j, table, k, net);
+        k += 1;
+    }
+    j
+}
+
+// Puts entry k of the table at place j, unless it is of the net, and answers the next unused place.
+fn keep_other(rows: &mut [u16], j: usize, table: &[u16], k: usize, net: u16) -> usize
+    requires { ⌜ (k < maxEntries) × (k * 5 + 5 ≤ length (now table)) × Kept (now rows) (now table) net k j ⌝ }
+    ensures { λ r. ⌜ Kept (now (rows .exit)) (now (table .entry)) net (k + 1) r ⌝ }
+{
+    let e = entry_at(table, k);
+    if e.net == net {
+        return j;
+    }
+    append(rows, j, e.net, e.x0, e.y0, e.x1, e.y1);
+    j + 1
+}
