@@ -3,39 +3,27 @@ use Prim.Native.Nat.{ℕ, _+_, _*_, _/_, _≤_, _<_}
 use native.Mathlib.Omega.{arith}
 use native.Mathlib.Nat.{mul-assoc, mul-one, one-mul, mul-le-mul, zero-mul, div-eq-of-eq-mul-left}
 use mathlib.Core.Path.{_≡_, refl, sym, ap, _∙_, subst}
-use mathlib.Core.Bool.{Bool, true, false, not, _&&_}
-use mathlib.Core.Option.{Option, none, some}
+use mathlib.Core.Bool.{Bool, true, false, _&&_}
 use lib.Dec.{eqb, leb, ltb}
-use lib.ListN.{length}
-use lib.Ieee.{Float, binary64, unlike, round, ofInt, add, mul, div}
+use lib.Ieee.{Float, binary64, unlike, round, add, mul, div}
 use lib.Ieee.Exact.{HasValue}
 use lib.Ieee.Scale.{round-same}
-use lib.Ieee.Back.{round-whole}
-use borrow.Author.Tests.{eqb-true, not-false, ltb-true, leb-true}
+use borrow.Author.Tests.{eqb-true, ltb-true, leb-true}
 use Rattle.foil_spec.specs.Lists.{any}
-use Rattle.foil_spec.specs.Foil.{sizeOk, entryOk}
-use Rattle.foil_spec.specs.Limits.{maxEntries}
-use Rattle.foil_spec.specs.Ledger.{Room, first, afterLent}
-use Rattle.foil_spec.specs.Lent.{Lent, held, sound}
-use Rattle.list_laws.proofs.Tests.{and-r, all-keep, parts}
+use Rattle.foil_spec.specs.Ledger.{Room}
+use Rattle.foil_spec.specs.Lent.{Lent, held}
+use Rattle.list_laws.proofs.Tests.{parts}
 use Rattle.list_laws.proofs.Members.{of-any, of-all}
-use Rattle.ledger_laws.proofs.Refusals.{none-applies}
-use Rattle.ledger_laws.proofs.Rules.{Keeps, of-ok}
-use Rattle.ledger_laws.proofs.Sound.{of-sound}
-use Rattle.foil_spec.specs.Nets.{ofNet, legsOf, netLength, netBends}
-use Rattle.foil_spec.specs.Ohms.{whole, sheetOk, bendOk, inkOk, formula, ohmsRefusals, ohmsOf}
-use Rattle.foil_spec.specs.Calls.{ohms, measured, ohmsReply, reply, callOn}
+use Rattle.foil_spec.specs.Nets.{netLength, netBends}
+use Rattle.foil_spec.specs.Ohms.{whole, sheetOk, bendOk, inkOk, formula, ohmsOf}
+use Rattle.foil_spec.specs.Calls.{ohms, measured, callOn}
 use Rattle.ohms.specs.Exact.{widths, Named, squares, ExactOhms}
 use Rattle.foil_spec.specs.declared.Ink.{Ink}
 use Rattle.ohms.proofs.Floats.{mul-at, div-at, add-at, exact}
-use Rattle.ohms.proofs.Figures.{sheet-sign, bend-sign}
-use Rattle.nets.proofs.Measuring.{few-legs, few-steps}
+use Rattle.ohms.proofs.Figures.{whole-value, sheet-sign, bend-sign}
+use Rattle.ohms.proofs.Accepted.{Unrefused, answered-so, ink, length-most, bends-most}
 
 -- ---- the four operations
-
-whole-value : (n : ℕ) → n ≤ 9007199254740992 → HasValue (whole n) false n 1
-unfolding whole ofInt
-whole-value n l = round-whole binary64 false n l
 
 -- n / 256 and n / 65,536 are f64s
 over-256 : (s : Bool) (n : ℕ) → n < 9007199254740992 → HasValue (round binary64 s n 256) s n 256
@@ -139,69 +127,26 @@ power-squares L w a B p =
 
 -- ---- the answer
 
-of-reply : (o : Option ℕ) (y x : Float) → ohmsReply o y ≡ measured x → (o ≡ none) × (y ≡ x)
-unfolding ohmsReply
-of-reply none y x e = (refl, cc)
-of-reply (some n) y x e = absurd (let z : _≡_ {A = ℕ} 0 1 = cc in omega arith)
-
-small-size : (n : ℕ) → sizeOk n ≡ true → n ≤ 4096
-unfolding sizeOk
-small-size n h = leb-true n 4096 (and-r (leb 1 n) (leb n 4096) h)
-
 module _ (r : Room) (net : ℕ) (i : Ink) (m : Lent) (x : Float) (w a b : ℕ)
     (e : callOn r (ohms net i) m .answer ≡ measured x) where
-  given : (first (afterLent r (not (sound m)) (ohmsRefusals net i (held m))) ≡ none)
-      × (formula (netLength net (held m)) (netBends net (held m)) i ≡ x)
-  unfolding callOn reply ohmsOf
-  given =
-      of-reply (first (afterLent r (not (sound m)) (ohmsRefusals net i (held m))))
-      (formula (netLength net (held m)) (netBends net (held m)) i) x e
-
-  keeps : Keeps (held m)
-  unfolding afterLent
-  keeps =
-      let g = given .0 in
-      let f : not (sound m) ≡ false = search none-applies in
-      of-ok (held m) (of-sound m (not-false (sound m) f) .kept)
-
-  ink : inkOk i ≡ true
-  unfolding afterLent ohmsRefusals
-  ink =
-      let g = given .0 in
-      let f : not (inkOk i) ≡ false = search none-applies depth 9 in
-      not-false (inkOk i) f
-
-  few : length (held m .entries) ≤ maxEntries
-  few = leb-true (length (held m .entries)) maxEntries (keeps .long)
-
-  length-most : netLength net (held m) ≤ 1048320
-  unfolding netLength legsOf
-  length-most =
-      let W = held m .width in
-      let H = held m .height in
-      let k = few-steps W H (legsOf net (held m .entries)) (small-size W (keeps .width))
-      (small-size H (keeps .height)) (all-keep (entryOk W H) (ofNet net) (held m .entries) (keeps .entries)) in
-      omega (arith, few, few-legs net (held m .entries))
-
-  bends-most : netBends net (held m) ≤ 127
-  unfolding netBends
-  bends-most = omega (arith, few, few-legs net (held m .entries))
-
   pub ohms-exact : Named i w a b
       → HasValue x false (squares (netLength net (held m)) w a (netBends net (held m)) * b) 65536
-  unfolding inkOk
+  unfolding inkOk ohmsOf
   ohms-exact n =
       let L = netLength net (held m) in
       let B = netBends net (held m) in
       let p : Power w = by-power w (n .one-of) in
-      let k = ink in
-      let r : sheetOk (i .sheet) ≡ true = search parts in
+      let given = answered-so r net i m x e in
+      let u : Unrefused r net i m = given .0 in
+      let k = ink r net i m u in
+      let o : sheetOk (i .sheet) ≡ true = search parts in
       let c : bendOk (i .bend) ≡ true = search parts in
       subst (λ (q : ℕ). HasValue x false (q * b) 65536) (sym (power-squares L w a B p))
       (subst (λ (y : Float). HasValue y false ((L * p .v + a * B) * b) 65536) (given .1)
-      (formula-exact L B w (p .v) a b i (n .bend .0) (p .split) (p .positive) (p .most) length-most bends-most
-      (n .bend-most) (n .sheet-most) (bend-sign (i .bend) (n .bend .0) a 256 c (n .bend .1)) (n .width) (n .bend .1)
-      (subst (λ (s : Bool). HasValue (i .sheet) s b 256) (sheet-sign (i .sheet) (n .sheet .0) b 256 r (n .sheet .1))
+      (formula-exact L B w (p .v) a b i (n .bend .0) (p .split) (p .positive) (p .most) (length-most r net i m u)
+      (bends-most r net i m u) (n .bend-most) (n .sheet-most)
+      (bend-sign (i .bend) (n .bend .0) a 256 c (n .bend .1)) (n .width) (n .bend .1)
+      (subst (λ (s : Bool). HasValue (i .sheet) s b 256) (sheet-sign (i .sheet) (n .sheet .0) b 256 o (n .sheet .1))
       (n .sheet .1))))
 
 pub exact-ohms : ExactOhms

@@ -1,3 +1,4 @@
--- What the contracts cite, and the statement on exact figures.
+-- What the contracts cite, and the statements on the figures that are answered.
 pub mod Contract
 pub mod Exact
+pub mod Finite
