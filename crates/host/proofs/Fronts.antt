@@ -17,7 +17,7 @@ use Rattle.foil_spec.specs.Sheet.{countsOk, SheetLent, noBoard, counts, parts, 
 use Rattle.foil_spec.specs.Sheet.{sheetRoom, sheetStep, opening, sheetRefusal, unless, sheetCall}
 use Rattle.list_laws.proofs.Tests.{not-ff}
 use Rattle.ledger_laws.proofs.Refusals.{no-more, none-applies}
-use Rattle.ledger_laws.proofs.Replies.{shownBy, reply-is}
+use Rattle.ledger_laws.proofs.Replies.{shownBy, reply-shown}
 use Rattle.sheet_laws.proofs.Counts.{ok-total}
 use Rattle.sheet_laws.proofs.Parts.{parts-append}
 use Rattle.sheet_laws.proofs.Views.{StandsAt, call-others}
@@ -102,8 +102,13 @@ module _ (rest : List ℕ) (r : Room) (k : ℕ) (here : k < sheetFoils) where
       ≡ shownBy (longer rest) (reply (sheetStep k) r (not (sound (view k x))) c (held (view k x)) x)
   reply-longer c x w =
       rw (view-longer rest r k here x w)
-      (reply-is (sheetStep k) (sheetStep k) (longer rest) (Whole r k) r (λ n. whole-after rest (withOutput r n) k here)
-      (λ n s y v. step-longer rest (withOutput r n) k here y v s) (not (sound (view k x))) c (held (view k x)) x w)
+      (reply-shown (longer rest) (Whole r k) (sheetStep k) (sheetStep k) r
+      (λ n s y v.
+      record {
+        is = step-longer rest (withOutput r n) k here y v s;
+        kept = whole-after rest (withOutput r n) k here s y v;
+      })
+      (not (sound (view k x))) c (held (view k x)) x w .is)
 
 -- where no refusal that a call begins with applies, the counts keep both limits
 unbroken : (r : Room) (b : Bool) (c : Call) → first (opening r b c) ≡ none → b ≡ false

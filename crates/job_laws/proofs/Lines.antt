@@ -2,7 +2,7 @@
 use Prim.Native.Nat.{ℕ, zero, suc, _≤_}
 use native.Mathlib.Omega.{arith}
 use mathlib.Core.Path.{_≡_, refl, sym, ap, _∙_}
-use mathlib.Core.Bool.{Bool, true, false, cond, or-true}
+use mathlib.Core.Bool.{Bool, true, false, or-true}
 use mathlib.Core.List.{List, [], _∷_, _++_, append-nil}
 use mathlib.Core.Option.{Option, none, some}
 use lib.ListN.{length}
@@ -17,8 +17,8 @@ use Rattle.foil_spec.specs.Ledger.{Step, newFoil, draw, lay, lift, lookUp, putL
 use Rattle.foil_spec.specs.Ledger.{Answer, numberOf}
 use Rattle.foil_spec.specs.Ledger.{refusals, afterLent, After, settle, refusalOf, ledgerStep}
 use Rattle.foil_spec.specs.Job.{jobRoom, steps, isEnd, recordEnd, recordChecks}
-use Rattle.foil_spec.specs.Calls.{runRecord, ran, endsJob, andThen, actAll, actRecord, wholeRefusals, reply, ledgerCall}
-use Rattle.list_laws.proofs.Tests.{and-i, all-append}
+use Rattle.foil_spec.specs.Calls.{runRecord, endsJob, andThen, actAll, actRecord, wholeRefusals, reply, ledgerCall}
+use Rattle.list_laws.proofs.Tests.{both, and-i, all-append}
 use Rattle.list_laws.proofs.Members.{each-append}
 use Rattle.path_laws.proofs.FirstPath.{of-path}
 use Rattle.ledger_laws.specs.Line.{but, numbersFrom, ownNumbers}
@@ -122,15 +122,8 @@ then-lines : (s : Step) (ss : List Step) (a : After Answer Layout) (b : After (L
     → InLines (stepLine s (a .answer)) → InLines (stepLines ss (b .answer))
     → InLines (stepLines (s ∷ ss) (andThen a b .answer))
 unfolding andThen stepLines
-then-lines s ss a b h k = go (endsJob (a .answer))
-  where
-    go : (t : Bool)
-        → InLines (stepLines (s ∷ ss)
-        (cond {A = After (List Answer) Layout} t
-        (record { answer = a .answer ∷ []; state = a .state })
-        (record { answer = a .answer ∷ b .answer; state = b .state }) .answer))
-    go true = more-lines h no-line
-    go false = more-lines h k
+then-lines s ss a b h k =
+    both (endsJob (a .answer)) (λ t. rw t (more-lines h no-line)) (λ t. rw t (more-lines h k))
 
 step-lines : (ss : List Step) (l : Layout) → Fine l
     → InLines (stepLines ss (actAll (ledgerStep jobRoom) ss l .answer))
@@ -153,16 +146,10 @@ reply-lines : (o : Option ℕ) (e : Bool) (ss : List Step) (place : ℕ) (l : La
 unfolding actRecord replyLines numberOf bytesOf
 reply-lines (some n) e ss place l rest fine h k = one-line (file n) (h n refl)
 reply-lines none true ss place l rest fine h k = strip-lines (stripsOf l)
-reply-lines none false ss place l rest fine h k = go (any endsJob given)
-  where
-    given : List Answer
-    given = actAll (ledgerStep jobRoom) ss l .answer
-
-    go : (t : Bool)
-        → InLines (replyLines ss (ran given (cond t none (some place)))
-        (actAll (ledgerStep jobRoom) ss l .state) rest)
-    go true = step-lines ss l fine
-    go false = more-lines (step-lines ss l fine) (k place)
+reply-lines none false ss place l rest fine h k =
+    both (any endsJob (actAll (ledgerStep jobRoom) ss l .answer))
+    (λ t. rw t (step-lines ss l fine))
+    (λ t. rw t (more-lines (step-lines ss l fine) (k place)))
 
 file-possible : (bs : List ℕ) (at n : ℕ) → first (wholeRefusals jobRoom false bs at) ≡ some n
     → possible (file n) ≡ true

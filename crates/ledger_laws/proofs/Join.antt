@@ -5,24 +5,22 @@ use native.Mathlib.Omega.{arith}
 use mathlib.Core.Path.{_≡_, refl, sym, ap, ap₂, _∙_, subst}
 use mathlib.Core.Bool.{Bool, true, false, not, cond}
 use mathlib.Core.List.{List, [], _∷_, _++_, append-nil}
-use mathlib.Core.Option.{Option, none, some, Option·getD}
+use mathlib.Core.Option.{none, some}
 use mathlib.Core.Logic.{_↔_}
 use lib.Dec.{ltb}
 use lib.ListN.{length, length-append}
 use Rattle.foil_spec.specs.Lists.{keep, any}
-use Rattle.foil_spec.specs.Foil.{Point, Entry, Layout, netOk, free}
+use Rattle.foil_spec.specs.Foil.{Point, Entry, Layout, netOk}
 use Rattle.foil_spec.specs.Paths.{gap, isPathTo, bends, stepsFrom, pathLength}
 use Rattle.foil_spec.specs.Nets.{ofNet, inUse, legsOf, legSteps, stepsOf, netLength, netBends}
 use Rattle.foil_spec.specs.Ledger.{noPath, leg, legsFrom, legs, withEntries, offFoil, Room, short, cornerRoom}
 use Rattle.foil_spec.specs.Ledger.{without, freeFor, onLegs, onNet, joinOf, joinCorners, tooLong, tooFine, next, says}
 use Rattle.foil_spec.specs.Ledger.{_⇒_, first, refusals, afterLent, settle, refusalOf, ledgerStep}
 use Rattle.foil_spec.specs.Ledger.{lift, join, refused, accepted, laid}
-use Rattle.list_laws.proofs.Tests.{or-il, not-ff, and-l, both}
+use Rattle.list_laws.proofs.Tests.{or-il, not-ff, both}
 use Rattle.list_laws.proofs.Members.{keep-append}
 use Rattle.path_laws.specs.First.{IsFirst}
 use Rattle.path_laws.proofs.Laws.{gives-first, gives-none, none-is}
-use Rattle.path_laws.proofs.FirstPath.{of-path}
-use Rattle.path_laws.proofs.Ways.{path-way}
 use Rattle.path_laws.proofs.Ends.{path-ends, first-ends}
 use Rattle.zones.proofs.Free.{free-inside}
 use Rattle.ledger_laws.specs.Joins.{MayJoin}

@@ -3,19 +3,19 @@ use Prim.Native.Nat.{ℕ, _+_, _≤_}
 use native.Mathlib.Omega.{arith}
 use mathlib.Core.Path.{_≡_, refl, sym, ap, ap₂, _∙_, subst}
 use mathlib.Core.Bool.{true}
-use mathlib.Core.List.{List, _∷_, _++_}
+use mathlib.Core.List.{List, _++_}
 use mathlib.Core.Logic.{_↔_}
 use lib.ListN.{length}
 use Rattle.foil_spec.specs.Foil.{Point, Layout}
-use Rattle.foil_spec.specs.Paths.{isPathTo, bends, pathLength}
+use Rattle.foil_spec.specs.Paths.{isPathTo}
 use Rattle.foil_spec.specs.Nets.{netLength, netBends}
 use Rattle.foil_spec.specs.Ledger.{without, freeFor, onLegs, legs, withEntries, Step, Answer, reads, After, ledgerStep}
-use Rattle.foil_spec.specs.Ledger.{lift, join, refused, accepted, laid}
+use Rattle.foil_spec.specs.Ledger.{lift, join, refused, laid}
 use Rattle.foil_spec.specs.Lent.{Lent}
 use Rattle.path_laws.proofs.FirstPath.{of-path}
 use Rattle.path_laws.proofs.Ways.{path-way}
 use Rattle.ledger_laws.specs.Moments.{Moment}
-use Rattle.ledger_laws.specs.Joins.{NoJoin, JoinsFirst, JoinsApart, JoinBends, TakesWhole, LiftsWhole}
+use Rattle.ledger_laws.specs.Joins.{NoJoin, JoinsFirst, JoinsApart, JoinBends, LiftsWhole}
 use Rattle.ledger_laws.proofs.Moments.{Goes, Chain, Onward, Standing, at-every}
 use Rattle.ledger_laws.proofs.Demand3.{goes-on, answer-is, corners-front}
 use Rattle.ledger_laws.proofs.Apart.{way-apart}

@@ -2,15 +2,14 @@
 use Prim.Native.Nat.{ℕ}
 use mathlib.Core.Path.{_≡_, refl}
 use mathlib.Core.Bool.{true, false}
-use mathlib.Core.List.{List}
 use mathlib.Core.Option.{Option, none, some}
 use Rattle.foil_spec.specs.Foil.{Layout}
-use Rattle.foil_spec.specs.Ledger.{Room, withOutput, Step, Answer, says, next, After, settle, refusalOf, ledgerStep}
+use Rattle.foil_spec.specs.Ledger.{Room, withOutput, Step, says, next, settle, refusalOf, ledgerStep}
 use Rattle.foil_spec.specs.Lent.{layoutOk}
-use Rattle.foil_spec.specs.Calls.{Call, andThen, actAll, ledgerCall}
+use Rattle.foil_spec.specs.Calls.{Call, ledgerCall}
 use Rattle.ledger_laws.proofs.Refusals.{unrefused-own}
 use Rattle.ledger_laws.proofs.Line.{line}
-use Rattle.ledger_laws.proofs.Replies.{then-keeps, steps-keep as keep-steps, reply-keeps}
+use Rattle.ledger_laws.proofs.Replies.{reply-keeps}
 
 -- what accepted steps keep, every step keeps
 module _ (Q : Layout → Type 0) (r : Room)
@@ -25,9 +24,6 @@ module _ (Q : Layout → Type 0) (r : Room)
   unfolding ledgerStep
   step-keeps s l g = settle-keeps (refusalOf r false s l) s l refl g
 
-  pub steps-keep : (ss : List Step) (l : Layout) → Q l → Q (actAll (ledgerStep r) ss l .state)
-  steps-keep = keep-steps (ledgerStep r) Q step-keeps
-
 -- and in the room r, with any number of output, every call
 pub call-keeps : (Q : Layout → Type 0) (r : Room)
     → ((n : ℕ) (s : Step) (l : Layout) → Q l → refusalOf (withOutput r n) false s l ≡ none → Q (next s l))
@@ -41,20 +37,11 @@ call-keeps Q r keeps c l g =
 abbrev Kept : Layout → Type 0
 Kept l = layoutOk l ≡ true
 
-pub then-kept : (a : After Answer Layout) (b : After (List Answer) Layout) → layoutOk (a .state) ≡ true
-    → layoutOk (b .state) ≡ true → layoutOk (andThen a b .state) ≡ true
-then-kept = then-keeps Kept
+next-keeps : (r : Room) (s : Step) (l : Layout) → Kept l → refusalOf r false s l ≡ none → Kept (next s l)
+next-keeps r s l g e = line s .kept r l (λ _. g) (unrefused-own r s l false e)
 
-module _ (r : Room) where
-  next-keeps : (s : Step) (l : Layout) → layoutOk l ≡ true → refusalOf r false s l ≡ none → layoutOk (next s l) ≡ true
-  next-keeps s l g e = line s .kept r l (λ _. g) (unrefused-own r s l false e)
-
-  pub step-kept : (s : Step) (l : Layout) → layoutOk l ≡ true → layoutOk (ledgerStep r s l .state) ≡ true
-  step-kept = step-keeps Kept r next-keeps
-
-  pub steps-kept : (ss : List Step) (l : Layout) → layoutOk l ≡ true
-      → layoutOk (actAll (ledgerStep r) ss l .state) ≡ true
-  steps-kept = steps-keep Kept r next-keeps
+pub step-kept : (r : Room) (s : Step) (l : Layout) → layoutOk l ≡ true → layoutOk (ledgerStep r s l .state) ≡ true
+step-kept r = step-keeps Kept r (next-keeps r)
 
 pub call-kept : (r : Room) (c : Call) (l : Layout) → layoutOk l ≡ true → layoutOk (ledgerCall r c l .state) ≡ true
 call-kept r = call-keeps Kept r (λ n. next-keeps (withOutput r n))

@@ -30,8 +30,9 @@ use Rattle.ledger_laws.proofs.Refusals.{no-more, none-applies, first-pa
 use Rattle.ledger_laws.proofs.Refusals.{unrefused-long, unrefused-own}
 use Rattle.ledger_laws.proofs.Stored.{Long, entries-fit, strips-fit, front-store, back-new, back-store}
 use Rattle.ledger_laws.proofs.Line.{clearance-number, line}
-use Rattle.ledger_laws.proofs.Kept.{then-kept, steps-kept, call-kept}
-use Rattle.ledger_laws.proofs.Steps.{shown, cons-are, steps-are, ran-is, call-is}
+use Rattle.ledger_laws.proofs.Replies.{shownBy, cons-shown, ran-shown, steps-shown}
+use Rattle.ledger_laws.proofs.Kept.{call-kept}
+use Rattle.ledger_laws.proofs.Steps.{shown, ShownIn, step-shown, call-is}
 
 -- ---- lists that are too short
 
@@ -182,15 +183,7 @@ pub record Begun (r : Room) (c : Call) (l : Layout) (m : Lent) : Type 0 where
 pub step-alone : (r : Room) (s : Step) (l : Layout)
     → actAll (ledgerStep r) (s ∷ []) l .state ≡ ledgerStep r s l .state
 unfolding actAll andThen
-step-alone r s l = go (endsJob (ledgerStep r s l .answer)) (ledgerStep r s l)
-  where
-    go : (t : Bool) (a : After Answer Layout)
-        → cond {A = After (List Answer) Layout} t
-        (record { answer = a .answer ∷ []; state = a .state })
-        (record { answer = a .answer ∷ []; state = a .state }) .state
-        ≡ a .state
-    go true a = refl
-    go false a = refl
+step-alone r s l = both (endsJob (ledgerStep r s l .answer)) (λ t. rw t refl) (λ t. rw t refl)
 
 -- a step that answers a, which is no refusal, is not refused
 settled-taken : {S : Type 0} (o : Option ℕ) (done : After Answer S) (old : S) (a : Answer)
@@ -245,14 +238,12 @@ module _ (s : Step) (blind : reads s ≡ false) (r : Room) (l : Layout) where
 
     -- the steps of a call whose first one it is
     begun-steps : (ss : List Step) (m : Lent)
-        → actAll (stepOn r) (s ∷ ss) m ≡ shown m (actAll (ledgerStep r) (s ∷ ss) l)
+        → ShownIn m (actAll (ledgerStep r) (s ∷ ss) l) (actAll (stepOn r) (s ∷ ss) m)
     begun-steps ss m =
-        cons-are r m m s ss l (blind-is m) (steps-are r ss (ledgerStep r s l .state) m blind-state)
-
-    begun-state : (ss : List Step) → layoutOk (actAll (ledgerStep r) (s ∷ ss) l .state) ≡ true
-    unfolding actAll
-    begun-state ss =
-        then-kept (ledgerStep r s l) _ blind-state (steps-kept r ss (ledgerStep r s l .state) blind-state)
+        cons-shown (λ (x : Layout). store x m) (λ (x : Layout). layoutOk x ≡ true) (ledgerStep r) (stepOn r) s ss l m
+        (unfold shown shownBy in record { is = blind-is m; kept = blind-state })
+        (steps-shown (λ (x : Layout). store x m) (λ (x : Layout). layoutOk x ≡ true) (ledgerStep r) (stepOn r)
+        (λ t x. step-shown r t x m) ss (ledgerStep r s l .state) blind-state)
 
     begun-call : (m : Lent) → Begun r (step s) l m
     unfolding ledgerCall callOn reply stepsRun
@@ -304,15 +295,10 @@ of-ran none false r ss p l x xs n h = record { unrefused = refl; not-end = refl;
 then-head : (a : After Answer Layout) (b : After (List Answer) Layout) (x : Answer) (xs : List Answer)
     → andThen a b .answer ≡ x ∷ xs → a .answer ≡ x
 unfolding andThen
-then-head a b x xs h = go (endsJob (a .answer)) h
-  where
-    go : (t : Bool)
-        → cond {A = After (List Answer) Layout} t
-        (record { answer = a .answer ∷ []; state = a .state })
-        (record { answer = a .answer ∷ b .answer; state = b .state }) .answer
-        ≡ x ∷ xs → a .answer ≡ x
-    go true k = cc
-    go false k = cc
+then-head a b x xs h =
+    both (endsJob (a .answer))
+    (λ t. let k : a .answer ∷ [] ≡ x ∷ xs = rw t at h in cc)
+    (λ t. let k : a .answer ∷ b .answer ≡ x ∷ xs = rw t at h in cc)
 
 first-answer : (r : Room) (s : Step) (ss : List Step) (l : Layout) (x : Answer) (xs : List Answer)
     → actAll (ledgerStep r) (s ∷ ss) l .answer ≡ x ∷ xs → ledgerStep r s l .answer ≡ x
@@ -359,11 +345,6 @@ pub whole-at-0 : (r : Room) (b : Bool) (bs : List ℕ)
 unfolding wholeRefusals afterLent first
 whole-at-0 r b bs = rw (and-false b) refl
 
-ran-state : (r : Room) (ss : List Step) (p : ℕ) (l : Layout)
-    → actRecord (ledgerStep r) none false ss p l .state ≡ actAll (ledgerStep r) ss l .state
-unfolding actRecord
-ran-state r ss p l = refl
-
 -- what a record that begins a foil has passed
 record Opened (r : Room) (bs : List ℕ) (l : Layout) : Type 0 where
   unrefused : first (wholeRefusals r false bs 0) ≡ none
@@ -389,39 +370,34 @@ opened r bs xs n l e =
 
 pub begun-record : (r : Room) (bs : List ℕ) (xs : List Answer) (n : Option ℕ) (l : Layout) (m : Lent)
     → ledgerCall r (runRecord bs 0) l .answer ≡ ran (accepted ∷ xs) n → Begun r (runRecord bs 0) l m
-unfolding ledgerCall callOn reply stepsRun
+unfolding ledgerCall callOn reply actRecord stepsRun shown shownBy
 begun-record r bs xs n l m e =
     let a = opened r bs xs n l e in
     let b = a .board in
     let new : Step = newFoil (b .W) (b .H) (b .d) in
     let blind = new-blind (b .W) (b .H) (b .d) in
     let u = a .taken in
-    let o : Option ℕ = first (wholeRefusals r false bs 0) in
-    let ends : actRecord (ledgerStep r) o (isEnd bs 0) (steps bs 0) (recordEnd bs 0) l .state
-    ≡ actAll (ledgerStep r) (new ∷ b .later) l .state =
-    ap₂ (λ (t : Option ℕ) (q : Bool). actRecord (ledgerStep r) t q (steps bs 0) (recordEnd bs 0) l .state)
-    (a .unrefused) (a .not-end)
-    ∙ ran-state r (steps bs 0) (recordEnd bs 0) l
-    ∙ ap (λ (ss : List Step). actAll (ledgerStep r) ss l .state) (b .is) in
+    let steps-are = begun-steps new blind r l u (b .later) m in
+    let ran = subst₂
+    (λ (t : Option ℕ) (q : Bool).
+    ShownIn m (actRecord (ledgerStep r) t q (steps bs 0) (recordEnd bs 0) l)
+    (actRecord (stepOn r) t q (steps bs 0) (recordEnd bs 0) m))
+    (sym (a .unrefused)) (sym (a .not-end))
+    (ran-shown (λ (x : Layout). store x m) (λ (x : Layout). layoutOk x ≡ true) (ledgerStep r) (stepOn r) (steps bs 0)
+    (recordEnd bs 0) l m
+    (subst (λ (ss : List Step). ShownIn m (actAll (ledgerStep r) ss l) (actAll (stepOn r) ss m)) (sym (b .is))
+    steps-are)) in
     record {
       long = unrefused-long r new l false u;
-      kept = ap layoutOk ends ∙ begun-state new blind r l u (b .later);
-      is =
-          rw (whole-at-0 r (not (sound m)) bs)
-          (subst₂
-          (λ (t : Option ℕ) (q : Bool). actRecord (stepOn r) t q (steps bs 0) (recordEnd bs 0) m
-          ≡ shown m (actRecord (ledgerStep r) t q (steps bs 0) (recordEnd bs 0) l))
-          (sym (a .unrefused)) (sym (a .not-end))
-          (ran-is r (steps bs 0) (recordEnd bs 0) l m m
-          (subst (λ (ss : List Step). actAll (stepOn r) ss m ≡ shown m (actAll (ledgerStep r) ss l)) (sym (b .is))
-          (begun-steps new blind r l u (b .later) m))));
+      kept = ran .kept;
+      is = rw (whole-at-0 r (not (sound m)) bs) (ran .is);
       opening = new;
       blind = blind;
       later = b .later;
       no-list = unfold isList in refl;
       runs = ap (stepsRun (runRecord bs 0)) e ∙ b .is;
       unrefused = u;
-      ends = ends;
+      ends = rw (a .unrefused, a .not-end, b .is) refl;
     }
 
 module _ (r : Room) (l : Layout) where

@@ -66,15 +66,7 @@ chain-append m l l′ l″ (j ∷ ks) js h k = (h .0, h .1, chain-append m (j .l
 chain-then : (m : Lent) (a : After Answer Layout) (b : After (List Answer) Layout) (ks : List Moment)
     → Chain m (a .state) ks (b .state) → Chain m (a .state) (cond (endsJob (a .answer)) [] ks) (andThen a b .state)
 unfolding andThen
-chain-then m a b ks h = go (endsJob (a .answer))
-  where
-    go : (t : Bool)
-        → Chain m (a .state) (cond t [] ks)
-        (cond {A = After (List Answer) Layout} t
-        (record { answer = a .answer ∷ []; state = a .state })
-        (record { answer = a .answer ∷ b .answer; state = b .state }) .state)
-    go true = refl
-    go false = h
+chain-then m a b ks h = both (endsJob (a .answer)) (λ t. rw t refl) (λ t. rw t h)
 
 -- ---- the steps of one call
 
@@ -105,60 +97,28 @@ module _ (c : Lending) (n m : Lent)
   abbrev r : Room
   r = roomFor c n
 
-  -- the steps ss after the step that is answered by z
-  chain-next : (z : After Answer Lent) (a : After Answer Layout) (out : List ℕ) (ss : List Step)
-      (b : After (List Answer) Layout) → z ≡ shown (front c m) a
-      → Chain m (a .state) (momentsOf c n ss (store (a .state) (front c m)) (outputAfter (a .answer) out) (a .state))
-      (b .state)
-      → Chain m (a .state)
-      (cond (endsJob (z .answer)) [] (momentsOf c n ss (z .state) (outputAfter (z .answer) out) (a .state)))
-      (andThen a b .state)
-  chain-next z a out ss b e h =
-      subst
-      (λ (x : After Answer Lent).
-      Chain m (a .state)
-      (cond (endsJob (x .answer)) [] (momentsOf c n ss (x .state) (outputAfter (x .answer) out) (a .state)))
-      (andThen a b .state))
-      (sym e) (unfold shown in chain-then m a b _ h)
-
   chain : (ss : List Step) (l : Layout) (out : List ℕ) → layoutOk l ≡ true
       → Chain m l (momentsOf c n ss (store l (front c m)) out l) (actAll (ledgerStep r) ss l .state)
-  unfolding momentsOf actAll momentOf
+  unfolding momentsOf actAll momentOf shown
   chain [] l out g = refl
   chain (s ∷ ss) l out g =
       let a : After Answer Layout = ledgerStep r s l in (
         refl,
         goes r s l out g,
-        chain-next (stepOn r s (store l (front c m))) a out ss (actAll (ledgerStep r) ss (a .state))
-            (step-is r s l (front c m) g) (chain ss (a .state) (outputAfter (a .answer) out) (step-kept r s l g)),
+        rw (step-is r s l (front c m) g)
+            (chain-then m a (actAll (ledgerStep r) ss (a .state)) _
+            (chain ss (a .state) (outputAfter (a .answer) out) (step-kept r s l g))),
       )
-
-  -- the lays of a list after the one that is answered by z in the room q
-  each-next : (q : Room) (z : After Answer Lent) (a : After Answer Layout) (out : List ℕ) (ss : List Step) (e : Layout)
-      → z ≡ shown (front c m) a
-      → Chain m (a .state)
-      (momentsEach c n (roomLeft (a .answer) q) ss (store (a .state) (front c m))
-      (drop (length (numbersOut (a .answer))) out) (a .state))
-      e
-      → Chain m (a .state)
-      (momentsEach c n (roomLeft (z .answer) q) ss (z .state) (drop (length (numbersOut (z .answer))) out) (a .state)) e
-  each-next q z a out ss e h k =
-      subst
-      (λ (x : After Answer Lent).
-      Chain m (a .state)
-      (momentsEach c n (roomLeft (x .answer) q) ss (x .state) (drop (length (numbersOut (x .answer))) out) (a .state))
-      e)
-      (sym h) (unfold shown in k)
 
   each-chain : (ss : List Step) (q : Room) (l : Layout) (out : List ℕ) → layoutOk l ≡ true
       → Chain m l (momentsEach c n q ss (store l (front c m)) out l) (actEach ledgerStep q ss l .state)
-  unfolding momentsEach actEach inFront momentOf
+  unfolding momentsEach actEach inFront momentOf shown
   each-chain [] q l out g = refl
   each-chain (s ∷ ss) q l out g =
       let a : After Answer Layout = ledgerStep q s l in (
         refl,
         goes q s l out g,
-        each-next q (stepOn q s (store l (front c m))) a out ss _ (step-is q s l (front c m) g)
+        rw (step-is q s l (front c m) g)
             (each-chain ss (roomLeft (a .answer) q) (a .state) (drop (length (numbersOut (a .answer))) out)
             (step-kept q s l g)),
       )
@@ -353,12 +313,10 @@ module _ (m : Lent) (l : Layout) (c : Lending) (b : Begun (roomFor c m) (c .call
       (outputAfter (stepOn room new (front c m) .answer) (c .output)) (line .state))
 
   rest-goes : Chain m (line .state) rest (told m c l .state)
-  unfolding rest told
+  unfolding rest told actAll shown
   rest-goes =
-      subst (Chain m (line .state) rest) (sym (b .ends))
-      (unfold actAll in
-      chain-next c m m whole-new (stepOn room new (front c m)) line (c .output) (b .later)
-      (actAll (ledgerStep room) (b .later) (line .state)) new-on
+      rw (b .ends, new-on)
+      (chain-then m line (actAll (ledgerStep room) (b .later) (line .state)) _
       (chain c m m whole-new (b .later) (line .state) _ new-left))
 
   lend-first : lend c m ≡ shown m (told m c l)

@@ -2,7 +2,7 @@
 use Prim.Native.Nat.{ℕ, zero, suc, _/_}
 use native.Mathlib.Decide.{ℕ-discrete}
 use mathlib.Core.Path.{_≡_, refl, sym, ap, _∙_, subst}
-use mathlib.Core.Bool.{Bool, true, false, not, cond, or-true}
+use mathlib.Core.Bool.{Bool, true, false, not, or-true}
 use mathlib.Core.List.{List, [], _∷_, map}
 use mathlib.Core.Logic.{inl, inr, by-cases}
 use mathlib.Core.Option.{Option, none, some, Option·some-injective}
@@ -82,15 +82,10 @@ module _ (p : ℕ → Bool) (zero-passes : p 0 ≡ true) (kind : Step → Bool) 
   then-pass : (a : After Answer Layout) (b : After (List Answer) Layout) → p (numberOf (a .answer)) ≡ true
       → all p (map numberOf (b .answer)) ≡ true → all p (map numberOf (andThen a b .answer)) ≡ true
   unfolding andThen
-  then-pass a b h k = go (endsJob (a .answer))
-    where
-      go : (t : Bool)
-          → all p (map numberOf
-          (cond {A = After (List Answer) Layout} t
-          (record { answer = a .answer ∷ []; state = a .state })
-          (record { answer = a .answer ∷ b .answer; state = b .state }) .answer)) ≡ true
-      go true = and-i {a = p (numberOf (a .answer))} h refl
-      go false = and-i {a = p (numberOf (a .answer))} h k
+  then-pass a b h k =
+      both (endsJob (a .answer))
+      (λ t. rw t (and-i {a = p (numberOf (a .answer))} h refl))
+      (λ t. rw t (and-i {a = p (numberOf (a .answer))} h k))
 
   steps-pass : (ss : List Step) → all kind ss ≡ true → (l : Layout) → Q l
       → all p (map numberOf (actAll (ledgerStep r) ss l .answer)) ≡ true

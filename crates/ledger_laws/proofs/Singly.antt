@@ -5,14 +5,14 @@ use mathlib.Core.Path.{_≡_, refl, sym, ap, ap₂, _∙_, subst}
 use mathlib.Core.Bool.{Bool, true, false, not}
 use mathlib.Core.List.{List, [], _∷_, _++_, map}
 use mathlib.Core.Option.{Option, none, some}
-use lib.ListN.{length, take, drop, length-drop}
+use lib.ListN.{length, drop, length-drop}
 use Rattle.foil_spec.specs.Lists.{each}
 use Rattle.foil_spec.specs.Foil.{Layout}
 use Rattle.foil_spec.specs.Ledger.{Room, withOutput, short, Step, Answer, first, afterLent, After, ledgerStep}
 use Rattle.foil_spec.specs.Lent.{Lent, store, held, layoutOk, sound, roomIn, stepOn, overFront, outputAfter, numbersOut}
 use Rattle.foil_spec.specs.Lent.{roomLeft}
 use Rattle.foil_spec.specs.Wishes.{wishes}
-use Rattle.foil_spec.specs.Calls.{Call, step, layList, Reply, answered, laidAll, inFront, actEach, actList}
+use Rattle.foil_spec.specs.Calls.{Call, layList, Reply, answered, laidAll, inFront, actEach, actList}
 use Rattle.foil_spec.specs.Calls.{listRefusals, reply, ledgerCall, callOn, outputBy}
 use Rattle.foil_spec.specs.Sequence.{Lending, front, roomFor, back, lend, told, Left, leaves, runLent}
 use Rattle.list_laws.proofs.Tests.{not-ff}
@@ -23,7 +23,7 @@ use Rattle.ledger_laws.proofs.Stored.{Long, back-new}
 use Rattle.ledger_laws.proofs.Kept.{step-kept}
 use Rattle.ledger_laws.proofs.Steps.{shown}
 use Rattle.ledger_laws.proofs.Sound.{of-sound, sound-store-is}
-use Rattle.ledger_laws.proofs.Lending.{LongFront, long-front, long-whole, back-front, lend-is}
+use Rattle.ledger_laws.proofs.Lending.{long-front, long-whole, back-front, lend-is}
 
 -- ---- the lays one after the other
 

@@ -8,23 +8,26 @@ use mathlib.Core.Option.{Option, none, some}
 use Rattle.foil_spec.specs.Lists.{any}
 use Rattle.foil_spec.specs.Ledger.{Room, short, Clearance, Step, newFoil, Answer}
 use Rattle.foil_spec.specs.Ledger.{After, refusalOf, settle, ledgerStep}
-use Rattle.foil_spec.specs.Lent.{Lent, held, sound, stepOn}
+use Rattle.foil_spec.specs.Foil.{Layout}
+use Rattle.foil_spec.specs.Lent.{Lent, store, held, layoutOk, sound, stepOn}
 use Rattle.foil_spec.specs.Calls.{endsJob, andThen, actAll}
 use Rattle.list_laws.proofs.Tests.{both, clash}
 use Rattle.ledger_laws.proofs.Stored.{sound-store}
 use Rattle.ledger_laws.proofs.Sound.{of-sound, sound-store-is}
-use Rattle.ledger_laws.proofs.Kept.{steps-kept}
-use Rattle.ledger_laws.proofs.Steps.{shown, steps-are}
+use Rattle.ledger_laws.proofs.Replies.{shownBy, steps-shown}
+use Rattle.ledger_laws.proofs.Steps.{shown, step-shown}
 use Rattle.ledger_laws.proofs.Lending.{new-blind, blind-refusal, blind-is, blind-state, new-ends}
 
 module _ (r : Room) where
   pub steps-sound : (ss : List Step) (m : Lent) → sound m ≡ true → sound (actAll (stepOn r) ss m .state) ≡ true
-  unfolding shown
+  unfolding shownBy
   steps-sound ss m g =
       let k = of-sound m g in
+      let h = steps-shown (λ (l : Layout). store l m) (λ (l : Layout). layoutOk l ≡ true) (ledgerStep r) (stepOn r)
+      (λ s l. step-shown r s l m) ss (held m) (k .kept) in
       ap (λ (x : Lent). sound (actAll (stepOn r) ss x .state)) (sym (sound-store-is m k))
-      ∙ ap (λ (a : After (List Answer) Lent). sound (a .state)) (steps-are r ss (held m) m (k .kept))
-      ∙ sound-store (actAll (ledgerStep r) ss (held m) .state) m (steps-kept r ss (held m) (k .kept))
+      ∙ ap (λ (a : After (List Answer) Lent). sound (a .state)) (h .is)
+      ∙ sound-store (actAll (ledgerStep r) ss (held m) .state) m (h .kept)
 
   module _ (W H : ℕ) (d : Clearance) (m : Lent) (long : short r ≡ false) where
     abbrev new : Step

@@ -2,31 +2,23 @@
 use Prim.Native.Nat.{ℕ}
 use native.Mathlib.Omega.{arith}
 use mathlib.Core.Path.{_≡_, refl, sym, ap, _∙_, subst}
-use mathlib.Core.Bool.{Bool, true, false, cond}
+use mathlib.Core.Bool.{Bool, true, false}
 use mathlib.Core.List.{List, [], _∷_, append-nil}
 use mathlib.Core.Option.{Option, none, some}
 use lib.Ieee.{Float}
 use Rattle.foil_spec.specs.Foil.{Layout}
-use Rattle.foil_spec.specs.Ledger.{Room, Step, Answer, After}
+use Rattle.foil_spec.specs.Ledger.{Room, Step, Answer}
 use Rattle.foil_spec.specs.Lent.{Lent, stepOn}
 use Rattle.foil_spec.specs.Job.{steps}
 use Rattle.foil_spec.specs.Wishes.{wishes}
 use Rattle.foil_spec.specs.Calls.{Call, step, runRecord, ohms, layList, ran, laidAll, ohmsReply, endsJob, andThen}
 use Rattle.foil_spec.specs.Calls.{actAll, actRecord, inFront, actEach, actList, reply, callOn, answersIn}
 use Rattle.foil_spec.specs.Sequence.{Lending, front, roomFor, lend}
-use Rattle.ledger_laws.specs.Moments.{Moment, momentOf, momentsOf, momentsEach, stepsRun, isList, momentsBy}
+use Rattle.list_laws.proofs.Tests.{both}
+use Rattle.ledger_laws.specs.Moments.{momentOf, momentsOf, momentsEach, stepsRun, isList, momentsBy}
 use Rattle.ledger_laws.specs.Moments.{moments, answersAt, NoneLeftOut}
 
 module _ (c : Lending) (m : Lent) where
-  then-answers : (t : Bool) (a : Answer) (x : Lent) (ks : List Moment) (b : After (List Answer) Lent)
-      → answersAt ks ≡ b .answer
-      → a ∷ answersAt (cond t [] ks)
-      ≡ cond {A = After (List Answer) Lent} t
-      (record { answer = a ∷ []; state = x })
-      (record { answer = a ∷ b .answer; state = b .state }) .answer
-  then-answers true a x ks b e = refl
-  then-answers false a x ks b e = ap (λ (given : List Answer). a ∷ given) e
-
   abbrev r : Room
   r = roomFor c m
 
@@ -35,8 +27,10 @@ module _ (c : Lending) (m : Lent) where
   unfolding momentsOf momentOf actAll andThen
   steps-answers [] n out l = refl
   steps-answers (s ∷ ss) n out l =
-      then-answers (endsJob (stepOn r s n .answer)) (stepOn r s n .answer) (stepOn r s n .state) _
-      (actAll (stepOn r) ss (stepOn r s n .state)) (steps-answers ss (stepOn r s n .state) _ _)
+      let a : Answer = stepOn r s n .answer in
+      both (endsJob a)
+      (λ t. rw t refl)
+      (λ t. rw t (ap (λ (given : List Answer). a ∷ given) (steps-answers ss (stepOn r s n .state) _ _)))
 
   each-answers : (ss : List Step) (q : Room) (n : Lent) (out : List ℕ) (l : Layout)
       → answersAt (momentsEach c m q ss n out l) ≡ actEach stepOn q ss n .answer
@@ -52,11 +46,7 @@ module _ (c : Lending) (m : Lent) where
 
     of-step : (s : Step) → stepAnswers (step s) ≡ answersIn (callOn r (step s) n .answer)
     unfolding callOn reply stepsRun isList momentsBy answersIn momentsOf momentOf
-    of-step s = go (endsJob (stepOn r s n .answer))
-      where
-        go : (t : Bool) → stepOn r s n .answer ∷ answersAt (cond t [] []) ≡ stepOn r s n .answer ∷ []
-        go true = refl
-        go false = refl
+    of-step s = both (endsJob (stepOn r s n .answer)) (λ t. rw t refl) (λ t. rw t refl)
 
     of-record : (o : Option ℕ) (e : Bool) (bs : List ℕ) (at p : ℕ) (given : List Answer) (place : Option ℕ)
         → actRecord (stepOn r) o e (steps bs at) p n .answer ≡ ran given place

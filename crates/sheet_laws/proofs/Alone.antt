@@ -348,19 +348,6 @@ others-stay c m w = by-refusal c m w (sheetRefusal (r c m w) false (c .foil) (c 
 -- ---- the whole list
 
 module _ (k : ℕ) (here : k < sheetFoils) where
-  -- a call on another foil is none of foil k's, and the next one finds the foil as it was
-  calls-else : (c : SheetLending) (cs : List SheetLending) (m : Sheet) → EightFoils (m .boards) (m .table)
-      → eqb (c .foil) k ≡ false
-      → leftOf k (lendSheet c m .state) cs
-      ≡ runLent (foilOf k (lendSheet c m .state)) (aloneCalls k (lendSheet c m .state) cs)
-      → leftOf k m (c ∷ cs) ≡ runLent (foilOf k m) (aloneCalls k m (c ∷ cs))
-  unfolding leftOf aloneCalls
-  calls-else c cs m w e h =
-      rw e
-      (h
-      ∙ ap (λ (f : Lent). runLent f (aloneCalls k (lendSheet c m .state) cs))
-      (others-stay c m w .others k (λ q. eqb-false (c .foil) k e (sym q))))
-
   -- the call on foil k, on the foil alone
   lend-here : (c : SheetLending) (m : Sheet) → EightFoils (m .boards) (m .table) → c .foil ≡ k
       → lend (aloneCall c m) (foilOf k m) ≡ shownBy (foilOf k) (lendSheet c m)
@@ -368,44 +355,31 @@ module _ (k : ℕ) (here : k < sheetFoils) where
       subst (λ (j : ℕ). lend (aloneCall c m) (foilOf j m) ≡ shownBy (foilOf j) (lendSheet c m)) q
       (lend-alone c m w (omega arith))
 
-  run-here : (c : SheetLending) (m : Sheet) (ls : List Lending) → EightFoils (m .boards) (m .table) → c .foil ≡ k
-      → runLent (foilOf k m) (aloneCall c m ∷ ls)
-      ≡ record {
-        reply = lendSheet c m .answer;
-        lists = foilOf k (lendSheet c m .state);
-        output = outputBy (lendSheet c m .answer) (c .output);
-      }
-      ∷ runLent (foilOf k (lendSheet c m .state)) ls
-  unfolding runLent
-  run-here c m ls w q = rw (lend-here c m w q) (unfold shownBy leaves aloneCall in refl)
-
-  calls-here : (c : SheetLending) (cs : List SheetLending) (m : Sheet) → EightFoils (m .boards) (m .table)
-      → eqb (c .foil) k ≡ true
-      → leftOf k (lendSheet c m .state) cs
-      ≡ runLent (foilOf k (lendSheet c m .state)) (aloneCalls k (lendSheet c m .state) cs)
-      → leftOf k m (c ∷ cs) ≡ runLent (foilOf k m) (aloneCalls k m (c ∷ cs))
-  unfolding leftOf aloneCalls
-  calls-here c cs m w e h =
-      rw e
+  alone-run : (cs : List SheetLending) (m : Sheet) → EightFoils (m .boards) (m .table)
+      → leftOf k m cs ≡ runLent (foilOf k m) (aloneCalls k m cs)
+  unfolding leftOf aloneCalls runLent leaves aloneCall shownBy
+  alone-run [] m w = refl
+  alone-run (c ∷ cs) m w =
+      let n : Sheet = lendSheet c m .state in
+      let later = alone-run cs n (others-stay c m w .still-eight) in
+      both (eqb (c .foil) k)
+      (λ e.
+      rw (e, lend-here c m w (eqb-true (c .foil) k e))
       (ap
       (λ (os : List Left).
       record {
         reply = lendSheet c m .answer;
-        lists = foilOf k (lendSheet c m .state);
+        lists = foilOf k n;
         output = outputBy (lendSheet c m .answer) (c .output);
       }
       ∷ os)
-      h
-      ∙ sym (run-here c m (aloneCalls k (lendSheet c m .state) cs) w (eqb-true (c .foil) k e)))
-
-  alone-run : (cs : List SheetLending) (m : Sheet) → EightFoils (m .boards) (m .table)
-      → leftOf k m cs ≡ runLent (foilOf k m) (aloneCalls k m cs)
-  unfolding leftOf aloneCalls runLent
-  alone-run [] m w = refl
-  alone-run (c ∷ cs) m w =
-      both (eqb (c .foil) k)
-      (λ e. calls-here c cs m w e (alone-run cs (lendSheet c m .state) (others-stay c m w .still-eight)))
-      (λ e. calls-else c cs m w e (alone-run cs (lendSheet c m .state) (others-stay c m w .still-eight)))
+      later))
+      -- a call on another foil is none of foil k's, and the next one finds the foil as it was
+      (λ e.
+      rw e
+      (later
+      ∙ ap (λ (f : Lent). runLent f (aloneCalls k n cs))
+      (others-stay c m w .others k (λ q. eqb-false (c .foil) k e (sym q)))))
 
 pub foils-alone : FoilsAlone
 foils-alone m cs k w here = alone-run k here cs m w

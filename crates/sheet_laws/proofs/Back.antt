@@ -24,7 +24,7 @@ use Rattle.ledger_laws.proofs.Refusals.{unrefused-sound, unrefused-own}
 use Rattle.ledger_laws.proofs.Sound.{of-sound, sound-store-is}
 use Rattle.ledger_laws.proofs.Line.{line}
 use Rattle.ledger_laws.proofs.Numbers.{steps-all}
-use Rattle.ledger_laws.proofs.Replies.{shownBy, reply-keeps, reply-is}
+use Rattle.ledger_laws.proofs.Replies.{shownBy, reply-keeps, reply-shown}
 use Rattle.sheet_laws.specs.Alone.{RoomOn}
 use Rattle.sheet_laws.specs.Answers.{taken}
 use Rattle.sheet_laws.specs.Back.{writing, rewrote, PutsBack, ClearsUnused}
@@ -213,21 +213,12 @@ module _ (r : Room) (k : ℕ) (m : SheetLent) (w : Stands r k m) (here : k < she
       → isSome (b .state) ≡ (isSome (a .state) || any taken (b .answer))
       → isSome (andThen a b .state) ≡ (x || any taken (andThen a b .answer))
   unfolding andThen
-  then-wrote x a b e f = go (endsJob (a .answer))
-    where
-      go : (t : Bool)
-          → isSome
-          (cond {A = After (List Answer) (Option Layout)} t
-          (record { answer = a .answer ∷ []; state = a .state })
-          (record { answer = a .answer ∷ b .answer; state = b .state }) .state)
-          ≡ (x
-          || any taken
-          (cond {A = After (List Answer) (Option Layout)} t
-          (record { answer = a .answer ∷ []; state = a .state })
-          (record { answer = a .answer ∷ b .answer; state = b .state }) .answer))
-      go true = e ∙ ap (λ (y : Bool). x || y) (sym (or-false (taken (a .answer))))
-      go false =
-          f ∙ ap (λ (y : Bool). y || any taken (b .answer)) e ∙ or-assoc x (taken (a .answer)) (any taken (b .answer))
+  then-wrote x a b e f =
+      both (endsJob (a .answer))
+      (λ t. rw t (e ∙ ap (λ (y : Bool). x || y) (sym (or-false (taken (a .answer))))))
+      (λ t.
+      rw t
+      (f ∙ ap (λ (y : Bool). y || any taken (b .answer)) e ∙ or-assoc x (taken (a .answer)) (any taken (b .answer))))
 
   steps-wrote : (ss : List Step) (t : Option Layout) → Ok t → all writes ss ≡ true
       → isSome (actAll (tell r) ss t .state) ≡ (isSome t || any taken (actAll (tell r) ss t .answer))
@@ -286,11 +277,15 @@ module _ (r : Room) (k : ℕ) (m : SheetLent) (w : Stands r k m) (here : k < she
 
   sheet-told : (c : Call)
       → reply (sheetStep k) r (not (sound (view k m))) c (held (view k m)) m ≡ shownBy put (told c)
-  sheet-told c = reply-is tell (sheetStep k) put Ok r tell-ok tell-sheet _ c _ none tt
+  sheet-told c =
+      reply-shown put Ok tell (sheetStep k) r (λ n s t g. record { is = tell-sheet n s t g; kept = tell-ok n s t g })
+      _ c _ none tt .is
 
   alone-told : (c : Call) → callOn r c (view k m) ≡ shownBy alone (told c)
   unfolding callOn
-  alone-told c = reply-is tell stepOn alone Ok r tell-ok tell-alone _ c _ none tt
+  alone-told c =
+      reply-shown alone Ok tell stepOn r (λ n s t g. record { is = tell-alone n s t g; kept = tell-ok n s t g })
+      _ c _ none tt .is
 
   put-told : (c : Call) (t : Option Layout) (b : Bool) → isSome t ≡ b → put t ≡ cond b (putBack k m (alone t)) m
   unfolding isSome

@@ -21,7 +21,7 @@ use Rattle.foil_spec.specs.Sheet.{sheetRefusal, unless, sheetCall, blank, rowSt
 use Rattle.list_laws.proofs.Tests.{both}
 use Rattle.ledger_laws.proofs.Refusals.{no-rule, no-more, none-applies, unrefused-sound, unrefused-own}
 use Rattle.ledger_laws.proofs.Line.{line}
-use Rattle.ledger_laws.proofs.Replies.{shownBy, reply-keeps, reply-is}
+use Rattle.ledger_laws.proofs.Replies.{shownBy, reply-keeps, reply-shown}
 use Rattle.sheet_laws.proofs.Counts.{limit-own, fits}
 use Rattle.sheet_laws.proofs.Line.{sheet-line}
 use Rattle.sheet_laws.proofs.Rows.{Row, begun, row-ok, alone, held-alone, sound-alone, stored-anew, rowsLent}
@@ -163,8 +163,13 @@ module _ (k : ℕ) (m : SheetLent) where
         let l : Layout = getD ls k noFoil in
         ap₂ (λ (b : Bool) (x : Layout). reply (sheetStep k) r b c x (rowsLent k ls m)) (broken ls g) (held-row ls)
         ∙ ap (reply (sheetStep k) r (blank l) c l) (unset ls)
-        ∙ reply-is rowStep (sheetStep k) (put r ls here ok limit) (Fits r) r (λ n. step-fits (withOutput r n))
-        (λ n. put-step (withOutput r n) ls here ok limit) (blank l) c l l (own-fits r ls here ok limit g)
+        ∙ reply-shown (put r ls here ok limit) (Fits r) rowStep (sheetStep k) r
+        (λ n s x f.
+        record {
+          is = put-step (withOutput r n) ls here ok limit s x f;
+          kept = step-fits (withOutput r n) s x f;
+        })
+        (blank l) c l l (own-fits r ls here ok limit g) .is
 
 -- ---- the refusals that a call begins with
 

@@ -10,9 +10,9 @@ use Rattle.foil_spec.specs.Limits.{sheetFoils}
 use Rattle.foil_spec.specs.Ledger.{Room, save, wrote, After}
 use Rattle.foil_spec.specs.Lent.{Lent, held, sound, stepOn}
 use Rattle.foil_spec.specs.Calls.{Call, step, Reply, answered, reply, callOn, readJob}
-use Rattle.foil_spec.specs.Sheet.{countsOk, SheetLent, counts, view, sheetStep, sheetRefusal, unless, sheetCall}
+use Rattle.foil_spec.specs.Sheet.{SheetLent, counts, view, sheetStep, sheetRefusal, unless, sheetCall}
 use Rattle.ledger_laws.specs.Saved.{lastPlace, SameFoil}
-use Rattle.ledger_laws.proofs.Replies.{shownBy, read-is}
+use Rattle.ledger_laws.proofs.Replies.{shownBy, Shown, read-shown}
 use Rattle.ledger_laws.proofs.Saved.{reads-back}
 use Rattle.sheet_laws.specs.Alone.{RoomOn}
 use Rattle.sheet_laws.specs.Saved.{SheetReadsBack}
@@ -23,31 +23,28 @@ use Rattle.sheet_laws.proofs.Alone.{opened-refused, opens-with}
 
 module _ (r : Room) (k : ℕ) (here : k < sheetFoils) where
   called-view : (c : Call) (x : SheetLent) (o : Option ℕ) → sheetRefusal r false k c ≡ o → Stands r k x
-      → callOn r c (view k x)
-      ≡ shownBy (view k)
-      (unless o (reply (sheetStep k) r (not (sound (view k x))) c (held (view k x)) x) x)
-  unfolding unless
-  called-view c x (some n) e w = unfold shownBy in opened-refused r c (view k x) n (opens-with r k c n here e)
-  called-view c x none e w = call-view r k here c x w
+      → Shown (view k) (Stands r k)
+      (unless o (reply (sheetStep k) r (not (sound (view k x))) c (held (view k x)) x) x) (callOn r c (view k x))
+  unfolding unless shownBy
+  called-view c x (some n) e w =
+      record { is = opened-refused r c (view k x) n (opens-with r k c n here e); kept = w }
+  called-view c x none e w = record { is = call-view r k here c x w; kept = call-others r k here c x w .0 }
+
+  sheet-shown : (c : Call) (x : SheetLent) → Stands r k x
+      → Shown (view k) (Stands r k) (sheetCall r k c x) (callOn r c (view k x))
+  unfolding sheetCall
+  sheet-shown c x w = rw (w .whole .limits) (called-view c x (sheetRefusal r false k c) refl w)
 
   pub sheet-view : (c : Call) (x : SheetLent) → Stands r k x
       → callOn r c (view k x) ≡ shownBy (view k) (sheetCall r k c x)
-  unfolding sheetCall
-  sheet-view c x w = rw (w .whole .limits) (called-view c x (sheetRefusal r false k c) refl w)
-
-  unless-stands : (c : Call) (x : SheetLent) (o : Option ℕ) → Stands r k x
-      → Stands r k (unless o (reply (sheetStep k) r (not (sound (view k x))) c (held (view k x)) x) x .state)
-  unfolding unless
-  unless-stands c x (some n) w = w
-  unless-stands c x none w = call-others r k here c x w .0
+  sheet-view c x w = sheet-shown c x w .is
 
   pub sheet-stands : (c : Call) (x : SheetLent) → Stands r k x → Stands r k (sheetCall r k c x .state)
-  unfolding sheetCall
-  sheet-stands c x w = unless-stands c x (sheetRefusal r (not (countsOk (counts (x .boards)))) k c) w
+  sheet-stands c x w = sheet-shown c x w .kept
 
   read-view : (bs : List ℕ) (x : SheetLent) → Stands r k x
       → readJob (callOn r) bs (view k x) ≡ shownBy (view k) (readJob (sheetCall r k) bs x)
-  read-view bs x w = read-is (sheetCall r k) (callOn r) (view k) (Stands r k) sheet-stands sheet-view bs x w
+  read-view bs x w = read-shown (view k) (Stands r k) (sheetCall r k) (callOn r) sheet-shown bs x w .is
 
 -- ---- saved, and read back
 

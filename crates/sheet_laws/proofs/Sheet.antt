@@ -19,31 +19,22 @@ use Rattle.ledger_laws.specs.Numbers.{numbersIn, carriesOver}
 use Rattle.ledger_laws.proofs.Refusals.{first-passes}
 use Rattle.ledger_laws.proofs.Kept.{step-kept}
 use Rattle.ledger_laws.proofs.Numbers.{not-among, call-but-13}
-use Rattle.ledger_laws.proofs.Replies.{shownBy, reply-is}
+use Rattle.ledger_laws.proofs.Replies.{shownBy, reply-shown}
 use Rattle.sheet_laws.specs.Sheet.{Starts, SheetBehaves, sheetAfter, rowsAfter, SheetHoldsRows, RowsAreFoils}
 use Rattle.sheet_laws.specs.Sheet.{SheetNeverBroken}
 use Rattle.sheet_laws.proofs.Rows.{begun, row-ok}
 use Rattle.sheet_laws.proofs.Lending.{Holds, lend-is, lend-kept}
 use Rattle.sheet_laws.proofs.Starting.{starts-holds}
 
--- a call that goes as on the ledger, and those after it
-run-first : (m : Sheet) (c : SheetLending) (cs : List SheetLending) (ls : List Layout)
-    → lendSheet c (storeSheet ls m) ≡ shownBy (λ xs. storeSheet xs m) (toldSheet m c ls)
-    → runSheet (storeSheet (toldSheet m c ls .state) m) cs ≡ runSheetLedger m (toldSheet m c ls .state) cs
-    → runSheet (storeSheet ls m) (c ∷ cs) ≡ runSheetLedger m ls (c ∷ cs)
-unfolding runSheet runSheetLedger shownBy
-run-first m c cs ls e h =
-    rw e
-    (ap
-    (λ (os : List SheetLeft). leavesSheet c (toldSheet m c ls .answer) (storeSheet (toldSheet m c ls .state) m) ∷ os)
-    h)
-
 run-is : (m : Sheet) (cs : List SheetLending) (ls : List Layout) → Holds m ls
     → runSheet (storeSheet ls m) cs ≡ runSheetLedger m ls cs
-unfolding runSheet runSheetLedger
+unfolding runSheet runSheetLedger shownBy
 run-is m [] ls h = refl
 run-is m (c ∷ cs) ls h =
-    run-first m c cs ls (lend-is c m ls h) (run-is m cs (toldSheet m c ls .state) (lend-kept c m ls h))
+    let a : After Reply (List Layout) = toldSheet m c ls in
+    rw (lend-is c m ls h)
+    (ap (λ (os : List SheetLeft). leavesSheet c (a .answer) (storeSheet (a .state) m) ∷ os)
+    (run-is m cs (a .state) (lend-kept c m ls h)))
 
 pub sheet-behaves : SheetBehaves
 sheet-behaves m ls cs s =
@@ -84,8 +75,9 @@ pub rows-are-foils : RowsAreFoils
 unfolding rowCall ledgerCall shownBy
 rows-are-foils r c l g =
     rw (begun l g)
-    (reply-is ledgerStep rowStep (λ x. x) (λ x. layoutOk x ≡ true) r (λ n. step-kept (withOutput r n))
-    (λ n. begun-step (withOutput r n)) false c l l g)
+    (reply-shown (λ (x : Layout). x) (λ (x : Layout). layoutOk x ≡ true) ledgerStep rowStep r
+    (λ n s x k. record { is = begun-step (withOutput r n) s x k; kept = step-kept (withOutput r n) s x k })
+    false c l l g .is)
 
 -- ---- 13
 

@@ -21,7 +21,7 @@ use Rattle.list_laws.proofs.Tests.{both, not-ff}
 use Rattle.ledger_laws.proofs.Stored.{length-entries}
 use Rattle.ledger_laws.proofs.Refusals.{unrefused-sound, unrefused-own}
 use Rattle.ledger_laws.proofs.Sound.{length-read, of-sound, sound-store-is}
-use Rattle.ledger_laws.proofs.Replies.{shownBy, reply-keeps, reply-is}
+use Rattle.ledger_laws.proofs.Replies.{shownBy, Shown, reply-shown}
 use Rattle.sheet_laws.specs.Alone.{EightFoils, RoomOn}
 use Rattle.sheet_laws.proofs.Counts.{ok-total, ok-at, limit-own, limit-same, fits}
 use Rattle.sheet_laws.proofs.Parts.{Sized, length-parts, part-few, sized-parts, sized-set, length-joined}
@@ -298,15 +298,21 @@ module _ (r : Room) (k : ℕ) (here : k < sheetFoils) where
     abbrev called : After Reply SheetLent
     called = reply (sheetStep k) r (not (sound (view k m))) c (held (view k m)) m
 
+    called-shown : Shown (view k) (λ (x : SheetLent). Stands r k x × Others k m x) called (callOn r c (view k m))
+    unfolding callOn
+    called-shown =
+        reply-shown (view k) (λ (x : SheetLent). Stands r k x × Others k m x) (sheetStep k) stepOn r
+        (λ n s x q.
+        record {
+          is = step-view (withOutput r n) k here x (q .0) s;
+          kept = step-others (withOutput r n) k here m s x q;
+        })
+        (not (sound (view k m))) c (held (view k m)) m
+        (w, record { boards = λ j ne. refl; tables = λ j ne. refl; past = refl; size = refl })
+
     -- the foil alone goes the same way
     pub call-view : callOn r c (view k m) ≡ shownBy (view k) called
-    unfolding callOn
-    call-view =
-        reply-is (sheetStep k) stepOn (view k) (Stands r k) r (λ n. step-stands (withOutput r n) k here)
-        (λ n s x q. step-view (withOutput r n) k here x q s) (not (sound (view k m))) c (held (view k m)) m w
+    call-view = called-shown .is
 
     pub call-others : Stands r k (called .state) × Others k m (called .state)
-    call-others =
-        reply-keeps (sheetStep k) (λ x. Stands r k x × Others k m x) r
-        (λ n. step-others (withOutput r n) k here m) (not (sound (view k m))) c (held (view k m)) m
-        (w, record { boards = λ j ne. refl; tables = λ j ne. refl; past = refl; size = refl })
+    call-others = called-shown .kept
