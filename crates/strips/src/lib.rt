@@ -36,8 +36,10 @@ pub fn rebuild(out: &mut [u16], boxes: &[u16], n: usize, w: u16, h: u16) -> Buil
 {
     let mut ord = [0usize; MAX_BOXES];
     let mut last = [0usize; 4096];
+    let mut marks = [0u16; 4097];
     order::order(&mut ord, boxes, n);
-    let count = row_joining::join_rows(out, &mut last, boxes, &ord, n, w, h);
+    rows::mark_rows(&mut marks, boxes, n);
+    let count = row_joining::join_rows(out, &mut last, boxes, &ord, &marks, n, w, h);
     if MAX_STRIPS < count {
         return Built::TooMany;
     }

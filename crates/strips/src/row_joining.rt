@@ -8,22 +8,16 @@ ghost use Rattle.foil_spec.specs.Limits.{maxStrips, stripsSize};
 ghost use Rattle.foil_spec.specs.Strips.{strips};
 ghost use Rattle.zones.specs.Boxes.{boxFree, Boxes};
 ghost use Rattle.strips.specs.Order.{Ordered};
-ghost use Rattle.strips.specs.Rows.{Change};
+ghost use Rattle.strips.specs.Rows.{Change, Marked};
 ghost use Rattle.strips.specs.Joining.{JoinsRow, Opened};
 ghost use Rattle.strips.specs.Told.{Told};
 ghost use Rattle.strips.specs.Built.{Listed};
 use crate::rows::next_change;
+use crate::rows::wide;
 use crate::sweep::Swept;
 use crate::sweep::sweep;
 use foil_spec::MAX_STRIPS;
 use foil_spec::strip_at;
-
-// A column as an index.
-fn wide(x: u16) -> usize
-    ensures { λ r. ⌜ r ≡ x ⌝ }
-{
-    x as usize
-}
 
 // Whether place k of the list is below count and has a strip from a up to b that goes as far as y.
 fn is_open(out: &[u16], k: usize, count: usize, a: u16, b: u16, y: u16) -> bool
@@ -111,19 +105,21 @@ pub(crate) fn join_rows(
     last: &mut [usize],
     boxes: &[u16],
     ord: &[usize],
+    marks: &[u16],
     n: usize,
     w: u16,
     h: u16,
 ) -> usize
     requires { ⌜ Boxes (now boxes) n w h ⌝ }
     requires { ⌜ Ordered (now boxes) (now ord) n ⌝ }
-    requires { ⌜ (stripsSize ≤ length (now out)) × (4096 ≤ length (now last)) ⌝ }
+    requires { ⌜ Marked (now boxes) n (now marks) ⌝ }
+    requires { ⌜ (stripsSize ≤ length (now out)) × (4096 ≤ length (now last)) × (4096 ≤ length (now marks)) ⌝ }
     ensures { λ r. ⌜ Listed (now (out .entry)) (now (out .exit)) r (strips (boxFree w h n (now (boxes .entry))) w h) ⌝ }
 {
     let mut y: u16 = 0;
     let mut count: usize = 0;
     while y < h {
-        let z = next_change(boxes, n, w, h, y);
+        let z = next_change(marks, h, y);
         let k = join_row(out, last, boxes, ord, n, w, h, y, z, count);
         if MAX_STRIPS < k {
             return k;

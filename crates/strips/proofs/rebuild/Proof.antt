@@ -4,16 +4,22 @@ use Rattle.strips.proofs.Listing.{rebuilt}
 use Rattle.strips.proofs.rebuild.Statement.{statement}
 use Rattle.strips.proofs.rebuild.Tie as tie
 
--- back to the function's start
-abbrev atStart : tie.After-ord3 → tie.Start
-atStart c = c .before .before .before .before .before .before .before .before
-
--- back to the start from the order, to the order, to the rows joined, and to where there are not too many
+-- back to the start from the order, from the marks, and from the arguments of the joining
 abbrev fromOrd : tie.After-ord → tie.Start
 fromOrd c = c .before .before .before
 
-abbrev afterOrder : tie.After-ord3 → tie.After-order
-afterOrder c = c .before .before .before .before
+abbrev fromMarks : tie.After-marks → tie.Start
+fromMarks c = fromOrd (c .before .before .before)
+
+abbrev atStart : tie.After-marks3 → tie.Start
+atStart c = fromMarks (c .before .before .before .before .before .before)
+
+-- to the marks and the order made, to the rows joined, and to where there are not too many
+abbrev afterMarks : tie.After-marks3 → tie.After-mark-rows
+afterMarks c = c .before .before .before .before .before
+
+abbrev afterOrder : tie.After-mark-rows → tie.After-order
+afterOrder c = c .before .before .before
 
 abbrev afterJoinRows : tie.After-last2 → tie.After-join-rows
 afterJoinRows c = c .before .before .before
@@ -29,17 +35,31 @@ order-requires c κs =
     let p = fromOrd c .pre .0 in
     omega (arith, p .few, p .len)
 
+slice-aggregate-mark-rows : tie.Need-slice-aggregate-mark-rows
+slice-aggregate-mark-rows c = omega arith
+
+mark-rows-requires : tie.Need-mark-rows-requires
+mark-rows-requires c κs =
+    let p = fromMarks c .pre .0 in
+    (p .len, λ k l. omega (arith, p .y-order k l, p .y-end k l, p .height))
+
 slice-aggregate-join-rows : tie.Need-slice-aggregate-join-rows
 slice-aggregate-join-rows c = omega arith
 
 slice-aggregate-join-rows-2 : tie.Need-slice-aggregate-join-rows-2
 slice-aggregate-join-rows-2 c = omega arith
 
+slice-aggregate-join-rows-3 : tie.Need-slice-aggregate-join-rows-3
+slice-aggregate-join-rows-3 c = omega arith
+
 join-rows-requires : tie.Need-join-rows-requires
 join-rows-requires c κs =
     let p = atStart c .pre in (
       p .0,
-      (afterOrder c .order .ensures, omega (arith, p .1)),
+      (
+        afterOrder (afterMarks c) .order .ensures,
+        (afterMarks c .mark-rows .ensures, omega (arith, p .1)),
+      ),
     )
 
 same-length : tie.Need-same-length
@@ -71,8 +91,11 @@ rebuild-spec =
     (tie.spec
     slice-aggregate-order
     order-requires
+    slice-aggregate-mark-rows
+    mark-rows-requires
     slice-aggregate-join-rows
     slice-aggregate-join-rows-2
+    slice-aggregate-join-rows-3
     join-rows-requires
     same-length
     returns

@@ -8,22 +8,23 @@ use Rattle.foil_spec.specs.Strips.{stripsFrom}
 use Rattle.zones.specs.Boxes.{boxFree}
 use Rattle.strips.specs.Rows.{Change}
 use Rattle.strips.specs.Joining.{Joined}
+use Rattle.strips.proofs.Changing.{marks-change}
 use Rattle.strips.proofs.RowToRow.{joined-start, joined-toward, joined-next, joined-over, joined-end}
 use Rattle.strips.proofs.row_joining.join_rows.Statement.{statement}
 use Rattle.strips.proofs.row_joining.join_rows.Tie as tie
 
 abbrev Inv-loop : tie.InvT-loop
-Inv-loop out₀ last₀ boxes ord n w h y₀ count₀ out last y count =
+Inv-loop out₀ last₀ boxes ord marks n w h y₀ count₀ out last y count =
     (y ≤ h) × (length last ≡ length last₀)
     × Joined (boxFree w h n boxes) w h out₀ out last count y y 0
     (stripsFrom (boxFree w h n boxes) w h y)
 
 abbrev μ-loop : tie.MeasureT-loop
-μ-loop out₀ last₀ boxes ord n w h y₀ count₀ out last y count = h - y
+μ-loop out₀ last₀ boxes ord marks n w h y₀ count₀ out last y count = h - y
 
 -- back to the function's start, and to the loop's turn
 abbrev atStart : tie.In-loop Inv-loop μ-loop → tie.Start Inv-loop μ-loop
-atStart c = c .before .before .before .before .before .before
+atStart c = c .before .before .before .before .before .before .before
 
 abbrev inLoop : tie.After-join-row Inv-loop μ-loop → tie.In-loop Inv-loop μ-loop
 inLoop c = c .before .before .before .before
@@ -38,11 +39,12 @@ f c = boxFree (c .args .w) (c .args .h) (c .args .n) (c .args .boxes .now)
 change : (c : tie.After-next-change Inv-loop μ-loop)
     → Change (f (atStart (c .before))) (atStart (c .before) .args .h) (c .before .before .loop .y)
     (c .next-change .result)
-change c = c .next-change .ensures
+change c =
+    marks-change _ _ _ _ _ _ _ (atStart (c .before) .pre .1 .1 .0) (c .next-change .ensures)
 
 -- back to the start from the loop's head, and to the next change
-abbrev fromHead : tie.After-shared-slice-known2 Inv-loop μ-loop → tie.Start Inv-loop μ-loop
-fromHead c = c .before .before .before .before
+abbrev fromHead : tie.After-shared-slice-known3 Inv-loop μ-loop → tie.Start Inv-loop μ-loop
+fromHead c = c .before .before .before .before .before
 
 abbrev afterNextChange : tie.After-join-row-arg2 Inv-loop μ-loop → tie.After-next-change Inv-loop μ-loop
 afterNextChange c = c .before .before
@@ -50,10 +52,12 @@ afterNextChange c = c .before .before
 loop-holds : tie.Need-loop-holds Inv-loop μ-loop
 loop-holds c =
     let p = fromHead c .pre in
-    (omega arith, refl, joined-start _ _ _ _ _ (omega (arith, p .0 .width, p .1 .1)))
+    (omega arith, refl, joined-start _ _ _ _ _ (omega (arith, p .0 .width, p .1 .1 .1)))
 
 next-change-requires : tie.Need-next-change-requires Inv-loop μ-loop
-next-change-requires c κs = (atStart c .pre .0, omega (arith, c .loop-test .taken))
+next-change-requires c κs =
+    let p = atStart c .pre in
+    omega (arith, c .loop-test .taken, p .0 .height, p .1 .1 .1)
 
 join-row-requires : tie.Need-join-row-requires Inv-loop μ-loop
 join-row-requires c κs =
@@ -61,7 +65,7 @@ join-row-requires c κs =
     let p = atStart l .pre in
     let j = l .before .loop .inv in
     let e = afterNextChange c in
-    (p .0, (p .1 .0, (omega (arith, p .1 .1, l .loop-test .taken, j .1, j .2 .small, j .2 .same), change e)))
+    (p .0, (p .1 .0, (omega (arith, p .1 .1 .1, l .loop-test .taken, j .1, j .2 .small, j .2 .same), change e)))
 
 same-length : tie.Need-same-length Inv-loop μ-loop
 same-length c =
