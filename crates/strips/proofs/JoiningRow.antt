@@ -26,10 +26,10 @@ ahead f w h y z x = begun f w h y (runsFrom (rowOf f y) w x) ++ stripsFrom f w h
 
 -- the row is joined up to column x; out₀, last₀ and c are what it began with
 pub record JoiningRow
-    (t ord : List ℕ) (n w h y z c : ℕ) (out₀ last₀ out last : List ℕ) (x j count : ℕ) : Type 0 where
+    (t row : List ℕ) (n m w h y z c : ℕ) (out₀ last₀ out last : List ℕ) (x j count : ℕ) : Type 0 where
   pub xw : x ≤ w
-  pub jn : j ≤ n
-  pub behind : Behind t ord y x j
+  pub jm : j ≤ m
+  pub behind : Behind t row m x j
   pub edge : (x ≡ 0) ⊎ ((x ≡ w) ⊎ (boxFree w h n t x y ≡ false))
   pub small : count ≤ maxStrips
   pub same-out : length out ≡ length out₀
@@ -39,17 +39,17 @@ pub record JoiningRow
       → Joined (boxFree w h n t) w h o out last count y z x (ahead (boxFree w h n t) w h y z x)
 
 module _
-    (t ord : List ℕ) (n w h y z c : ℕ) (out₀ last₀ : List ℕ) (yh : y < h)
+    (t row : List ℕ) (n m w h y z c : ℕ) (out₀ last₀ : List ℕ) (yh : y < h)
     (ch : Change (boxFree w h n t) h y z) where
   abbrev f : ℕ → ℕ → Bool
   f = boxFree w h n t
 
-  pub row-start : c ≤ maxStrips → JoiningRow t ord n w h y z c out₀ last₀ out₀ last₀ 0 0 c
+  pub row-start : c ≤ maxStrips → JoiningRow t row n m w h y z c out₀ last₀ out₀ last₀ 0 m c
   row-start l =
       record {
         xw = omega arith;
-        jn = omega arith;
-        behind = λ p m. absurd (omega arith);
+        jm = omega arith;
+        behind = λ p a b. absurd (omega arith);
         edge = inl refl;
         small = l;
         same-out = refl;
@@ -60,13 +60,13 @@ module _
       }
 
   module _
-      (out last : List ℕ) (x j count : ℕ) (s : JoiningRow t ord n w h y z c out₀ last₀ out last x j count) where
+      (out last : List ℕ) (x j count : ℕ) (s : JoiningRow t row n m w h y z c out₀ last₀ out last x j count) where
     -- the strips so far, where the row is joined up to column x
     abbrev SoFar : List ℕ → Type 0
     SoFar o = Joined f w h o out last count y z x (ahead f w h y z x)
 
     -- the next run, from a up to b
-    module _ (a b i : ℕ) (r : SweptRun (rowOf f y) t ord n w y x a b i) where
+    module _ (a b i : ℕ) (r : SweptRun (rowOf f y) t row m w x a b i) where
       ab : a < b
       ab = r .gt
 
@@ -89,11 +89,11 @@ module _
       -- it goes on with the strip at place k
       pub row-old : (k : ℕ) → k ≡ getD last a 0 → Opened out k count a b y
           → (out′ : List ℕ) → out′ ≡ set out (k * 4 + 3) z
-          → JoiningRow t ord n w h y z c out₀ last₀ out′ last b i count
+          → JoiningRow t row n m w h y z c out₀ last₀ out′ last b i count
       row-old k ek p out′ e =
           record {
             xw = bw;
-            jn = r .jn;
+            jm = r .jm;
             behind = r .behind;
             edge = inr (r .stop .ends);
             small = s .small;
@@ -123,11 +123,11 @@ module _
 
         pub row-new : count < maxStrips → (out′ last′ : List ℕ) → length out′ ≡ length out
             → out′ ≡ take (count * 4) out ++ (a ∷ y ∷ b ∷ z ∷ drop (count * 4 + 4) out) → last′ ≡ set last a count
-            → JoiningRow t ord n w h y z c out₀ last₀ out′ last′ b i (count + 1)
+            → JoiningRow t row n m w h y z c out₀ last₀ out′ last′ b i (count + 1)
         row-new lt out′ last′ len e e′ =
             record {
               xw = bw;
-              jn = r .jn;
+              jm = r .jm;
               behind = r .behind;
               edge = inr (r .stop .ends);
               small = omega arith;

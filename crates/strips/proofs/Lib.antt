@@ -1,6 +1,8 @@
 -- Laws that the functions are proved with, and those that callers need: Placing.
-pub mod Ordering
 pub mod Changing
+pub mod Standing
+pub mod Entering
+pub mod Leaving
 pub mod Sweeping
 pub mod Listing
 pub mod RowToRow

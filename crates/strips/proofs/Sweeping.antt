@@ -1,184 +1,194 @@
--- The sweep of a row: a box before place j of the order ends at or before the column that the sweep stands at.
+-- The sweep of a row: a box from place j of the row's list on ends at or before the column that the sweep stands at.
 use Prim.Native.Nat.{ℕ, _+_, _-_, _≤_, _<_, max}
 use native.Mathlib.Omega.{arith}
 use mathlib.Core.Path.{_≡_, refl, sym, ap, _∙_}
 use mathlib.Core.Bool.{Bool, true, false}
 use mathlib.Core.List.{List}
 use mathlib.Core.Logic.{_⊎_, ⊎-elim, inl, inr}
-use borrow.Author.Count.{below-more}
 use lib.ListN.{getD}
 use Rattle.foil_spec.specs.Strips.{runsFrom, rowOf}
 use Rattle.foil_spec.specs.Lent.{entryAt}
-use Rattle.list_laws.proofs.Tests.{both, clash, lt-or-le}
+use Rattle.list_laws.proofs.Tests.{both, lt-or-le}
 use Rattle.zones.specs.Boxes.{covers, boxFree, Covered, Boxes}
-use Rattle.zones.proofs.Free.{inside-yes, inside-below, inside-above, covers-yes, off-column, off-row}
+use Rattle.zones.proofs.Free.{inside-yes, inside-below, inside-above, of-inside, covers-yes, off-column, off-row}
 use Rattle.zones.proofs.Free.{box-free-at, covered-at}
 use Rattle.strip_laws.specs.Rules.{Stop}
 use Rattle.strip_laws.proofs.Runs.{skip, take-run, outside-past}
-use Rattle.strips.specs.Order.{orderedBox, Ordered}
 use Rattle.strips.specs.Rows.{onRow}
+use Rattle.strips.specs.RowBoxes.{listedBox, OnRow}
 use Rattle.strips.specs.Sweep.{Behind, Sweep}
 use Rattle.strips.specs.declared.sweep.Swept.the-variants.{Run as found, Nothing}
 
--- the sweep at column `at`, before place j of the order: the columns from x up to there are blocked
-pub record Sweeping (t o : List ℕ) (n w y x at j : ℕ) : Type 0 where
+-- the sweep at column `at`, with j boxes to come: the columns from x up to there are blocked
+pub record Sweeping (t o : List ℕ) (n m w y x at j : ℕ) : Type 0 where
   pub from : x ≤ at
   pub le : at ≤ w
-  pub jn : j ≤ n
+  pub jm : j ≤ m
   pub blocked : (u : ℕ) → x ≤ u → u < at → Covered t n u y
-  pub behind : Behind t o y at j
+  pub behind : Behind t o m at j
 
-module _ (t o : List ℕ) (n w y x : ℕ) where
-  pub sweeping-start : (j : ℕ) → x ≤ w → j ≤ n → Behind t o y x j → Sweeping t o n w y x x j
-  sweeping-start j l m b =
-      record { from = omega arith; le = l; jn = m; blocked = λ u p q. absurd (omega arith); behind = b }
+module _ (t o : List ℕ) (n m w h y x : ℕ) where
+  pub sweeping-start : (j : ℕ) → x ≤ w → j ≤ m → Behind t o m x j → Sweeping t o n m w y x x j
+  sweeping-start j l b e =
+      record { from = omega arith; le = l; jm = b; blocked = λ u p q. absurd (omega arith); behind = e }
 
-  module _ (at j : ℕ) (s : Sweeping t o n w y x at j) where
-    -- a box that has no point of the row
-    pub sweeping-off : j < n → onRow (orderedBox t o j) y ≡ false → Sweeping t o n w y x at (j + 1)
-    sweeping-off l e =
-        record {
-          from = s .from;
-          le = s .le;
-          jn = omega arith;
-          blocked = s .blocked;
-          behind =
-              below-more (λ (p : ℕ). onRow (orderedBox t o p) y ≡ true → orderedBox t o p .x1 ≤ at) j (s .behind)
-              (λ k. clash k e);
-        }
+  module _ (tab : Boxes t n w h) (row : OnRow t o n m y) where
+    -- the boxes of the list have points of the row
+    on-row : (j : ℕ) → j < m → onRow (listedBox t o j) y ≡ true
+    on-row j l =
+        inside-yes _ _ _ (omega (arith, row .come j l, row .below j l, tab .few)) (omega (arith, row .ends j l))
 
-    -- a box that has the column, or ends before it
-    pub sweeping-on : j < n → getD o j 0 < n → onRow (orderedBox t o j) y ≡ true → orderedBox t o j .x0 ≤ at
-        → orderedBox t o j .x1 ≤ w → (r : ℕ) → r ≡ max at (orderedBox t o j .x1) → Sweeping t o n w y x r (j + 1)
-    sweeping-on l m e low high r q =
-        record {
-          from = omega (arith, s .from);
-          le = omega (arith, s .le);
-          jn = omega arith;
-          blocked = λ u a b.
-              ⊎-elim
-              (λ g. s .blocked u a g)
-              (λ g.
-              record {
-                place = getD o j 0;
-                lt = m;
-                yes = covers-yes (orderedBox t o j) u y (inside-yes _ _ _ (omega arith) (omega arith)) e;
-              })
-              (lt-or-le u at);
-          behind =
-              below-more (λ (p : ℕ). onRow (orderedBox t o p) y ≡ true → orderedBox t o p .x1 ≤ r) j
-              (λ p a b. omega (arith, s .behind p a b)) (λ k. omega arith);
-        }
-
-    -- what the sweep finds, on a foil of height h
-    module _ (h : ℕ) (yh : y < h) where
-      abbrev row : ℕ → Bool
-      row = rowOf (boxFree w h n t) y
-
-      blocked-row : (u : ℕ) → x ≤ u → u < at → row u ≡ false
-      blocked-row u a b = covered-at w h n t u y (s .blocked u a b)
-
-      pub sweep-none : w ≤ at → Sweep row t o n w y x Nothing
-      sweep-none l =
-          let q : w ≡ x + (w - x) = omega (arith, s .from, s .le) in
+    module _ (at j : ℕ) (s : Sweeping t o n m w y x at j) where
+      -- the next box has the column, or ends before it
+      pub sweeping-on : 0 < j → listedBox t o (j - 1) .x0 ≤ at → (r : ℕ) → r ≡ max at (listedBox t o (j - 1) .x1)
+          → Sweeping t o n m w y x r (j - 1)
+      sweeping-on pos low r q =
           record {
-            blocked = λ u a b. blocked-row u a (omega arith);
-            next =
-                skip row w (w - x) x (omega (arith, s .from, s .le)) (λ u a c. blocked-row u a (omega arith))
-                ∙ ap (runsFrom row w) (sym q)
-                ∙ outside-past row w w (omega arith);
+            from = omega (arith, s .from);
+            le = omega (arith, s .le, tab .x-end (getD o (j - 1) 0) (row .below (j - 1) in-list));
+            jm = omega (arith, s .jm);
+            blocked = λ u a b.
+                ⊎-elim
+                (λ g. s .blocked u a g)
+                (λ g.
+                record {
+                  place = getD o (j - 1) 0;
+                  lt = row .below (j - 1) in-list;
+                  yes =
+                      covers-yes (listedBox t o (j - 1)) u y (inside-yes _ _ _ (omega arith) (omega arith))
+                      (on-row (j - 1) in-list);
+                })
+                (lt-or-le u at);
+            behind = λ p a b.
+                ⊎-elim (λ g. here p (omega arith)) (λ g. omega (arith, s .behind p g b)) (lt-or-le p j);
           }
+        where
+          in-list : j - 1 < m
+          in-list = omega (arith, s .jm)
 
-      module _ (ord : Ordered t o n) (lt : at < w) where
-        -- a column from `at` on that no box from place j on has
-        clear-of : (u : ℕ) → at ≤ u → (k : ℕ) → ((p : ℕ) → p < n → j ≤ p → u < orderedBox t o p .x0)
-            → (p : ℕ) × (p < n) × (getD o p 0 ≡ k) → covers (entryAt t k) u y ≡ false
-        clear-of u a k far (p, pn, e) =
-            ⊎-elim
-            (λ g. both (onRow (entryAt t k) y) (λ c. passed g c) (λ c. off-row (entryAt t k) u y c))
-            (λ g. ahead g)
-            (lt-or-le p j)
-          where
-            passed : p < j → onRow (entryAt t k) y ≡ true → covers (entryAt t k) u y ≡ false
-            passed g c =
-                let z : entryAt t k .x1 ≤ at = rw e at (s .behind p g (rw e c)) in
-                off-column (entryAt t k) u y (inside-above _ _ _ (omega arith))
+          here : (p : ℕ) → p ≡ j - 1 → listedBox t o p .x1 ≤ r
+          here p e = omega (arith, ap (λ (i : ℕ). listedBox t o i .x1) e)
 
-            ahead : j ≤ p → covers (entryAt t k) u y ≡ false
-            ahead g =
-                let z : u < entryAt t k .x0 = rw e at (far p pn g) in
-                off-column (entryAt t k) u y (inside-below _ _ _ z)
+      -- what the sweep finds
+      module _ (yh : y < h) where
+        abbrev free : ℕ → Bool
+        free = rowOf (boxFree w h n t) y
 
-        clear-row : (u : ℕ) → at ≤ u → u < w → ((p : ℕ) → p < n → j ≤ p → u < orderedBox t o p .x0) → row u ≡ true
-        clear-row u a b far = box-free-at w h n t u y b yh (λ k l. clear-of u a k far (ord .listed k l))
+        blocked-row : (u : ℕ) → x ≤ u → u < at → free u ≡ false
+        blocked-row u a b = covered-at w h n t u y (s .blocked u a b)
 
-        found-run : (e i : ℕ) → at < e → Stop row w at e → i ≤ n → Behind t o y e i
-            → Sweep row t o n w y x (found at e i)
-        found-run e i gt st m b =
-            let q : at ≡ x + (at - x) = omega (arith, s .from) in
+        pub sweep-none : w ≤ at → Sweep free t o m w x Nothing
+        sweep-none l =
+            let q : w ≡ x + (w - x) = omega (arith, s .from, s .le) in
             record {
-              from = s .from;
-              gt = gt;
-              blocked = blocked-row;
-              stop = st;
+              blocked = λ u a b. blocked-row u a (omega arith);
               next =
-                  skip row w (at - x) x (omega (arith, s .from, s .le)) (λ u a c. blocked-row u a (omega arith))
-                  ∙ ap (runsFrom row w) (sym q)
-                  ∙ take-run row w at e gt st;
-              jn = m;
-              behind = b;
+                  skip free w (w - x) x (omega (arith, s .from, s .le)) (λ u a c. blocked-row u a (omega arith))
+                  ∙ ap (runsFrom free w) (sym q)
+                  ∙ outside-past free w w (omega arith);
             }
 
-        -- no box is left
-        pub sweep-last : j ≡ n → Sweep row t o n w y x (found at w n)
-        sweep-last q =
-            found-run w n lt
-            (record {
-              ge = omega arith;
-              le = omega arith;
-              passes = λ u a b. clear-row u a b (λ p pn g. absurd (omega arith));
-              ends = inl refl;
-            })
-            (omega arith)
-            (λ p l c. omega (arith, s .behind p (omega arith) c))
+        module _ (lt : at < w) where
+          -- a column from `at` on that none of the first j boxes has
+          clear-of : (u : ℕ) → at ≤ u → ((p : ℕ) → p < j → u < listedBox t o p .x0)
+              → (k : ℕ) → (p : ℕ) × (p < m) × (getD o p 0 ≡ k) → covers (entryAt t k) u y ≡ false
+          clear-of u a far k (p, pm, e) = ⊎-elim (λ g. ahead g) (λ g. passed g) (lt-or-le p j)
+            where
+              passed : j ≤ p → covers (entryAt t k) u y ≡ false
+              passed g =
+                  let z : entryAt t k .x1 ≤ at = rw e at (s .behind p g pm) in
+                  off-column (entryAt t k) u y (inside-above _ _ _ (omega arith))
 
-        -- the box at place j begins after `at`
-        pub sweep-run : Boxes t n w h → j < n → getD o j 0 < n → onRow (orderedBox t o j) y ≡ true
-            → at < orderedBox t o j .x0 → Sweep row t o n w y x (found at (orderedBox t o j .x0) j)
-        sweep-run tab l m c low =
-            let lx : orderedBox t o j .x0 < orderedBox t o j .x1 = tab .x-order (getD o j 0) m in
-            let le : orderedBox t o j .x1 ≤ w = tab .x-end (getD o j 0) m in
-            found-run (orderedBox t o j .x0) j low
-            (record {
-              ge = omega arith;
-              le = omega arith;
-              passes = λ u a b. clear-row u a (omega arith) (λ p pn g. omega (arith, ord .sorted j p l g pn));
-              ends =
-                  inr (covered-at w h n t (orderedBox t o j .x0) y
-                  (record {
-                    place = getD o j 0;
-                    lt = m;
-                    yes =
-                        covers-yes (orderedBox t o j) (orderedBox t o j .x0) y
-                        (inside-yes _ _ _ (omega arith) (omega arith)) c;
-                  }));
-            })
-            (s .jn)
-            (λ p g k. omega (arith, s .behind p g k))
+              ahead : p < j → covers (entryAt t k) u y ≡ false
+              ahead g =
+                  let z : u < entryAt t k .x0 = rw e at (far p g) in
+                  off-column (entryAt t k) u y (inside-below _ _ _ z)
+
+          clear-box : (u : ℕ) → at ≤ u → ((p : ℕ) → p < j → u < listedBox t o p .x0)
+              → (k : ℕ) → k < n → covers (entryAt t k) u y ≡ false
+          clear-box u a far k l =
+              both (onRow (entryAt t k) y)
+              (λ c.
+              let i = of-inside (entryAt t k .y0) (entryAt t k .y1) y c in
+              clear-of u a far k (row .listed k l (omega (arith, i .0)) (omega (arith, i .1))))
+              (λ c. off-row (entryAt t k) u y c)
+
+          clear-row : (u : ℕ) → at ≤ u → u < w → ((p : ℕ) → p < j → u < listedBox t o p .x0) → free u ≡ true
+          clear-row u a b far = box-free-at w h n t u y b yh (clear-box u a far)
+
+          found-run : (e i : ℕ) → at < e → Stop free w at e → i ≤ m → Behind t o m e i
+              → Sweep free t o m w x (found at e i)
+          found-run e i gt st b far =
+              let q : at ≡ x + (at - x) = omega (arith, s .from) in
+              record {
+                from = s .from;
+                gt = gt;
+                blocked = blocked-row;
+                stop = st;
+                next =
+                    skip free w (at - x) x (omega (arith, s .from, s .le)) (λ u a c. blocked-row u a (omega arith))
+                    ∙ ap (runsFrom free w) (sym q)
+                    ∙ take-run free w at e gt st;
+                jm = b;
+                behind = far;
+              }
+
+          -- no box is left
+          pub sweep-last : j ≡ 0 → Sweep free t o m w x (found at w 0)
+          sweep-last q =
+              found-run w 0 lt
+              (record {
+                ge = omega arith;
+                le = omega arith;
+                passes = λ u a b. clear-row u a b (λ p g. absurd (omega arith));
+                ends = inl refl;
+              })
+              (omega arith)
+              (λ p a b. omega (arith, s .behind p (omega arith) b))
+
+          -- the next box begins after `at`
+          pub sweep-run : 0 < j → at < listedBox t o (j - 1) .x0
+              → Sweep free t o m w x (found at (listedBox t o (j - 1) .x0) j)
+          sweep-run pos low =
+              let in-list : j - 1 < m = omega (arith, s .jm) in
+              let m : getD o (j - 1) 0 < n = row .below (j - 1) in-list in
+              let lx : listedBox t o (j - 1) .x0 < listedBox t o (j - 1) .x1 = tab .x-order (getD o (j - 1) 0) m in
+              let le : listedBox t o (j - 1) .x1 ≤ w = tab .x-end (getD o (j - 1) 0) m in
+              found-run (listedBox t o (j - 1) .x0) j low
+              (record {
+                ge = omega arith;
+                le = omega arith;
+                passes = λ u a b.
+                    clear-row u a (omega arith)
+                    (λ p g. omega (arith, row .falling p (j - 1) (omega arith) in-list));
+                ends =
+                    inr (covered-at w h n t (listedBox t o (j - 1) .x0) y
+                    (record {
+                      place = getD o (j - 1) 0;
+                      lt = m;
+                      yes =
+                          covers-yes (listedBox t o (j - 1)) (listedBox t o (j - 1) .x0) y
+                          (inside-yes _ _ _ (omega arith) (omega arith)) (on-row (j - 1) in-list);
+                    }));
+              })
+              (s .jm)
+              (λ p a b. omega (arith, s .behind p a b))
 
 -- where the sweep is left: at the end of the row, or with no box to come
-pub record LeftAt (t o : List ℕ) (n w y x at : ℕ) : Type 0 where
+pub record LeftAt (t o : List ℕ) (n m w y x at : ℕ) : Type 0 where
   pub j : ℕ
-  pub sweeping : Sweeping t o n w y x at j
-  pub why : (w ≤ at) ⊎ (j ≡ n)
+  pub sweeping : Sweeping t o n m w y x at j
+  pub why : (w ≤ at) ⊎ (j ≡ 0)
 
-module _ (t o : List ℕ) (n w y x at : ℕ) (l : LeftAt t o n w y x at) (h : ℕ) (yh : y < h) where
-  pub left-run : Ordered t o n → at < w → Sweep (rowOf (boxFree w h n t) y) t o n w y x (found at w n)
-  left-run ord lt =
+module _
+    (t o : List ℕ) (n m w h y x at : ℕ) (tab : Boxes t n w h) (row : OnRow t o n m y) (yh : y < h)
+    (l : LeftAt t o n m w y x at) where
+  pub left-run : at < w → Sweep (rowOf (boxFree w h n t) y) t o m w x (found at w 0)
+  left-run lt =
       ⊎-elim
       (λ q. absurd (omega arith))
-      (λ q. sweep-last t o n w y x at (l .j) (l .sweeping) h yh ord lt q)
+      (λ q. sweep-last t o n m w h y x tab row at (l .j) (l .sweeping) yh lt q)
       (l .why)
 
-  pub left-none : w ≤ at → Sweep (rowOf (boxFree w h n t) y) t o n w y x Nothing
-  left-none q = sweep-none t o n w y x at (l .j) (l .sweeping) h yh q
+  pub left-none : w ≤ at → Sweep (rowOf (boxFree w h n t) y) t o m w x Nothing
+  left-none q = sweep-none t o n m w h y x tab row at (l .j) (l .sweeping) yh q

@@ -1,6 +1,6 @@
 -- What the contracts of the crate say.
-pub mod Order
 pub mod Rows
+pub mod RowBoxes
 pub mod Sweep
 pub mod Told
 pub mod Joining

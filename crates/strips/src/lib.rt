@@ -1,5 +1,5 @@
 // The strips of a foil: built from the boxes that are blocked, and looked up.
-mod order;
+mod row_boxes;
 mod row_joining;
 mod rows;
 mod sweep;
@@ -34,12 +34,25 @@ pub fn rebuild(out: &mut [u16], boxes: &[u16], n: usize, w: u16, h: u16) -> Buil
     ensures { λ r. ⌜ Rebuilt (now (out .entry)) (now (out .exit))
         (strips (boxFree w h n (now (boxes .entry))) w h) r ⌝ }
 {
-    let mut ord = [0usize; MAX_BOXES];
     let mut last = [0usize; 4096];
+    let mut row = [0usize; MAX_BOXES];
     let mut marks = [0u16; 4097];
-    order::order(&mut ord, boxes, n);
+    let mut heads = [0u16; 4096];
+    let mut nexts = [0u16; MAX_BOXES];
     rows::mark_rows(&mut marks, boxes, n);
-    let count = row_joining::join_rows(out, &mut last, boxes, &ord, &marks, n, w, h);
+    row_boxes::chain_boxes(&mut heads, &mut nexts, boxes, n);
+    let count = row_joining::join_rows(
+        out,
+        &mut last,
+        &mut row,
+        boxes,
+        &marks,
+        &heads,
+        &nexts,
+        n,
+        w,
+        h,
+    );
     if MAX_STRIPS < count {
         return Built::TooMany;
     }

@@ -6,12 +6,13 @@ ghost use mathlib.Core.List.{_∷_, _++_};
 ghost use lib.ListN.{length, take, drop};
 ghost use Rattle.foil_spec.specs.Limits.{maxStrips, stripsSize};
 ghost use Rattle.foil_spec.specs.Strips.{strips};
-ghost use Rattle.zones.specs.Boxes.{boxFree, Boxes};
-ghost use Rattle.strips.specs.Order.{Ordered};
+ghost use Rattle.zones.specs.Boxes.{maxBoxes, boxFree, Boxes};
 ghost use Rattle.strips.specs.Rows.{Change, Marked};
+ghost use Rattle.strips.specs.RowBoxes.{OnRow, Chained};
 ghost use Rattle.strips.specs.Joining.{JoinsRow, Opened};
 ghost use Rattle.strips.specs.Told.{Told};
 ghost use Rattle.strips.specs.Built.{Listed};
+use crate::row_boxes::move_to;
 use crate::rows::next_change;
 use crate::rows::wide;
 use crate::sweep::Swept;
@@ -52,15 +53,16 @@ fn put(out: &mut [u16], k: usize, a: u16, y: u16, b: u16, t: u16)
     out[k * 4 + 3] = t;
 }
 
-// Joins the runs of row y, which all rows from there up to z are equal to, to the c strips of out.
-// last has for each column the place of the last strip that began there; where none began, it may
+// Joins the runs of row y, which has m boxes and which all rows from there up to z are equal to, to the c strips of
+// out. last has for each column the place of the last strip that began there; where none began, it may
 // hold anything. Answers how many strips there are then, 4,097 for more than 4,096.
 fn join_row(
     out: &mut [u16],
     last: &mut [usize],
     boxes: &[u16],
-    ord: &[usize],
+    row: &[usize],
     n: usize,
+    m: usize,
     w: u16,
     h: u16,
     y: u16,
@@ -68,17 +70,17 @@ fn join_row(
     c: usize,
 ) -> usize
     requires { ⌜ Boxes (now boxes) n w h ⌝ }
-    requires { ⌜ Ordered (now boxes) (now ord) n ⌝ }
+    requires { ⌜ OnRow (now boxes) (now row) n m y ⌝ }
     requires { ⌜ (y < h) × (c ≤ maxStrips) × (stripsSize ≤ length (now out)) × (4096 ≤ length (now last)) ⌝ }
     requires { ⌜ Change (boxFree w h n (now boxes)) h y z ⌝ }
     ensures { λ r. ⌜ JoinsRow (boxFree w h n (now (boxes .entry))) w h
         (now (out .entry)) (now (last .entry)) c y z (now (out .exit)) (now (last .exit)) r ⌝ }
 {
     let mut x: u16 = 0;
-    let mut j: usize = 0;
+    let mut j = m;
     let mut count = c;
     while x < w {
-        let Swept::Run(a, b, i) = sweep(boxes, ord, n, w, h, y, x, j) else {
+        let Swept::Run(a, b, i) = sweep(boxes, row, n, m, w, h, y, x, j) else {
             return count;
         };
         let s = wide(a);
@@ -103,24 +105,28 @@ fn join_row(
 pub(crate) fn join_rows(
     out: &mut [u16],
     last: &mut [usize],
+    row: &mut [usize],
     boxes: &[u16],
-    ord: &[usize],
     marks: &[u16],
+    heads: &[u16],
+    nexts: &[u16],
     n: usize,
     w: u16,
     h: u16,
 ) -> usize
     requires { ⌜ Boxes (now boxes) n w h ⌝ }
-    requires { ⌜ Ordered (now boxes) (now ord) n ⌝ }
-    requires { ⌜ Marked (now boxes) n (now marks) ⌝ }
-    requires { ⌜ (stripsSize ≤ length (now out)) × (4096 ≤ length (now last)) × (4096 ≤ length (now marks)) ⌝ }
+    requires { ⌜ Marked (now boxes) n (now marks) × Chained (now boxes) (now heads) (now nexts) n ⌝ }
+    requires { ⌜ (stripsSize ≤ length (now out)) × (4096 ≤ length (now last)) × (maxBoxes ≤ length (now row))
+        × (4096 ≤ length (now marks)) × (4096 ≤ length (now heads)) × (maxBoxes ≤ length (now nexts)) ⌝ }
     ensures { λ r. ⌜ Listed (now (out .entry)) (now (out .exit)) r (strips (boxFree w h n (now (boxes .entry))) w h) ⌝ }
 {
     let mut y: u16 = 0;
     let mut count: usize = 0;
+    let mut m: usize = 0;
     while y < h {
         let z = next_change(marks, h, y);
-        let k = join_row(out, last, boxes, ord, n, w, h, y, z, count);
+        m = move_to(row, boxes, marks, heads, nexts, n, m, y);
+        let k = join_row(out, last, boxes, row, n, m, w, h, y, z, count);
         if MAX_STRIPS < k {
             return k;
         }

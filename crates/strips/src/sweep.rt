@@ -1,37 +1,23 @@
-// The runs of a row, by one sweep of the boxes in order of x0.
+// The runs of a row, by one sweep of its boxes from the last place of their list on: there stands the one that begins
+// first.
 use foil_spec::entry_at;
-use zones::larger;
-ghost use mathlib.Core.Path.{_≡_};
 ghost use Prim.Native.Nat.{_≤_, _<_};
-ghost use Rattle.zones.specs.Boxes.{inside, Boxes};
-ghost use Rattle.strips.specs.Order.{Ordered};
+ghost use Rattle.zones.specs.Boxes.{Boxes};
+ghost use Rattle.strips.specs.RowBoxes.{OnRow};
 ghost use Rattle.strips.specs.Sweep.{Sweeps, Behind};
 
-// Whether v lies from lo up to hi, hi excluded.
-fn inside(lo: u16, hi: u16, v: u16) -> bool
-    ensures { λ r. ⌜ r ≡ inside lo hi v ⌝ }
-{
-    if v < lo {
-        return false;
-    }
-    if hi <= v {
-        return false;
-    }
-    true
-}
-
-// The next run of a row, and the place of the order at which the sweep goes on; or that none is left.
+// The next run of a row, and how many boxes the sweep goes on with; or that none is left.
 pub(crate) enum Swept {
     Run(u16, u16, usize),
     Nothing,
 }
 
-// The next run of row y from column x on, where of the boxes in order only those from place i on have
-// points of the row from x on.
+// The next run of row y, which has m boxes, from column x on, where only the first i of them have points from x on.
 pub(crate) fn sweep(
     boxes: &[u16],
-    ord: &[usize],
+    row: &[usize],
     n: usize,
+    m: usize,
     w: u16,
     h: u16,
     y: u16,
@@ -39,32 +25,31 @@ pub(crate) fn sweep(
     i: usize,
 ) -> Swept
     requires { ⌜ Boxes (now boxes) n w h ⌝ }
-    requires { ⌜ Ordered (now boxes) (now ord) n ⌝ }
-    requires { ⌜ (x ≤ w) × (y < h) × (i ≤ n) ⌝ }
-    requires { ⌜ Behind (now boxes) (now ord) y x i ⌝ }
-    ensures { λ r. ⌜ Sweeps (now (boxes .entry)) (now (ord .entry)) n w h y x r ⌝ }
+    requires { ⌜ OnRow (now boxes) (now row) n m y ⌝ }
+    requires { ⌜ (x ≤ w) × (y < h) × (i ≤ m) ⌝ }
+    requires { ⌜ Behind (now boxes) (now row) m x i ⌝ }
+    ensures { λ r. ⌜ Sweeps (now (boxes .entry)) (now (row .entry)) n m w h y x r ⌝ }
 {
     let mut at = x;
     let mut j = i;
     'scan: while at < w {
         loop {
-            if j == n {
+            if j == 0 {
                 break 'scan;
             }
-            let zone = entry_at(boxes, ord[j]);
-            if inside(zone.y0, zone.y1, y) {
-                if at < zone.x0 {
-                    return Swept::Run(at, zone.x0, j);
-                }
-                at = larger(at, zone.x1);
-                j += 1;
+            let zone = entry_at(boxes, row[j - 1]);
+            if at < zone.x0 {
+                return Swept::Run(at, zone.x0, j);
+            }
+            j -= 1;
+            if at < zone.x1 {
+                at = zone.x1;
                 continue 'scan;
             }
-            j += 1;
         }
     }
     if at < w {
-        return Swept::Run(at, w, n);
+        return Swept::Run(at, w, 0);
     }
     Swept::Nothing
 }

@@ -1,39 +1,32 @@
 -- `strips::rebuild` meets its contract.
 use native.Mathlib.Omega.{arith}
+use mathlib.Core.Path.{refl}
 use Rattle.strips.proofs.Listing.{rebuilt}
 use Rattle.strips.proofs.rebuild.Statement.{statement}
 use Rattle.strips.proofs.rebuild.Tie as tie
 
--- back to the start from the order, from the marks, and from the arguments of the joining
-abbrev fromOrd : tie.After-ord → tie.Start
-fromOrd c = c .before .before .before
-
+-- back to the start from the marks, from the chains, and from the arguments of the joining
 abbrev fromMarks : tie.After-marks → tie.Start
-fromMarks c = fromOrd (c .before .before .before)
+fromMarks c = c .before .before .before
 
-abbrev atStart : tie.After-marks3 → tie.Start
-atStart c = fromMarks (c .before .before .before .before .before .before)
+abbrev fromChains : tie.After-nexts → tie.Start
+fromChains c = fromMarks (c .before .before .before .before)
 
--- to the marks and the order made, to the rows joined, and to where there are not too many
-abbrev afterMarks : tie.After-marks3 → tie.After-mark-rows
-afterMarks c = c .before .before .before .before .before
+abbrev afterChains : tie.After-nexts3 → tie.After-chain-boxes
+afterChains c = c .before .before .before .before .before .before .before .before
 
-abbrev afterOrder : tie.After-mark-rows → tie.After-order
-afterOrder c = c .before .before .before
+abbrev atStart : tie.After-nexts3 → tie.Start
+atStart c = fromChains (afterChains c .before)
 
-abbrev afterJoinRows : tie.After-last2 → tie.After-join-rows
-afterJoinRows c = c .before .before .before
+-- to the marks made, to the rows joined, and to where there are not too many
+abbrev afterMarks : tie.After-chain-boxes → tie.After-mark-rows
+afterMarks c = c .before .before .before .before
+
+abbrev afterJoinRows : tie.After-row2 → tie.After-join-rows
+afterJoinRows c = c .before .before .before .before
 
 abbrev inElse : tie.After-slice-known3 → tie.Else1
 inElse c = c .before .before .before .before
-
-slice-aggregate-order : tie.Need-slice-aggregate-order
-slice-aggregate-order c = omega arith
-
-order-requires : tie.Need-order-requires
-order-requires c κs =
-    let p = fromOrd c .pre .0 in
-    omega (arith, p .few, p .len)
 
 slice-aggregate-mark-rows : tie.Need-slice-aggregate-mark-rows
 slice-aggregate-mark-rows c = omega arith
@@ -42,6 +35,17 @@ mark-rows-requires : tie.Need-mark-rows-requires
 mark-rows-requires c κs =
     let p = fromMarks c .pre .0 in
     (p .len, λ k l. omega (arith, p .y-order k l, p .y-end k l, p .height))
+
+slice-aggregate-chain-boxes : tie.Need-slice-aggregate-chain-boxes
+slice-aggregate-chain-boxes c = omega arith
+
+slice-aggregate-chain-boxes-2 : tie.Need-slice-aggregate-chain-boxes-2
+slice-aggregate-chain-boxes-2 c = omega arith
+
+chain-boxes-requires : tie.Need-chain-boxes-requires
+chain-boxes-requires c κs =
+    let p = fromChains c .pre .0 in
+    (omega (arith, p .len, p .few), (λ k l. omega (arith, p .y-order k l, p .y-end k l, p .height), refl))
 
 slice-aggregate-join-rows : tie.Need-slice-aggregate-join-rows
 slice-aggregate-join-rows c = omega arith
@@ -52,15 +56,17 @@ slice-aggregate-join-rows-2 c = omega arith
 slice-aggregate-join-rows-3 : tie.Need-slice-aggregate-join-rows-3
 slice-aggregate-join-rows-3 c = omega arith
 
+slice-aggregate-join-rows-4 : tie.Need-slice-aggregate-join-rows-4
+slice-aggregate-join-rows-4 c = omega arith
+
+slice-aggregate-join-rows-5 : tie.Need-slice-aggregate-join-rows-5
+slice-aggregate-join-rows-5 c = omega arith
+
 join-rows-requires : tie.Need-join-rows-requires
 join-rows-requires c κs =
-    let p = atStart c .pre in (
-      p .0,
-      (
-        afterOrder (afterMarks c) .order .ensures,
-        (afterMarks c .mark-rows .ensures, omega (arith, p .1)),
-      ),
-    )
+    let p = atStart c .pre in
+    let chains = afterChains c in
+    (p .0, ((afterMarks chains .mark-rows .ensures, chains .chain-boxes .ensures), omega (arith, p .1)))
 
 same-length : tie.Need-same-length
 same-length c = omega arith
@@ -89,13 +95,16 @@ pub rebuild-spec : {M : Type 1} → statement M
 rebuild-spec =
     tie.close
     (tie.spec
-    slice-aggregate-order
-    order-requires
     slice-aggregate-mark-rows
     mark-rows-requires
+    slice-aggregate-chain-boxes
+    slice-aggregate-chain-boxes-2
+    chain-boxes-requires
     slice-aggregate-join-rows
     slice-aggregate-join-rows-2
     slice-aggregate-join-rows-3
+    slice-aggregate-join-rows-4
+    slice-aggregate-join-rows-5
     join-rows-requires
     same-length
     returns

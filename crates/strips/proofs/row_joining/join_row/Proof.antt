@@ -14,11 +14,11 @@ use Rattle.strips.proofs.row_joining.join_row.Statement.{statement}
 use Rattle.strips.proofs.row_joining.join_row.Tie as tie
 
 abbrev Inv-loop : tie.InvT-loop
-Inv-loop out₀ last₀ boxes ord n w h y z c x₀ j₀ count₀ out last x j count =
-    JoiningRow boxes ord n w h y z c out₀ last₀ out last x j count
+Inv-loop out₀ last₀ boxes row n m w h y z c x₀ j₀ count₀ out last x j count =
+    JoiningRow boxes row n m w h y z c out₀ last₀ out last x j count
 
 abbrev μ-loop : tie.MeasureT-loop
-μ-loop out₀ last₀ boxes ord n w h y z c x₀ j₀ count₀ out last x j count = w - x
+μ-loop out₀ last₀ boxes row n m w h y z c x₀ j₀ count₀ out last x j count = w - x
 
 -- back to the function's start, to the loop's turn, to the run that the sweep found, and to the new strip's run
 abbrev atStart : tie.In-loop Inv-loop μ-loop → tie.Start Inv-loop μ-loop
@@ -55,7 +55,7 @@ hasRoom c = c .before .before .before .before
 abbrev atMatch : tie.After-known-told Inv-loop μ-loop → tie.At-match-keys1 Inv-loop μ-loop
 atMatch c = c .before .before
 
--- the run that the sweep found: from a up to b, and on from place i of the order
+-- the run that the sweep found: from a up to b, and on with i boxes
 abbrev a : tie.After-known-told Inv-loop μ-loop → ℕ
 a c = c .before .a .given .0 .0
 
@@ -69,7 +69,7 @@ i c = c .before .a .given .0 .1 .1 .0
 abbrev Found : tie.Start Inv-loop μ-loop → ℕ → Swept → Type 0
 Found c x r =
     Sweep (rowOf (boxFree (c .args .w) (c .args .h) (c .args .n) (c .args .boxes .now)) (c .args .y))
-    (c .args .boxes .now) (c .args .ord .now) (c .args .n) (c .args .w) (c .args .y) x r
+    (c .args .boxes .now) (c .args .row .now) (c .args .m) (c .args .w) x r
 
 answered : (c : tie.After-sweep Inv-loop μ-loop)
     → Found (atStart (c .before)) (c .before .before .loop .x) (c .sweep .result)
@@ -112,7 +112,7 @@ closed c =
 loop-holds : tie.Need-loop-holds Inv-loop μ-loop
 loop-holds c =
     let s = fromHead c in
-    row-start _ _ _ _ _ _ _ _ _ _ (omega (arith, s .pre .1 .1 .0)) (s .pre .1 .1 .1)
+    row-start _ _ _ _ _ _ _ _ _ _ _ (omega (arith, s .pre .1 .1 .0)) (s .pre .1 .1 .1)
     (omega (arith, s .pre .1 .1 .0))
 
 sweep-requires : tie.Need-sweep-requires Inv-loop μ-loop
@@ -121,7 +121,7 @@ sweep-requires c κs = (
   (
     atStart c .pre .1 .0,
     (
-      omega (arith, c .before .loop .inv .xw, c .before .loop .inv .jn, atStart c .pre .1 .1 .0),
+      omega (arith, c .before .loop .inv .xw, c .before .loop .inv .jm, atStart c .pre .1 .1 .0),
       c .before .loop .inv .behind,
     ),
   ),
@@ -142,7 +142,7 @@ same-length-2 c = noRun c .before .loop .inv .same-last
 returns : tie.Need-returns Inv-loop μ-loop
 returns c =
     let l = noRun c in
-    row-none _ _ _ _ _ _ _ _ _ _ (omega (arith, atStart l .pre .1 .1 .0)) (atStart l .pre .1 .1 .1) _ _ _ _ _
+    row-none _ _ _ _ _ _ _ _ _ _ _ (omega (arith, atStart l .pre .1 .1 .0)) (atStart l .pre .1 .1 .1) _ _ _ _ _
     (l .before .loop .inv)
     (subst (λ (r : Swept). Found (atStart l) (l .before .loop .x) r) (c .enum-told .given .1)
     (answered (c .before .before)))
@@ -194,7 +194,7 @@ returns-2 : tie.Need-returns-2 Inv-loop μ-loop
 returns-2 c =
     let r = atRun (c .before .before) in
     let l = inLoop r in
-    row-full _ _ _ _ _ _ _ _ _ _ (omega (arith, atStart l .pre .1 .1 .0)) (atStart l .pre .1 .1 .1) _ _ _ _ _
+    row-full _ _ _ _ _ _ _ _ _ _ _ (omega (arith, atStart l .pre .1 .1 .0)) (atStart l .pre .1 .1 .1) _ _ _ _ _
     (l .before .loop .inv) _ _ _ (swept r) (closed (c .before)) (c .if2 .taken)
 
 put-requires : tie.Need-put-requires Inv-loop μ-loop
@@ -230,7 +230,7 @@ loop-again : tie.Need-loop-again Inv-loop μ-loop
 loop-again c =
     let r = atRun (c .before) in
     let l = inLoop r in
-    row-old _ _ _ _ _ _ _ _ _ _ (omega (arith, atStart l .pre .1 .1 .0)) (atStart l .pre .1 .1 .1) _ _ _ _ _
+    row-old _ _ _ _ _ _ _ _ _ _ _ (omega (arith, atStart l .pre .1 .1 .0)) (atStart l .pre .1 .1 .1) _ _ _ _ _
     (l .before .loop .inv) _ _ _ (swept r) _
     (ap (λ (u : ℕ). getD (l .before .loop .last) u 0) (atWide (c .before) .wide .ensures))
     (opened c) _ refl
@@ -245,7 +245,7 @@ loop-again-2 c =
     let o = notOpen c .before in
     let r = atRun o in
     let l = inLoop r in
-    row-new _ _ _ _ _ _ _ _ _ _ (omega (arith, atStart l .pre .1 .1 .0)) (atStart l .pre .1 .1 .1) _ _ _ _ _
+    row-new _ _ _ _ _ _ _ _ _ _ _ (omega (arith, atStart l .pre .1 .1 .0)) (atStart l .pre .1 .1 .1) _ _ _ _ _
     (l .before .loop .inv) _ _ _ (swept r) (closed (notOpen c))
     (omega (arith, hasRoom c .if2 .left, l .before .loop .inv .small)) _ _
     (c .before .before .put .kept .0) (c .before .before .put .ensures)
@@ -261,7 +261,7 @@ same-length-6 c = c .before .loop .inv .same-last
 returns-3 : tie.Need-returns-3 Inv-loop μ-loop
 returns-3 c =
     let s = fromHead (c .before .before) in
-    row-end _ _ _ _ _ _ _ _ _ _ (omega (arith, s .pre .1 .1 .0)) (s .pre .1 .1 .1) _ _ _ _ _
+    row-end _ _ _ _ _ _ _ _ _ _ _ (omega (arith, s .pre .1 .1 .0)) (s .pre .1 .1 .1) _ _ _ _ _
     (c .before .loop .inv) (c .loop-test .left)
 
 pub join-row-spec : {M : Type 1} → statement M
