@@ -35,11 +35,11 @@ module _ {t : List ℕ} {n : ℕ} {p : Pen} {w h : ℕ} {S T : Point} (P : Posed
   unfolding pathOf layoutOf
   path-is = ap (λ (f : ℕ → ℕ → Bool). firstPath f w h S T) (Z .same)
 
-  pub layout-found : {out out′ : List ℕ} {k : ℕ} → search.Found (firstPath (boxFree w h c z) w h S T) out out′ k
+  pub layout-found : {out out′ : List ℕ} {k : ℕ} → search.PathFound (firstPath (boxFree w h c z) w h S T) out out′ k
       → Found (layoutOf w h p n t) S T out out′ k
   unfolding cornersOf
   layout-found {out} {out′} {k} F =
-      let G = subst (λ (o : Option (List Point)). search.Found o out out′ k) path-is F in
+      let G = subst (λ (o : Option (List Point)). search.PathFound o out out′ k) path-is F in
       record {
         none = no-path (pathOf (layoutOf w h p n t) S T) k (G .nowhere) (G .count);
         count = G .count;

@@ -26,7 +26,7 @@ use Rattle.foil_spec.specs.Ledger.{reads, refusals, afterLent, settle, r
 use Rattle.foil_spec.specs.Ledger.{clearanceRefusal, freeFor, onLegs, onNet, joinOf, joinCorners}
 use Rattle.foil_spec.specs.Job.{number, fieldCount, mapByte, has, fieldsAt, recordEnd, field, stepAt, jobRoom}
 use Rattle.foil_spec.specs.Job.{stepsAt, steps, isEnd, recordChecks}
-use Rattle.foil_spec.specs.Ohms.{whole, sheetOk, widthOk, bendOk, inkOk, formula, ohmsRefusals, ohmsOf}
+use Rattle.foil_spec.specs.Ohms.{whole, resistanceOk, widthOk, bendOk, inkOk, formula, ohmsRefusals, ohmsOf}
 use Rattle.foil_spec.specs.Lent.{overFront, outputAfter, numbersOut, roomLeft, roomIn}
 use Rattle.foil_spec.specs.Wishes.{wishAt, wishes, tooMany}
 use Rattle.foil_spec.specs.Calls.{laidAll, endsJob, andThen, actAll, actRecord, inFront, actEach, actList}
@@ -56,7 +56,7 @@ unfolding outcomeFrom cases jobBytes crossingBytes legJob savedBytes jobSlip pen
     jobRoom number fieldCount mapByte has fieldsAt recordEnd field stepAt stepsAt steps isEnd recordChecks
     endsJob andThen actAll actRecord tooLarge wholeRefusals ohmsReply reply ledgerCall xor
     wishAt wishes tooMany listRefusals overFront outputAfter numbersOut roomLeft pointNumbers inFront actEach actList
-    legsOf legSteps stepsOf netLength netBends whole sheetOk widthOk bendOk inkOk formula ohmsRefusals ohmsOf half bits
+    legsOf legSteps stepsOf netLength netBends whole resistanceOk widthOk bendOk inkOk formula ohmsRefusals ohmsOf half bits
     ofInt ofBits add mul div lt le eq
 starred = refl
 

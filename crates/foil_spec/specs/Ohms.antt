@@ -15,8 +15,8 @@ unfoldable pub whole : ℕ → Float
 whole n = ofInt binary64 (pos n)
 
 -- 0 < R ≤ 1,000
-unfoldable pub sheetOk : Float → Bool
-sheetOk x = finite x && lt (whole 0) x && le x (whole 1000)
+unfoldable pub resistanceOk : Float → Bool
+resistanceOk x = finite x && lt (whole 0) x && le x (whole 1000)
 
 -- 1 ≤ w ≤ 64
 unfoldable pub widthOk : Float → Bool
@@ -28,7 +28,7 @@ bendOk x = finite x && le (whole 0) x && le x (whole 4)
 
 -- 22 does not apply
 unfoldable pub inkOk : Ink → Bool
-inkOk i = sheetOk (i .sheet) && widthOk (i .width) && bendOk (i .bend)
+inkOk i = resistanceOk (i .sheet) && widthOk (i .width) && bendOk (i .bend)
 
 -- (L / w + c × B) × R, each of the four operations rounded once to an f64
 unfoldable pub formula : ℕ → ℕ → Ink → Float

@@ -32,7 +32,7 @@ use Rattle.carrying.specs.Carried.{CarryDone}
 use Rattle.foil.specs.declared.Done.{Done}
 use Rattle.host.specs.declared.flat.Flat.{Flat}
 use Rattle.host.specs.declared.flat.Brought.{Brought}
-use Rattle.host.specs.Flats.{numbersLent, entriesOf, frontOf, overFront}
+use Rattle.host.specs.Flats.{numbersLent, entriesOf, frontOf, withFront}
 use Rattle.host.specs.Carried.{oldOf, HostCarried, FlatCarried}
 use Rattle.host.proofs.Flats.{lent-on}
 use Rattle.host.proofs.Tables.{numbers, on-entries, on-table, written-over}
@@ -260,7 +260,7 @@ old-longer ob os m out d t′ s′ out′ t rest full w =
 
 pub whole-carried : (o : Old) (b : Board) (es : List Entry) (t : Flat) (s out : List ℕ) (r : Brought)
     (es′ : List Entry) (s′ out′ : List ℕ) → t ≡ frontOf es → FlatCarried o b t s out r s′ out′
-    → es′ ≡ overFront (r .table) es → HostCarried o b es s out (r .answer) (r .board) es′ s′ out′
+    → es′ ≡ withFront (r .table) es → HostCarried o b es s out (r .answer) (r .board) es′ s′ out′
 whole-carried o b es t s out r es′ s′ out′ front d e =
     let done : Done = record { answer = r .answer; board = r .board } in
     on-table (λ x y. CarryDone o (lent b x s) out done y s′ out′)

@@ -18,13 +18,13 @@ use denote.Struct.Laws as LL
 use Rattle.foil_spec.specs.Lists.{range, each}
 use Rattle.foil_spec.specs.Foil.{Entry, entryNumbers}
 use Rattle.foil_spec.specs.Lent.{entryAt}
-use Rattle.strips.specs.Told.{Told}
+use Rattle.strips.specs.Decided.{Decided}
 use Rattle.ledger_laws.proofs.Sound.{read-numbers}
 use Rattle.list_laws.proofs.Members.{map-last}
 use Rattle.list_laws.proofs.Tests.{lt-or-le}
 use Rattle.host.specs.declared.flat.Flat.{Flat}
 use Rattle.host.specs.Flats.{setFive, placesLent, numbersLent, entriesOf, noEntry}
-use Rattle.host.specs.Flats.{loadTo, storeTo, frontOf, overFront}
+use Rattle.host.specs.Flats.{loadTo, storeTo, frontOf, withFront}
 use Rattle.host.proofs.flat.Flat as T
 use Rattle.host.proofs.flat.Flat.Laws as T′
 
@@ -32,13 +32,13 @@ use Rattle.host.proofs.flat.Flat.Laws as T′
 
 -- two entries whose first four numbers are equal are one exactly if their last numbers are
 module _ (a b : Entry) (net : a .net ≡ b .net) (x0 : a .x0 ≡ b .x0) (y0 : a .y0 ≡ b .y0) (x1 : a .x1 ≡ b .x1) where
-  last-told : (t : Bool) → eqb (a .y1) (b .y1) ≡ t → Told (a ≡ b) t
+  last-told : (t : Bool) → eqb (a .y1) (b .y1) ≡ t → Decided (a ≡ b) t
   last-told true e =
       let y1 = eqb-true (a .y1) (b .y1) e in
       λ i. record { net = net i; x0 = x0 i; y0 = y0 i; x1 = x1 i; y1 = y1 i }
   last-told false e = λ q. eqb-false (a .y1) (b .y1) e (ap (λ (x : Entry). x .y1) q)
 
-  pub last-tells : Told (a ≡ b) (eqb (a .y1) (b .y1))
+  pub last-tells : Decided (a ≡ b) (eqb (a .y1) (b .y1))
   last-tells = last-told (eqb (a .y1) (b .y1)) refl
 
 -- ---- one place more
@@ -239,11 +239,11 @@ stored-at f es (suc k) n l m =
     (λ (ne : n ≡ k → ⊥). getD-set-other old k n e noEntry ne ∙ stored-at f es k n (omega (arith, ne, l)) m)
 
 -- what is stored goes over the front of the table, and the rest stays
-pub stored : (f : Flat) (es : List Entry) → f .len ≡ length es → overFront f es ≡ entriesOf f ++ drop 512 es
+pub stored : (f : Flat) (es : List Entry) → f .len ≡ length es → withFront f es ≡ entriesOf f ++ drop 512 es
 unfolding entriesOf
 stored f es p =
     let n : ℕ = placesLent (length es) in
-    let new : List Entry = overFront f es in
+    let new : List Entry = withFront f es in
     let same : length new ≡ length es = store-length f es n in
     let d = length-drop 512 new in
     let d′ = length-drop 512 es in

@@ -12,7 +12,7 @@ use Rattle.sheet.specs.Contract.{ListTells, SheetListDone}
 use Rattle.sheet.specs.declared.SheetDone.{SheetDone}
 use Rattle.host.specs.declared.flat.Flat.{Flat}
 use Rattle.host.specs.declared.flat.Left.{Left}
-use Rattle.host.specs.Flats.{numbersLent, frontOf, overFront}
+use Rattle.host.specs.Flats.{numbersLent, frontOf, withFront}
 use Rattle.host.specs.Calls.{HostListed, FlatListed}
 use Rattle.host.proofs.Fronts.{longer, call-longer}
 use Rattle.host.proofs.Tables.{written-over, on-table, on-entries}
@@ -34,7 +34,7 @@ module _ (k : ℕ) (ws : List ℕ) (b : Sheet) (s : List ℕ) (r : SheetDone) (s
 
 pub whole-listed : (k : ℕ) (ws : List ℕ) (b : Sheet) (es : List Entry) (t : Flat) (s out ans : List ℕ) (r : Left)
     (es′ : List Entry) (s′ out′ ans′ : List ℕ) → length (b .boards) ≡ sheetFoils → t ≡ frontOf es
-    → FlatListed k ws b t s out ans r s′ out′ ans′ → es′ ≡ overFront (r .table) es
+    → FlatListed k ws b t s out ans r s′ out′ ans′ → es′ ≡ withFront (r .table) es
     → HostListed k ws b es s out ans (r .answer) (r .sheet) es′ s′ out′ ans′
 whole-listed k ws b es t s out ans r es′ s′ out′ ans′ eight front d e =
     let o : SheetDone = record { answer = r .answer; sheet = r .sheet } in

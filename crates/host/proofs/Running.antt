@@ -14,7 +14,7 @@ use Rattle.sheet.specs.Contract.{SheetRecordDone}
 use Rattle.sheet.specs.declared.SheetReplied.{SheetReplied}
 use Rattle.host.specs.declared.flat.Flat.{Flat}
 use Rattle.host.specs.declared.records.Ran.{Ran}
-use Rattle.host.specs.Flats.{numbersLent, frontOf, overFront}
+use Rattle.host.specs.Flats.{numbersLent, frontOf, withFront}
 use Rattle.host.specs.Records.{HostRan, FlatRan}
 use Rattle.host.proofs.Fronts.{longer, call-longer}
 use Rattle.host.proofs.Tables.{written-over, on-entries, on-table}
@@ -35,7 +35,7 @@ module _ (k : ℕ) (bs : List ℕ) (at : ℕ) (b : Sheet) (s ks : List ℕ) (r :
 
 pub whole-ran : (k : ℕ) (bs : List ℕ) (at : ℕ) (b : Sheet) (es : List Entry) (t : Flat) (s ks : List ℕ) (r : Ran)
     (es′ : List Entry) (s′ ks′ : List ℕ) → length (b .boards) ≡ sheetFoils → t ≡ frontOf es
-    → FlatRan k bs at b t s ks r s′ ks′ → es′ ≡ overFront (r .table) es
+    → FlatRan k bs at b t s ks r s′ ks′ → es′ ≡ withFront (r .table) es
     → HostRan k bs at b es s ks (r .reply) (r .sheet) es′ s′ ks′
 whole-ran k bs at b es t s ks r es′ s′ ks′ eight front d e =
     let o : SheetReplied = record { reply = r .reply; sheet = r .sheet } in

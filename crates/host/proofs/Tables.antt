@@ -28,7 +28,7 @@ use Rattle.sheet.specs.Contract.{SheetOhmsDone}
 use Rattle.sheet.specs.declared.SheetDone.{SheetDone}
 use Rattle.host.specs.declared.flat.Flat.{Flat}
 use Rattle.host.specs.declared.flat.Left.{Left}
-use Rattle.host.specs.Flats.{numbersLent, entriesOf, frontOf, overFront}
+use Rattle.host.specs.Flats.{numbersLent, entriesOf, frontOf, withFront}
 use Rattle.host.specs.Calls.{HostDone, HostWrote, HostRead, HostOhms, FlatDone, FlatWrote}
 use Rattle.host.proofs.Flats.{loaded, stored, lent-on}
 use Rattle.host.proofs.Fronts.{longer, Longer, call-longer}
@@ -91,7 +91,7 @@ module _ (P : List ℕ → List ℕ → Type 0) where
         (lt-or-le (length es) sheetEntries)
 
     -- the table is loaded, something is done to the numbers, and these are stored
-    pub on-table : (es es′ : List Entry) (t f : Flat) → t ≡ frontOf es → f .len ≡ t .len → es′ ≡ overFront f es
+    pub on-table : (es es′ : List Entry) (t f : Flat) → t ≡ frontOf es → f .len ≡ t .len → es′ ≡ withFront f es
         → P (numbers (entriesOf t)) (numbers (entriesOf f)) → P (numbers es) (numbers es′)
     on-table es es′ t f front l e d =
         let len : f .len ≡ frontOf es .len = l ∙ ap (λ (x : Flat). x .len) front in
@@ -138,14 +138,14 @@ module _ (k : ℕ) (c : Step) (b : Sheet) (s : List ℕ) (r : SheetDone) (s′ :
 
 module _ (k : ℕ) (c : Step) (b : Sheet) (es : List Entry) (t : Flat) (s : List ℕ) where
   pub whole-done : (r : Left) (es′ : List Entry) (s′ : List ℕ) → length (b .boards) ≡ sheetFoils → t ≡ frontOf es
-      → FlatDone k c b t s r s′ → es′ ≡ overFront (r .table) es → HostDone k c b es s (r .answer) (r .sheet) es′ s′
+      → FlatDone k c b t s r s′ → es′ ≡ withFront (r .table) es → HostDone k c b es s (r .answer) (r .sheet) es′ s′
   whole-done r es′ s′ eight front d e =
       let o : SheetDone = record { answer = r .answer; sheet = r .sheet } in
       on-table (Stepped k c b s o s′) (stepped-more k c b s o s′ eight) es es′ t (r .table) front (d .places) e
       (d .done)
 
   pub whole-wrote : (out : List ℕ) (r : Left) (es′ : List Entry) (s′ out′ : List ℕ) → length (b .boards) ≡ sheetFoils
-      → t ≡ frontOf es → FlatWrote k c b t s out r s′ out′ → es′ ≡ overFront (r .table) es
+      → t ≡ frontOf es → FlatWrote k c b t s out r s′ out′ → es′ ≡ withFront (r .table) es
       → HostWrote k c b es s out (r .answer) (r .sheet) es′ s′ out′
   whole-wrote out r es′ s′ out′ eight front d e =
       let o : SheetDone = record { answer = r .answer; sheet = r .sheet } in

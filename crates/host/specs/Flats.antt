@@ -44,5 +44,5 @@ abbrev pub frontOf : List Entry → Flat
 frontOf es = record { at = loadTo es (placesLent (length es)); len = length es }
 
 -- a table with its first 512 places stored over
-abbrev pub overFront : Flat → List Entry → List Entry
-overFront f es = storeTo f es (placesLent (length es))
+abbrev pub withFront : Flat → List Entry → List Entry
+withFront f es = storeTo f es (placesLent (length es))

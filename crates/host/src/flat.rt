@@ -20,7 +20,7 @@ ghost use Rattle.foil_spec.specs.Ledger.{byPen, newFoil, draw as draws, lay as 
 ghost use Rattle.foil_spec.specs.Ledger.{join as joins, save as saves, find as finds, book as books, slip as slips};
 ghost use Rattle.foil_spec.specs.Ledger.{lookUp};
 ghost use Rattle.foil_spec.specs.Lent.{entryAt};
-ghost use Rattle.strips.specs.Told.{Told};
+ghost use Rattle.strips.specs.Decided.{Decided};
 ghost use Rattle.host.specs.Flats.{setFive, numbersLent, entriesOf};
 ghost use Rattle.host.specs.Calls.{saidOf, ohmsSaid, FlatDone, FlatWrote, FlatListed, HostRead, HostOhms};
 ghost use Rattle.host.specs.Carried.{oldOf, FlatCarried};
@@ -108,7 +108,7 @@ pub fn pick(a: &[u16; SHEET_SIZE], i: usize) -> Entry
 
 // Whether the two entries are one.
 pub fn same(a: Entry, b: Entry) -> bool
-    ensures { λ r. ⌜ Told (a ≡ b) r ⌝ }
+    ensures { λ r. ⌜ Decided (a ≡ b) r ⌝ }
 {
     if a.net != b.net {
         return false;

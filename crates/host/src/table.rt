@@ -20,7 +20,7 @@ ghost use mathlib.Core.Path.{_≡_};
 ghost use Rattle.foil_spec.specs.Foil.{point, pen};
 ghost use Rattle.foil_spec.specs.Ledger.{byPen, newFoil, draw as draws, lay as lays, lift as lifts, putLeg};
 ghost use Rattle.foil_spec.specs.Ledger.{join as joins, book as books};
-ghost use Rattle.host.specs.Flats.{frontOf, overFront};
+ghost use Rattle.host.specs.Flats.{frontOf, withFront};
 ghost use Rattle.host.specs.Calls.{HostDone, HostWrote, HostListed};
 ghost use Rattle.host.specs.Records.{HostRan};
 ghost use Rattle.host.specs.Carried.{oldOf, HostCarried, FlatCarried};
@@ -44,7 +44,7 @@ pub fn load(table: &[Entry]) -> Flat
 // Puts the numbers of the first 512 places back. A place is written only where its numbers change, so
 // that a refused call writes to none; the places after the first 512 are not even read.
 pub fn store(table: &mut [Entry], f: Flat)
-    ensures { λ _. ⌜ now (table .exit) ≡ overFront f (now (table .entry)) ⌝ }
+    ensures { λ _. ⌜ now (table .exit) ≡ withFront f (now (table .entry)) ⌝ }
 {
     let len = table.len();
     let n = places_lent(len);

@@ -20,7 +20,7 @@ use Rattle.foil_spec.specs.Text.{ascii, decimal}
 use Rattle.lines.specs.Lines.{item, cornerItem, boardLine, patchLine, trackRefused, trackLaid, liftLine, legLine}
 use Rattle.lines.specs.Lines.{stripLine, fileLine}
 use Rattle.lines.specs.Output.{output}
-use Rattle.job_laws.specs.JobLines.{Line, board, patch, refusedTrack, laidTrack, lifted, leg, strip, file}
+use Rattle.job_laws.specs.JobLines.{PrintedLine, board, patch, refusedTrack, laidTrack, lifted, leg, strip, file}
 use Rattle.job_laws.specs.JobLines.{bytesOf, possible, Nowhere, NeverWrites}
 use Rattle.job_laws.proofs.Lines.{writes-lines}
 use Rattle.job_laws.proofs.Digits.{without, decimal-same}
@@ -71,7 +71,7 @@ last-one p (a ∷ u) (b ∷ v) ds es c d hc hd nc nd e = last-one p u v ds es c 
 -- ---- lines
 
 -- a line without its line feed
-textOf : Line → List ℕ
+textOf : PrintedLine → List ℕ
 textOf (board n) = ascii "board" ++ item n
 textOf (patch n) = ascii "patch" ++ item n
 textOf (refusedTrack net n) = ascii "track" ++ item net ++ item n
@@ -81,7 +81,7 @@ textOf (leg net n) = ascii "leg" ++ item net ++ item n
 textOf (strip s) = ascii "strip" ++ item (s .x0) ++ item (s .y0) ++ item (s .x1) ++ item (s .y1)
 textOf (file n) = ascii "file" ++ item n
 
-text-is : (l : Line) → bytesOf l ≡ textOf l ++ (10 ∷ [])
+text-is : (l : PrintedLine) → bytesOf l ≡ textOf l ++ (10 ∷ [])
 unfolding bytesOf textOf boardLine patchLine trackRefused trackLaid liftLine legLine stripLine fileLine
 text-is (board n) = refl
 text-is (patch n) = refl
@@ -97,7 +97,7 @@ unfolding cornerItem item feed
 corners-whole [] = refl
 corners-whole (p ∷ cs) = simp (any-append, no-feed (p .x), no-feed (p .y), corners-whole cs)
 
-text-whole : (l : Line) → any feed (textOf l) ≡ false
+text-whole : (l : PrintedLine) → any feed (textOf l) ≡ false
 unfolding textOf item feed
 text-whole (board n) = simp no-feed
 text-whole (patch n) = simp no-feed
@@ -139,9 +139,9 @@ not-empty before y after e =
     omega (arith, ap length e)
 
 -- a line that is found in the bytes of some lines is the end of one of them
-found-line : (ls : List Line) (before y after : List ℕ) → any feed y ≡ false
+found-line : (ls : List PrintedLine) (before y after : List ℕ) → any feed y ≡ false
     → each bytesOf ls ≡ before ++ (y ++ 10 ∷ after)
-    → (l : Line) × In l ls × (b : List ℕ) × (textOf l ≡ b ++ y)
+    → (l : PrintedLine) × In l ls × (b : List ℕ) × (textOf l ≡ b ++ y)
 found-line [] before y after hy e = absurd (not-empty before y after e)
 found-line (l ∷ ls) before y after hy e =
     let first : textOf l ++ 10 ∷ each bytesOf ls ≡ before ++ (y ++ 10 ∷ after) =
@@ -179,18 +179,18 @@ corner-end (q ∷ cs) u v p n e =
     corner-end cs (u ++ cornerItem p) v q n (append-assoc u (cornerItem p) (each cornerItem (q ∷ cs)) ∙ e)
 
 -- the lines of a refusal by n
-withNumber : ℕ → ℕ → List Line
+withNumber : ℕ → ℕ → List PrintedLine
 withNumber net n = board n ∷ patch n ∷ refusedTrack net n ∷ lifted net n ∷ leg net n ∷ file n ∷ []
 
 module _ (n : ℕ) (none-has : (net : ℕ) → any possible (withNumber net n) ≡ false) where
-  other-number : (net : ℕ) (f : ℕ → Line) → In (f n) (withNumber net n) → (u v : List ℕ) (k : ℕ)
+  other-number : (net : ℕ) (f : ℕ → PrintedLine) → In (f n) (withNumber net n) → (u v : List ℕ) (k : ℕ)
       → possible (f k) ≡ true → u ++ item k ≡ v ++ item n → ⊥
   other-number net f i u v k h e =
       clash (subst (λ (j : ℕ). possible (f j) ≡ true) (same-item u v k n e) h)
       (not-any possible (f n) (withNumber net n) (none-has net) i)
 
   -- only a strip's line ends in n
-  only-strip : (l : Line) → possible l ≡ true → (v : List ℕ) → textOf l ≡ v ++ item n → (s : Strip) × (l ≡ strip s)
+  only-strip : (l : PrintedLine) → possible l ≡ true → (v : List ℕ) → textOf l ≡ v ++ item n → (s : Strip) × (l ≡ strip s)
   unfolding textOf withNumber possible
   only-strip (board k) h v e = absurd (other-number 0 board (inl refl) (ascii "board") v k h e)
   only-strip (patch k) h v e = absurd (other-number 0 patch (inr (inl refl)) (ascii "patch") v k h e)
@@ -228,7 +228,7 @@ module _ (n : ℕ) (none-has : (net : ℕ) → any possible (withNumber net n) �
         clash (eq-eqb 112 c (alike .0)) other
 
     -- nor of any other
-    not-end : (l : Line) → possible l ≡ true → (b : List ℕ) → textOf l ≡ b ++ line → ⊥
+    not-end : (l : PrintedLine) → possible l ≡ true → (b : List ℕ) → textOf l ≡ b ++ line → ⊥
     not-end l h b e =
         let s = only-strip l h (b ++ (word ++ c ∷ net)) (e ∙ sym (append-assoc b (word ++ c ∷ net) (item n))) in
         not-strip (s .0) b (sym (ap textOf (s .1)) ∙ e)

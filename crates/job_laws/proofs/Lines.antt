@@ -32,7 +32,7 @@ use Rattle.bend_laws.specs.Room.{asksFew}
 use Rattle.bend_laws.proofs.Room.{corners-few, step-passes, Fine, small, fine-kept, no-foil-fine}
 use Rattle.lines.specs.Lines.{stripLine}
 use Rattle.lines.specs.Output.{trackLine, stepLine, stepLines, replyLines, outputFrom, output}
-use Rattle.job_laws.specs.JobLines.{Line, board, patch, refusedTrack, laidTrack, lifted, leg, strip, file}
+use Rattle.job_laws.specs.JobLines.{PrintedLine, board, patch, refusedTrack, laidTrack, lifted, leg, strip, file}
 use Rattle.job_laws.specs.JobLines.{bytesOf, possible, InLines, WritesLines}
 
 -- ---- lines one after the other
@@ -40,7 +40,7 @@ use Rattle.job_laws.specs.JobLines.{bytesOf, possible, InLines, WritesLi
 no-line : InLines []
 no-line = record { lines = []; are = refl; fine = refl }
 
-one-line : (l : Line) → possible l ≡ true → InLines (bytesOf l)
+one-line : (l : PrintedLine) → possible l ≡ true → InLines (bytesOf l)
 one-line l h = record { lines = l ∷ []; are = sym (append-nil (bytesOf l)); fine = and-i {a = possible l} h refl }
 
 more-lines : {a b : List ℕ} → InLines a → InLines b → InLines (a ++ b)

@@ -16,18 +16,18 @@ use Rattle.lines.specs.Lines.{boardLine, patchLine, trackRefused, trackLaid, li
 use Rattle.lines.specs.Output.{output}
 
 -- a line: of a board, of a patch, of a track that was refused or laid, of a lift, of a leg, of a strip, of the file
-pub data Line : Type 0 where
-  board : ℕ → Line
-  patch : ℕ → Line
-  refusedTrack : ℕ → ℕ → Line
-  laidTrack : ℕ → ℕ → List Point → Line
-  lifted : ℕ → ℕ → Line
-  leg : ℕ → ℕ → Line
-  strip : Strip → Line
-  file : ℕ → Line
+pub data PrintedLine : Type 0 where
+  board : ℕ → PrintedLine
+  patch : ℕ → PrintedLine
+  refusedTrack : ℕ → ℕ → PrintedLine
+  laidTrack : ℕ → ℕ → List Point → PrintedLine
+  lifted : ℕ → ℕ → PrintedLine
+  leg : ℕ → ℕ → PrintedLine
+  strip : Strip → PrintedLine
+  file : ℕ → PrintedLine
 
 -- its bytes, the line feed included
-unfoldable pub bytesOf : Line → List ℕ
+unfoldable pub bytesOf : PrintedLine → List ℕ
 bytesOf (board n) = boardLine n
 bytesOf (patch n) = patchLine n
 bytesOf (refusedTrack net n) = trackRefused net n
@@ -38,7 +38,7 @@ bytesOf (strip s) = stripLine s
 bytesOf (file n) = fileLine n
 
 -- the line has a number that the program writes there; a track that was laid has 1 to 8,192 corners and their bends
-unfoldable pub possible : Line → Bool
+unfoldable pub possible : PrintedLine → Bool
 possible (board n) = among n (0 ∷ 1 ∷ 2 ∷ 20 ∷ [])
 possible (patch n) = among n (0 ∷ 3 ∷ 10 ∷ 11 ∷ 21 ∷ [])
 possible (refusedTrack net n) = among n (4 ∷ 5 ∷ 7 ∷ 8 ∷ 9 ∷ 10 ∷ 11 ∷ [])
@@ -50,7 +50,7 @@ possible (file n) = among n (14 ∷ 15 ∷ 16 ∷ 17 ∷ 18 ∷ [])
 
 -- the bytes are such lines, one after the other
 pub record InLines (bytes : List ℕ) : Type 0 where
-  pub lines : List Line
+  pub lines : List PrintedLine
   pub are : bytes ≡ each bytesOf lines
   pub fine : all possible lines ≡ true
 

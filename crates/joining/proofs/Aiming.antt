@@ -26,7 +26,7 @@ use Rattle.tables.proofs.Filling.{read-rows}
 use Rattle.foil.proofs.Making.{rows-layout, rows-table}
 use Rattle.grid.specs.Targets.{target}
 use Rattle.search.specs.Grid.{Aimed}
-use Rattle.search.specs.Search.{Found}
+use Rattle.search.specs.Search.{PathFound}
 use Rattle.joining.specs.Sought.{Own, Known, Asked, Sought}
 use Rattle.joining.proofs.Own.{both-count}
 use Rattle.joining.proofs.Seeking.{join-is}
@@ -93,11 +93,11 @@ module _ {t : List ℕ} {n : ℕ} {p : Pen} {w h : ℕ} (P : Known t n p w h) {n
           }
 
       pub net-found : (S : Point) {out out′ : List ℕ} {i : ℕ}
-          → Found (firstPathTo (boxFree w h c z) w h S (target w h c z k legs)) out out′ i
-          → Found (joinOf net l S) out out′ i
+          → PathFound (firstPathTo (boxFree w h c z) w h S (target w h c z k legs)) out out′ i
+          → PathFound (joinOf net l S) out out′ i
       unfolding layoutOf
       net-found S {out} {out′} {i} F =
-          subst (λ (o : Option (List Point)). Found o out out′ i) (join-is sought S) F
+          subst (λ (o : Option (List Point)). PathFound o out out′ i) (join-is sought S) F
 
 -- a foil that keeps the rules, and a point that is free for the net
 pub known : (b : Board) (t s : List ℕ) → sound (lent b t s) ≡ true

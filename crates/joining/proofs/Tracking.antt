@@ -15,7 +15,7 @@ use Rattle.foil_spec.specs.declared.Board.{Board}
 use Rattle.ledger_laws.proofs.Join.{for-inside, join-from-9}
 use Rattle.foil.specs.Contract.{OutputIn}
 use Rattle.foil.specs.declared.Done.{Done}
-use Rattle.search.specs.Search.{Found}
+use Rattle.search.specs.Search.{PathFound}
 use Rattle.booking.specs.Tracks.{mostCorners, MayTrack, Searched, trackLaid, Tracked}
 use Rattle.booking.proofs.Tracking.{none-counted, may-track, step-tracked}
 use Rattle.joining.specs.Ready.{ReadyToJoin}
@@ -36,7 +36,7 @@ module _ (b : Board) (t s : List ℕ) (net : ℕ) (S : Point) (y : ReadyToJoin (
       (join-from-9 room (not (sound m)) l net S long (ap not (y .fine)) (y .may))
 
   module _ (path₀ path : List ℕ) (k : ℕ) (long₀ : mostCorners * 2 ≤ length path₀)
-      (found : Found (joinOf net (layoutOf (b .width) (b .height) (penIn b) (b .entries) t) S) path₀ path k) where
+      (found : PathFound (joinOf net (layoutOf (b .width) (b .height) (penIn b) (b .entries) t) S) path₀ path k) where
     searched : Searched (joinOf net l S) path k
     unfolding held joinCorners
     searched =

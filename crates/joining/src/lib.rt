@@ -28,7 +28,7 @@ ghost use Rattle.foil_spec.specs.Ledger.{join as joins, freeFor, joinOf};
 ghost use Rattle.foil_spec.specs.Lent.{lent, layoutOf, penIn, sound};
 ghost use Rattle.foil.specs.Contract.{OutputIn};
 ghost use Rattle.tables.specs.Rows.{rowsOf};
-ghost use Rattle.search.specs.Search.{Found};
+ghost use Rattle.search.specs.Search.{PathFound};
 ghost use Rattle.joining.specs.Sought.{Own, Known, Asked};
 ghost use Rattle.joining.specs.Ready.{ReadyToJoin};
 
@@ -108,7 +108,7 @@ pub fn path_to_net(
     sy: u16,
 ) -> usize
     requires { ⌜ Asked (now table) (board .entries) (penIn board) (board .width) (board .height) net (point sx sy) ⌝ }
-    ensures { λ r. ⌜ Found (joinOf net (layoutOf (board .width) (board .height) (penIn board) (board .entries)
+    ensures { λ r. ⌜ PathFound (joinOf net (layoutOf (board .width) (board .height) (penIn board) (board .entries)
         (now (table .entry))) (point sx sy)) (now (out .entry)) (now (out .exit)) r ⌝ }
 {
     let mut others = [0u16; TABLE_SIZE];

@@ -15,7 +15,7 @@ use Rattle.foil_spec.specs.Lent.{Lent, held}
 use Rattle.list_laws.proofs.Tests.{parts}
 use Rattle.list_laws.proofs.Members.{of-any, of-all}
 use Rattle.foil_spec.specs.Nets.{netLength, netBends}
-use Rattle.foil_spec.specs.Ohms.{whole, sheetOk, bendOk, inkOk, formula, ohmsOf}
+use Rattle.foil_spec.specs.Ohms.{whole, resistanceOk, bendOk, inkOk, formula, ohmsOf}
 use Rattle.foil_spec.specs.Calls.{ohms, measured, callOn}
 use Rattle.ohms.specs.Exact.{widths, Named, squares, ExactOhms}
 use Rattle.foil_spec.specs.declared.Ink.{Ink}
@@ -139,7 +139,7 @@ module _ (r : Room) (net : ℕ) (i : Ink) (m : Lent) (x : Float) (w a b : ℕ)
       let given = answered-so r net i m x e in
       let u : Unrefused r net i m = given .0 in
       let k = ink r net i m u in
-      let o : sheetOk (i .sheet) ≡ true = search parts in
+      let o : resistanceOk (i .sheet) ≡ true = search parts in
       let c : bendOk (i .bend) ≡ true = search parts in
       subst (λ (q : ℕ). HasValue x false (q * b) 65536) (sym (power-squares L w a B p))
       (subst (λ (y : Float). HasValue y false ((L * p .v + a * B) * b) 65536) (given .1)

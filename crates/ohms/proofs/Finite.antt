@@ -20,7 +20,7 @@ use borrow.Author.Tests.{ne-eqb}
 use Rattle.foil_spec.specs.Ledger.{Room}
 use Rattle.foil_spec.specs.Lent.{Lent, held}
 use Rattle.foil_spec.specs.Nets.{netLength, netBends}
-use Rattle.foil_spec.specs.Ohms.{whole, sheetOk, widthOk, bendOk, inkOk, formula, ohmsOf}
+use Rattle.foil_spec.specs.Ohms.{whole, resistanceOk, widthOk, bendOk, inkOk, formula, ohmsOf}
 use Rattle.foil_spec.specs.declared.Ink.{Ink}
 use Rattle.list_laws.proofs.Tests.{clash, parts, and-l}
 use Rattle.ohms.specs.Finite.{FiniteOhms}
@@ -219,8 +219,8 @@ whole-up : (n : ℕ) → n ≤ most → UpTo (whole n) n
 unfolding whole ofInt
 whole-up n l = round-up n 1 n (omega arith) l (omega arith)
 
-sheet-up : (y : Float) → sheetOk y ≡ true → UpTo y 1000
-unfolding sheetOk
+sheet-up : (y : Float) → resistanceOk y ≡ true → UpTo y 1000
+unfolding resistanceOk
 sheet-up y o =
     let f : finite y ≡ true = search parts in
     let l : le y (whole 1000) ≡ true = search parts in
@@ -255,7 +255,7 @@ by-width x (fin s b d) m few o p =
 formula-up : (L B : ℕ) (i : Ink) → inkOk i ≡ true → L ≤ 1048320 → B ≤ 127 → UpTo (formula L B i) ((L + 4 * B) * 1000)
 unfolding formula inkOk
 formula-up L B i o l few =
-    let r : sheetOk (i .sheet) ≡ true = search parts in
+    let r : resistanceOk (i .sheet) ≡ true = search parts in
     let w : widthOk (i .width) ≡ true = search parts in
     let c : bendOk (i .bend) ≡ true = search parts in
     let quotient : Float = div binary64 (whole L) (i .width) in

@@ -81,7 +81,7 @@ module _ (f : ℕ → ℕ → Bool) (W H : ℕ) (S : Point) (T : Point → Bool)
   from-cons tries n cs more e = rw (e, firstFrom) refl
 
   -- what was found from n segments on: the shortest way by m segments, and there is none by fewer
-  record Found (n : ℕ) (cs : List Point) : Type 0 where
+  record FewestBy (n : ℕ) (cs : List Point) : Type 0 where
     m : ℕ
     head : List Point
     more : List (List Point)
@@ -91,7 +91,7 @@ module _ (f : ℕ → ℕ → Bool) (W H : ℕ) (S : Point) (T : Point → Bool)
 
   found-step : (tries n : ℕ) (cs : List Point) (gs : List (List Point)) → goingOn n ≡ gs
       → firstFrom f W H T S (suc tries) n ≡ some cs
-      → (firstFrom f W H T S tries (suc n) ≡ some cs → Found (suc n) cs) → Found n cs
+      → (firstFrom f W H T S tries (suc n) ≡ some cs → FewestBy (suc n) cs) → FewestBy n cs
   found-step tries n cs [] e h go =
       let r = go (sym (from-nil tries n e) ∙ h) in
       record {
@@ -113,7 +113,7 @@ module _ (f : ℕ → ℕ → Bool) (W H : ℕ) (S : Point) (T : Point → Bool)
         none-yet = λ k l u. absurd (let z : n < n = omega arith in omega arith);
       }
 
-  found : (tries n : ℕ) (cs : List Point) → firstFrom f W H T S tries n ≡ some cs → Found n cs
+  found : (tries n : ℕ) (cs : List Point) → firstFrom f W H T S tries n ≡ some cs → FewestBy n cs
   unfolding firstFrom
   found zero n cs h = absurd (Option·none-ne-some cs h)
   found (suc tries) n cs h = found-step tries n cs (goingOn n) refl h (found tries (suc n) cs)
@@ -132,7 +132,7 @@ module _ (f : ℕ → ℕ → Bool) (W H : ℕ) (S : Point) (T : Point → Bool)
   empty zero n h k l u = absurd (omega arith)
   empty (suc tries) n h k l u = empty-step tries n (goingOn n) refl h (empty tries (suc n)) k l u
 
-  some-found : (cs : List Point) → firstPathTo f W H S T ≡ some cs → (f (S .x) (S .y) ≡ true) × Found 0 cs
+  some-found : (cs : List Point) → firstPathTo f W H S T ≡ some cs → (f (S .x) (S .y) ≡ true) × FewestBy 0 cs
   unfolding firstPathTo
   some-found cs h =
       ⊎-elim (λ (e : f (S .x) (S .y) ≡ true). (e, found (suc (W * H)) 0 cs (given true e)))
@@ -156,7 +156,7 @@ module _ (f : ℕ → ℕ → Bool) (W H : ℕ) (S : Point) (T : Point → Bool)
         subst (λ (b : Bool). cond b (firstFrom f W H T S (suc (W * H)) 0) none ≡ none) (a .start) h in
         not-empty (e .0) (e .1) (empty (suc (W * H)) 0 g (length (e .0)) (omega arith) (omega arith))
 
-    module _ (cs : List Point) (r : Found 0 cs) where
+    module _ (cs : List Point) (r : FewestBy 0 cs) where
       abbrev best : List Point
       best = shortest S (r .head) (r .more)
 

@@ -6,7 +6,7 @@ use mathlib.Core.List.{List}
 use mathlib.Core.Option.{Option}
 use lib.ListN.{length}
 use Rattle.foil_spec.specs.Foil.{Point}
-use Rattle.search.specs.Search.{Ready, pathCorners, Searched, Walked, Found}
+use Rattle.search.specs.Search.{Ready, pathCorners, Searched, Walked, PathFound}
 use Rattle.search.specs.declared.Start.{Start}
 
 module _ {o : Option (List Point)} {cols rows kl ku l u wl wu : List ℕ} {s : Start}
@@ -14,7 +14,7 @@ module _ {o : Option (List Point)} {cols rows kl ku l u wl wu : List ℕ} {s : S
   pub walk-ready : (s .corners ≡ 0 → ⊥) → (cs : List Point) × Ready cs cols rows kl ku l u wl wu s
   walk-ready some = (pathCorners o, k .ready (omega arith))
 
-  pub found-none : (out : List ℕ) → s .corners ≡ 0 → Found o out out 0
+  pub found-none : (out : List ℕ) → s .corners ≡ 0 → PathFound o out out 0
   found-none out e =
       record {
         nowhere = λ zero. k .nowhere e;
@@ -23,7 +23,7 @@ module _ {o : Option (List Point)} {cols rows kl ku l u wl wu : List ℕ} {s : S
         untouched = λ many. refl;
       }
 
-  pub found-many : (out : List ℕ) → length out < s .corners * 2 → Found o out out (s .corners)
+  pub found-many : (out : List ℕ) → length out < s .corners * 2 → PathFound o out out (s .corners)
   found-many out many =
       record {
         nowhere = k .nowhere;
@@ -33,7 +33,7 @@ module _ {o : Option (List Point)} {cols rows kl ku l u wl wu : List ℕ} {s : S
       }
 
   pub found-some : (out out′ : List ℕ) → (s .corners ≡ 0 → ⊥) → s .corners * 2 ≤ length out
-      → Walked cols rows kl ku l u wl wu s out out′ → Found o out out′ (s .corners)
+      → Walked cols rows kl ku l u wl wu s out out′ → PathFound o out out′ (s .corners)
   found-some out out′ some fit w =
       record {
         nowhere = k .nowhere;

@@ -17,7 +17,7 @@ use Rattle.zones.specs.Boxes.{inside, covers, boxFree, Boxes}
 use Rattle.zones.proofs.Free.{inside-yes, of-inside, not-covered}
 use Rattle.grid.specs.Targets.{inBoxes, target}
 use Rattle.search.specs.Grid.{Posed, Aimed}
-use Rattle.search.specs.Search.{Found}
+use Rattle.search.specs.Search.{PathFound}
 
 -- the table of the one box with the point (x, y)
 abbrev pub pointBox : ℕ → ℕ → List ℕ
@@ -82,8 +82,8 @@ module _ {z : List ℕ} {n w h sx sy tx ty : ℕ} (P : Posed z n w h (point sx s
           free
 
   pub one-found : {out out′ : List ℕ} {k : ℕ}
-      → Found (firstPathTo (boxFree w h n z) w h (point sx sy) (target w h n z 1 (pointBox tx ty))) out out′ k
-      → Found (firstPath (boxFree w h n z) w h (point sx sy) (point tx ty)) out out′ k
+      → PathFound (firstPathTo (boxFree w h n z) w h (point sx sy) (target w h n z 1 (pointBox tx ty))) out out′ k
+      → PathFound (firstPath (boxFree w h n z) w h (point sx sy) (point tx ty)) out out′ k
   one-found {out} {out′} {k} F =
-      subst (λ (o : Option (List Point)). Found o out out′ k)
+      subst (λ (o : Option (List Point)). PathFound o out out′ k)
       (ap (firstPathTo (boxFree w h n z) w h (point sx sy)) (fun-ext is-target)) F

@@ -11,7 +11,7 @@ use Rattle.foil_spec.specs.Corners.{pointNumbers}
 use Rattle.grid.specs.Size.{stride, area}
 use Rattle.labels.specs.Rounds.{Ended}
 use Rattle.labels.specs.Walk.{Trail, Walkable}
-use Rattle.sowing.specs.Seeds.{Blank, Sown, aimedAt}
+use Rattle.sowing.specs.Seeds.{Unlabelled, Sown, aimedAt}
 use Rattle.search.specs.Choice.{Choice, labelAt}
 use Rattle.search.specs.declared.Start.{Start}
 
@@ -21,8 +21,8 @@ pub record LabelRoom (nc nr : ℕ) (l u wl wu ql qu : List ℕ) : Type 0 where
   pub upright : nc * stride ≤ length u
   pub level-few : length l ≤ area
   pub upright-few : length u ≤ area
-  pub level-blank : Blank l
-  pub upright-blank : Blank u
+  pub level-blank : Unlabelled l
+  pub upright-blank : Unlabelled u
   pub level-inks : nr * stride ≤ length wl
   pub upright-inks : nc * stride ≤ length wu
   pub level-queue : 2 * length l ≤ length ql
@@ -98,7 +98,7 @@ pub record Walked (cols rows kl ku l u wl wu : List ℕ) (s : Start) (out out′
 
 -- what `first_path` answers: k counts the corners of the path o, 0 where there is none; they stand at the front of out,
 -- which is otherwise as it was, or, where they do not fit, out is as it was
-pub record Found (o : Option (List Point)) (out out′ : List ℕ) (k : ℕ) : Type 0 where
+pub record PathFound (o : Option (List Point)) (out out′ : List ℕ) (k : ℕ) : Type 0 where
   pub nowhere : k ≡ 0 → o ≡ none
   pub count : k ≡ length (pathCorners o)
   pub corners : k * 2 ≤ length out → Written (pathCorners o) out out′

@@ -29,7 +29,7 @@ ghost use Rattle.grid.specs.Lines.{Lines};
 ghost use Rattle.grid.specs.Targets.{target};
 ghost use Rattle.search.specs.Grid.{mostLines, Posed, Aimed, GridRoom, Has, Placed, Axis, Grid};
 ghost use Rattle.search.specs.Choice.{Choosing, Choice};
-ghost use Rattle.search.specs.Search.{LabelRoom, Labelling, Starts, Ready, Searched, Walked, Found};
+ghost use Rattle.search.specs.Search.{LabelRoom, Labelling, Starts, Ready, Searched, Walked, PathFound};
 
 // A queue of crossings has two numbers for each.
 const QUEUE: usize = 144722;
@@ -485,7 +485,7 @@ fn path_in(
     requires { ⌜ GridRoom (n + k) (now cols) (now rows) (now kl) (now ku) (now mark) ⌝ }
     requires { ⌜ LabelRoom (mostLines (n + k)) (mostLines (n + k)) (now level) (now upright) (now il) (now iu)
         (now ql) (now qu) ⌝ }
-    ensures { λ r. ⌜ Found (firstPathTo (boxFree w h n (now (boxes .entry))) w h (point sx sy)
+    ensures { λ r. ⌜ PathFound (firstPathTo (boxFree w h n (now (boxes .entry))) w h (point sx sy)
         (target w h n (now (boxes .entry)) k (now (targets .entry))))
         (now (out .entry)) (now (out .exit)) r ⌝ }
 {
@@ -534,7 +534,7 @@ fn path_among_few(
     sy: u16,
 ) -> usize
     requires { ⌜ Aimed (now boxes) n (now targets) k w h (point sx sy) × (n + k ≤ 33) ⌝ }
-    ensures { λ r. ⌜ Found (firstPathTo (boxFree w h n (now (boxes .entry))) w h (point sx sy)
+    ensures { λ r. ⌜ PathFound (firstPathTo (boxFree w h n (now (boxes .entry))) w h (point sx sy)
         (target w h n (now (boxes .entry)) k (now (targets .entry))))
         (now (out .entry)) (now (out .exit)) r ⌝ }
 {
@@ -586,7 +586,7 @@ fn path_among_many(
     sy: u16,
 ) -> usize
     requires { ⌜ Aimed (now boxes) n (now targets) k w h (point sx sy) ⌝ }
-    ensures { λ r. ⌜ Found (firstPathTo (boxFree w h n (now (boxes .entry))) w h (point sx sy)
+    ensures { λ r. ⌜ PathFound (firstPathTo (boxFree w h n (now (boxes .entry))) w h (point sx sy)
         (target w h n (now (boxes .entry)) k (now (targets .entry))))
         (now (out .entry)) (now (out .exit)) r ⌝ }
 {
@@ -640,7 +640,7 @@ pub fn first_path_to(
     sy: u16,
 ) -> usize
     requires { ⌜ Aimed (now boxes) n (now targets) k w h (point sx sy) ⌝ }
-    ensures { λ r. ⌜ Found (firstPathTo (boxFree w h n (now (boxes .entry))) w h (point sx sy)
+    ensures { λ r. ⌜ PathFound (firstPathTo (boxFree w h n (now (boxes .entry))) w h (point sx sy)
         (target w h n (now (boxes .entry)) k (now (targets .entry)))) (now (out .entry)) (now (out .exit)) r ⌝ }
 {
     if n + k <= FEW {
@@ -662,7 +662,7 @@ pub fn first_path(
     ty: u16,
 ) -> usize
     requires { ⌜ Posed (now boxes) n w h (point sx sy) (point tx ty) ⌝ }
-    ensures { λ r. ⌜ Found (firstPath (boxFree w h n (now (boxes .entry))) w h (point sx sy) (point tx ty))
+    ensures { λ r. ⌜ PathFound (firstPath (boxFree w h n (now (boxes .entry))) w h (point sx sy) (point tx ty))
         (now (out .entry)) (now (out .exit)) r ⌝ }
 {
     let point = [0u16, tx, ty, tx + 1, ty + 1];

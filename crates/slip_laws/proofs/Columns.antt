@@ -7,7 +7,7 @@ use lib.ListN.{length, getD, replicate, length-append, length-replicate, getD-re
 use lib.Seq.{getD-append-add}
 use Rattle.foil_spec.specs.Text.{ascii, decimal}
 use Rattle.foil_spec.specs.Slip.{setRight, column}
-use Rattle.slip_laws.specs.Page.{character, Blank, Stands}
+use Rattle.slip_laws.specs.Page.{character, Spaces, Stands}
 
 pub right-long : (k n : ℕ) → length (decimal n) ≤ k → length (setRight k n) ≡ k
 unfolding setRight
@@ -20,7 +20,7 @@ past p q c i e =
     let s : c - 1 ≡ length p + i = omega arith in
     ap (λ (k : ℕ). getD (p ++ q) k 0) s ∙ getD-append-add p q i 0
 
-pub blank-at : (p q : List ℕ) (j a b : ℕ) → length p + 1 ≡ a → b < a + j → Blank (p ++ (replicate j 32 ++ q)) a b
+pub blank-at : (p q : List ℕ) (j a b : ℕ) → length p + 1 ≡ a → b < a + j → Spaces (p ++ (replicate j 32 ++ q)) a b
 blank-at p q j a b e l =
     record {
       blank = λ k low high.
@@ -54,7 +54,7 @@ more : (q r : List ℕ) (k : ℕ) → 1 ≤ k → k ≤ length q → character (
 unfolding character
 more q r k low high = List·getD-append q r 0 (k - 1) (omega arith)
 
-blank-more : (q r : List ℕ) (a b : ℕ) → 1 ≤ a → b ≤ length q → Blank q a b → Blank (q ++ r) a b
+blank-more : (q r : List ℕ) (a b : ℕ) → 1 ≤ a → b ≤ length q → Spaces q a b → Spaces (q ++ r) a b
 blank-more q r a b low high s =
     record { blank = λ k from to. more q r k (omega arith) (omega arith) ∙ s .blank k from to }
 
@@ -69,7 +69,7 @@ stands-more q r a b n low high s =
 
 -- after column j two columns are blank, and the number stands in the k columns after them
 pub record Item (line : List ℕ) (j k n : ℕ) : Type 0 where
-  pub gap : Blank line (j + 1) (j + 2)
+  pub gap : Spaces line (j + 1) (j + 2)
   pub stands : Stands line (j + 3) (j + 2 + k) n
 
 module _ (q : List ℕ) (j k n : ℕ) where

@@ -18,7 +18,7 @@ unfoldable pub character : List ℕ → ℕ → ℕ
 character line column = getD line (column - 1) 0
 
 -- the columns a to b are blank
-pub record Blank (line : List ℕ) (a b : ℕ) : Type 0 where
+pub record Spaces (line : List ℕ) (a b : ℕ) : Type 0 where
   pub blank : (k : ℕ) → a ≤ k → k ≤ b → character line k ≡ 32
 
 -- the number stands in the columns a to b: all its digits are there, the last in column b, and blanks before them
@@ -26,7 +26,7 @@ pub record Stands (line : List ℕ) (a b n : ℕ) : Type 0 where
   pub fits : a + length (decimal n) ≤ b + 1
   pub digits : (i : ℕ) → i < length (decimal n)
       → character line (b + 1 - length (decimal n) + i) ≡ getD (decimal n) i 0
-  pub before : Blank line a (b - length (decimal n))
+  pub before : Spaces line a (b - length (decimal n))
 
 -- a line of 32 characters and a line feed, with these numbers in their columns and every other column blank
 pub record LineRight (line : List ℕ) (net legs len : ℕ) (p : Point) : Type 0 where
@@ -36,11 +36,11 @@ pub record LineRight (line : List ℕ) (net legs len : ℕ) (p : Point) : Type 0
   pub length-stands : Stands line 11 16 len
   pub x-stands : Stands line 19 22 (p .x)
   pub y-stands : Stands line 25 28 (p .y)
-  pub gap-1 : Blank line 4 5
-  pub gap-2 : Blank line 9 10
-  pub gap-3 : Blank line 17 18
-  pub gap-4 : Blank line 23 24
-  pub rest : Blank line 29 32
+  pub gap-1 : Spaces line 4 5
+  pub gap-2 : Spaces line 9 10
+  pub gap-3 : Spaces line 17 18
+  pub gap-4 : Spaces line 23 24
+  pub rest : Spaces line 29 32
   pub feed : character line 33 ≡ 10
 
 -- the line has a net's numbers: its legs, their steps, and x0 and y0 of its first entry

@@ -21,7 +21,7 @@ use Rattle.labels.specs.Pass.{Below, Queued, Room, Push, stays, puts}
 use Rattle.labels.specs.Rounds.{Begun}
 use Rattle.labels.proofs.Runs.{zeros-set, zeros-le, zeros-some}
 use Rattle.labels.proofs.Meaning.{Says, Labelled, Measures, Measured}
-use Rattle.sowing.specs.Seeds.{Blank, Sown, orElse, Sows, inBlock, BlockSown, Sowable}
+use Rattle.sowing.specs.Seeds.{Unlabelled, Sown, orElse, Sows, inBlock, BlockSown, Sowable}
 
 -- a fresh list has no label
 pub blank : (n p : ℕ) → _≡_ {A = ℕ} (getD (replicate n 0) p 0) 0
@@ -33,7 +33,7 @@ blank (suc n) (suc p) = blank n p
 
 -- nothing is sown in blank lists
 pub sown-none : {m n : ℕ} {lab inks queue : List ℕ} → 1 ≤ m → m ≤ stride → n ≤ stride → m * stride ≤ length lab
-    → length lab ≤ area → m * stride ≤ length inks → 2 * length lab ≤ length queue → Blank lab
+    → length lab ≤ area → m * stride ≤ length inks → 2 * length lab ≤ length queue → Unlabelled lab
     → Sown (λ i c. false) m n lab inks queue 0
 sown-none {m} {n} {lab} lm fm fn ll few li lq none =
     record {

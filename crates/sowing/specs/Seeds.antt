@@ -15,8 +15,8 @@ use Rattle.runs.specs.Line.{along}
 use Rattle.labels.specs.Pass.{Queued, Room}
 
 -- no crossing has a label
-abbrev pub Blank : List ℕ → Type 0
-Blank lab = (p : ℕ) → getD lab p 0 ≡ 0
+abbrev pub Unlabelled : List ℕ → Type 0
+Unlabelled lab = (p : ℕ) → getD lab p 0 ≡ 0
 
 -- one of the first k boxes of the table t has the point (x, y), or (y, x) if upright
 unfoldable pub boxed : ℕ → List ℕ → Bool → ℕ → ℕ → Bool

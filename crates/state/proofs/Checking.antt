@@ -26,7 +26,7 @@ use Rattle.ledger_laws.proofs.Sound.{SoundAs, of-sound-as, to-sound-as, as-long
 use Rattle.ledger_laws.proofs.Sound.{front-written, is-written, zeros-written}
 use Rattle.zones.specs.Table.{Sized}
 use Rattle.zones.proofs.Tables.{foil-sized}
-use Rattle.strips.specs.Told.{Told}
+use Rattle.strips.specs.Decided.{Decided}
 use Rattle.state.specs.Tests.{Zeros, sizesOk, ruled, StripsRight}
 
 -- ---- the strips
@@ -45,7 +45,7 @@ module _ (ss : List Strip) (count : ℕ) (s : List ℕ) where
   -- the list has the same front, or not
   pub compared : (out o : List ℕ) (c : ℕ) (r : Bool) → c ≡ length ss → c ≤ maxStrips
       → out ≡ written stripsSize (each stripNumbers ss) o → c ≡ count
-      → Told (take stripsSize out ≡ take stripsSize s) r → Told (StripsRight ss count s) r
+      → Decided (take stripsSize out ≡ take stripsSize s) r → Decided (StripsRight ss count s) r
   unfolding ns
   compared out o c r n few e k h = go r h
     where
@@ -56,7 +56,7 @@ module _ (ss : List Strip) (count : ℕ) (s : List ℕ) where
       front =
           ap (take stripsSize) e ∙ front-written stripsSize ns o fits ∙ sym (front-written stripsSize ns s fits)
 
-      go : (r : Bool) → Told (take stripsSize out ≡ take stripsSize s) r → Told (StripsRight ss count s) r
+      go : (r : Bool) → Decided (take stripsSize out ≡ take stripsSize s) r → Decided (StripsRight ss count s) r
       go true h =
           record {
             few = omega arith;
@@ -106,7 +106,7 @@ module _ (rule : Rule) (w h n count : ℕ) (t s : List ℕ) where
             ∙ written-zero tableSize ns t (omega (arith, k .few)) (i - length ns) (omega arith);
       }
 
-  pub bad-rest : (r : Bool) → Told (Zeros t (n * 5) tableSize) r → not r ≡ true → false ≡ right
+  pub bad-rest : (r : Bool) → Decided (Zeros t (n * 5) tableSize) r → not r ≡ true → false ≡ right
   bad-rest true z f = clash f refl
   bad-rest false z f = not-right (λ k. z (zeros-after k))
 
@@ -135,7 +135,7 @@ module _ (rule : Rule) (w h n count : ℕ) (t s : List ℕ) where
     pub rest : Zeros t (n * 5) tableSize
 
   pub shown : tableSize ≤ length t → SizesFit → (r : Bool) → r ≡ all (entryOk w h) es → not r ≡ false
-      → (q : Bool) → Told (Zeros t (n * 5) tableSize) q → not q ≡ false → Shown
+      → (q : Bool) → Decided (Zeros t (n * 5) tableSize) q → not q ≡ false → Shown
   shown len fits r e f true z k = record { long = len; sizes = fits; entries = sym e ∙ not-false r f; rest = z }
   shown len fits r e f false z k = clash refl k
 
@@ -160,7 +160,7 @@ module _ (rule : Rule) (w h n count : ℕ) (t s : List ℕ) where
       zeros-written (n * 5) tableSize t (omega arith) (k .long) (k .rest .zero-at)
       ∙ ap (λ (ns : List ℕ). written tableSize ns t) (sym (read-numbers t n (omega (arith, k .long))))
 
-  pub all-right : (r : Bool) → Shown → Told (StripsRight (stripsBy rule w h es) count s) r → r ≡ right
+  pub all-right : (r : Bool) → Shown → Decided (StripsRight (stripsBy rule w h es) count s) r → r ≡ right
   unfolding ruled
   all-right true k z =
       sym (to-sound-as (ruled rule) w h n count t s (all-kept k (z .few)) (z .counted) (table-right k) (z .listed))

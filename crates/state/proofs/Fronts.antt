@@ -7,7 +7,7 @@ use mathlib.Core.Bool.{Bool, true, false}
 use borrow.Author.Count.{below-more}
 use lib.ListN.{length, getD, take}
 use lib.Seq.{ext-getD, getD-take, length-take-le}
-use Rattle.strips.specs.Told.{Told}
+use Rattle.strips.specs.Decided.{Decided}
 use Rattle.state.specs.Tests.{Zeros}
 
 module _ (l : List ℕ) (a : ℕ) where
@@ -41,7 +41,7 @@ module _ (a b : List ℕ) where
   pub differs : (i : ℕ) → (getD a i 0 ≡ getD b i 0 → ⊥) → Agree a b (i + 1) → ⊥
   differs i d s = d (s .same-at i (omega arith))
 
-  pub told-more : (i : ℕ) (t : Bool) → getD a i 0 ≡ getD b i 0 → Told (Agree a b i) t → Told (Agree a b (i + 1)) t
+  pub told-more : (i : ℕ) (t : Bool) → getD a i 0 ≡ getD b i 0 → Decided (Agree a b i) t → Decided (Agree a b (i + 1)) t
   told-more i true e s = agree-more i e s
   told-more i false e d = λ s. d (record { same-at = λ k l. s .same-at k (omega arith) })
 
@@ -54,7 +54,7 @@ module _ (a b : List ℕ) where
         let m : k < n = omega arith in
         getD-take n a k 0 m ∙ s .same-at k (omega arith) ∙ sym (getD-take n b k 0 m))
 
-    pub told-all : (i : ℕ) (t : Bool) → i ≤ n → n ≤ i → Told (Agree a b i) t → Told (take n a ≡ take n b) t
+    pub told-all : (i : ℕ) (t : Bool) → i ≤ n → n ≤ i → Decided (Agree a b i) t → Decided (take n a ≡ take n b) t
     told-all i true le ge s = agree-all i ge s
     told-all i false le ge d =
         λ e.

@@ -1,8 +1,13 @@
 // The state check: whether the record, the table and the strips keep the rules (13), today's or those of
 // document 01.
+mod arguments;
 mod crossing;
-mod limits;
 
+pub use arguments::box_ok;
+pub use arguments::net_ok;
+pub use arguments::pen_ok;
+pub use arguments::reach_ok;
+pub use arguments::size_ok;
 pub use crossing::no_crossing;
 pub use crossing::over_leg;
 pub use crossing::patch_margin;
@@ -15,11 +20,6 @@ use foil_spec::Rule;
 use foil_spec::STRIPS_SIZE;
 use foil_spec::TABLE_SIZE;
 use foil_spec::entry_at;
-pub use limits::box_ok;
-pub use limits::net_ok;
-pub use limits::pen_ok;
-pub use limits::reach_ok;
-pub use limits::size_ok;
 use strips::Built;
 use strips::rebuild;
 use zones::BOXES_SIZE;
@@ -37,14 +37,14 @@ ghost use Rattle.foil_spec.specs.Carrying.{old, oldSound};
 ghost use Rattle.foil_spec.specs.Lent.{lent, entryAt, sound};
 ghost use Rattle.zones.specs.Table.{Small, Table};
 ghost use Rattle.strips.specs.Built.{Rebuilt};
-ghost use Rattle.strips.specs.Told.{Told};
+ghost use Rattle.strips.specs.Decided.{Decided};
 ghost use Rattle.state.specs.Tests.{Zeros, sizesOk, ruled, StripsRight};
 
 // Whether the record, the table and the strips keep today's rules, whatever they hold.
 pub fn is_sound(table: &[u16], strips: &[u16], board: Board) -> bool
     ensures { λ r. ⌜ r ≡ sound (lent board (now (table .entry)) (now (strips .entry))) ⌝ }
 {
-    if !limits::pen_ok(board.half, board.gap) {
+    if !arguments::pen_ok(board.half, board.gap) {
         return false;
     }
     let rule = pen_rule(board.half, board.gap);
@@ -68,7 +68,7 @@ pub fn old_sound(table: &[u16], strips: &[u16], board: OldBoard) -> bool
     ensures { λ r. ⌜ r ≡ oldSound (old board (now (table .entry)) (now (strips .entry))) ⌝ }
 {
     let d = board.reach;
-    if !limits::reach_ok(d) {
+    if !arguments::reach_ok(d) {
         return false;
     }
     let rule = Rule {
@@ -123,10 +123,10 @@ fn keeps_rule(
 fn sizes_ok(w: u16, h: u16, n: usize) -> bool
     ensures { λ r. ⌜ r ≡ sizesOk w h n ⌝ }
 {
-    if !limits::size_ok(w) {
+    if !arguments::size_ok(w) {
         return false;
     }
-    if !limits::size_ok(h) {
+    if !arguments::size_ok(h) {
         return false;
     }
     n <= MAX_ENTRIES
@@ -144,7 +144,7 @@ fn strips_ok(
 ) -> bool
     requires { ⌜ Table (now table) n rule w h ⌝ }
     requires { ⌜ stripsSize ≤ length (now strips) ⌝ }
-    ensures { λ r. ⌜ Told (StripsRight (stripsBy rule w h (map (entryAt (now (table .entry))) (range 0 n)))
+    ensures { λ r. ⌜ Decided (StripsRight (stripsBy rule w h (map (entryAt (now (table .entry))) (range 0 n)))
         count (now (strips .entry))) r ⌝ }
 {
     let mut out = [0u16; STRIPS_SIZE];
@@ -175,10 +175,10 @@ pub fn strips_of(out: &mut [u16], table: &[u16], n: usize, rule: Rule, w: u16, h
 pub fn entry_ok(e: Entry, w: u16, h: u16) -> bool
     ensures { λ r. ⌜ r ≡ entryOk w h e ⌝ }
 {
-    if !limits::box_ok(w, h, e.x0, e.y0, e.x1, e.y1) {
+    if !arguments::box_ok(w, h, e.x0, e.y0, e.x1, e.y1) {
         return false;
     }
-    limits::shape_ok(e.net, e.x0, e.y0, e.x1, e.y1)
+    arguments::shape_ok(e.net, e.x0, e.y0, e.x1, e.y1)
 }
 
 // Whether the first n entries of the table are such.
@@ -199,7 +199,7 @@ fn entries_ok(table: &[u16], n: usize, w: u16, h: u16) -> bool
 // Whether the numbers from place a up to place b are zero.
 fn zeros(list: &[u16], a: usize, b: usize) -> bool
     requires { ⌜ (a ≤ b) × (b ≤ length (now list)) ⌝ }
-    ensures { λ r. ⌜ Told (Zeros (now (list .entry)) a b) r ⌝ }
+    ensures { λ r. ⌜ Decided (Zeros (now (list .entry)) a b) r ⌝ }
 {
     let mut i = a;
     while i < b {
@@ -215,7 +215,7 @@ fn zeros(list: &[u16], a: usize, b: usize) -> bool
 // only is compiled to vectors, and every check of a state has it.
 fn same_front(a: &[u16], b: &[u16], n: usize) -> bool
     requires { ⌜ (n ≤ length (now a)) × (n ≤ length (now b)) ⌝ }
-    ensures { λ r. ⌜ Told (take n (now (a .entry)) ≡ take n (now (b .entry))) r ⌝ }
+    ensures { λ r. ⌜ Decided (take n (now (a .entry)) ≡ take n (now (b .entry))) r ⌝ }
 {
     let mut same = true;
     let mut i = 0;

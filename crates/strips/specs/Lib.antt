@@ -2,7 +2,7 @@
 pub mod Rows
 pub mod RowBoxes
 pub mod Sweep
-pub mod Told
+pub mod Decided
 pub mod Joining
 pub mod Built
 pub mod Places

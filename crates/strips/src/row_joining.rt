@@ -10,7 +10,7 @@ ghost use Rattle.zones.specs.Boxes.{maxBoxes, boxFree, Boxes};
 ghost use Rattle.strips.specs.Rows.{Change, Marked};
 ghost use Rattle.strips.specs.RowBoxes.{OnRow, Chained};
 ghost use Rattle.strips.specs.Joining.{JoinsRow, Opened};
-ghost use Rattle.strips.specs.Told.{Told};
+ghost use Rattle.strips.specs.Decided.{Decided};
 ghost use Rattle.strips.specs.Built.{Listed};
 use crate::row_boxes::move_to;
 use crate::rows::next_change;
@@ -23,7 +23,7 @@ use foil_spec::strip_at;
 // Whether place k of the list is below count and has a strip from a up to b that goes as far as y.
 fn is_open(out: &[u16], k: usize, count: usize, a: u16, b: u16, y: u16) -> bool
     requires { ⌜ count * 4 ≤ length (now out) ⌝ }
-    ensures { λ r. ⌜ Told (Opened (now (out .entry)) k count a b y) r ⌝ }
+    ensures { λ r. ⌜ Decided (Opened (now (out .entry)) k count a b y) r ⌝ }
 {
     if count <= k {
         return false;

@@ -17,7 +17,7 @@ use Rattle.foil_spec.specs.Strips.{strips}
 use Rattle.foil_spec.specs.Ledger.{stripsOf}
 use Rattle.foil_spec.specs.Lent.{entryAt, layoutOf}
 use Rattle.list_laws.proofs.Tests.{both, clash, and-i, lt-or-le, or-l, or-r, same-test}
-use Rattle.zones.specs.Boxes.{maxBoxes, inside, covers, boxFree, Zoned, zoneOf, Put, PutTwo, Edged}
+use Rattle.zones.specs.Boxes.{maxBoxes, inside, covers, boxFree, Zoned, zoneOf, BoxPut, PutTwo, Edged}
 use Rattle.zones.specs.Table.{Small, Table}
 use Rattle.zones.proofs.Free.{within-yes, within-below, within-above, inside-yes, inside-below, inside-above}
 use Rattle.zones.proofs.Free.{off-column, off-row, box-free-at, not-covered, free-at, of-free}
@@ -88,7 +88,7 @@ module _ (o : List ℕ) (i a b c d e : ℕ) where
     put-4 = getD-set-same s4 (i + 4) e 0 (simp length-set (omega arith))
 
 pub put-entry : (o : List ℕ) (k : ℕ) (e : Entry) → k * 5 + 5 ≤ length o
-    → Put o (s5 o (k * 5) (e .net) (e .x0) (e .y0) (e .x1) (e .y1)) k e
+    → BoxPut o (s5 o (k * 5) (e .net) (e .x0) (e .y0) (e .x1) (e .y1)) k e
 unfolding entryAt
 put-entry o k e l =
     let at = put-before o (k * 5) (e .net) (e .x0) (e .y0) (e .x1) (e .y1) in
@@ -118,7 +118,7 @@ module _ (t : List ℕ) (n : ℕ) (r : Rule) (w h : ℕ) (o : List ℕ) where
   zoning-start = record { kn = omega arith; same = refl; zone = λ i l. absurd (omega arith) }
 
   pub zoning-more : (out out′ : List ℕ) (k : ℕ) (e : Entry) → k < n → length out′ ≡ length out
-      → Zoning t n r w h o out k → e ≡ zoneOf (margin r (entryAt t k)) w h (entryAt t k) → Put out out′ k e
+      → Zoning t n r w h o out k → e ≡ zoneOf (margin r (entryAt t k)) w h (entryAt t k) → BoxPut out out′ k e
       → Zoning t n r w h o out′ (k + 1)
   zoning-more out out′ k e l len z is p =
       record {
@@ -146,7 +146,7 @@ margin-small r e s =
     both (eqb (e .net) 0) (λ t. rw t (omega (arith, s .patch))) (λ t. rw t (omega (arith, s .leg)))
 
 -- two boxes put one after the other, and two pairs of them along the edge
-pub two-put : (o a b : List ℕ) (n : ℕ) (e f : Entry) → Put o a n e → Put a b (n + 1) f → PutTwo o b n e f
+pub two-put : (o a b : List ℕ) (n : ℕ) (e f : Entry) → BoxPut o a n e → BoxPut a b (n + 1) f → PutTwo o b n e f
 two-put o a b n e f p q =
     record {
       first = q .before n (omega arith) ∙ p .here;

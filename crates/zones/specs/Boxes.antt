@@ -52,7 +52,7 @@ unfoldable pub zoneOf : ℕ → ℕ → ℕ → Entry → Entry
 zoneOf d w h e = entry 0 (e .x0 - d) (e .y0 - d) (min (e .x1 + d) w) (min (e .y1 + d) h)
 
 -- the box e stands at place k, and the boxes before it are as they were
-pub record Put (old new : List ℕ) (k : ℕ) (e : Entry) : Type 0 where
+pub record BoxPut (old new : List ℕ) (k : ℕ) (e : Entry) : Type 0 where
   pub here : entryAt new k ≡ e
   pub before : (j : ℕ) → j < k → entryAt new j ≡ entryAt old j
 

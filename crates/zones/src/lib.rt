@@ -11,7 +11,7 @@ ghost use Rattle.foil_spec.specs.Lists.{range};
 ghost use Rattle.foil_spec.specs.Limits.{maxEntries};
 ghost use Rattle.foil_spec.specs.Foil.{entry, pen, penRule, margin, freeBy, free};
 ghost use Rattle.foil_spec.specs.Lent.{entryAt, layoutOf, penIn};
-ghost use Rattle.zones.specs.Boxes.{maxBoxes, Zoned, zoneOf, Put, PutTwo, Edged};
+ghost use Rattle.zones.specs.Boxes.{maxBoxes, Zoned, zoneOf, BoxPut, PutTwo, Edged};
 ghost use Rattle.zones.specs.Table.{Small, Table};
 
 // How many boxes a table of boxes has room for, and how many numbers they are in a flat list.
@@ -168,7 +168,7 @@ pub fn larger(a: u16, b: u16) -> u16
 // Writes a box at place k.
 fn put(out: &mut [u16], k: usize, e: Entry)
     requires { ⌜ k * 5 + 5 ≤ length (now out) ⌝ }
-    ensures { λ _. ⌜ Put (now (out .entry)) (now (out .exit)) k e ⌝ }
+    ensures { λ _. ⌜ BoxPut (now (out .entry)) (now (out .exit)) k e ⌝ }
 {
     out[k * 5] = e.net;
     out[k * 5 + 1] = e.x0;

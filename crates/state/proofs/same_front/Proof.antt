@@ -1,14 +1,14 @@
 -- `state::same_front` meets its contract: `same` says whether the first i numbers are the same.
 use native.Mathlib.Omega.{arith}
 use Prim.Native.Nat.{_≤_, _-_}
-use Rattle.strips.specs.Told.{Told}
+use Rattle.strips.specs.Decided.{Decided}
 use mathlib.Core.Logic.{⊎-elim}
 use Rattle.state.proofs.Fronts.{Agree, agree-none, differs, told-more, told-all}
 use Rattle.state.proofs.same_front.Statement.{statement}
 use Rattle.state.proofs.same_front.Tie as tie
 
 abbrev Inv-loop : tie.InvT-loop
-Inv-loop a b n same₀ i₀ same i = (i ≤ n) × Told (Agree a b i) same
+Inv-loop a b n same₀ i₀ same i = (i ≤ n) × Decided (Agree a b i) same
 
 abbrev μ-loop : tie.MeasureT-loop
 μ-loop a b n same₀ i₀ same i = n - i

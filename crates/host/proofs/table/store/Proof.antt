@@ -46,7 +46,7 @@ use denote.Struct.Laws as LL
 use denote.Triple.Entry.{onEntry}
 use denote.Triple.Spec.{Meets, tripleOf}
 use denote.Triple.Table.{entered, cited}
-use Rattle.strips.specs.Told.{Told}
+use Rattle.strips.specs.Decided.{Decided}
 use Rattle.foil_spec.specs.Limits.{sheetEntries}
 use Rattle.foil_spec.specs.Lent.{entryAt}
 use Rattle.foil_spec.specs.declared.Entry.{Entry}
@@ -89,7 +89,7 @@ abbrev cell : ℕ → ℕ → ℕ
 cell front k = front + 2 * (16 - k)
 
 -- the test `!same` has failed
-told-same : {P : Type 0} (t : Bool) → Told P t → Holds (not (not t)) → P
+told-same : {P : Type 0} (t : Bool) → Decided P t → Holds (not (not t)) → P
 told-same true p _ = p
 told-same false p z = absurd z
 
@@ -266,7 +266,7 @@ module _ {M : Type 1} (𝓤 : URA M) (H : Heap 𝓤) (A : Atoms 𝓤) (W : Given
           calls-for compared.ended (compared.clauses 𝓤 H A mem run) fm known-compares
           ((tt, tt, tt, (old, (new, tt)), (machE old ∷ [], (machE new ∷ [], tt))), tt) of-bool (and-nothing 𝓤 _)
           (arg ! (cell 8 7) refl (arg ! (cell 8 8) refl (no-more !))) (λ t isT okT ws. drop ! $ drop ! $
-          heard ! (Told (old ≡ new) t) (λ told.
+          heard ! (Decided (old ≡ new) t) (λ told.
           land ! (from ! (stop !)) (store ! (cell 7 9) refl (tt, tt)) $
           assigns ! (un ! (load ! (from ! (stop !)) (look ! (cell 7 9) refl)) tt) (from ! (stop !)) (init ! (cell 7 14)
           refl (tt, tt)) $

@@ -1,8 +1,8 @@
--- `state::limits::box_ok` meets its contract, comparison by comparison.
+-- `state::arguments::box_ok` meets its contract, comparison by comparison.
 use borrow.Author.Tests.{lt-ltb, le-ltb, lt-leb, le-leb}
 use Rattle.foil_spec.specs.Foil.{boxOk}
-use Rattle.state.proofs.limits.box_ok.Statement.{statement}
-use Rattle.state.proofs.limits.box_ok.Tie as tie
+use Rattle.state.proofs.arguments.box_ok.Statement.{statement}
+use Rattle.state.proofs.arguments.box_ok.Tie as tie
 
 returns : tie.Need-returns
 unfolding boxOk

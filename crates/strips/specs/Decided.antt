@@ -2,6 +2,6 @@
 use mathlib.Core.Bool.{Bool, true, false}
 
 -- the answer says whether P
-abbrev pub Told : Type 0 → Bool → Type 0
-Told P true = P
-Told P false = P → ⊥
+abbrev pub Decided : Type 0 → Bool → Type 0
+Decided P true = P
+Decided P false = P → ⊥

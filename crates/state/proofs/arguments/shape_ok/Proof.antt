@@ -1,9 +1,9 @@
--- `state::limits::shape_ok` meets its contract: a patch has any shape, a leg is one point wide in one direction.
+-- `state::arguments::shape_ok` meets its contract: a patch has any shape, a leg is one point wide in one direction.
 use native.Mathlib.Omega.{arith}
 use Rattle.state.proofs.Shapes.{patch-shape, no-track, narrow-leg, flat-leg}
 use borrow.Author.Needs.{needs}
-use Rattle.state.proofs.limits.shape_ok.Statement.{statement}
-use Rattle.state.proofs.limits.shape_ok.Tie as tie
+use Rattle.state.proofs.arguments.shape_ok.Statement.{statement}
+use Rattle.state.proofs.arguments.shape_ok.Tie as tie
 
 -- back to where test 1 fails
 abbrev inElse1 : tie.Else2 → tie.Else1

@@ -1,8 +1,8 @@
--- `state::limits::pen_ok` meets its contract, comparison by comparison.
+-- `state::arguments::pen_ok` meets its contract, comparison by comparison.
 use borrow.Author.Tests.{lt-leb, le-leb}
 use Rattle.foil_spec.specs.Foil.{penOk}
-use Rattle.state.proofs.limits.pen_ok.Statement.{statement}
-use Rattle.state.proofs.limits.pen_ok.Tie as tie
+use Rattle.state.proofs.arguments.pen_ok.Statement.{statement}
+use Rattle.state.proofs.arguments.pen_ok.Tie as tie
 
 returns : tie.Need-returns
 unfolding penOk

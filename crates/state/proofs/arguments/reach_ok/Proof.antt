@@ -1,8 +1,8 @@
--- `state::limits::reach_ok` meets its contract.
+-- `state::arguments::reach_ok` meets its contract.
 use mathlib.Core.Path.{refl}
 use Rattle.foil_spec.specs.Foil.{reachOk}
-use Rattle.state.proofs.limits.reach_ok.Statement.{statement}
-use Rattle.state.proofs.limits.reach_ok.Tie as tie
+use Rattle.state.proofs.arguments.reach_ok.Statement.{statement}
+use Rattle.state.proofs.arguments.reach_ok.Tie as tie
 
 returns : tie.Need-returns
 unfolding reachOk

@@ -1,8 +1,8 @@
--- `state::limits::net_ok` meets its contract, comparison by comparison.
+-- `state::arguments::net_ok` meets its contract, comparison by comparison.
 use borrow.Author.Tests.{lt-leb, le-leb}
 use Rattle.foil_spec.specs.Foil.{netOk}
-use Rattle.state.proofs.limits.net_ok.Statement.{statement}
-use Rattle.state.proofs.limits.net_ok.Tie as tie
+use Rattle.state.proofs.arguments.net_ok.Statement.{statement}
+use Rattle.state.proofs.arguments.net_ok.Tie as tie
 
 returns : tie.Need-returns
 unfolding netOk

@@ -1,8 +1,8 @@
--- `state::limits::size_ok` meets its contract, comparison by comparison.
+-- `state::arguments::size_ok` meets its contract, comparison by comparison.
 use borrow.Author.Tests.{lt-leb, le-leb}
 use Rattle.foil_spec.specs.Foil.{sizeOk}
-use Rattle.state.proofs.limits.size_ok.Statement.{statement}
-use Rattle.state.proofs.limits.size_ok.Tie as tie
+use Rattle.state.proofs.arguments.size_ok.Statement.{statement}
+use Rattle.state.proofs.arguments.size_ok.Tie as tie
 
 returns : tie.Need-returns
 unfolding sizeOk
