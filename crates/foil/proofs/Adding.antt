@@ -1,15 +1,15 @@
 -- An entry more, and with it a patch that is drawn and a leg as booked, return by return.
-use Prim.Native.Nat.{ℕ, _+_, min, _≤_, _<_}
+use Prim.Native.Nat.{ℕ, _+_, _*_, min, _≤_, _<_}
 use native.Mathlib.Omega.{arith}
 use mathlib.Core.Path.{_≡_, refl, sym, ap, _∙_, subst}
 use mathlib.Core.Bool.{Bool, true, false, not}
 use mathlib.Core.List.{List, [], _∷_, _++_, map}
 use lib.ListN.{length, replicate, length-append}
-use lib.Seq.{paste}
+use lib.Seq.{paste, sets}
 use borrow.Author.Tests.{lt-ltb, le-ltb, not-true, not-false}
 use Rattle.foil_spec.specs.Lists.{range, all}
 use Rattle.foil_spec.specs.Limits.{maxEntries, tableSize}
-use Rattle.foil_spec.specs.Foil.{Entry, entry, Layout, netOk, boxOk, entryOk, overLeg, underPatch, penRule}
+use Rattle.foil_spec.specs.Foil.{Entry, entry, entryNumbers, Layout, netOk, boxOk, entryOk, overLeg, underPatch, penRule}
 use Rattle.foil_spec.specs.Foil.{patchMargin}
 use Rattle.foil_spec.specs.Ledger.{Room, tooLong, Step, draw, putLeg, next, says, first, refusals, After, settle}
 use Rattle.foil_spec.specs.Ledger.{Answer as Outcome}
@@ -20,7 +20,8 @@ use Rattle.ledger_laws.proofs.Rules.{of-ok}
 use Rattle.ledger_laws.proofs.Line.{patch-ok}
 use Rattle.ledger_laws.proofs.Sound.{Sound, of-sound, length-read}
 use Rattle.zones.specs.Table.{Table}
-use Rattle.tables.specs.Rows.{rowsOf, Appended}
+use Rattle.tables.specs.Rows.{rowsOf}
+use Rattle.tables.proofs.Filling.{appended, length-rows}
 use Rattle.foil.specs.Contract.{Gave, StepIn, refusedBy, takenOver, withEntry, entryAdded}
 use Rattle.foil.specs.declared.Done.{Done}
 use Rattle.foil.proofs.Giving.{gave-refused, own-done, own-step}
@@ -54,10 +55,14 @@ module _ (b : Board) (t s : List ℕ) (g : sound (lent b t s) ≡ true) (limit :
         q
 
     module _ (few : b .entries < limit) (ok : entryOk (b .width) (b .height) e ≡ true) (rows : List ℕ) (old : List ℕ)
-        (copied : old ≡ paste (replicate tableSize 0) 0 t tableSize) (added : Appended old rows (b .entries) e) where
+        (copied : old ≡ paste (replicate tableSize 0) 0 t tableSize) (put : rows ≡ sets old (b .entries * 5) (entryNumbers e)) where
       added-rows : rows ≡ rowsOf (held m .entries ++ e ∷ [])
       unfolding held layoutOf
-      added-rows = added .rows (held m .entries) (length-read t (b .entries)) (copied-rows m old facts copied)
+      added-rows =
+          let old-is = copied-rows m old facts copied in
+          let count = length-read t (b .entries) in
+          let long = length-rows (held m .entries) (omega (arith, count)) in
+          appended e (b .entries) old rows (omega arith) (long ∙ ap length (sym old-is)) put .rows _ count old-is
 
       all-ok : all (entryOk (b .width) (b .height)) (held m .entries ++ e ∷ []) ≡ true
       unfolding held layoutOf

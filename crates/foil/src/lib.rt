@@ -8,6 +8,7 @@ mod pens;
 use foil_spec::Board;
 use foil_spec::Entry;
 use foil_spec::TABLE_SIZE;
+use foil_spec::put_entry;
 pub use lent::Checked;
 pub use lent::lent_refusal;
 pub use lent::lists_short;
@@ -24,7 +25,6 @@ use state::under_patch;
 use strips::Place;
 use strips::locate;
 use tables::Booked;
-use tables::append;
 use tables::copy_front;
 use tables::in_use;
 use tables::take_over;
@@ -178,15 +178,7 @@ fn add_entry(
     }
     let mut rows = [0u16; TABLE_SIZE];
     copy_front(&mut rows, table, TABLE_SIZE);
-    append(
-        &mut rows,
-        n,
-        entry.net,
-        entry.x0,
-        entry.y0,
-        entry.x1,
-        entry.y1,
-    );
+    put_entry(&mut rows, n, entry);
     settle(table, strips, &rows, n + 1, board)
 }
 

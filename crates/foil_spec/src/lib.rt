@@ -1,11 +1,13 @@
 // The definitions of document 01, in specs/, and what they and the calls share: the limits, the structs
 // (the board's record and that of document 01, an entry of the patch table, a strip, a point, the figures
-// of an ink), and the places of flat lists read as such structs.
+// of an ink), and the places of flat lists, read and written as such structs.
 ghost use mathlib.Core.Path.{_≡_};
 ghost use Prim.Native.Nat.{_+_, _*_, _≤_};
 ghost use lib.ListN.{length};
-ghost use Rattle.foil_spec.specs.Corners.{cornerAt};
-ghost use Rattle.foil_spec.specs.Lent.{entryAt, listedStrip};
+ghost use lib.Seq.{sets};
+ghost use Rattle.foil_spec.specs.Foil.{entryNumbers};
+ghost use Rattle.foil_spec.specs.Corners.{pointNumbers, cornerAt};
+ghost use Rattle.foil_spec.specs.Lent.{entryAt, stripNumbers, listedStrip};
 
 // How many entries a table holds, and how many numbers they are in a flat list.
 pub const MAX_ENTRIES: usize = 128;
@@ -109,6 +111,18 @@ pub fn entry_at(table: &[u16], k: usize) -> Entry
     }
 }
 
+// Puts an entry at place k of a table.
+pub fn put_entry(table: &mut [u16], k: usize, e: Entry)
+    requires { ⌜ k * 5 + 5 ≤ length (now table) ⌝ }
+    ensures { λ _. ⌜ now (table .exit) ≡ sets (now (table .entry)) (k * 5) (entryNumbers e) ⌝ }
+{
+    table[k * 5] = e.net;
+    table[k * 5 + 1] = e.x0;
+    table[k * 5 + 2] = e.y0;
+    table[k * 5 + 3] = e.x1;
+    table[k * 5 + 4] = e.y1;
+}
+
 // The strip at place k of a strip list.
 pub fn strip_at(list: &[u16], k: usize) -> Strip
     requires { ⌜ k * 4 + 4 ≤ length (now list) ⌝ }
@@ -122,6 +136,17 @@ pub fn strip_at(list: &[u16], k: usize) -> Strip
     }
 }
 
+// Puts a strip at place k of a strip list.
+pub fn put_strip(list: &mut [u16], k: usize, s: Strip)
+    requires { ⌜ k * 4 + 4 ≤ length (now list) ⌝ }
+    ensures { λ _. ⌜ now (list .exit) ≡ sets (now (list .entry)) (k * 4) (stripNumbers s) ⌝ }
+{
+    list[k * 4] = s.x0;
+    list[k * 4 + 1] = s.y0;
+    list[k * 4 + 2] = s.x1;
+    list[k * 4 + 3] = s.y1;
+}
+
 // The corner at place k of a corner list.
 pub fn corner_at(list: &[u16], k: usize) -> Point
     requires { ⌜ k * 2 + 2 ≤ length (now list) ⌝ }
@@ -131,4 +156,13 @@ pub fn corner_at(list: &[u16], k: usize) -> Point
         x: list[k * 2],
         y: list[k * 2 + 1],
     }
+}
+
+// Puts a corner at place k of a corner list.
+pub fn put_corner(list: &mut [u16], k: usize, p: Point)
+    requires { ⌜ k * 2 + 2 ≤ length (now list) ⌝ }
+    ensures { λ _. ⌜ now (list .exit) ≡ sets (now (list .entry)) (k * 2) (pointNumbers p) ⌝ }
+{
+    list[k * 2] = p.x;
+    list[k * 2 + 1] = p.y;
 }

@@ -8,9 +8,9 @@ use foil::refuse;
 use foil_spec::Board;
 use foil_spec::TABLE_SIZE;
 use foil_spec::entry_at;
+use foil_spec::put_entry;
 use search::first_path_to;
 use state::net_ok;
-use tables::append;
 use tables::in_use;
 use tables::without;
 use zones::BOXES_SIZE;
@@ -77,7 +77,7 @@ fn keep_own(rows: &mut [u16], j: usize, table: &[u16], k: usize, net: u16) -> us
     if e.net != net {
         return j;
     }
-    append(rows, j, e.net, e.x0, e.y0, e.x1, e.y1);
+    put_entry(rows, j, e);
     j + 1
 }
 

@@ -6,11 +6,12 @@ use native.Mathlib.Numerals.{add-one}
 use mathlib.Core.Path.{_≡_, refl, sym, ap, _∙_, subst}
 use mathlib.Core.Bool.{not}
 use mathlib.Core.List.{List, [], _∷_, _++_, map, append-assoc, append-nil}
-use lib.ListN.{length, set, drop, replicate, length-set, length-append, length-replicate}
+use lib.ListN.{length, set, drop, replicate, length-append, length-replicate}
+use lib.Seq.{sets, length-sets}
 use borrow.Author.Tests.{eq-eqb, ne-eqb}
 use Rattle.foil_spec.specs.Lists.{range, keep, each}
 use Rattle.foil_spec.specs.Limits.{maxEntries, tableSize}
-use Rattle.foil_spec.specs.Foil.{Entry, entry, entryNumbers}
+use Rattle.foil_spec.specs.Foil.{Entry, entryNumbers}
 use Rattle.foil_spec.specs.Nets.{ofNet}
 use Rattle.foil_spec.specs.Lent.{written, entryAt}
 use Rattle.list_laws.proofs.Members.{each-append, keep-append, map-last}
@@ -41,46 +42,41 @@ read-rows rows es n count is =
     ∙ ap (λ (k : ℕ). map (entryAt (rowsOf es)) (range 0 k)) (sym count)
     ∙ read-back es (replicate (tableSize - length (each entryNumbers es)) 0 ++ drop tableSize [])
 
-module _ (net x0 y0 x1 y1 : ℕ) where
-  -- five stores, one after the other
-  abbrev pub stored : List ℕ → ℕ → List ℕ
-  stored l k = set (set (set (set (set l k net) (k + 1) x0) (k + 2) y0) (k + 3) x1) (k + 4) y1
+sets-later : (vs xs ys : List ℕ) (i : ℕ) → sets (xs ++ ys) (length xs + i) vs ≡ xs ++ sets ys i vs
+sets-later [] xs ys i = refl
+sets-later (v ∷ vs) xs ys i =
+    let e : suc (length xs + i) ≡ length xs + suc i = omega arith in
+    ap (λ (l : List ℕ). sets l (suc (length xs + i)) vs) (set-later xs ys i v)
+    ∙ ap (λ (k : ℕ). sets (xs ++ set ys i v) k vs) e
+    ∙ sets-later vs xs (set ys i v) (suc i)
 
-  stored-later : (xs ys : List ℕ) (k : ℕ) → length xs ≡ k → stored (xs ++ ys) k ≡ xs ++ stored ys 0
-  stored-later xs ys k e =
-      let z : k ≡ length xs + 0 = omega arith in
-      let s : (j : ℕ) → k + j ≡ length xs + j = λ j. omega arith in
-      rw (s 1, s 2, s 3, s 4, z)
-      (rw (
-        set-later xs ys 0 net,
-        set-later xs _ 1 x0,
-        set-later xs _ 2 y0,
-        set-later xs _ 3 x1,
-        set-later xs _ 4 y1,
-      ) refl)
+-- ---- an entry that is put after the others
 
+module _ (e : Entry) where
   grown : (es : List Entry) (k : ℕ) → length es < maxEntries → length es * 5 ≡ k
-      → stored (rowsOf es) k ≡ rowsOf (es ++ entry net x0 y0 x1 y1 ∷ [])
+      → sets (rowsOf es) k (entryNumbers e) ≡ rowsOf (es ++ e ∷ [])
   unfolding rowsOf written entryNumbers
   grown es k l q =
       let ns : List ℕ = each entryNumbers es in
-      let ms : List ℕ = each entryNumbers (es ++ entry net x0 y0 x1 y1 ∷ []) in
-      let e : ms ≡ ns ++ (net ∷ x0 ∷ y0 ∷ x1 ∷ y1 ∷ []) = each-append entryNumbers es (entry net x0 y0 x1 y1 ∷ []) in
-      let a : length ns ≡ k = omega (arith, length-entries es) in
-      let b : length ms ≡ length ns + 5 = ap length e ∙ length-append ns (net ∷ x0 ∷ y0 ∷ x1 ∷ y1 ∷ []) in
+      let ms : List ℕ = each entryNumbers (es ++ e ∷ []) in
+      let e-is : ms ≡ ns ++ entryNumbers e = each-append entryNumbers es (e ∷ []) in
+      let a : length ns + 0 ≡ k = omega (arith, length-entries es) in
+      let b : length ms ≡ length ns + 5 = ap length e-is ∙ length-append ns (entryNumbers e) in
       let r : ℕ = tableSize - length ms in
       let c : tableSize - length ns ≡ suc (suc (suc (suc (suc r)))) = omega (arith, a, b) in
-      ap (λ (j : ℕ). stored (ns ++ (replicate j 0 ++ [])) k) c
-      ∙ stored-later ns (0 ∷ 0 ∷ 0 ∷ 0 ∷ 0 ∷ (replicate r 0 ++ [])) k a
-      ∙ sym (append-assoc ns (net ∷ x0 ∷ y0 ∷ x1 ∷ y1 ∷ []) (replicate r 0 ++ []))
-      ∙ ap (λ (x : List ℕ). x ++ (replicate r 0 ++ [])) (sym e)
+      ap (λ (j : ℕ). sets (ns ++ (replicate j 0 ++ [])) k (entryNumbers e)) c
+      ∙ ap (λ (j : ℕ). sets (ns ++ (0 ∷ 0 ∷ 0 ∷ 0 ∷ 0 ∷ (replicate r 0 ++ []))) j (entryNumbers e)) (sym a)
+      ∙ sets-later (entryNumbers e) ns (0 ∷ 0 ∷ 0 ∷ 0 ∷ 0 ∷ (replicate r 0 ++ [])) 0
+      ∙ sym (append-assoc ns (entryNumbers e) (replicate r 0 ++ []))
+      ∙ ap (λ (x : List ℕ). x ++ (replicate r 0 ++ [])) (sym e-is)
 
-  pub appended : (n : ℕ) (rows : List ℕ) → n < maxEntries → tableSize ≡ length rows
-      → Appended rows (stored rows (n * 5)) n (entry net x0 y0 x1 y1)
-  appended n rows l long =
+  pub appended : (n : ℕ) (rows rows′ : List ℕ) → n < maxEntries → tableSize ≡ length rows
+      → rows′ ≡ sets rows (n * 5) (entryNumbers e) → Appended rows rows′ n e
+  appended n rows rows′ l long is =
       record {
-        rows = λ es c e. ap (λ (x : List ℕ). stored x (n * 5)) e ∙ grown es (n * 5) (omega arith) (omega arith);
-        long = simp length-set long;
+        rows = λ es c r-is.
+            is ∙ ap (λ (x : List ℕ). sets x (n * 5) (entryNumbers e)) r-is ∙ grown es (n * 5) (omega arith) (omega arith);
+        long = long ∙ sym (ap length is ∙ length-sets rows (n * 5) (entryNumbers e));
       }
 
 -- ---- the entries of other nets

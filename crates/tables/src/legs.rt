@@ -1,6 +1,7 @@
 // The legs of a path as entries.
-use crate::rows::append;
+use foil_spec::Entry;
 use foil_spec::corner_at;
+use foil_spec::put_entry;
 use zones::larger;
 use zones::smaller;
 ghost use mathlib.Core.Path.{_≡_};
@@ -43,15 +44,14 @@ fn append_leg(rows: &mut [u16], n: usize, net: u16, path: &[u16], i: usize, j: u
 {
     let a = corner_at(path, i);
     let b = corner_at(path, j);
-    append(
-        rows,
-        n,
+    let leg = Entry {
         net,
-        smaller(a.x, b.x),
-        smaller(a.y, b.y),
-        larger(a.x, b.x) + 1,
-        larger(a.y, b.y) + 1,
-    );
+        x0: smaller(a.x, b.x),
+        y0: smaller(a.y, b.y),
+        x1: larger(a.x, b.x) + 1,
+        y1: larger(a.y, b.y) + 1,
+    };
+    put_entry(rows, n, leg);
 }
 
 // Puts an entry for each leg of the path of k corners after the n entries of the rows, or one entry of

@@ -8,7 +8,6 @@ use foil_spec::TABLE_SIZE;
 pub use legs::append_legs;
 pub use legs::bend_count;
 pub use legs::leg_count;
-pub use rows::append;
 pub use rows::copy_front;
 pub use rows::in_use;
 pub use rows::without;

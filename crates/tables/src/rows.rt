@@ -1,5 +1,6 @@
 // The rows of a table in the making: 128 places of five numbers, unused ones zero.
 use foil_spec::entry_at;
+use foil_spec::put_entry;
 ghost use mathlib.Core.Path.{_≡_};
 ghost use Prim.Native.Nat.{_+_, _*_, _<_, _≤_};
 ghost use mathlib.Core.List.{[], map};
@@ -7,10 +8,9 @@ ghost use lib.ListN.{length};
 ghost use lib.Seq.{paste};
 ghost use Rattle.foil_spec.specs.Lists.{range};
 ghost use Rattle.foil_spec.specs.Limits.{maxEntries, tableSize};
-ghost use Rattle.foil_spec.specs.Foil.{entry};
 ghost use Rattle.foil_spec.specs.Nets.{inUse};
 ghost use Rattle.foil_spec.specs.Lent.{entryAt};
-ghost use Rattle.tables.specs.Rows.{rowsOf, Appended, Kept};
+ghost use Rattle.tables.specs.Rows.{rowsOf, Kept};
 
 // Copies the first n numbers of `from` to the front of `to`.
 pub fn copy_front(to: &mut [u16], from: &[u16], n: usize)
@@ -22,18 +22,6 @@ pub fn copy_front(to: &mut [u16], from: &[u16], n: usize)
         to[i] = from[i];
         i += 1;
     }
-}
-
-// Puts an entry at place n, the first unused one.
-pub fn append(rows: &mut [u16], n: usize, net: u16, x0: u16, y0: u16, x1: u16, y1: u16)
-    requires { ⌜ (n < maxEntries) × (tableSize ≡ length (now rows)) ⌝ }
-    ensures { λ _. ⌜ Appended (now (rows .entry)) (now (rows .exit)) n (entry net x0 y0 x1 y1) ⌝ }
-{
-    rows[n * 5] = net;
-    rows[n * 5 + 1] = x0;
-    rows[n * 5 + 2] = y0;
-    rows[n * 5 + 3] = x1;
-    rows[n * 5 + 4] = y1;
 }
 
 // Whether one of the first n entries of the table is of the net.
@@ -75,6 +63,6 @@ fn keep_other(rows: &mut [u16], j: usize, table: &[u16], k: usize, net: u16) -> 
     if e.net == net {
         return j;
     }
-    append(rows, j, e.net, e.x0, e.y0, e.x1, e.y1);
+    put_entry(rows, j, e);
     j + 1
 }

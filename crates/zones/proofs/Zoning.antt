@@ -9,13 +9,14 @@ use mathlib.Core.List.{List, map}
 use lib.Dec.{leb, ltb, eqb}
 use borrow.Author.Count.{below-more}
 use borrow.Author.Tests.{le-leb, lt-ltb, lt-leb, le-ltb}
-use lib.ListN.{length, getD, set, length-set}
-use lib.Seq.{getD-set-same, getD-set-other}
+use lib.ListN.{length}
+use lib.Seq.{sets}
 use Rattle.foil_spec.specs.Lists.{range}
-use Rattle.foil_spec.specs.Foil.{Entry, entry, Pen, Rule, within, blocks, penRule, margin, nearEdge, freeBy, free}
+use Rattle.foil_spec.specs.Foil.{Entry, entry, entryNumbers, Pen, Rule, within, blocks, penRule, margin, nearEdge, freeBy, free}
 use Rattle.foil_spec.specs.Strips.{strips}
 use Rattle.foil_spec.specs.Ledger.{stripsOf}
 use Rattle.foil_spec.specs.Lent.{entryAt, layoutOf}
+use Rattle.list_laws.proofs.Places.{entry-put, entry-kept}
 use Rattle.list_laws.proofs.Tests.{both, clash, and-i, lt-or-le, or-l, or-r, same-test}
 use Rattle.zones.specs.Boxes.{maxBoxes, inside, covers, boxFree, Zoned, zoneOf, BoxPut, PutTwo, Edged}
 use Rattle.zones.specs.Table.{Small, Table}
@@ -39,72 +40,13 @@ unfolding covers blocks zoneOf
 zone-blocks d w h e x y lx ly =
     ap₂ (λ (a b : Bool). a && b) (clipped (e .x0) (e .x1) d w x lx) (clipped (e .y0) (e .y1) d h y ly)
 
--- five numbers written one after the other
-module _ (o : List ℕ) (i a b c d e : ℕ) where
-  abbrev s1 : List ℕ
-  s1 = set o i a
-
-  abbrev s2 : List ℕ
-  s2 = set s1 (i + 1) b
-
-  abbrev s3 : List ℕ
-  s3 = set s2 (i + 2) c
-
-  abbrev s4 : List ℕ
-  s4 = set s3 (i + 3) d
-
-  abbrev s5 : List ℕ
-  s5 = set s4 (i + 4) e
-
-  past-1 : (j : ℕ) → j < i + 1 → getD s5 j 0 ≡ getD s1 j 0
-  past-1 j m =
-      getD-set-other s4 (i + 4) j e 0 (omega arith) ∙ getD-set-other s3 (i + 3) j d 0 (omega arith)
-      ∙ getD-set-other s2 (i + 2) j c 0 (omega arith) ∙ getD-set-other s1 (i + 1) j b 0 (omega arith)
-
-  put-before : (j : ℕ) → j < i → getD s5 j 0 ≡ getD o j 0
-  put-before j m = past-1 j (omega arith) ∙ getD-set-other o i j a 0 (omega arith)
-
-  module _ (l : i + 5 ≤ length o) where
-    put-0 : getD s5 i 0 ≡ a
-    put-0 = past-1 i (omega arith) ∙ getD-set-same o i a 0 (omega arith)
-
-    put-1 : getD s5 (i + 1) 0 ≡ b
-    put-1 =
-        getD-set-other s4 (i + 4) (i + 1) e 0 (omega arith) ∙ getD-set-other s3 (i + 3) (i + 1) d 0 (omega arith)
-        ∙ getD-set-other s2 (i + 2) (i + 1) c 0 (omega arith)
-        ∙ getD-set-same s1 (i + 1) b 0 (simp length-set (omega arith))
-
-    put-2 : getD s5 (i + 2) 0 ≡ c
-    put-2 =
-        getD-set-other s4 (i + 4) (i + 2) e 0 (omega arith) ∙ getD-set-other s3 (i + 3) (i + 2) d 0 (omega arith)
-        ∙ getD-set-same s2 (i + 2) c 0 (simp length-set (omega arith))
-
-    put-3 : getD s5 (i + 3) 0 ≡ d
-    put-3 =
-        getD-set-other s4 (i + 4) (i + 3) e 0 (omega arith)
-        ∙ getD-set-same s3 (i + 3) d 0 (simp length-set (omega arith))
-
-    put-4 : getD s5 (i + 4) 0 ≡ e
-    put-4 = getD-set-same s4 (i + 4) e 0 (simp length-set (omega arith))
-
-pub put-entry : (o : List ℕ) (k : ℕ) (e : Entry) → k * 5 + 5 ≤ length o
-    → BoxPut o (s5 o (k * 5) (e .net) (e .x0) (e .y0) (e .x1) (e .y1)) k e
-unfolding entryAt
-put-entry o k e l =
-    let at = put-before o (k * 5) (e .net) (e .x0) (e .y0) (e .x1) (e .y1) in
+-- a box that was put
+pub box-put : (o o′ : List ℕ) (k : ℕ) (e : Entry) → k * 5 + 5 ≤ length o → o′ ≡ sets o (k * 5) (entryNumbers e)
+    → BoxPut o o′ k e
+box-put o o′ k e l is =
     record {
-      here = λ i. entry
-          (put-0 o (k * 5) (e .net) (e .x0) (e .y0) (e .x1) (e .y1) l i)
-          (put-1 o (k * 5) (e .net) (e .x0) (e .y0) (e .x1) (e .y1) l i)
-          (put-2 o (k * 5) (e .net) (e .x0) (e .y0) (e .x1) (e .y1) l i)
-          (put-3 o (k * 5) (e .net) (e .x0) (e .y0) (e .x1) (e .y1) l i)
-          (put-4 o (k * 5) (e .net) (e .x0) (e .y0) (e .x1) (e .y1) l i);
-      before = λ j m i. entry
-          (at (j * 5) (omega arith) i)
-          (at (j * 5 + 1) (omega arith) i)
-          (at (j * 5 + 2) (omega arith) i)
-          (at (j * 5 + 3) (omega arith) i)
-          (at (j * 5 + 4) (omega arith) i);
+      here = ap (λ (z : List ℕ). entryAt z k) is ∙ entry-put o k e l;
+      before = λ j m. ap (λ (z : List ℕ). entryAt z j) is ∙ entry-kept o k e j (λ q. omega (arith, q));
     }
 
 -- the first k zones are written

@@ -3,6 +3,7 @@ use foil_spec::Board;
 use foil_spec::Entry;
 use foil_spec::Rule;
 use foil_spec::entry_at;
+use foil_spec::put_entry;
 ghost use mathlib.Core.Path.{_≡_};
 ghost use Prim.Native.Nat.{ℕ, _+_, _*_, _-_, _≤_, _<_, min, max};
 ghost use mathlib.Core.List.{map};
@@ -57,7 +58,7 @@ fn put_zones(out: &mut [u16], table: &[u16], n: usize, rule: Rule, w: u16, h: u1
     let mut k: usize = 0;
     while k < n {
         let zone = zone_of(entry_at(table, k), rule, w, h);
-        put(out, k, zone);
+        put_entry(out, k, zone);
         k += 1;
     }
 }
@@ -80,8 +81,8 @@ fn put_two(out: &mut [u16], n: usize, a: Entry, b: Entry)
     requires { ⌜ n * 5 + 10 ≤ length (now out) ⌝ }
     ensures { λ _. ⌜ PutTwo (now (out .entry)) (now (out .exit)) n a b ⌝ }
 {
-    put(out, n, a);
-    put(out, n + 1, b);
+    put_entry(out, n, a);
+    put_entry(out, n + 1, b);
 }
 
 // A box by its ends.
@@ -163,16 +164,4 @@ pub fn larger(a: u16, b: u16) -> u16
         return b;
     }
     a
-}
-
-// Writes a box at place k.
-fn put(out: &mut [u16], k: usize, e: Entry)
-    requires { ⌜ k * 5 + 5 ≤ length (now out) ⌝ }
-    ensures { λ _. ⌜ BoxPut (now (out .entry)) (now (out .exit)) k e ⌝ }
-{
-    out[k * 5] = e.net;
-    out[k * 5 + 1] = e.x0;
-    out[k * 5 + 2] = e.y0;
-    out[k * 5 + 3] = e.x1;
-    out[k * 5 + 4] = e.y1;
 }

@@ -6,7 +6,7 @@ use borrow.Author.Needs.{needs}
 use Rattle.foil.proofs.add_entry.Statement.{statement}
 use Rattle.foil.proofs.add_entry.Tie as tie
 
--- back to the start, where the test fails, copy_front, append and settle
+-- back to the start, where the test fails, copy_front, put_entry and settle
 abbrev atStart : tie.After-slice-known2 → tie.Start
 atStart c = c .before .before
 
@@ -16,8 +16,8 @@ inElse c = c .before .before
 abbrev afterCopyFront : tie.After-rows5 → tie.After-copy-front
 afterCopyFront c = c .before .before .before .before .before .before .before
 
-abbrev afterAppend : tie.After-rows5 → tie.After-append
-afterAppend c = c .before .before .before .before
+abbrev afterPut : tie.After-rows5 → tie.After-put-entry
+afterPut c = c .before .before .before .before
 
 abbrev afterSettle : tie.After-slice-known4 → tie.After-settle
 afterSettle c = c .before .before .before .before
@@ -35,11 +35,11 @@ slice-aggregate-copy-front c = search needs
 copy-front-requires : tie.Need-copy-front-requires
 copy-front-requires c κs = (omega arith, sound-long _ (atStart (inElse c .before) .pre .0) .table)
 
-slice-aggregate-append : tie.Need-slice-aggregate-append
-slice-aggregate-append c = search needs
+slice-aggregate-put-entry : tie.Need-slice-aggregate-put-entry
+slice-aggregate-put-entry c = search needs
 
-append-requires : tie.Need-append-requires
-append-requires c κs = search needs
+put-entry-requires : tie.Need-put-entry-requires
+put-entry-requires c κs = search needs
 
 slice-aggregate-settle : tie.Need-slice-aggregate-settle
 slice-aggregate-settle c = search needs
@@ -53,10 +53,10 @@ settle-requires c κs =
     let few = inElse (copied .before) in
     let start = atStart (few .before) in (
       added-table _ _ _ (start .pre .0) _ (start .pre .1 .0) _ (few .if1 .left) (start .pre .1 .1) _ _
-          (copied .copy-front .ensures) (afterAppend c .append .ensures),
+          (copied .copy-front .ensures) (afterPut c .put-entry .ensures),
       (
         added-again _ _ _ (start .pre .0) _ (start .pre .1 .0) _ (few .if1 .left) (start .pre .1 .1) _ _
-            (copied .copy-front .ensures) (afterAppend c .append .ensures),
+            (copied .copy-front .ensures) (afterPut c .put-entry .ensures),
         (sound-long _ (start .pre .0) .table, sound-long _ (start .pre .0) .strips),
       ),
     )
@@ -74,9 +74,9 @@ returns-2 c =
     let few = inElse (copied .before) in
     let start = atStart (few .before) in
     entry-added _ _ _ (start .pre .0) _ (start .pre .1 .0) _ (few .if1 .left) (start .pre .1 .1) _ _
-    (copied .copy-front .ensures) (afterAppend rows .append .ensures) _ _ _ (afterSettle c .settle .ensures)
+    (copied .copy-front .ensures) (afterPut rows .put-entry .ensures) _ _ _ (afterSettle c .settle .ensures)
 
 pub add-entry-spec : {M : Type 1} → statement M
 add-entry-spec =
-    tie.close (tie.spec refuse-requires returns slice-aggregate-copy-front copy-front-requires slice-aggregate-append
-    append-requires slice-aggregate-settle add-settle settle-requires same-length same-length-2 returns-2)
+    tie.close (tie.spec refuse-requires returns slice-aggregate-copy-front copy-front-requires slice-aggregate-put-entry
+    put-entry-requires slice-aggregate-settle add-settle settle-requires same-length same-length-2 returns-2)

@@ -1,6 +1,7 @@
 -- The entry is skipped, or appended.
 use native.Mathlib.Omega.{arith}
 use Rattle.joining.proofs.Own.{own-skip, own-more, own-long}
+use Rattle.tables.proofs.Filling.{appended}
 use borrow.Author.Needs.{needs}
 use Rattle.joining.proofs.keep_own.Statement.{statement}
 use Rattle.joining.proofs.keep_own.Tie as tie
@@ -10,7 +11,7 @@ abbrev atStart : tie.After-entry-at → tie.Start
 atStart c = c .before .before .before
 
 -- back to entry_at and where the test fails
-abbrev afterEntryAt : tie.After-append-arg → tie.After-entry-at
+abbrev afterEntryAt : tie.After-put-entry-arg → tie.After-entry-at
 afterEntryAt c = c .before .before .before
 
 abbrev atOwn : tie.After-slice-known2 → tie.Else1
@@ -23,10 +24,10 @@ returns : tie.Need-returns
 returns c =
     own-skip _ _ _ _ (c .before .before .entry-at .ensures) _ _ (atStart (c .before .before) .pre .2) (c .if1 .taken)
 
-append-requires : tie.Need-append-requires
-append-requires c κs =
+put-entry-requires : tie.Need-put-entry-requires
+put-entry-requires c κs =
     let p = atStart (afterEntryAt c) .pre in
-    (omega (arith, p .2 .few), own-long _ _ _ _ _ (omega arith) (p .2))
+    omega (arith, p .2 .few, own-long _ _ _ _ _ (omega arith) (p .2))
 
 add-result : tie.Need-add-result
 add-result c = search needs
@@ -36,10 +37,12 @@ same-length c = search needs
 
 returns-2 : tie.Need-returns-2
 returns-2 c =
-    own-more _ _ _ _ (atOwn c .before .before .entry-at .ensures) _ _ (atStart (atOwn c .before .before) .pre .2) _
-    (atOwn c .if1 .left)
-    (c .before .before .append .ensures)
+    let e = atOwn c .before .before in
+    let own = atStart e .pre .2 in
+    own-more _ _ _ _ (e .entry-at .ensures) _ _ own _ (atOwn c .if1 .left)
+    (appended _ _ _ _ (omega (arith, own .few)) (own-long _ _ _ _ _ (omega arith) own)
+    (c .before .before .put-entry .ensures))
 
 pub keep-own-spec : {M : Type 1} → statement M
 keep-own-spec =
-    tie.close (tie.spec entry-at-requires returns append-requires add-result same-length returns-2)
+    tie.close (tie.spec entry-at-requires returns put-entry-requires add-result same-length returns-2)

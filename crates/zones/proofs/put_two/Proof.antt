@@ -1,17 +1,18 @@
 -- `zones::put_two` meets its contract: the second box leaves the first as it is.
+use native.Mathlib.Omega.{arith}
 use borrow.Author.Needs.{needs}
-use Rattle.zones.proofs.Zoning.{two-put}
+use Rattle.zones.proofs.Zoning.{box-put, two-put}
 use Rattle.zones.proofs.put_two.Statement.{statement}
 use Rattle.zones.proofs.put_two.Tie as tie
 
-put-requires : tie.Need-put-requires
-put-requires c κs = search needs
+put-entry-requires : tie.Need-put-entry-requires
+put-entry-requires c κs = search needs
 
-add-put : tie.Need-add-put
-add-put c = search needs
+add-put-entry : tie.Need-add-put-entry
+add-put-entry c = search needs
 
-put-requires-2 : tie.Need-put-requires-2
-put-requires-2 c κs = search needs
+put-entry-requires-2 : tie.Need-put-entry-requires-2
+put-entry-requires-2 c κs = search needs
 
 same-length : tie.Need-same-length
 same-length c = search needs
@@ -20,7 +21,8 @@ returns : tie.Need-returns
 returns c =
     let second = c .before .before in
     let first = second .before .before .before .before in
-    two-put _ _ _ _ _ _ (first .put .ensures) (second .put2 .ensures)
+    two-put _ _ _ _ _ _ (box-put _ _ _ _ (omega arith) (first .put-entry .ensures))
+    (box-put _ _ _ _ (omega (arith, first .put-entry .kept .0)) (second .put-entry2 .ensures))
 
 pub put-two-spec : {M : Type 1} → statement M
-put-two-spec = tie.close (tie.spec put-requires add-put put-requires-2 same-length returns)
+put-two-spec = tie.close (tie.spec put-entry-requires add-put-entry put-entry-requires-2 same-length returns)

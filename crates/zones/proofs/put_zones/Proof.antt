@@ -5,7 +5,7 @@ use mathlib.Core.Path.{_≡_, ap, _∙_}
 use Rattle.foil_spec.specs.Foil.{Entry, margin}
 use Rattle.foil_spec.specs.Lent.{entryAt}
 use Rattle.zones.specs.Boxes.{zoneOf}
-use Rattle.zones.proofs.Zoning.{Zoning, zoning-start, zoning-more, margin-small}
+use Rattle.zones.proofs.Zoning.{box-put, Zoning, zoning-start, zoning-more, margin-small}
 use Rattle.zones.proofs.put_zones.Statement.{statement}
 use Rattle.zones.proofs.put_zones.Tie as tie
 
@@ -59,8 +59,8 @@ zone-of-requires c κs =
       omega (arith, m, t .sized .height, t .y-end _ l),
     )
 
-put-requires : tie.Need-put-requires Inv-loop μ-loop
-put-requires c κs =
+put-entry-requires : tie.Need-put-entry-requires Inv-loop μ-loop
+put-entry-requires c κs =
     let l = inLoop (c .before) in
     omega (arith, l .loop-test .taken, atStart l .pre .0 .few, atStart l .pre .1, l .before .loop .inv .same)
 
@@ -73,9 +73,10 @@ loop-less c = omega (arith, inLoop (atZone c) .loop-test .taken)
 loop-again : tie.Need-loop-again Inv-loop μ-loop
 loop-again c =
     let l = inLoop (atZone c) in
-    let p = c .before .before .put in
+    let p = c .before .before .put-entry in
     zoning-more _ _ _ _ _ _ _ _ _ _ (l .loop-test .taken) (p .kept .0) (l .before .loop .inv) (zone-is (atZone c))
-    (p .ensures)
+    (box-put _ _ _ _
+    (omega (arith, l .loop-test .taken, atStart l .pre .0 .few, atStart l .pre .1, l .before .loop .inv .same)) (p .ensures))
 
 same-length : tie.Need-same-length Inv-loop μ-loop
 same-length c = c .before .loop .inv .same
@@ -92,7 +93,7 @@ put-zones-spec =
     loop-holds
     entry-at-requires
     zone-of-requires
-    put-requires
+    put-entry-requires
     add-k
     loop-less
     loop-again

@@ -2,6 +2,7 @@
 use native.Mathlib.Omega.{arith}
 use mathlib.Core.Path.{ap}
 use Rattle.foil_spec.specs.Foil.{Point}
+use Rattle.tables.proofs.Filling.{appended}
 use Rattle.tables.proofs.Appending.{leg-appended}
 use borrow.Author.Needs.{needs}
 use Rattle.tables.proofs.legs.append_leg.Statement.{statement}
@@ -12,14 +13,14 @@ abbrev atStart : tie.After-corner-at2 → tie.Start
 atStart c = c .before .before .before .before
 
 abbrev atCorners : tie.After-larger → tie.After-corner-at2
-atCorners c = c .before .before .before .before
+atCorners c = c .before .before .before
 
--- back to larger and larger2
-abbrev atRight : tie.After-slice-known2 → tie.After-larger
-atRight c = c .before .before .before .before
-
+-- back to where the leg's ends are known
 abbrev atBottom : tie.After-slice-known2 → tie.After-larger2
-atBottom c = c .before .before .before
+atBottom c = c .before .before .before .before
+
+abbrev atRight : tie.After-slice-known2 → tie.After-larger
+atRight c = atBottom c .before
 
 corner-at-requires : tie.Need-corner-at-requires
 corner-at-requires c κs = search needs
@@ -36,8 +37,8 @@ smaller-requires-2 c κs = search needs
 larger-requires : tie.Need-larger-requires
 larger-requires c κs = search needs
 
-add-append : tie.Need-add-append
-add-append c =
+add-t13 : tie.Need-add-t13
+add-t13 c =
     let p = atStart (atCorners c) .pre .1 .1 in
     omega (
       arith,
@@ -51,8 +52,8 @@ add-append c =
 larger-requires-2 : tie.Need-larger-requires-2
 larger-requires-2 c κs = search needs
 
-add-append-2 : tie.Need-add-append-2
-add-append-2 c =
+add-t15 : tie.Need-add-t15
+add-t15 c =
     let k = atCorners (c .before) in
     let p = atStart k .pre .1 .1 in
     omega (
@@ -64,8 +65,8 @@ add-append-2 c =
       p .1 .1,
     )
 
-append-requires : tie.Need-append-requires
-append-requires c κs = search needs
+put-entry-requires : tie.Need-put-entry-requires
+put-entry-requires c κs = search needs
 
 same-length : tie.Need-same-length
 same-length c = search needs
@@ -73,9 +74,10 @@ same-length c = search needs
 returns : tie.Need-returns
 returns c =
     let k = atCorners (atRight c) in
+    let start = atStart k in
     leg-appended _ _ _ _ _ _ _ _ _ _ _ _ (k .before .corner-at .ensures) (k .corner-at2 .ensures)
     (atRight c .before .before .smaller .ensures) (atRight c .before .smaller2 .ensures) (atRight c .larger .ensures)
-    (atBottom c .larger2 .ensures) (c .before .before .append .ensures)
+    (atBottom c .larger2 .ensures) (appended _ _ _ _ (start .pre .0 .0) (start .pre .0 .1) (c .before .before .put-entry .ensures))
 
 pub append-leg-spec : {M : Type 1} → statement M
 append-leg-spec =
@@ -86,9 +88,9 @@ append-leg-spec =
     smaller-requires
     smaller-requires-2
     larger-requires
-    add-append
+    add-t13
     larger-requires-2
-    add-append-2
-    append-requires
+    add-t15
+    put-entry-requires
     same-length
     returns)
