@@ -4,6 +4,7 @@ use mathlib.Core.Bool.{Bool, cond, not, _&&_, _||_}
 use mathlib.Core.List.{List, [], _∷_}
 use lib.Dec.{leb, ltb, eqb}
 use Rattle.foil_spec.specs.Lists.{all, any}
+use Rattle.foil_spec.specs.Limits.{maxSide, maxReach}
 use Rattle.foil_spec.specs.declared.Point as declaredPoint
 use Rattle.foil_spec.specs.declared.Entry as declaredEntry
 use Rattle.foil_spec.specs.declared.Pen as declaredPen
@@ -54,15 +55,15 @@ noFoil = record { width = 0; height = 0; pen = pen 0 0; entries = [] }
 
 -- W and H run from 1 to 4,096
 unfoldable pub sizeOk : ℕ → Bool
-sizeOk n = leb 1 n && leb n 4096
+sizeOk n = leb 1 n && leb n maxSide
 
 -- document 01's reach runs from 0 to 15
 unfoldable pub reachOk : ℕ → Bool
-reachOk d = leb d 15
+reachOk d = leb d maxReach
 
 -- h runs from 0 to 7, g from 0 to 15
 unfoldable pub penOk : Pen → Bool
-penOk p = leb (p .half) 7 && leb (p .gap) 15
+penOk p = leb (p .half) 7 && leb (p .gap) maxReach
 
 -- the nets of tracks run from 1 to 999
 unfoldable pub netOk : ℕ → Bool

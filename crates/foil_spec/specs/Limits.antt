@@ -19,6 +19,14 @@ stripsSize = 16384
 abbrev pub reportPlaces : ℕ
 reportPlaces = 128
 
+-- a side of a foil is at most so long
+abbrev pub maxSide : ℕ
+maxSide = 4096
+
+-- document 01's reach is at most so far, and so is a pen's gap
+abbrev pub maxReach : ℕ
+maxReach = 15
+
 -- a job file has at most so many bytes
 abbrev pub maxBytes : ℕ
 maxBytes = 60000

@@ -2,12 +2,13 @@
 // (the board's record and that of document 01, an entry of the patch table, a strip, a point, the figures
 // of an ink), and the places of flat lists, read and written as such structs.
 ghost use mathlib.Core.Path.{_≡_};
-ghost use Prim.Native.Nat.{_+_, _*_, _≤_};
+ghost use Prim.Native.Nat.{_+_, _*_, _≤_, min, max};
 ghost use lib.ListN.{length};
 ghost use lib.Seq.{sets};
 ghost use Rattle.foil_spec.specs.Foil.{entryNumbers};
 ghost use Rattle.foil_spec.specs.Corners.{pointNumbers, cornerAt};
 ghost use Rattle.foil_spec.specs.Lent.{entryAt, stripNumbers, listedStrip};
+ghost use Rattle.foil_spec.specs.Sheet.{noBoard};
 
 // How many entries a table holds, and how many numbers they are in a flat list.
 pub const MAX_ENTRIES: usize = 128;
@@ -22,8 +23,16 @@ pub const MAX_STRIPS: usize = 4096;
 
 pub const STRIPS_SIZE: usize = 16384;
 
-// How many bytes a job file has at most.
+// How long a side of a foil is at most.
+pub const MAX_SIDE: usize = 4096;
+
+// How far document 01's reach, and the gap of a pen, go at most.
+pub const MAX_REACH: u16 = 15;
+
+// How many bytes a job file has at most; a list of one more tells a longer file.
 pub const MAX_BYTES: usize = 60000;
+
+pub const INPUT_SIZE: usize = 60001;
 
 // How many corner places the job program lends, and how many numbers they are.
 pub const CORNER_PLACES: usize = 8192;
@@ -165,4 +174,38 @@ pub fn put_corner(list: &mut [u16], k: usize, p: Point)
 {
     list[k * 2] = p.x;
     list[k * 2 + 1] = p.y;
+}
+
+// The record of a foil before it is begun.
+pub fn no_board() -> Board
+    ensures { λ r. ⌜ r ≡ noBoard ⌝ }
+{
+    Board {
+        width: 0,
+        height: 0,
+        half: 0,
+        gap: 0,
+        entries: 0,
+        strips: 0,
+    }
+}
+
+// The smaller of the two.
+pub fn smaller(a: u16, b: u16) -> u16
+    ensures { λ r. ⌜ r ≡ min a b ⌝ }
+{
+    if a < b {
+        return a;
+    }
+    b
+}
+
+// The larger of the two.
+pub fn larger(a: u16, b: u16) -> u16
+    ensures { λ r. ⌜ r ≡ max a b ⌝ }
+{
+    if a < b {
+        return b;
+    }
+    a
 }

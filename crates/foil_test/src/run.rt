@@ -4,6 +4,7 @@ use foil::Answer;
 use foil_spec::Board;
 use foil_spec::CORNERS_SIZE;
 use foil_spec::STRIPS_SIZE;
+use foil_spec::no_board;
 use job::Answers;
 use job::Next;
 use job::Replied;
@@ -11,7 +12,6 @@ use job::Reply;
 use job::Told;
 use job_report::run_one;
 use sheet_rows::SHEET_SIZE;
-use sheet_rows::no_board;
 ghost use Prim.Native.Nat.{_<_, _≤_};
 ghost use lib.ListN.{length};
 

@@ -9,7 +9,7 @@ use mathlib.Core.Logic.{by-cases, ⊎-elim, _≢_}
 use mathlib.Core.List.{List, [], _∷_, _++_, map}
 use lib.Dec.{eqb}
 use lib.ListN.{length, set, getD, take, drop, replicate, length-set, length-replicate, length-drop, take-append-drop}
-use lib.Seq.{getD-set-same, getD-set-other, set-getD, getD-drop, take-suc, take-all, ext-getD}
+use lib.Seq.{sets, length-sets, getD-set-same, getD-set-other, set-getD, getD-drop, take-suc, take-all, ext-getD}
 use borrow.Author.Tests.{eqb-true, eqb-false}
 use lib.ListN.{length-map}
 use mir.Val.{Val}
@@ -21,9 +21,10 @@ use Rattle.foil_spec.specs.Lent.{entryAt}
 use Rattle.strips.specs.Decided.{Decided}
 use Rattle.ledger_laws.proofs.Sound.{read-numbers}
 use Rattle.list_laws.proofs.Members.{map-last}
+use Rattle.list_laws.proofs.Places.{entry-put, entry-kept}
 use Rattle.list_laws.proofs.Tests.{lt-or-le}
 use Rattle.host.specs.declared.flat.Flat.{Flat}
-use Rattle.host.specs.Flats.{setFive, placesLent, numbersLent, entriesOf, noEntry}
+use Rattle.host.specs.Flats.{placesLent, numbersLent, entriesOf, noEntry}
 use Rattle.host.specs.Flats.{loadTo, storeTo, frontOf, withFront}
 use Rattle.host.proofs.flat.Flat as T
 use Rattle.host.proofs.flat.Flat.Laws as T′
@@ -43,7 +44,7 @@ module _ (a b : Entry) (net : a .net ≡ b .net) (x0 : a .x0 ≡ b .x0) (y0 : a 
 
 -- ---- one place more
 
-pub load-more : (es : List Entry) (k : ℕ) → setFive (loadTo es k) (k * 5) (getD es k noEntry) ≡ loadTo es (k + 1)
+pub load-more : (es : List Entry) (k : ℕ) → sets (loadTo es k) (k * 5) (entryNumbers (getD es k noEntry)) ≡ loadTo es (k + 1)
 unfolding loadTo
 load-more es k = let e : k + 1 ≡ suc k = omega arith in rw e refl
 
@@ -72,111 +73,12 @@ store-length f es zero = refl
 store-length f es (suc k) =
     length-set (storeTo f es k) k (entryAt (f .at) k) ∙ store-length f es k
 
--- ---- five numbers
-
-module _ (a : List ℕ) (k : ℕ) (e : Entry) where
-  abbrev s₁ : List ℕ
-  s₁ = set a k (e .net)
-
-  abbrev s₂ : List ℕ
-  s₂ = set s₁ (k + 1) (e .x0)
-
-  abbrev s₃ : List ℕ
-  s₃ = set s₂ (k + 2) (e .y0)
-
-  abbrev s₄ : List ℕ
-  s₄ = set s₃ (k + 3) (e .x1)
-
-  len₁ : length s₁ ≡ length a
-  len₁ = length-set a k (e .net)
-
-  len₂ : length s₂ ≡ length a
-  len₂ = length-set s₁ (k + 1) (e .x0) ∙ len₁
-
-  len₃ : length s₃ ≡ length a
-  len₃ = length-set s₂ (k + 2) (e .y0) ∙ len₂
-
-  len₄ : length s₄ ≡ length a
-  len₄ = length-set s₃ (k + 3) (e .x1) ∙ len₃
-
-  five-length : length (setFive a k e) ≡ length a
-  unfolding setFive
-  five-length = length-set s₄ (k + 4) (e .y1) ∙ len₄
-
-  -- each number from the i-th on stands as it is laid in: the later ones go elsewhere
-  past₁ : (i : ℕ) → i ≢ k + 1 → i ≢ k + 2 → i ≢ k + 3 → i ≢ k + 4 → getD (setFive a k e) i 0 ≡ getD s₁ i 0
-  unfolding setFive
-  past₁ i n₁ n₂ n₃ n₄ =
-      getD-set-other s₄ (k + 4) i (e .y1) 0 n₄ ∙ getD-set-other s₃ (k + 3) i (e .x1) 0 n₃
-      ∙ getD-set-other s₂ (k + 2) i (e .y0) 0 n₂ ∙ getD-set-other s₁ (k + 1) i (e .x0) 0 n₁
-
-  five-far : (i : ℕ) → i ≢ k → i ≢ k + 1 → i ≢ k + 2 → i ≢ k + 3 → i ≢ k + 4
-      → getD (setFive a k e) i 0 ≡ getD a i 0
-  five-far i n₀ n₁ n₂ n₃ n₄ = past₁ i n₁ n₂ n₃ n₄ ∙ getD-set-other a k i (e .net) 0 n₀
-
-  module _ (fits : k + 4 < length a) where
-    five-0 : getD (setFive a k e) k 0 ≡ e .net
-    five-0 =
-        past₁ k (λ q. omega (arith, q)) (λ q. omega (arith, q)) (λ q. omega (arith, q)) (λ q. omega (arith, q))
-        ∙ getD-set-same a k (e .net) 0 (omega arith)
-
-    five-1 : getD (setFive a k e) (k + 1) 0 ≡ e .x0
-    unfolding setFive
-    five-1 =
-        getD-set-other s₄ (k + 4) (k + 1) (e .y1) 0 (λ q. omega (arith, q))
-        ∙ getD-set-other s₃ (k + 3) (k + 1) (e .x1) 0 (λ q. omega (arith, q))
-        ∙ getD-set-other s₂ (k + 2) (k + 1) (e .y0) 0 (λ q. omega (arith, q))
-        ∙ getD-set-same s₁ (k + 1) (e .x0) 0 (omega (arith, len₁))
-
-    five-2 : getD (setFive a k e) (k + 2) 0 ≡ e .y0
-    unfolding setFive
-    five-2 =
-        getD-set-other s₄ (k + 4) (k + 2) (e .y1) 0 (λ q. omega (arith, q))
-        ∙ getD-set-other s₃ (k + 3) (k + 2) (e .x1) 0 (λ q. omega (arith, q))
-        ∙ getD-set-same s₂ (k + 2) (e .y0) 0 (omega (arith, len₂))
-
-    five-3 : getD (setFive a k e) (k + 3) 0 ≡ e .x1
-    unfolding setFive
-    five-3 =
-        getD-set-other s₄ (k + 4) (k + 3) (e .y1) 0 (λ q. omega (arith, q))
-        ∙ getD-set-same s₃ (k + 3) (e .x1) 0 (omega (arith, len₃))
-
-    five-4 : getD (setFive a k e) (k + 4) 0 ≡ e .y1
-    unfolding setFive
-    five-4 = getD-set-same s₄ (k + 4) (e .y1) 0 (omega (arith, len₄))
-
--- the entry that is laid in is read again
-entry-same : (a : List ℕ) (i : ℕ) (e : Entry) → i * 5 + 4 < length a → entryAt (setFive a (i * 5) e) i ≡ e
-unfolding entryAt
-entry-same a i e h =
-    λ j. record {
-      net = five-0 a (i * 5) e h j;
-      x0 = five-1 a (i * 5) e h j;
-      y0 = five-2 a (i * 5) e h j;
-      x1 = five-3 a (i * 5) e h j;
-      y1 = five-4 a (i * 5) e h j;
-    }
-
--- and any other entry stays
-entry-other : (a : List ℕ) (i n : ℕ) (e : Entry) → n ≢ i → entryAt (setFive a (i * 5) e) n ≡ entryAt a n
-unfolding entryAt
-entry-other a i n e ne =
-    let far : (j : ℕ) → n * 5 ≤ j → j < n * 5 + 5 → getD (setFive a (i * 5) e) j 0 ≡ getD a j 0 =
-    λ j l m. five-far a (i * 5) e j (λ q. ne (omega (arith, q, l, m))) (λ q. ne (omega (arith, q, l, m)))
-    (λ q. ne (omega (arith, q, l, m))) (λ q. ne (omega (arith, q, l, m))) (λ q. ne (omega (arith, q, l, m))) in
-    let p₀ = far (n * 5) (omega arith) (omega arith) in
-    let p₁ = far (n * 5 + 1) (omega arith) (omega arith) in
-    let p₂ = far (n * 5 + 2) (omega arith) (omega arith) in
-    let p₃ = far (n * 5 + 3) (omega arith) (omega arith) in
-    let p₄ = far (n * 5 + 4) (omega arith) (omega arith) in
-    λ t. record { net = p₀ t; x0 = p₁ t; y0 = p₂ t; x1 = p₃ t; y1 = p₄ t }
-
 -- ---- what is loaded
 
 load-length : (es : List Entry) (k : ℕ) → length (loadTo es k) ≡ 2560
 unfolding loadTo
 load-length es zero = length-replicate {A = ℕ} 2560 0
-load-length es (suc k) = five-length (loadTo es k) (k * 5) (getD es k noEntry) ∙ load-length es k
+load-length es (suc k) = length-sets (loadTo es k) (k * 5) (entryNumbers (getD es k noEntry)) ∙ load-length es k
 
 loaded-at : (es : List Entry) (k n : ℕ) → n < k → n < 512 → entryAt (loadTo es k) n ≡ getD es n noEntry
 unfolding loadTo
@@ -185,9 +87,9 @@ loaded-at es (suc k) n l m =
     let a : List ℕ = loadTo es k in
     let e : Entry = getD es k noEntry in
     by-cases (ℕ-discrete n k)
-    (λ (q : n ≡ k). ap (entryAt (setFive a (k * 5) e)) q
-    ∙ entry-same a k e (omega (arith, load-length es k, q, m)) ∙ ap (λ (j : ℕ). getD es j noEntry) (sym q))
-    (λ (ne : n ≡ k → ⊥). entry-other a k n e ne ∙ loaded-at es k n (omega (arith, ne, l)) m)
+    (λ (q : n ≡ k). ap (entryAt (sets a (k * 5) (entryNumbers e))) q
+    ∙ entry-put a k e (omega (arith, load-length es k, q, m)) ∙ ap (λ (j : ℕ). getD es j noEntry) (sym q))
+    (λ (ne : n ≡ k → ⊥). entry-kept a k e n ne ∙ loaded-at es k n (omega (arith, ne, l)) m)
 
 -- the first n places, one by one
 places : (g : ℕ → Entry) (es : List Entry) (n : ℕ) → n ≤ length es → ((k : ℕ) → k < n → g k ≡ getD es k noEntry)

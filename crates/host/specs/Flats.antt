@@ -2,16 +2,12 @@
 use Prim.Native.Nat.{ℕ, zero, suc, _+_, _*_, min}
 use mathlib.Core.List.{List, map}
 use lib.ListN.{length, set, getD, replicate}
+use lib.Seq.{sets}
 use Rattle.foil_spec.specs.Lists.{range}
 use Rattle.foil_spec.specs.Limits.{sheetEntries, sheetSize}
-use Rattle.foil_spec.specs.Foil.{Entry, entry}
+use Rattle.foil_spec.specs.Foil.{Entry, entry, entryNumbers}
 use Rattle.foil_spec.specs.Lent.{entryAt}
 use Rattle.host.specs.declared.flat.Flat.{Flat}
-
--- five numbers from place k on
-unfoldable pub setFive : List ℕ → ℕ → Entry → List ℕ
-setFive a k e =
-    set (set (set (set (set a k (e .net)) (k + 1) (e .x0)) (k + 2) (e .y0)) (k + 3) (e .x1)) (k + 4) (e .y1)
 
 -- how many places are lent on of a table of n: its first 512
 abbrev pub placesLent : ℕ → ℕ
@@ -32,7 +28,7 @@ noEntry = entry 0 0 0 0 0
 -- the numbers of the first k places of a table, zeros after them
 unfoldable pub loadTo : List Entry → ℕ → List ℕ
 loadTo es zero = replicate sheetSize 0
-loadTo es (suc k) = setFive (loadTo es k) (k * 5) (getD es k noEntry)
+loadTo es (suc k) = sets (loadTo es k) (k * 5) (entryNumbers (getD es k noEntry))
 
 -- a table with its first k places stored over
 unfoldable pub storeTo : Flat → List Entry → ℕ → List Entry

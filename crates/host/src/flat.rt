@@ -5,6 +5,7 @@ use foil_spec::Board;
 use foil_spec::Entry;
 use foil_spec::Ink;
 use foil_spec::OldBoard;
+use foil_spec::put_entry;
 use ohms::Resistance;
 use sheet::SheetDone;
 use sheet_rows::SHEET_SIZE;
@@ -14,14 +15,15 @@ ghost use mathlib.Core.Path.{_≡_};
 ghost use mathlib.Core.List.{[]};
 ghost use Prim.Native.Nat.{_*_, _<_};
 ghost use lib.ListN.{replicate};
+ghost use lib.Seq.{sets};
 ghost use Rattle.foil_spec.specs.Limits.{sheetEntries, sheetSize};
-ghost use Rattle.foil_spec.specs.Foil.{point, pen};
+ghost use Rattle.foil_spec.specs.Foil.{point, pen, entryNumbers};
 ghost use Rattle.foil_spec.specs.Ledger.{byPen, newFoil, draw as draws, lay as lays, lift as lifts, putLeg};
 ghost use Rattle.foil_spec.specs.Ledger.{join as joins, save as saves, find as finds, book as books, slip as slips};
 ghost use Rattle.foil_spec.specs.Ledger.{lookUp};
 ghost use Rattle.foil_spec.specs.Lent.{entryAt};
 ghost use Rattle.strips.specs.Decided.{Decided};
-ghost use Rattle.host.specs.Flats.{setFive, numbersLent, entriesOf};
+ghost use Rattle.host.specs.Flats.{numbersLent, entriesOf};
 ghost use Rattle.host.specs.Calls.{saidOf, ohmsSaid, FlatDone, FlatWrote, FlatListed, HostRead, HostOhms};
 ghost use Rattle.host.specs.Carried.{oldOf, FlatCarried};
 
@@ -74,14 +76,9 @@ pub fn no_numbers() -> [u16; SHEET_SIZE]
 // Lays the entry e in at place i.
 pub fn put(a: &mut [u16; SHEET_SIZE], i: usize, e: Entry)
     requires { ⌜ i < sheetEntries ⌝ }
-    ensures { λ _. ⌜ now (a .exit) ≡ setFive (now (a .entry)) (i * 5) e ⌝ }
+    ensures { λ _. ⌜ now (a .exit) ≡ sets (now (a .entry)) (i * 5) (entryNumbers e) ⌝ }
 {
-    let k = i * 5;
-    a[k] = e.net;
-    a[k + 1] = e.x0;
-    a[k + 2] = e.y0;
-    a[k + 3] = e.x1;
-    a[k + 4] = e.y1;
+    put_entry(a, i, e);
 }
 
 // The numbers of a lent table of n places.

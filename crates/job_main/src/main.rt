@@ -1,11 +1,11 @@
 // The job program: reads a job file from standard input, and writes the lines of its records in turn.
 use foil_spec::CORNERS_SIZE;
 use foil_spec::STRIPS_SIZE;
+use foil_spec::no_board;
 use job::Next;
 use job_report::OUT_SIZE;
 use job_report::report_record;
 use sheet_rows::SHEET_SIZE;
-use sheet_rows::no_board;
 ghost use Prim.Native.Nat.{_+_, _<_};
 ghost use mathlib.Core.Path.{_≡_};
 ghost use lib.ListN.{length};

@@ -4,7 +4,7 @@ use mathlib.Core.Path.{_≡_}
 use mathlib.Core.List.{List, map}
 use lib.ListN.{length}
 use Rattle.foil_spec.specs.Lists.{range}
-use Rattle.foil_spec.specs.Limits.{maxEntries}
+use Rattle.foil_spec.specs.Limits.{maxEntries, maxSide}
 use Rattle.foil_spec.specs.Foil.{Entry}
 use Rattle.foil_spec.specs.Lent.{entryAt}
 use Rattle.foil_spec.specs.Nets.{legsOf, stepsOf}
@@ -14,8 +14,8 @@ use Rattle.nets.specs.declared.Track.{Track}
 pub record Box (e : Entry) : Type 0 where
   pub x-order : e .x0 < e .x1
   pub y-order : e .y0 < e .y1
-  pub x-end : e .x1 ≤ 4096
-  pub y-end : e .y1 ≤ 4096
+  pub x-end : e .x1 ≤ maxSide
+  pub y-end : e .y1 ≤ maxSide
 
 -- the first n entries of a table are such
 pub record Boxes (t : List ℕ) (n : ℕ) : Type 0 where

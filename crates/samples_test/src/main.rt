@@ -1,11 +1,11 @@
 // Runs the sample jobs (the folder `samples`) as the job program does, and writes each one's lines under its name.
 use foil_spec::CORNERS_SIZE;
 use foil_spec::STRIPS_SIZE;
+use foil_spec::no_board;
 use job::Next;
 use job_report::OUT_SIZE;
 use job_report::report_record;
 use sheet_rows::SHEET_SIZE;
-use sheet_rows::no_board;
 ghost use Prim.Native.Nat.{_≤_};
 ghost use lib.ListN.{length};
 

@@ -4,6 +4,7 @@ mod limits;
 mod table;
 
 use foil_spec::Board;
+use foil_spec::no_board;
 pub use limits::counts_ok;
 pub use limits::limit;
 pub use table::places_lent;
@@ -48,20 +49,6 @@ pub fn only_foil_0(board: Board) -> Sheet
     let mut boards = [none; FOILS];
     boards[0] = board;
     Sheet { boards }
-}
-
-// The record of a foil before it is begun.
-pub fn no_board() -> Board
-    ensures { λ r. ⌜ r ≡ noBoard ⌝ }
-{
-    Board {
-        width: 0,
-        height: 0,
-        half: 0,
-        gap: 0,
-        entries: 0,
-        strips: 0,
-    }
 }
 
 // The record of foil k.

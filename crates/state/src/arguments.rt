@@ -1,4 +1,6 @@
 // Document 01's limits on single values, as tests.
+use foil_spec::MAX_REACH;
+use foil_spec::MAX_SIDE;
 ghost use mathlib.Core.Path.{_≡_};
 ghost use Prim.Native.Nat.{_<_};
 ghost use Rattle.foil_spec.specs.Foil.{entry, pen, sizeOk, reachOk, penOk, netOk, boxOk, shapeOk};
@@ -10,14 +12,14 @@ pub fn size_ok(n: u16) -> bool
     if n < 1 {
         return false;
     }
-    n <= 4096
+    n as usize <= MAX_SIDE
 }
 
 // Whether d is a reach that document 01 allows.
 pub fn reach_ok(d: u16) -> bool
     ensures { λ r. ⌜ r ≡ reachOk d ⌝ }
 {
-    d <= 15
+    d <= MAX_REACH
 }
 
 // Whether a pen may have this half width and this gap.
@@ -27,7 +29,7 @@ pub fn pen_ok(half: u16, gap: u16) -> bool
     if 7 < half {
         return false;
     }
-    gap <= 15
+    gap <= MAX_REACH
 }
 
 // Whether net is the number of a track.

@@ -1,13 +1,13 @@
 // The legs of a path as entries.
 use foil_spec::Entry;
 use foil_spec::corner_at;
+use foil_spec::larger;
 use foil_spec::put_entry;
-use zones::larger;
-use zones::smaller;
+use foil_spec::smaller;
 ghost use mathlib.Core.Path.{_≡_};
 ghost use Prim.Native.Nat.{suc, _+_, _-_, _*_, _≤_, _<_, max};
 ghost use lib.ListN.{length};
-ghost use Rattle.foil_spec.specs.Limits.{maxEntries, tableSize};
+ghost use Rattle.foil_spec.specs.Limits.{maxEntries, maxSide, tableSize};
 ghost use Rattle.foil_spec.specs.Ledger.{leg};
 ghost use Rattle.foil_spec.specs.Corners.{cornerAt};
 ghost use Rattle.tables.specs.Rows.{Appended};
@@ -37,8 +37,8 @@ pub fn bend_count(k: usize) -> usize
 fn append_leg(rows: &mut [u16], n: usize, net: u16, path: &[u16], i: usize, j: usize)
     requires { ⌜ (n < maxEntries) × (tableSize ≡ length (now rows)) ⌝ }
     requires { ⌜ (i * 2 + 2 ≤ length (now path)) × (j * 2 + 2 ≤ length (now path)) ⌝ }
-    requires { ⌜ (cornerAt (now path) i .x < 4096) × (cornerAt (now path) i .y < 4096) ⌝ }
-    requires { ⌜ (cornerAt (now path) j .x < 4096) × (cornerAt (now path) j .y < 4096) ⌝ }
+    requires { ⌜ (cornerAt (now path) i .x < maxSide) × (cornerAt (now path) i .y < maxSide) ⌝ }
+    requires { ⌜ (cornerAt (now path) j .x < maxSide) × (cornerAt (now path) j .y < maxSide) ⌝ }
     ensures { λ _. ⌜ Appended (now (rows .entry)) (now (rows .exit)) n
         (leg net (cornerAt (now (path .entry)) i) (cornerAt (now (path .entry)) j)) ⌝ }
 {

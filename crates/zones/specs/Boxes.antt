@@ -6,6 +6,7 @@ use mathlib.Core.List.{List, map}
 use lib.Dec.{leb, ltb}
 use lib.ListN.{length}
 use Rattle.foil_spec.specs.Lists.{range, all}
+use Rattle.foil_spec.specs.Limits.{maxSide}
 use Rattle.foil_spec.specs.Foil.{Entry, entry}
 use Rattle.foil_spec.specs.Lent.{entryAt}
 
@@ -35,8 +36,8 @@ pub record Covered (z : List ℕ) (n x y : ℕ) : Type 0 where
 pub record Boxes (z : List ℕ) (n w h : ℕ) : Type 0 where
   pub len : n * 5 ≤ length z
   pub few : n ≤ maxBoxes
-  pub width : w ≤ 4096
-  pub height : h ≤ 4096
+  pub width : w ≤ maxSide
+  pub height : h ≤ maxSide
   pub x-order : (k : ℕ) → k < n → entryAt z k .x0 < entryAt z k .x1
   pub y-order : (k : ℕ) → k < n → entryAt z k .y0 < entryAt z k .y1
   pub x-end : (k : ℕ) → k < n → entryAt z k .x1 ≤ w

@@ -2,7 +2,7 @@
 use Prim.Native.Nat.{ℕ, _*_, _≤_, _<_}
 use mathlib.Core.List.{List}
 use lib.ListN.{length}
-use Rattle.foil_spec.specs.Limits.{maxEntries}
+use Rattle.foil_spec.specs.Limits.{maxEntries, maxSide}
 use Rattle.foil_spec.specs.Foil.{Rule}
 use Rattle.foil_spec.specs.Lent.{entryAt}
 
@@ -16,8 +16,8 @@ pub record Small (r : Rule) : Type 0 where
 pub record Sized (w h : ℕ) : Type 0 where
   pub some-width : 0 < w
   pub some-height : 0 < h
-  pub width : w ≤ 4096
-  pub height : h ≤ 4096
+  pub width : w ≤ maxSide
+  pub height : h ≤ maxSide
 
 -- the first n entries of the table t, on a foil of w by h with the rule r
 pub record Table (t : List ℕ) (n : ℕ) (r : Rule) (w h : ℕ) : Type 0 where

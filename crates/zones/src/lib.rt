@@ -4,15 +4,16 @@ use foil_spec::Entry;
 use foil_spec::Rule;
 use foil_spec::entry_at;
 use foil_spec::put_entry;
+use foil_spec::smaller;
 ghost use mathlib.Core.Path.{_≡_};
-ghost use Prim.Native.Nat.{ℕ, _+_, _*_, _-_, _≤_, _<_, min, max};
+ghost use Prim.Native.Nat.{ℕ, _+_, _*_, _-_, _≤_, _<_};
 ghost use mathlib.Core.List.{map};
 ghost use lib.ListN.{length};
 ghost use Rattle.foil_spec.specs.Lists.{range};
 ghost use Rattle.foil_spec.specs.Limits.{maxEntries};
 ghost use Rattle.foil_spec.specs.Foil.{entry, pen, penRule, margin, freeBy, free};
 ghost use Rattle.foil_spec.specs.Lent.{entryAt, layoutOf, penIn};
-ghost use Rattle.zones.specs.Boxes.{maxBoxes, Zoned, zoneOf, BoxPut, PutTwo, Edged};
+ghost use Rattle.zones.specs.Boxes.{maxBoxes, Zoned, zoneOf, PutTwo, Edged};
 ghost use Rattle.zones.specs.Table.{Small, Table};
 
 // How many boxes a table of boxes has room for, and how many numbers they are in a flat list.
@@ -144,24 +145,4 @@ fn back(v: u16, d: u16) -> u16
         return 0;
     }
     v - d
-}
-
-// The smaller of the two.
-pub fn smaller(a: u16, b: u16) -> u16
-    ensures { λ r. ⌜ r ≡ min a b ⌝ }
-{
-    if a < b {
-        return a;
-    }
-    b
-}
-
-// The larger of the two.
-pub fn larger(a: u16, b: u16) -> u16
-    ensures { λ r. ⌜ r ≡ max a b ⌝ }
-{
-    if a < b {
-        return b;
-    }
-    a
 }

@@ -47,7 +47,7 @@ use denote.Triple.Table.{entered, cited}
 use Rattle.foil_spec.specs.Limits.{sheetEntries}
 use Rattle.foil_spec.specs.declared.Entry.{Entry}
 use Rattle.host.specs.declared.flat.Flat.{Flat}
-use Rattle.host.specs.Flats.{noEntry, setFive, placesLent, loadTo, frontOf}
+use Rattle.host.specs.Flats.{noEntry, placesLent, loadTo, frontOf}
 use Rattle.host.proofs.Flats.{load-more, load-none}
 use Rattle.host.proofs.Places.{before, next-fits, by-test, word, machE, machF, machN, IsF, IsN}
 use Rattle.host.proofs.Values.{an-Entry, a-Flat, some-Numbers}
@@ -223,7 +223,7 @@ module _ {M : Type 1} (𝓤 : URA M) (H : Heap 𝓤) (A : Atoms 𝓤) (W : Given
             tt,
           ) of-nothing
           (and-fact 𝓤 placed _) (arg ! (cell 5 13) refl (arg ! (cell 5 5) refl (arg ! (cell 5 6) refl (no-more !))))
-          (λ u isU okU ws. move ! (2 ∷ []) $ heard ! (ws .0 ≡ setFive loaded (k * 5) e) (λ is-put.
+          (λ u isU okU ws. move ! (2 ∷ []) $ heard ! (ws .0 ≡ sets loaded (k * 5) (entryNumbers e)) (λ is-put.
           let more-is : ws .0 ≡ loadTo ys (k + 1) = is-put ∙ load-more ys k in
           use1 W (‵ (flft (ν ∷ []) fullShare)) (fst∗ 𝓤 _ (emp 𝓤)) $ move ! (1 ∷ []) $ fsplit ! $ move ! (1 ∷ []) $
           drop ! $ move ! (1 ∷ 2 ∷ 0 ∷ []) $ local-back u16 2560 some-Numbers l₄ ! tt (ws .0) ν δ (λ isN.
