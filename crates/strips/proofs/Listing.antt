@@ -1,13 +1,13 @@
 -- The flat list of strips: its parts, and how it is written.
 use Prim.Native.Nat.{ℕ, zero, suc, _+_, _*_, _-_, _≤_, _<_}
 use native.Mathlib.Omega.{arith}
-use native.Mathlib.Numerals.{add-one, add-two, add-three}
+use native.Mathlib.Numerals.{add-one}
 use native.Mathlib.Nat.{sub-self}
 use mathlib.Core.Path.{_≡_, refl, sym, ap, ap₂, _∙_}
 use mathlib.Core.List.{List, [], _∷_, _++_, append-assoc}
 use lib.ListN.{length, getD, set, take, drop, replicate, length-append, length-set, length-replicate}
 use lib.ListN.{replicate-append-replicate, take-append-drop}
-use lib.Seq.{set-at, sets-eq, append-snoc, take-at, length-take-le, drop-cons, drop-drop, drop-append-add}
+use lib.Seq.{sets, set-at, sets-eq, append-snoc, take-at, length-take-le, drop-cons, drop-drop, drop-append-add}
 use Rattle.foil_spec.specs.Lists.{each}
 use Rattle.foil_spec.specs.Strips.{Strip}
 use Rattle.foil_spec.specs.Lent.{stripNumbers, written, listedStrip}
@@ -51,12 +51,13 @@ module _ (r : List ℕ) where
       let q : suc k * 4 + 3 ≡ suc (suc (suc (suc (k * 4 + 3)))) = omega arith in
       rw q (ap (λ (z : List ℕ). stripNumbers s ++ z) (set-top ss k t (omega arith)))
 
--- four numbers written one after the other
-pub four-sets : (o : List ℕ) (i a y b t : ℕ) → i + 4 ≤ length o
-    → set (set (set (set o i a) (i + 1) y) (i + 2) b) (i + 3) t ≡ take i o ++ (a ∷ y ∷ b ∷ t ∷ drop (i + 4) o)
-four-sets o i a y b t h =
-    rw (add-one, add-two, add-three)
-    (sets-eq (a ∷ y ∷ b ∷ t ∷ []) o i h ∙ append-assoc (take i o) (a ∷ y ∷ b ∷ t ∷ []) (drop (i + 4) o))
+-- a strip that was put
+pub strip-put : (o : List ℕ) (k : ℕ) (s : Strip) → k * 4 + 4 ≤ length o
+    → sets o (k * 4) (stripNumbers s)
+    ≡ take (k * 4) o ++ (s .x0 ∷ s .y0 ∷ s .x1 ∷ s .y1 ∷ drop (k * 4 + 4) o)
+unfolding stripNumbers
+strip-put o k s h =
+    sets-eq (stripNumbers s) o (k * 4) h ∙ append-assoc (take (k * 4) o) (stripNumbers s) (drop (k * 4 + 4) o)
 
 -- `count` strips stand at the front of out, and after them what stood in o
 module _ (ss : List Strip) (o out : List ℕ) (count : ℕ) (n : length ss ≡ count)

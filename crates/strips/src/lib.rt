@@ -4,6 +4,7 @@ mod row_joining;
 mod rows;
 mod sweep;
 
+use foil_spec::MAX_SIDE;
 use foil_spec::MAX_STRIPS;
 use foil_spec::STRIPS_SIZE;
 use foil_spec::strip_at;
@@ -34,10 +35,10 @@ pub fn rebuild(out: &mut [u16], boxes: &[u16], n: usize, w: u16, h: u16) -> Buil
     ensures { λ r. ⌜ Rebuilt (now (out .entry)) (now (out .exit))
         (strips (boxFree w h n (now (boxes .entry))) w h) r ⌝ }
 {
-    let mut last = [0usize; 4096];
+    let mut last = [0usize; MAX_SIDE];
     let mut row = [0usize; MAX_BOXES];
     let mut marks = [0u16; 4097];
-    let mut heads = [0u16; 4096];
+    let mut heads = [0u16; MAX_SIDE];
     let mut nexts = [0u16; MAX_BOXES];
     rows::mark_rows(&mut marks, boxes, n);
     row_boxes::chain_boxes(&mut heads, &mut nexts, boxes, n);

@@ -2,9 +2,8 @@
 // begin new ones.
 ghost use mathlib.Core.Path.{_≡_};
 ghost use Prim.Native.Nat.{_+_, _*_, _≤_, _<_};
-ghost use mathlib.Core.List.{_∷_, _++_};
-ghost use lib.ListN.{length, take, drop};
-ghost use Rattle.foil_spec.specs.Limits.{maxStrips, stripsSize};
+ghost use lib.ListN.{length};
+ghost use Rattle.foil_spec.specs.Limits.{maxStrips, maxSide, stripsSize};
 ghost use Rattle.foil_spec.specs.Strips.{strips};
 ghost use Rattle.zones.specs.Boxes.{maxBoxes, boxFree, Boxes};
 ghost use Rattle.strips.specs.Rows.{Change, Marked};
@@ -18,6 +17,8 @@ use crate::rows::wide;
 use crate::sweep::Swept;
 use crate::sweep::sweep;
 use foil_spec::MAX_STRIPS;
+use foil_spec::Strip;
+use foil_spec::put_strip;
 use foil_spec::strip_at;
 
 // Whether place k of the list is below count and has a strip from a up to b that goes as far as y.
@@ -41,18 +42,6 @@ fn is_open(out: &[u16], k: usize, count: usize, a: u16, b: u16, y: u16) -> bool
     true
 }
 
-// Writes a strip at place k.
-fn put(out: &mut [u16], k: usize, a: u16, y: u16, b: u16, t: u16)
-    requires { ⌜ k * 4 + 4 ≤ length (now out) ⌝ }
-    ensures { λ _. ⌜ now (out .exit)
-        ≡ take (k * 4) (now (out .entry)) ++ (a ∷ y ∷ b ∷ t ∷ drop (k * 4 + 4) (now (out .entry))) ⌝ }
-{
-    out[k * 4] = a;
-    out[k * 4 + 1] = y;
-    out[k * 4 + 2] = b;
-    out[k * 4 + 3] = t;
-}
-
 // Joins the runs of row y, which has m boxes and which all rows from there up to z are equal to, to the c strips of
 // out. last has for each column the place of the last strip that began there; where none began, it may
 // hold anything. Answers how many strips there are then, 4,097 for more than 4,096.
@@ -71,7 +60,7 @@ fn join_row(
 ) -> usize
     requires { ⌜ Boxes (now boxes) n w h ⌝ }
     requires { ⌜ OnRow (now boxes) (now row) n m y ⌝ }
-    requires { ⌜ (y < h) × (c ≤ maxStrips) × (stripsSize ≤ length (now out)) × (4096 ≤ length (now last)) ⌝ }
+    requires { ⌜ (y < h) × (c ≤ maxStrips) × (stripsSize ≤ length (now out)) × (maxSide ≤ length (now last)) ⌝ }
     requires { ⌜ Change (boxFree w h n (now boxes)) h y z ⌝ }
     ensures { λ r. ⌜ JoinsRow (boxFree w h n (now (boxes .entry))) w h
         (now (out .entry)) (now (last .entry)) c y z (now (out .exit)) (now (last .exit)) r ⌝ }
@@ -91,7 +80,13 @@ fn join_row(
             if count == MAX_STRIPS {
                 return MAX_STRIPS + 1;
             }
-            put(out, count, a, y, b, z);
+            let strip = Strip {
+                x0: a,
+                y0: y,
+                x1: b,
+                y1: z,
+            };
+            put_strip(out, count, strip);
             last[s] = count;
             count += 1;
         }
@@ -116,8 +111,8 @@ pub(crate) fn join_rows(
 ) -> usize
     requires { ⌜ Boxes (now boxes) n w h ⌝ }
     requires { ⌜ Marked (now boxes) n (now marks) × Chained (now boxes) (now heads) (now nexts) n ⌝ }
-    requires { ⌜ (stripsSize ≤ length (now out)) × (4096 ≤ length (now last)) × (maxBoxes ≤ length (now row))
-        × (4096 ≤ length (now marks)) × (4096 ≤ length (now heads)) × (maxBoxes ≤ length (now nexts)) ⌝ }
+    requires { ⌜ (stripsSize ≤ length (now out)) × (maxSide ≤ length (now last)) × (maxBoxes ≤ length (now row))
+        × (maxSide ≤ length (now marks)) × (maxSide ≤ length (now heads)) × (maxBoxes ≤ length (now nexts)) ⌝ }
     ensures { λ r. ⌜ Listed (now (out .entry)) (now (out .exit)) r (strips (boxFree w h n (now (boxes .entry))) w h) ⌝ }
 {
     let mut y: u16 = 0;

@@ -1,6 +1,6 @@
 -- `strips::row_joining::join_row` meets its contract: the row is joined up to column x.
 use Prim.Native.Nat.{ℕ, _-_, _<_}
-use mathlib.Core.Path.{refl, ap, subst}
+use mathlib.Core.Path.{refl, ap, subst, _∙_}
 use native.Mathlib.Omega.{arith}
 use lib.ListN.{length, getD, set}
 use Rattle.foil_spec.specs.Strips.{rowOf}
@@ -9,6 +9,7 @@ use Rattle.strips.specs.Sweep.{Sweep}
 use Rattle.strips.specs.declared.sweep.Swept.{Swept}
 use Rattle.strips.specs.declared.sweep.Swept.the-variants.{Run as found}
 use Rattle.strips.specs.Joining.{Opened}
+use Rattle.strips.proofs.Listing.{strip-put}
 use Rattle.strips.proofs.JoiningRow.{JoiningRow, row-start, row-old, row-new, row-full, row-none, row-end}
 use Rattle.strips.proofs.row_joining.join_row.Statement.{statement}
 use Rattle.strips.proofs.row_joining.join_row.Tie as tie
@@ -46,7 +47,7 @@ noRun c = c .before .before .before
 abbrev fromArg : tie.After-is-open-arg Inv-loop μ-loop → tie.After-known-told Inv-loop μ-loop
 fromArg c = c .before .before .before
 
-abbrev fromPut : tie.After-put-arg Inv-loop μ-loop → tie.After-is-open Inv-loop μ-loop
+abbrev fromPut : tie.After-put-strip-arg Inv-loop μ-loop → tie.After-is-open Inv-loop μ-loop
 fromPut c = c .before .before .before
 
 abbrev hasRoom : tie.After-slice-known4 Inv-loop μ-loop → tie.Else2 Inv-loop μ-loop
@@ -197,8 +198,8 @@ returns-2 c =
     row-full _ _ _ _ _ _ _ _ _ _ _ (omega (arith, atStart l .pre .1 .1 .0)) (atStart l .pre .1 .1 .1) _ _ _ _ _
     (l .before .loop .inv) _ _ _ (swept r) (closed (c .before)) (c .if2 .taken)
 
-put-requires : tie.Need-put-requires Inv-loop μ-loop
-put-requires c κs =
+put-strip-requires : tie.Need-put-strip-requires Inv-loop μ-loop
+put-strip-requires c κs =
     let l = inLoop (atRun (fromPut c)) in
     omega (
       arith,
@@ -248,7 +249,16 @@ loop-again-2 c =
     row-new _ _ _ _ _ _ _ _ _ _ _ (omega (arith, atStart l .pre .1 .1 .0)) (atStart l .pre .1 .1 .1) _ _ _ _ _
     (l .before .loop .inv) _ _ _ (swept r) (closed (notOpen c))
     (omega (arith, hasRoom c .if2 .left, l .before .loop .inv .small)) _ _
-    (c .before .before .put .kept .0) (c .before .before .put .ensures)
+    (c .before .before .put-strip .kept .0)
+    (c .before .before .put-strip .ensures
+    ∙ strip-put _ _ _
+    (omega (
+      arith,
+      hasRoom c .if2 .left,
+      l .before .loop .inv .small,
+      l .before .loop .inv .same-out,
+      atStart l .pre .1 .1 .0,
+    )))
     (ap (λ (u : ℕ). set (l .before .loop .last) u (l .before .loop .count))
     (atWide o .wide .ensures))
 
@@ -289,7 +299,7 @@ join-row-spec =
     same-length-3
     same-length-4
     returns-2
-    put-requires
+    put-strip-requires
     mul-last
     slice-write-last
     add-count
