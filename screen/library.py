@@ -1,0 +1,148 @@
+"""The library's process, as the server sees it. It is asked one question at a time; where it ends or does not answer,
+that is raised as Unasked, and the next question finds a new process, to which the jobs of the order are given first."""
+import json
+import os
+import pathlib
+import select
+import subprocess
+import sys
+import threading
+import time
+
+from desk.program import INSTALLED, ROOT, NotRun
+
+PROCESS = pathlib.Path(__file__).resolve().parent / "process.py"
+VARIABLE = "FOIL_LIBRARY"
+# how long a question may take, in seconds
+LONGEST = 60
+
+
+class Unasked(Exception):
+    """The library could not be asked: why."""
+
+
+class Wrong(Exception):
+    """A number does not fit what a call takes: which."""
+
+
+def built():
+    """The path of libfoil.so, built from the sources as they stand: by hosts/build, unless it is installed or named."""
+    if os.environ.get(VARIABLE):
+        return pathlib.Path(os.environ[VARIABLE])
+    if INSTALLED:
+        return ROOT.parent / "libfoil.so"
+    done = subprocess.run([ROOT / "hosts" / "build"], stdin=subprocess.DEVNULL, stdout=subprocess.PIPE)
+    if done.returncode != 0:
+        raise NotRun("the library is not built: hosts/build ended with status %d" % done.returncode)
+    return ROOT / "target" / "hosts" / "lib" / "libfoil.so"
+
+
+class Library:
+    """The process of a library at a path."""
+
+    def __init__(self, path, longest=LONGEST):
+        self.path, self.longest = path, longest
+        self.process, self.generation, self.why = None, 0, ""
+        self.jobs, self.held = None, {}
+        self.left = b""
+        self.lock = threading.RLock()
+
+    @property
+    def standing(self):
+        """Whether the process is there, as far as is known."""
+        return self.process is not None and self.process.poll() is None
+
+    def seen(self):
+        """What the page is told of it."""
+        there = self.standing
+        return {"generation": self.generation, "pid": self.process.pid if there else None, "standing": there,
+                "why": "" if there else self.why or "the library's process has ended"}
+
+    def set_jobs(self, jobs):
+        """Has the sheet that these jobs give: what each foil holds, by foil."""
+        with self.lock:
+            self.start()
+            if self.jobs != jobs:
+                before, self.jobs = self.held if self.jobs is not None else {}, None
+                fresh = self.put({"ask": "jobs", "jobs": [job if job is None else job.hex() for job in jobs]})
+                held = {k: before[k] for k in before if jobs[k] is not None}
+                held.update({int(k): ran for k, ran in fresh.items()})
+                self.jobs, self.held = jobs, held
+            return self.held
+
+    def ask(self, jobs, question):
+        """The answer to a question about the sheet that these jobs give."""
+        with self.lock:
+            self.set_jobs(jobs)
+            return self.put(question)
+
+    def alone(self, job):
+        """What comes of a job on a sheet of its own."""
+        with self.lock:
+            self.start()
+            return self.put({"ask": "alone", "job": job.hex()})
+
+    def start(self):
+        """Starts the process, where there is none."""
+        if self.standing:
+            return
+        self.stop()
+        try:
+            self.process = subprocess.Popen([sys.executable, "-B", str(PROCESS), str(self.path)], stdin=subprocess.PIPE,
+                                            stdout=subprocess.PIPE, bufsize=0)
+        except OSError as fault:
+            self.fail("the library's process cannot be started: %s" % fault.strerror)
+        self.generation += 1
+        self.why = ""
+        absent = json.loads(self.line(time.monotonic() + self.longest))["absent"]
+        if absent:
+            self.fail(absent)
+
+    def stop(self):
+        """Ends the process."""
+        if self.process is not None:
+            self.process.kill()
+            self.process.wait()
+            self.process.stdin.close()
+            self.process.stdout.close()
+        self.process, self.jobs, self.held, self.left = None, None, {}, b""
+
+    def put(self, question):
+        """Puts a question: the answer."""
+        try:
+            self.process.stdin.write(json.dumps(question).encode() + b"\n")
+        except OSError:
+            self.fail(ended(self.process))
+        told = json.loads(self.line(time.monotonic() + self.longest))
+        if "wrong" in told:
+            raise Wrong(told["wrong"])
+        return told["answer"]
+
+    def line(self, until):
+        """The next line of the process."""
+        while b"\n" not in self.left:
+            ready, _, _ = select.select([self.process.stdout], [], [], max(0, until - time.monotonic()))
+            if not ready:
+                self.fail("the library has not answered within %g seconds, and was ended" % self.longest)
+            got = os.read(self.process.stdout.fileno(), 1 << 20)
+            if not got:
+                self.fail(ended(self.process))
+            self.left += got
+        line, _, self.left = self.left.partition(b"\n")
+        return line
+
+    def fail(self, why):
+        """The library could not be asked."""
+        self.stop()
+        self.why = why
+        raise Unasked(why)
+
+
+def ended(process):
+    """How the process ended."""
+    try:
+        status = process.wait(5)
+    except subprocess.TimeoutExpired:
+        return "the library's process has closed its output"
+    return "the library's process was ended by signal %d" % -status if status < 0 else (
+        "the library's process ended with status %d" % status)

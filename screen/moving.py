@@ -1,0 +1,196 @@
+"""A key that is moved, with its tracks: those with an end near it are lifted and laid anew, their ends moved with it.
+
+In the text the patch's line gets its new place, the lines of its tracks go, and tracks between the moved ends stand
+behind all others. Every other track stays where it is: one that would take another way, now that the text is run
+without those, is kept as `leg` lines."""
+from typing import NamedTuple
+
+from desk import blocking, foils, job as jobs
+from desk.boxes import area, common, widened
+from screen import changes, questions, shown, texts
+from screen.session import Fault, Refused
+
+# how far beyond the nearest free point an end of a key's track may be
+NEAR = 2
+# how often tracks are turned into legs before it is given up
+ROUNDS = 12
+
+
+class Move(NamedTuple):
+    """A move: the patch's step, how far, and the tracks that go with it by net."""
+    patch: object
+    by: tuple
+    tracks: dict
+
+
+def shifted(point, by):
+    """A point after a move."""
+    return (point[0] + by[0], point[1] + by[1])
+
+
+def near(point, box, pen):
+    """Whether a point is as near to a key as an end of its track."""
+    return area(common(blocking.point_box(point), widened(box, blocking.reach(0, pen) + 1 + NEAR))) > 0
+
+
+def tracks_of(account, box):
+    """The tracks that go with a key, by net; and the nets near it that stay, since they have legs of their own."""
+    pen = account.held["board"][2:]
+    tracks, stay = {}, []
+    for net, steps in account.standing()[1].items():
+        ends = [end for outcome in steps if outcome.step.word == "track" for end in foils.points_of(outcome.step)]
+        if any(near(end, box, pen) for end in ends):
+            if len(steps) == 1:
+                tracks[net] = steps[0]
+            else:
+                stay.append(net)
+    return tracks, stay
+
+
+def asked(session, k, box, by, nets):
+    """What is to be moved."""
+    account = session.account(k)
+    patch = next((outcome for outcome in account.standing()[0] if outcome.step.numbers == tuple(box)), None)
+    if patch is None:
+        raise Fault("asked", "there is no patch %d %d %d %d" % tuple(box))
+    if min(box[0] + by[0], box[1] + by[1]) < 0:
+        raise Refused(shown.refused(3, session.table, ["the patch would reach past the foil"], "patch"))
+    tracks = tracks_of(account, box)[0]
+    if nets is not None:
+        wrong = [net for net in nets if net not in account.standing()[1]]
+        if wrong:
+            raise Fault("asked", "net %d is not on the foil" % wrong[0])
+        tracks = {net: steps[0] for net, steps in account.standing()[1].items()
+                  if net in nets and len(steps) == 1 and steps[0].step.word == "track"}
+    return account, Move(patch, tuple(by), tracks)
+
+
+def new_ends(account, move, net):
+    """The ends of a track after the move: those near the key go with it."""
+    pen = account.held["board"][2:]
+    return [shifted(end, move.by) if near(end, move.patch.step.numbers, pen) else end
+            for end in foils.points_of(move.tracks[net].step)]
+
+
+def moved_patch(move):
+    """The patch's numbers after the move."""
+    x0, y0, x1, y1 = move.patch.step.numbers
+    return (*shifted((x0, y0), move.by), *shifted((x1, y1), move.by))
+
+
+def text_of(account, source, move, legs):
+    """The text after a move, with the nets in `legs` kept as legs."""
+    lines, made = texts.lines_of(source), {}
+
+    def change(number):
+        patch_line = account.line_of(move.patch.place) == number
+
+        def step(words):
+            if patch_line and words[0] == "patch":
+                return ["patch", *map(str, moved_patch(move))]
+            if words[0] in ("track", "lift", "leg") and (int(words[1]) in move.tracks or int(words[1]) in legs):
+                return None
+            return words
+        return step
+
+    for line in account.text.lines:
+        if line.said.split()[0] not in ("end", "bytes"):
+            made[line.number] = texts.with_steps(lines[line.number - 1], change(line.number))
+    new = [texts.step_line("leg", (net, *box), name_of(account, net) if at == 0 else "")
+           for net in legs for at, box in enumerate(legs[net])]
+    new += [texts.step_line("track", (net, *start, *end), name_of(account, net)) for net, (start, end) in
+            ((net, new_ends(account, move, net)) for net in move.tracks)]
+    return texts.appended(texts.changed(source, made), new)
+
+
+def name_of(account, net):
+    """A net's name."""
+    return next((of.name for of in account.foil.nets if of.net == net), "")
+
+
+def boxes_by_net(account):
+    """The legs of each net on a foil."""
+    legs = {}
+    for net, *box in account.held["entries"]:
+        if net:
+            legs.setdefault(net, []).append(tuple(box))
+    return legs
+
+
+def result(session, k, box, by, nets):
+    """The text and the account that a move gives, and its nets; or a refusal."""
+    before, move = asked(session, k, box, by, nets)
+    source, stand, legs = session.order.texts[k], boxes_by_net(before), {}
+    for _ in range(ROUNDS):
+        text = text_of(before, source, move, legs)
+        account = changes.after(session, k, text)
+        if not account.is_done:
+            break
+        now = boxes_by_net(account)
+        others = {net: boxes for net, boxes in stand.items() if net not in move.tracks and now.get(net) != boxes}
+        if not set(others) - set(legs):
+            break
+        legs.update(others)
+    refuse_worse(session, before, account, move, stand)
+    return text, account, sorted(move.tracks)
+
+
+def refuse_worse(session, before, account, move, stand):
+    """Refuses a move after which the patch, a track of the key or another net is not there as it was."""
+    there = {tuple(entry) for entry in account.held["entries"]}
+    patch = (0, *moved_patch(move))
+    if patch not in there:
+        number = next((outcome.said.number for outcome in account.run.refused if outcome.step.word == "patch"
+                       and outcome.step.numbers == patch[1:]), 21)
+        say(session, number, jobs.Step("patch", patch[1:]), crossed_by(before, patch[1:], move))
+    now = boxes_by_net(account)
+    for net in move.tracks:
+        if net not in now:
+            last = [outcome for outcome in account.run.refused if outcome.step.net == net][-1]
+            session.held()
+            here = session.adviser.notes(account).get(last.key, [])
+            say(session, last.said.number, last.step, here)
+    for net, boxes in stand.items():
+        if net not in move.tracks and now.get(net) != boxes:
+            number = next((outcome.said.number for outcome in account.run.refused if outcome.step.net == net), 21)
+            say(session, number, jobs.Step("leg", (net, *boxes[0])), ["net %d cannot stay as it is" % net])
+
+
+def crossed_by(account, box, move):
+    """The nets that stand against the patch at its new place."""
+    _, _, half, gap = account.held["board"]
+    table = [foils.Entry(net, tuple(at)) for net, *at in account.held["entries"]]
+    against = {entry.net for entry in blocking.crossed(box, True, table, (half, gap))} - set(move.tracks)
+    return ["it is too near net " + ", ".join(map(str, sorted(against)))] if against else []
+
+
+def say(session, number, step, here):
+    """Refuses a move in words."""
+    raise Refused(shown.refused(number, session.table, here, questions.step_said(step)))
+
+
+def move(session, k, box, by, nets):
+    """Moves a key."""
+    try:
+        text, _, nets = result(session, k, box, by, nets)
+    finally:
+        session.held()
+    changes.commit(session, k, text)
+    return {"nets": nets}
+
+
+def try_move(session, k, box, by, nets):
+    """The foil as a move would leave it; nothing is changed."""
+    try:
+        text, account, nets = result(session, k, box, by, nets)
+        counts = shown.counts_of(session.library.set_jobs(session.order.jobs(k, text)))
+        made = shown.foil(k, text, account, counts, session.table, {}, (0, []))
+    finally:
+        session.held()
+    return {"nets": nets, "foil": made}
+
+
+def key_tracks(session, k, box):
+    """The tracks that go with a key, and those that stay."""
+    tracks, stay = tracks_of(session.account(k), tuple(box))
+    return {"nets": sorted(tracks), "stay": sorted(stay)}
