@@ -1,0 +1,1 @@
+"""Tests of the server side of the screen: no browser is wanted."""
