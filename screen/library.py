@@ -56,7 +56,7 @@ class Library:
         """What the page is told of it."""
         there = self.standing
         return {"generation": self.generation, "pid": self.process.pid if there else None, "standing": there,
-                "why": "" if there else self.why or "the library's process has ended"}
+                "why": "" if there else self.why or (ended(self.process) if self.process else "it is not started yet")}
 
     def set_jobs(self, jobs):
         """Has the sheet that these jobs give: what each foil holds, by foil."""

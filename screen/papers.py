@@ -6,6 +6,7 @@ from xml.etree import ElementTree
 
 from desk import carton, checks, names, ohms, picture, svg, words
 from screen import shown
+from screen.library import Unasked
 from screen.session import Fault
 from screen.shelf import stem
 
@@ -33,14 +34,14 @@ svg { display: block }
 """
 
 
-def title(session, k):
-    """What the papers of a foil are headed by."""
-    return stem(session.order.name or "foil", k)
+def title(session, k, name=""):
+    """What the papers of a foil are headed by: the name that it is saved under, or the order's."""
+    return stem(name or session.order.name or "foil", k)
 
 
-def drawn(session, k):
+def drawn(session, k, name=""):
     """The picture of a foil."""
-    return picture.picture(session.account(k).foil, title(session, k), False, session.table)
+    return picture.picture(session.account(k).foil, title(session, k, name), False, session.table)
 
 
 def words_of(session, account):
@@ -62,12 +63,12 @@ def ohms_page(session, k):
     return ohms.page(rows, ink, dead), found
 
 
-def carton_page(session, k):
+def carton_page(session, k, name=""):
     """The carton's page."""
     account = session.account(k)
     found = checks.findings(account.foil, len(account.run.outcomes)) + ohms_page(session, k)[1]
-    return carton.page(carton.Order(title(session, k), datetime.date.today().isoformat(), account.foil,
-                                    account.held["slip"], drawn(session, k), found))
+    return carton.page(carton.Order(title(session, k, name), datetime.date.today().isoformat(), account.foil,
+                                    account.held["slip"], drawn(session, k, name), found))
 
 
 def printed(session, k, mm):
@@ -94,18 +95,18 @@ def files(session, name):
             if session.order.reads[k].text:
                 there[".job"] = session.order.reads[k].text.job
             try:
-                there.update(of_foil(session, k))
-            except Fault as fault:
-                without.append("%s: %s" % (called, fault.why))
+                there.update(of_foil(session, k, name))
+            except (Fault, Unasked) as fault:
+                without.append("%s: %s" % (called, fault))
         made.update({called + ending: content for ending, content in there.items()})
         gone += [called + ending for ending in ENDINGS if ending not in there]
     return made, gone, without
 
 
-def of_foil(session, k):
+def of_foil(session, k, name):
     """What goes with a foil, by what it is called after its name."""
     account = session.account(k)
     measured = ohms_page(session, k)[0]
-    made = {".svg": drawn(session, k), "-slip.txt": account.held["slip"], "-words.txt": words_of(session, account),
-            ".html": carton_page(session, k), **({"-ohms.txt": measured} if measured else {})}
+    made = {".svg": drawn(session, k, name), "-slip.txt": account.held["slip"], "-words.txt": words_of(session, account),
+            ".html": carton_page(session, k, name), **({"-ohms.txt": measured} if measured else {})}
     return {ending: content.encode() for ending, content in made.items()}

@@ -2,6 +2,7 @@
 by questions, changes, moving, the order or the shelf."""
 from desk import job as jobs
 from screen import changes, moving, papers, questions
+from screen.library import Unasked
 from screen.order import FOILS, Order
 from screen.session import Fault
 from screen.shelf import good, restored
@@ -245,4 +246,9 @@ def done(session, word, values):
         if asked.values.get("version") != session.order.version:
             raise Fault("stale", "the order was changed by another screen, or another order is open")
         made = CHANGING[word](session, asked)
-        return {**made, "state": session.state(made.get("foil", asked.foil))}
+        foil = made.get("foil", asked.foil)
+        try:
+            return {**made, "state": session.state(foil)}
+        except Unasked:
+            # the change is made: a library that ended since is asked once more
+            return {**made, "state": session.state(foil)}

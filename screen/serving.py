@@ -131,11 +131,12 @@ class Handler(BaseHTTPRequestHandler):
         except Refused as refused:
             made = {"refused": refused.told}
         except Unasked as unasked:
-            status, made = 503, {"unasked": {"why": str(unasked)}}
+            status, made = 503, {"unasked": {"why": str(unasked), **session.texts()}}
         except Wrong as wrong:
             status, made = 400, {"fault": {"kind": "asked", "why": str(wrong)}}
         except lines.Strange as strange:
-            status, made = 503, {"unasked": {"why": "what the library answered cannot be believed: %s" % strange}}
+            why = "what the library answered cannot be believed: %s" % strange
+            status, made = 503, {"unasked": {"why": why, **session.texts()}}
         except Fault as fault:
             status, made = STATUSES[fault.kind], {"fault": {"kind": fault.kind, "why": fault.why}}
         except OSError as fault:

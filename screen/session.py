@@ -36,8 +36,7 @@ class Session:
         self.adviser = Adviser(library)
         self.lock = threading.RLock()
         self.told = threading.Condition(self.lock)
-        self.tabs = {}
-        self.pictures = {}
+        self.tabs, self.pictures, self.accounts = {}, {}, {}
 
     # the tabs
 
@@ -80,10 +79,17 @@ class Session:
         text = self.order.reads[k].text
         if not text:
             raise Fault("unread", "the text of foil %d cannot be read, or is empty" % k)
-        account = shown.Account(text, self.held()[k])
+        account = self.account_of(k, text, self.held()[k])
         if not account.is_done:
             raise Fault("unread", "the text of foil %d leaves no foil: its lines say why" % k)
         return account
+
+    def account_of(self, k, text, held):
+        """The account of a text by what the library holds of it; made once."""
+        kept = self.accounts.get(k)
+        if kept is None or kept.text is not text or kept.held is not held:
+            kept = self.accounts[k] = shown.Account(text, held)
+        return kept
 
     def ask(self, question):
         """Asks the library about the sheet as it stands."""
@@ -103,7 +109,7 @@ class Session:
             return shown.empty(k, source, read.faults, counts)
         key = (k, source, tuple(counts), id(held[k]))
         if key not in self.pictures:
-            account = shown.Account(read.text, held[k])
+            account = self.account_of(k, read.text, held[k])
             notes = self.adviser.notes(account)
             made = shown.foil(k, source, account, counts, self.table, notes, self.measured(k))
             self.pictures = {**dict(list(self.pictures.items())[-7:]), key: (held[k], made)}
@@ -117,13 +123,18 @@ class Session:
         said = self.ask({"ask": "ohms", "foil": k, "ink": ink})
         return next((number for _, number, _ in said if number), 0), [(net, value) for net, _, value in said]
 
+    def texts(self):
+        """The order without anything that the library is asked for: what the page gets where that cannot be asked."""
+        order = self.order
+        return {"order": {"name": order.name, "unsaved": order.unsaved, "other": order.other, "draft": order.draft},
+                "texts": order.texts}
+
     def state(self, k=0):
         """The order as the page gets it, with one foil whole."""
         order, held = self.order, self.held()
         counts = shown.counts_of(held)
         return {
-            "version": order.version, "undo": len(order.done), "redo": len(order.undone),
-            "order": {"name": order.name, "unsaved": order.unsaved, "other": order.other, "draft": order.draft},
+            "version": order.version, "undo": len(order.done), "redo": len(order.undone), "order": self.texts()["order"],
             "foils": [self.tab(at, held.get(at), counts) for at in range(FOILS)],
             "sheet": {"entries": sum(counts), "most": shown.PLACES, "sure": shown.SURE, "each": shown.ENTRIES},
             "foil": self.foil(k)}

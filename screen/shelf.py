@@ -72,15 +72,16 @@ class Shelf:
         finally:
             os.close(there)
 
-    def write(self, folder, name, content):
-        """Writes a file beside its place, which it then takes."""
+    def write(self, folder, name, content, sure=True):
+        """Writes a file beside its place, which it then takes; it is on the disk before that, where that is asked."""
         half = ".%s.%s.new" % (name, secrets.token_hex(4))
         there = os.open(half, os.O_WRONLY | os.O_CREAT | os.O_EXCL | os.O_NOFOLLOW | os.O_CLOEXEC, 0o644, dir_fd=folder)
         try:
             with open(there, "wb") as file:
                 file.write(content)
                 file.flush()
-                os.fsync(file.fileno())
+                if sure:
+                    os.fsync(file.fileno())
             os.replace(half, name, src_dir_fd=folder, dst_dir_fd=folder)
         except BaseException:
             with contextlib.suppress(FileNotFoundError):
@@ -138,9 +139,8 @@ class Shelf:
 
     def refuse(self, order, name):
         """Refuses to save over what another screen has open, or what was changed since it was opened here."""
-        other = self.take(name) if name != self.slot else order.other
-        if other:
-            raise Fault("taken", "%s: %s" % (name, other))
+        if order.other if name == self.slot else self.is_held(name):
+            raise Fault("taken", "another screen has the order %s open, %s" % (name, self.holder(name)))
         try:
             there = self.texts(name)
         except Fault as fault:
@@ -228,7 +228,7 @@ class Shelf:
             return
         content = json.dumps({"name": order.name, "when": now(), "texts": order.texts}).encode()
         with contextlib.suppress(OSError), self.own() as own:
-            self.write(own, self.slot + ".draft", content)
+            self.write(own, self.slot + ".draft", content, sure=False)
 
     def drop_draft(self):
         """Takes the draft away: nothing is unsaved."""

@@ -10,6 +10,8 @@ from screen import texts
 
 # how many lines the check list has for one thing
 LISTED = 40
+# the number of a file that is too long as a whole
+WHOLE = 18
 
 
 class Account:
@@ -117,8 +119,9 @@ def fault_of(account, table):
     if run.strips is not None:
         return None
     said = run.fault or run.outcomes[0].said
-    there = run.place is not None and run.place < len(account.text.job)
-    line = account.line_of(run.place) if there else None if run.fault else account.text.lines[0].number
+    line = None if run.fault else account.text.lines[0].number
+    if run.fault and said.number != WHOLE and run.place < len(account.text.job):
+        line = account.line_of(run.place)
     return {**refused(said.number, table), "line": line}
 
 
