@@ -1,4 +1,4 @@
-"""What would help with a refused step, in the words of desk/advice.py, with the library asked in the program's stead."""
+"""What would help with a refused step, in the words of desk/advice.py: the library is asked in the program's stead."""
 import collections
 
 from desk import advice, foils, job as jobs, lines

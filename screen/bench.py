@@ -17,6 +17,10 @@ SIZES = (3, 4, 5, 1, 5, 2)
 NETS = {"track": 2, "lift": 3, "leg": 4}
 
 
+class Disagreed(Exception):
+    """Two calls that must agree do not."""
+
+
 @dataclass
 class Ran:
     """A job that was run on a foil: its lines as docs/JOB.md has them, without the strips; the place of its end mark or
@@ -158,7 +162,7 @@ class Bench:
         laid = foil.lay(net, start, end)
         said = told(way, int(laid.refusal))
         if laid.accepted and (laid.corners, laid.bends) != (way.corners, way.bends):
-            raise AssertionError("find and lay do not agree")
+            raise Disagreed("find and lay do not agree on a way")
         return {**said, **(measured(foil, net, ink) if laid.accepted else {})}
 
     def book(self, k, net, corners, ink):

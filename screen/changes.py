@@ -101,7 +101,8 @@ def put_legs(session, k, entries, name):
 def lay_list(session, k, wishes, keep):
     """Lays a whole order form."""
     session.account(k)
-    said = session.ask({"ask": "list", "foil": k, "wishes": [(wish["net"], wish["from"], wish["to"]) for wish in wishes]})
+    asked = [(wish["net"], wish["from"], wish["to"]) for wish in wishes]
+    said = session.ask({"ask": "list", "foil": k, "wishes": asked})
     if said["number"]:
         raise Refused(shown.refused(said["number"], session.table, step="a list of %d nets" % len(wishes)))
     steps = [(questions.track(wish["net"], wish["from"], wish["to"]), wish.get("name", "")) for wish in wishes]
@@ -110,7 +111,6 @@ def lay_list(session, k, wishes, keep):
     if kept:
         _, text = with_lines(session, k, kept)
         if after(session, k, text).held["entries"] != said["entries"]:
-            session.held()
             raise Fault("mistake", "the tracks' lines do not give what the list has laid: nothing was changed")
         commit(session, k, text)
     return {"ways": [{**way, "says": shown.refused(way["number"], session.table)["says"] if way["number"] else ""}
@@ -130,7 +130,6 @@ def relay(session, k, lifted, step, name):
     said = [outcome.said for outcome in after(session, k, text).run.outcomes[-3:]]
     for of, what in zip(said, (jobs.Step("lift", (lifted,)), step)):
         if of.number:
-            session.held()
             raise Refused(shown.refused(of.number, session.table, step=step_said(what)))
     commit(session, k, text)
     return {"way": {"corners": said[1].corners, "bends": said[1].bends},

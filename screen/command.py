@@ -23,6 +23,8 @@ machine can reach it, and only by that address. TEXT is a text or a job file, or
 folder; it is not changed itself: a save goes to the orders' folder, as text, job, picture, slip, words and carton's
 page. docs/SCREEN.md says what is on the page, and README what the exit status means."""
 
+LEFT = "the order has changes that are not saved: they are kept in the orders' folder, and shown when it is opened again"
+
 
 def main(given=None):
     """The command, by its words: its status."""
@@ -65,6 +67,8 @@ def do(asked):
     finally:
         process.stop()
         kept.release()
+        if session.order.done and session.order.unsaved:
+            console.complain(LEFT)
     return statuses.ACCEPTED
 
 
@@ -72,21 +76,19 @@ def opened(kept, word):
     """The order to begin with: the one that is named, a text as an order that is not saved, or what was left behind."""
     try:
         if word is None:
-            order = kept.begin(Order())
-            left = kept.left_behind()
-            return shelf.restored(order, left) if left else order
+            return kept.begin(Order(), left=True)
         if not os.path.exists(word):
             return kept.open(word)
         name = order_of(kept, pathlib.Path(word))
         if name:
             return kept.open(name)
         source = sources.source(word)
+        given = source.content
+        text = textform.show(given) if source.is_job else shelf.decoded(given, source.name)
     except Fault as fault:
         raise statuses.Misused(fault.why)
-    content = textform.show(source.content) if source.is_job else source.content.decode("utf-8-sig", "replace")
     title = source.title if shelf.NAME.fullmatch(source.title) and ".." not in source.title else ""
-    text = content.replace("\r\n", "\n").replace("\r", "\n")
-    return kept.begin(Order(title, [text] + [""] * (FOILS - 1), unsaved=True))
+    return kept.begin(Order(title, [text] + [""] * (FOILS - 1), unsaved=True), left=bool(title))
 
 
 def order_of(kept, path):

@@ -9,6 +9,7 @@ import sys
 import threading
 import time
 
+from desk.lines import Strange
 from desk.program import INSTALLED, ROOT, NotRun
 
 PROCESS = pathlib.Path(__file__).resolve().parent / "process.py"
@@ -89,7 +90,7 @@ class Library:
         self.stop()
         try:
             self.process = subprocess.Popen([sys.executable, "-B", str(PROCESS), str(self.path)], stdin=subprocess.PIPE,
-                                            stdout=subprocess.PIPE, bufsize=0)
+                                            stdout=subprocess.PIPE, bufsize=0, start_new_session=True)
         except OSError as fault:
             self.fail("the library's process cannot be started: %s" % fault.strerror)
         self.generation += 1
@@ -116,6 +117,8 @@ class Library:
         told = json.loads(self.line(time.monotonic() + self.longest))
         if "wrong" in told:
             raise Wrong(told["wrong"])
+        if "strange" in told:
+            raise Strange(told["strange"])
         return told["answer"]
 
     def line(self, until):

@@ -1,5 +1,6 @@
 """The order that is open: the texts of its eight foils, the version, and the way back. A change is a new text of one
 foil; texts are kept whole, so that an undo gives back the same bytes."""
+import functools
 from typing import NamedTuple
 
 from desk import textform
@@ -20,6 +21,7 @@ class Read(NamedTuple):
     faults: list
 
 
+@functools.lru_cache(maxsize=64)
 def read(source):
     """A text, read. One without a word is no job."""
     try:

@@ -107,6 +107,6 @@ def of_foil(session, k, name):
     """What goes with a foil, by what it is called after its name."""
     account = session.account(k)
     measured = ohms_page(session, k)[0]
-    made = {".svg": drawn(session, k, name), "-slip.txt": account.held["slip"], "-words.txt": words_of(session, account),
-            ".html": carton_page(session, k, name), **({"-ohms.txt": measured} if measured else {})}
+    made = {".svg": drawn(session, k, name), "-slip.txt": account.held["slip"], ".html": carton_page(session, k, name),
+            "-words.txt": words_of(session, account), **({"-ohms.txt": measured} if measured else {})}
     return {ending: content.encode() for ending, content in made.items()}

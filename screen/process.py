@@ -13,7 +13,7 @@ sys.path[0:1] = [str(ROOT), str(ROOT / "hosts" / "python")]
 
 from keyfoil import STACK, NoLibrary, load
 
-from screen.bench import Bench
+from screen.bench import Bench, Disagreed
 
 
 def jobs_of(values):
@@ -42,8 +42,10 @@ def answer(bench, asked):
     """The answer to a question. A number that a call cannot be given is said, and not asked."""
     try:
         return {"answer": QUESTIONS[asked["ask"]](bench, asked)}
-    except (ValueError, OverflowError, TypeError) as fault:
+    except (ValueError, OverflowError) as fault:
         return {"wrong": str(fault)}
+    except Disagreed as fault:
+        return {"strange": str(fault)}
 
 
 def serve(path):
@@ -66,6 +68,6 @@ def write(what):
 
 if __name__ == "__main__":
     threading.stack_size(STACK)
-    worker = threading.Thread(target=serve, args=sys.argv[1:2])
+    worker = threading.Thread(target=serve, args=sys.argv[1:2], daemon=True)
     worker.start()
     worker.join()

@@ -1,5 +1,5 @@
-"""What the page can ask, by name, with what each wants: PROTOCOL.md has it in words. A request is checked here, and done
-by questions, changes, moving, the order or the shelf."""
+"""What the page can ask, by name, with what each wants: PROTOCOL.md has it in words. A request is checked here, and
+done by questions, changes, moving, the order or the shelf."""
 from desk import job as jobs
 from screen import changes, moving, papers, questions
 from screen.library import Unasked
@@ -122,7 +122,8 @@ ASKING = {
     "nearest": lambda session, asked: questions.nearest(session, asked.foil, (asked.number("x"), asked.number("y"))),
     "find": find,
     "opens": opens,
-    "try_book": lambda session, asked: questions.try_book(session, asked.foil, asked.net(False), asked.points("corners")),
+    "try_book": lambda session, asked: questions.try_book(
+        session, asked.foil, asked.net(False), asked.points("corners")),
     "try_join": lambda session, asked: questions.try_join(session, asked.foil, asked.net(), asked.numbers("point", 2)),
     "try_draw": lambda session, asked: questions.try_draw(session, asked.foil, asked.numbers("box", 4)),
     "try_move": lambda session, asked: moving.try_move(session, *moved(asked)),

@@ -8,7 +8,7 @@ import secrets
 import urllib.parse
 from http.server import BaseHTTPRequestHandler, ThreadingHTTPServer
 
-from desk import lines, statuses, textform
+from desk import lines, statuses
 from screen import papers, requests
 from screen.library import Unasked, Wrong
 from screen.order import FOILS
@@ -23,7 +23,8 @@ MOST, IDLE = 4_500_000, 120
 POLICY = ("default-src 'none'; script-src 'self'; style-src 'self'; img-src 'self' data: blob:; connect-src 'self'; "
           "base-uri 'none'; form-action 'none'; frame-ancestors 'none'")
 # the policy of a page for print, and of a picture: a style of its own, and no script
-PAPER = "default-src 'none'; style-src 'unsafe-inline'; img-src data:; base-uri 'none'; form-action 'none'; sandbox allow-modals"
+PAPER = ("default-src 'none'; style-src 'unsafe-inline'; img-src data:; base-uri 'none'; form-action 'none'; "
+         "sandbox allow-modals")
 STATUSES = {"stale": 409, "unread": 409, "unsaved": 409, "taken": 409, "name": 400, "absent": 404, "asked": 400,
             "large": 413, "files": 500, "barred": 403, "mistake": 500}
 
@@ -107,7 +108,7 @@ class Handler(BaseHTTPRequestHandler):
 
     def got(self, rest, query):
         """What is at an address: its kind, its content and its policy."""
-        if rest in ("", *()) or FILE.fullmatch(rest):
+        if not rest or FILE.fullmatch(rest):
             return page_file(rest or "index.html")
         folder, _, word = rest.partition("/")
         session, k = self.server.session, query.get("foil", "0")

@@ -134,7 +134,8 @@ class Session:
         order, held = self.order, self.held()
         counts = shown.counts_of(held)
         return {
-            "version": order.version, "undo": len(order.done), "redo": len(order.undone), "order": self.texts()["order"],
+            "version": order.version, "order": self.texts()["order"], "undo": len(order.done),
+            "redo": len(order.undone),
             "foils": [self.tab(at, held.get(at), counts) for at in range(FOILS)],
             "sheet": {"entries": sum(counts), "most": shown.PLACES, "sure": shown.SURE, "each": shown.ENTRIES},
             "foil": self.foil(k)}

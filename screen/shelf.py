@@ -131,11 +131,12 @@ class Shelf:
             order = restored(order, draft)
         return order
 
-    def begin(self, order):
-        """Has an order open that is not from the shelf."""
+    def begin(self, order, left=False):
+        """Has an order open that is not from the shelf; on demand with a draft that was left of such an order."""
         self.seen = {}
-        order.other = self.take(order.name)
-        return order
+        order.other = self.take(order.name, left)
+        draft = self.draft_of(self.slot) if left and self.lock is not None else None
+        return restored(order, draft) if draft else order
 
     def refuse(self, order, name):
         """Refuses to save over what another screen has open, or what was changed since it was opened here."""
@@ -175,11 +176,16 @@ class Shelf:
         """The folder that screens have for themselves, open."""
         return self.folder(OWN, make=True)
 
-    def take(self, name):
+    def slots(self, left):
+        """The slots of orders without a name: those with a draft on demand, then those without one."""
+        every = ["-%d" % at for at in range(1, NAMELESS + 1)]
+        kept = [slot for slot in every if self.draft_of(slot) is not None]
+        return (kept if left else []) + [slot for slot in every if slot not in kept]
+
+    def take(self, name, left=False):
         """Takes the lock of an order, or that of one without a name: words where another screen has it."""
         self.release()
-        slots = [name] if name else ["-%d" % at for at in range(1, NAMELESS + 1)]
-        for slot in slots:
+        for slot in [name] if name else self.slots(left):
             lock = self.locked(slot)
             if lock is not None:
                 self.lock, self.slot = lock, slot
@@ -247,10 +253,6 @@ class Shelf:
         except (ValueError, KeyError, TypeError):
             return None
 
-    def left_behind(self):
-        """The draft of an order without a name that this screen has found, or none."""
-        return self.draft_of(self.slot) if self.lock is not None and self.slot.startswith("-") else None
-
 
 def restored(order, draft):
     """An order with the texts of its draft, as changes that can be undone."""
@@ -287,13 +289,24 @@ def read(folder, name):
             return None
         raise
     with open(there, "rb") as file:
-        return file.read(MOST + 1)[:MOST] if stat.S_ISREG(os.fstat(file.fileno()).st_mode) else None
+        content = file.read(MOST + 1) if stat.S_ISREG(os.fstat(file.fileno()).st_mode) else None
+    if content and len(content) > MOST:
+        raise Fault("large", "%s has more than %d bytes, and no job has so many" % (name, MOST))
+    return content
 
 
 def text_in(folder, name):
     """The text of a foil in a folder: its own, or that of its job file; none where there is neither."""
     text = read(folder, name + ".txt")
     if text is not None:
-        return text.decode("utf-8-sig", "replace")
+        return decoded(text, name + ".txt")
     job = read(folder, name + ".job")
     return textform.show(job) if job else None
+
+
+def decoded(content, name):
+    """The bytes of a text as a text, its lines ended by line feeds."""
+    try:
+        return content.decode("utf-8-sig").replace("\r\n", "\n").replace("\r", "\n")
+    except UnicodeDecodeError as fault:
+        raise Fault("asked", "%s has a byte %02x, which is no text in UTF-8" % (name, content[fault.start]))

@@ -199,7 +199,8 @@ def zones(account):
     return {
         "edge": frame_of(whole, half + gap) if half + gap else [],
         "clearance": [common(widened(box, gap), whole) for box in inked] if gap else [],
-        "kept": [common(widened(box, blocking.reach(net, (half, gap))), whole) for net, *box in entries] if half else []}
+        "kept": [common(widened(box, blocking.reach(net, (half, gap))), whole)
+                 for net, *box in entries] if half else []}
 
 
 def ink_figures(source, half):

@@ -1,5 +1,5 @@
-"""Lines, names and ink figures of a text: what a click writes into it. A line is only ever put in, taken out, or changed
-in the step or the name that is meant; all else stays as it was typed."""
+"""Lines, names and ink figures of a text: what a click writes into it. A line is only ever put in, taken out, or
+changed in the step or the name that is meant; all else stays as it was typed."""
 import re
 
 from desk import arguments, job as jobs, names, ohms, textform

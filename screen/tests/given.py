@@ -1,4 +1,5 @@
-"""What the tests are given: a server with an orders' folder of its own over the built library, and a page that asks it."""
+"""What the tests are given: a server with an orders' folder of its own over the built library, and a page that asks
+it."""
 import http.client
 import json
 import os

@@ -1,4 +1,5 @@
-"""Changes by clicks: what was previewed is what is laid, a refused step changes nothing, and undos give back the bytes."""
+"""Changes by clicks: what was previewed is what is laid, a refused step changes nothing, and undos give back the
+bytes."""
 from desk import textform
 from screen.tests import given
 
@@ -99,7 +100,8 @@ class Clicks(given.Served):
         self.assertEqual(opens, {"lifts": [{"net": 1, "bends": 0, "length": 7}], "tried": 2})
         self.assertEqual(said["number"], 9)
         self.refused(21, "draw", foil=0, box=[4, 1, 5, 2])
-        self.assertEqual([row["net"] for row in self.page.ask("opens", foil=0, box=[4, 1, 5, 2])["answer"]["lifts"]], [1])
+        lets = self.page.ask("opens", foil=0, box=[4, 1, 5, 2])["answer"]["lifts"]
+        self.assertEqual([row["net"] for row in lets], [1])
         made = self.done("relay", foil=0, lift=1, net=3, **{"from": [0, 1], "to": [7, 1]})
         self.assertEqual(made["again"]["number"], 9)
         self.assertEqual([of["net"] for of in made["state"]["foil"]["open"]], [1])
@@ -210,7 +212,8 @@ class Undo(given.Served):
         for chance in given.chances(6):
             self.page.change("new", discard=True)
             for k in (0, 3):
-                self.page.change("begin", foil=k, width=30, height=30, half=chance.choice((0, 1)), gap=chance.randint(0, 1))
+                half, gap = chance.choice((0, 1)), chance.randint(0, 1)
+                self.page.change("begin", foil=k, width=30, height=30, half=half, gap=gap)
             first = self.page.state()["undo"]
             kept = [self.held()]
             for _ in range(40):

@@ -42,7 +42,7 @@ class Orders(given.Served):
         self.assertEqual([tab["empty"] for tab in opened["foils"]], [False] + 4 * [True] + [False] + 2 * [True])
         self.have("", 5)
         self.page.change("save")
-        self.assertFalse([path for path in (self.folder / "orders" / "keys").iterdir() if path.name.startswith("keys-5")])
+        self.assertEqual(list((self.folder / "orders" / "keys").glob("keys-5*")), [])
 
     def test_a_text_that_cannot_be_read_is_saved(self):
         made = self.saved(text="board 9 9 0\nwhat\n")
@@ -80,7 +80,8 @@ class Orders(given.Served):
         self.have("board 3 3 0\nend\n")
         for word, values in (("open", {"name": "keys"}), ("new", {}), ("template", {"name": "keys"})):
             self.assertEqual(self.page.change(word, **values)["fault"]["kind"], "unsaved")
-        self.assertEqual(self.page.change("open", name="keys", discard=True)["answer"]["state"]["foil"]["text"], given.SMALL)
+        state = self.page.change("open", name="keys", discard=True)["answer"]["state"]
+        self.assertEqual(state["foil"]["text"], given.SMALL)
         self.assertEqual(self.page.change("open", name="none")["fault"]["kind"], "absent")
 
     def test_a_save_over_another_order(self):
@@ -149,8 +150,21 @@ class Orders(given.Served):
         self.server.session.shelf.release()
         kept = shelf.Shelf(self.folder / "orders")
         self.addCleanup(kept.release)
-        kept.begin(order.Order())
-        self.assertEqual(kept.left_behind()["texts"][0], given.SMALL)
+        self.assertEqual(kept.begin(order.Order()).texts[0], "")
+        self.assertEqual(kept.slot, "-2")
+        self.assertEqual(kept.begin(order.Order(), left=True).texts[0], given.SMALL)
+        self.assertEqual(kept.slot, "-1")
+
+    def test_a_text_that_is_no_text(self):
+        folder = self.folder / "orders" / "odd"
+        folder.mkdir()
+        folder.joinpath("odd.txt").write_bytes(b"board 9 9 0 # \xff\nend\n")
+        self.assertIn("UTF-8", self.page.change("open", name="odd")["fault"]["why"])
+        folder.joinpath("odd.txt").write_bytes(b"# " + b"x" * 4_000_000)
+        self.assertEqual(self.page.change("open", name="odd")["fault"]["kind"], "large")
+        folder.joinpath("odd.txt").write_bytes(b"\xef\xbb\xbfboard 9 9 0\r\nend\r\n")
+        state = self.page.change("open", name="odd")["answer"]["state"]
+        self.assertEqual(state["foil"]["text"], "board 9 9 0\nend\n")
 
     def test_a_save_ends_the_draft(self):
         self.saved()
@@ -169,8 +183,8 @@ class Orders(given.Served):
         self.assertIn("sandbox", self.page.headers["Content-Security-Policy"])
         carton = self.page.get("print/carton?foil=0").decode()
         self.assertIn("No track is open", carton)
-        for rest, status in (("print/foil?mm=0", 400), ("print/foil?mm=x", 400), ("print/what", 404), ("file/what", 404),
-                             ("file/job?foil=8", 400), ("file/picture?foil=1", 409)):
+        for rest, status in (("print/foil?mm=0", 400), ("print/foil?mm=x", 400), ("print/what", 404),
+                             ("file/what", 404), ("file/job?foil=8", 400), ("file/picture?foil=1", 409)):
             self.page.get(rest)
             self.assertEqual(self.page.status, status, rest)
         self.assertEqual(self.page.get("file/job?foil=0"), textform.read(given.sample("reader-keys")).job)
@@ -184,7 +198,7 @@ class ByTheProgram(given.Served):
 
     def shown(self, foil):
         """What the screen shows, as the job program's lines have it: tracks and strips."""
-        tracks = ["track %d 0 %d %s" % (net["net"], net["bends"], " ".join("%d,%d" % tuple(of) for of in net["corners"]))
+        tracks = ["track %d 0 %d" % (net["net"], net["bends"]) + "".join(" %d,%d" % tuple(of) for of in net["corners"])
                   for net in foil["nets"] if net["corners"]]
         flat = foil["strips"]
         return set(tracks), ["strip %d %d %d %d" % tuple(flat[at:at + 4]) for at in range(0, len(flat), 4)]

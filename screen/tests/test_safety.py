@@ -48,7 +48,8 @@ class Barred(given.Served):
     def test_the_origin(self):
         before = self.page.state()["version"]
         for origin in (None, "null", "http://evil.example", "http://localhost:%d" % self.server.server_address[1],
-                       "https://" + self.server.host, "http://127.0.0.1:1", "http://%s.evil.example" % self.server.host):
+                       "https://" + self.server.host, "http://127.0.0.1:1",
+                       "http://%s.evil.example" % self.server.host):
             with self.subTest(origin):
                 body = json.dumps({"version": before, "foil": 0, "text": given.SMALL})
                 self.barred(self.post("/%s/api/text" % self.server.token, body, Origin=origin))
@@ -99,8 +100,8 @@ class Barred(given.Served):
 
 
 class Names(given.Served):
-    BAD = ("..", ".", "", "a/b", "../a", "a/../../b", "/etc", ".screen", "a..b", "a\0b", "a\nb", " a", "a ", "-a", "a" * 61,
-           "a\\b", "~", "a:b", "%2e%2e")
+    BAD = ("..", ".", "", "a/b", "../a", "a/../../b", "/etc", ".screen", "a..b", "a\0b", "a\nb", " a", "a ", "-a",
+           "a" * 61, "a\\b", "~", "a:b", "%2e%2e")
 
     def setUp(self):
         super().setUp()
@@ -108,7 +109,8 @@ class Names(given.Served):
 
     def tree(self):
         """All that is under the test's folder, but for what screens keep for themselves."""
-        return sorted(str(path.relative_to(self.folder)) for path in self.folder.rglob("*") if ".screen" not in path.parts)
+        return sorted(str(path.relative_to(self.folder)) for path in self.folder.rglob("*")
+                      if ".screen" not in path.parts)
 
     def test_no_name_leaves_the_folder(self):
         before = self.tree()
@@ -120,8 +122,9 @@ class Names(given.Served):
         self.assertEqual(self.tree(), before)
 
     def test_no_address_leaves_the_page(self):
-        for rest in ("../serving.py", "..%2fserving.py", "%2e%2e/serving.py", "page/../../README.md", "serving.py", "a/b.js",
-                     "file/../../x", "file/text/../..", "print/../index.html", "/etc/passwd", "Index.html", ".html"):
+        for rest in ("../serving.py", "..%2fserving.py", "%2e%2e/serving.py", "page/../../README.md", "serving.py",
+                     "a/b.js", "file/../../x", "file/text/../..", "print/../index.html", "/etc/passwd", "Index.html",
+                     ".html"):
             with self.subTest(rest):
                 self.page.get(rest)
                 self.assertIn(self.page.status, (404, 400))
