@@ -3,7 +3,7 @@ desk's commands, the header and the pages. What is installed never proves.
 
     PREFIX/bin                the commands, as links to those in lib/foil
     PREFIX/lib, include       libfoil.a, libfoil.so, pkgconfig/foil.pc and foil.h
-    PREFIX/lib/foil           the commands, the desk's tools, the proved programs and their records
+    PREFIX/lib/foil           the commands, the desk's tools, the screen, the proved programs and their records
     PREFIX/share/doc/foil     README, docs and samples
     PREFIX/share/man/man1     a page for each command: its help"""
 import os
@@ -124,9 +124,12 @@ def put_own(prefix):
         for name in commands():
             shutil.copy(ROOT / name, folder)
         shutil.copy(ROOT / "README.md", folder)
-        shutil.copytree(ROOT / "desk", folder / "desk", ignore=shutil.ignore_patterns(*NOT_INSTALLED))
+        for name in ("desk", "screen", "hosts/python/keyfoil"):
+            shutil.copytree(ROOT / name, folder / name, ignore=shutil.ignore_patterns(*NOT_INSTALLED))
         for part in ("bin", "built"):
             folder.joinpath(part).mkdir()
+        digest = building.digest_of(BUILT / "lib" / "libfoil.so")
+        folder.joinpath("built", "libfoil.so").write_text(digest + "\n", encoding="utf-8")
         for name in PROGRAMS:
             shutil.copy(building.Place(name).program, folder / "bin")
             shutil.copy(building.Place(name).record, folder / "built")

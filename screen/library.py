@@ -9,6 +9,7 @@ import sys
 import threading
 import time
 
+from desk import building
 from desk.lines import Strange
 from desk.program import INSTALLED, ROOT, NotRun
 
@@ -31,11 +32,19 @@ def built():
     if os.environ.get(VARIABLE):
         return pathlib.Path(os.environ[VARIABLE])
     if INSTALLED:
-        return ROOT.parent / "libfoil.so"
+        return as_installed(ROOT.parent / "libfoil.so")
     done = subprocess.run([ROOT / "hosts" / "build"], stdin=subprocess.DEVNULL, stdout=subprocess.PIPE)
     if done.returncode != 0:
         raise NotRun("the library is not built: hosts/build ended with status %d" % done.returncode)
     return ROOT / "target" / "hosts" / "lib" / "libfoil.so"
+
+
+def as_installed(path):
+    """Sees that an installed library is the one that was installed."""
+    kept = ROOT / "built" / "libfoil.so"
+    if not path.is_file() or not kept.is_file() or kept.read_text(encoding="utf-8").strip() != building.digest_of(path):
+        raise NotRun("%s is not the library that was installed: install it again, by ./install in a clone" % path)
+    return path
 
 
 class Library:

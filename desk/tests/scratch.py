@@ -46,7 +46,7 @@ class Scratch:
         self.root = pathlib.Path(self.folder.name) / "foils"
         self.tools = pathlib.Path(self.folder.name) / "tools"
         left_out = shutil.ignore_patterns("tests", "__pycache__")
-        for name in ("desk", "tools"):
+        for name in ("desk", "screen", "tools", "hosts/python"):
             shutil.copytree(program.ROOT / name, self.root / name, ignore=left_out)
         for path in [program.ROOT / "README.md", *program.ROOT.glob("foil*")]:
             shutil.copy(path, self.root)

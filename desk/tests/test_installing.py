@@ -19,7 +19,7 @@ mkdir -p "$1/lib/pkgconfig" "$1/include"
 for name in lib/libfoil.a lib/libfoil.so lib/pkgconfig/foil.pc include/foil.h; do echo "$name" > "$1/$name"; done
 """
 SCRIPT = '#!/bin/sh\ncat > /dev/null\nprintf \'%s\'\n'
-COMMANDS = ["foil", "foil-job", "foil-ohms", "foil-save", "foil-slip"]
+COMMANDS = ["foil", "foil-job", "foil-ohms", "foil-save", "foil-screen", "foil-slip"]
 
 
 class Installing(unittest.TestCase):
@@ -86,6 +86,15 @@ class Installing(unittest.TestCase):
             harm()
             status, out, err = self.installed("foil-job", str(given.SAMPLES / "document-01.txt"))
             self.assertEqual((status, out, "install it again" in err), (5, "", True))
+
+    def test_a_library_that_is_not_the_one_that_was_installed(self):
+        self.install()
+        self.assertEqual(self.installed("foil-screen", "--help")[0], 0)
+        path = self.prefix / "lib" / "libfoil.so"
+        for harm in (lambda: path.write_text("another"), path.unlink):
+            harm()
+            status, out, err = self.installed("foil-screen", "--no-browser", "--orders", str(self.prefix / "orders"))
+            self.assertEqual((status, out, "install it again" in err), (5, "", True), err)
 
     def test_the_clone_goes_on_by_itself(self):
         self.install()
