@@ -58,7 +58,7 @@ export class Desk {
     showInk(foil);
     this.tellOrder();
     this.tellLibrary();
-    this.remark();
+    this.markAgain();
     this.under.again();
   }
 
@@ -99,7 +99,7 @@ export class Desk {
     document.title = `${order.name || "new order"}${order.unsaved ? " •" : ""}: foil ${this.state.at}`;
     document.body.dataset.version = version;
     warn("other", order.other);
-    warn("draft", order.draft);
+    warn("draft", order.draft && `Shown are ${order.draft}.`);
   }
 
   tellLibrary() {
@@ -108,7 +108,8 @@ export class Desk {
     place.textContent = !library ? "not asked yet"
       : library.standing ? "proved library answers" : "library not to be asked";
     place.title = library ? `process ${library.pid}, started ${count(library.generation, "time")}` : "";
-    warn("screens", screens > 1 ? `${screens} screens have this order open: each sees what the other changes.` : "");
+    byId("screens").hidden = screens < 2;
+    byId("screens").textContent = screens > 1 ? `${screens} screens have this order open` : "";
     if (foil) byId("figures").textContent = foil.begun ? `${foil.width} by ${foil.height} points, `
       + (foil.half ? `pen ${foil.half} ${foil.gap}` : `reach ${foil.gap}`) + `; ${foil.free}; ${foil.entries} entries, `
       + `${foil.more} more` : "";
@@ -137,7 +138,19 @@ export class Desk {
     if (words) say(words);
   }
 
-  /** Shows what is marked, as far as it is still there. */
+  /** The text may be another one: what is marked keeps its mark, on the lines where it now stands. */
+  markAgain() {
+    const { foil } = this.state, { nets, boxes, lines } = this.marked, marked = new Set(boxes.map(String));
+    const found = [...foil.nets.filter(net => nets.has(net.net)).flatMap(net => net.lines),
+                   ...foil.patches.filter(patch => marked.has(String(patch.box))).map(patch => patch.line)];
+    const kept = foil.text === this.textMarked ? lines : found;
+    this.textMarked = foil.text;
+    this.marked = { nets, boxes, lines: kept };
+    this.remark();
+    this.text.mark(kept, false);
+  }
+
+  /** Shows what is marked, as far as it is there. */
   remark() {
     this.overlay.set({ marked: this.marked });
     markLists(this.marked);
@@ -209,7 +222,7 @@ export class Desk {
   }
 
   tellHint() {
-    byId("hint").textContent = this.tool.hint();
+    byId("hint").textContent = byId("hint").title = this.tool.hint();
   }
 
   /** What a tool is about to do, to be drawn. */

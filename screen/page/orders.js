@@ -32,7 +32,9 @@ export async function openOrders(desk) {
 }
 
 function orderItem(desk, order) {
-  const told = `${order.name}, ${order.changed}, ${count(order.foils, "foil")}` + (order.open ? ", open elsewhere" : "")
+  const here = order.name === desk.state.whole.order.name;
+  const told = `${order.name}, ${order.changed}, ${count(order.foils, "foil")}`
+    + (order.open && !here ? ", another screen has it open" : "")
     + (order.draft ? ", with changes that were never saved" : "");
   const open = button(told, async () => { closeDialog(); await opened(desk, "open", order.name); });
   const copy = button("As template", async () => { closeDialog(); await opened(desk, "template", order.name); });

@@ -1,7 +1,7 @@
 /* The pointer and the keyboard's cursor on the foil: both give points, presses and releases to the tool that is held.
 
-The wheel makes points larger and smaller about the pointer; with Shift it moves the view across, with Ctrl down.
-Dragging with the middle button, with Space held, or with a tool that has no use of a drag, moves the view. */
+The wheel makes points larger and smaller about the pointer; with Shift it moves the view across. Dragging with the
+middle button, with Space held, or with a tool that has no use of a drag, moves the view. */
 import { RULER } from "./view.js";
 
 const EVENTS = ["pointerdown", "pointermove", "pointerup", "pointercancel", "pointerleave", "keydown", "keyup"];
@@ -31,8 +31,18 @@ export class Pointer {
     return [event.clientX - box.left, event.clientY - box.top];
   }
 
-  pointOf(event) {
-    return this.desk.state.foil && this.desk.state.foil.begun ? this.view.pointAt(...this.pixel(event)) : null;
+  /** The point at an event, or null off the foil; with `kept`, the nearest one on it. */
+  pointOf(event, kept = false) {
+    const { foil } = this.desk.state;
+    if (!foil || !foil.begun) return null;
+    const pixel = this.pixel(event);
+    return kept ? this.onFoil(...this.view.toFoil(...pixel).map(Math.floor)) : this.view.pointAt(...pixel);
+  }
+
+  /** A point, or the one on the foil that is nearest to it. */
+  onFoil(x, y) {
+    const { width, height } = this.view.size;
+    return [Math.min(Math.max(x, 0), width - 1), Math.min(Math.max(y, 0), height - 1)];
   }
 
   /** Does something after what was pressed before is done. */
@@ -66,17 +76,20 @@ export class Pointer {
       this.held.pixel = pixel;
       return;
     }
-    this.at(this.pointOf(event));
+    this.at(this.pointOf(event, Boolean(this.held && this.held.moved)), false);
   }
 
-  /** The pointer or the cursor is on a point, or on none. */
-  at(point) {
+  /** The pointer or, by keys, the cursor is on a point, or on none. What is shown of it is read out for the cursor. */
+  at(point, byKeys) {
+    for (const id of ["under", "preview"]) {
+      document.getElementById(id).setAttribute("aria-live", byKeys ? "polite" : "off");
+    }
     this.desk.under.at(point);
     if (point) this.desk.tool.move(point);
   }
 
   pointerup(event) {
-    const held = this.held, point = this.pointOf(event);
+    const held = this.held, point = this.pointOf(event, true);
     this.held = null;
     if (!held || held.pans || !held.point) return;
     const { tool } = held;
@@ -101,7 +114,6 @@ export class Pointer {
     const unit = event.deltaMode === 1 ? 20 : event.deltaMode === 2 ? 300 : 1;
     const turned = (event.deltaY || event.deltaX) * unit;
     if (event.shiftKey) this.view.pan(turned, 0);
-    else if (event.ctrlKey && event.deltaMode) this.view.pan(0, turned);
     else this.view.zoom(Math.exp(-turned * 0.0022), ...this.pixel(event));
   }
 
@@ -133,13 +145,10 @@ export class Pointer {
 
   /** Moves the cursor of the keyboard; it begins in the middle of what is seen. */
   step(dx, dy) {
-    const { width, height } = this.view.size;
     if (!this.desk.state.foil || !this.desk.state.foil.begun) return;
-    const [x, y] = this.cursor || this.desk.under.point || this.middle(), from = Boolean(this.cursor);
-    this.cursor = from ? [Math.min(Math.max(x + dx, 0), width - 1), Math.min(Math.max(y + dy, 0), height - 1)] : [x, y];
-    this.desk.overlay.set({ cursor: this.cursor });
+    const [x, y] = this.cursor || this.desk.under.point || this.middle();
+    this.put(this.cursor ? this.onFoil(x + dx, y + dy) : [x, y]);
     this.view.reveal(...this.cursor);
-    this.at(this.cursor);
   }
 
   middle() {
@@ -151,7 +160,7 @@ export class Pointer {
   put(point) {
     this.cursor = point;
     this.desk.overlay.set({ cursor: point });
-    this.at(point);
+    this.at(point, true);
   }
 
   hideCursor() {

@@ -21,7 +21,7 @@ export const SHORTCUTS = [
   ["A D X E", "moves the view left, right, down, up"],
   ["1 2 3 4", "layers: strips, clearance, blocked, refused"],
   ["Ctrl+Z Ctrl+Y", "undo, redo"],
-  ["Ctrl+O Ctrl+S", "past orders, save"],
+  ["Ctrl+O Ctrl+S Ctrl+P", "past orders, save, print"],
   ["Alt+D", "light or dark"],
   ["Alt+0 Alt+7", "foil 0 to foil 7"],
   ["Alt+T Alt+F", "to the text, to the foil"],
@@ -44,7 +44,7 @@ function withCtrl(desk, event) {
   const key = event.key.toLowerCase();
   if (key === "z") return event.shiftKey ? () => desk.redo() : () => desk.undo();
   if (key === "y") return () => desk.redo();
-  return { s: () => desk.save(), o: () => desk.open() }[key];
+  return { s: () => desk.save(), o: () => desk.open(), p: () => desk.print() }[key];
 }
 
 function withAlt(desk, event) {

@@ -41,7 +41,7 @@ class Tool {
 
 /** Marks what is under the pointer, and its line. */
 class Look extends Tool {
-  hint() { return "Click a track or a key to mark its line. Drag moves the foil, the wheel makes it larger or smaller."; }
+  hint() { return "Click a track or a key to mark its line. Drag moves the foil, the wheel makes it larger, smaller."; }
 
   async press(point) {
     const { desk } = this, net = desk.netAt(point);
@@ -337,7 +337,7 @@ class Lift extends Tool {
 
   move(point) {
     const net = this.desk.netAt(point);
-    this.desk.mark(net ? { nets: [net.net], lines: net.lines } : {});
+    this.desk.mark(net ? { nets: [net.net], lines: net.lines } : {}, false);
   }
 
   async press(point) {

@@ -3,7 +3,7 @@
 A point (x, y) of the foil is the unit square from x, y to x + 1, y + 1, and y grows downwards, as in the picture that
 the desk prints. `left` and `top` are the foil's place at the corner of the drawing, `scale` is pixels a point. */
 
-export const RULER = 34;          // pixels that the rulers take at the top and on the left
+export const RULER = 40;          // pixels that the rulers take at the top and on the left
 const LARGEST = 64;               // the largest that a point is, in pixels
 const MARGIN = 12;                // pixels around a foil that is fitted
 
