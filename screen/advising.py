@@ -19,16 +19,16 @@ class Asked(advice.Asked):
         """What comes of steps on the foil with this table: their outcomes and the strips, or none."""
         self.left -= 1
         steps = [self.board] + [jobs.Step("leg", (net, *box)) if net else jobs.Step("patch", box) for net, box in table]
-        made = b"".join(jobs.record_bytes([step]) for step in steps + list(more)) + b"\0"
-        run = self.answer(made)
+        run = self.answer(*(b"".join(jobs.record_bytes([step]) for step in of) for of in (steps, more)))
         if run is None or run.strips is None or any(outcome.said.number for outcome in run.outcomes[:len(steps)]):
             return None
         return run._replace(outcomes=run.outcomes[len(steps):])
 
-    def answer(self, made):
-        """What came of a job, asked once."""
+    def answer(self, base, more):
+        """What came of a job of records and more of them, asked once."""
+        made = base + more + b"\0"
         if made not in self.kept:
-            held = self.library.alone(made)
+            held = self.library.alone(base, more)
             strips = held["strips"] if held["ended"] else []
             shown = ["strip %d %d %d %d" % tuple(strips[at:at + 4]) for at in range(0, len(strips), 4)]
             try:
@@ -65,7 +65,9 @@ class Adviser:
         if number == 9 and not lifts or step.word not in ("track", "patch", "leg"):
             return []
         case = case_of(account, step)
-        return advice.helping(case, number, Asked(self.library, case.board, self.kept))
+        asked = Asked(self.library, case.board, self.kept)
+        asked.known[tuple(case.table)] = account.run.strips
+        return advice.helping(case, number, asked)
 
 
 def case_of(account, step):

@@ -10,8 +10,10 @@ from dataclasses import dataclass, field
 
 from keyfoil import FOILS, PLACES, SURE, Sheet
 
-# how many sheets are kept
-KEPT = 40
+# how many sheets of the order are kept, and how many of jobs that were run by themselves
+KEPT, BASES = 40, 12
+# the end mark; a longer file is refused as a whole
+END, MOST_BYTES = b"\0", 60_000
 # the numbers of each bit of a record's map, and the bits that have a net
 SIZES = (3, 4, 5, 1, 5, 2)
 NETS = {"track": 2, "lift": 3, "leg": 4}
@@ -60,6 +62,16 @@ def run_from(foil, ran, at):
         at = record.next
 
 
+def run_on(foil, ran, job):
+    """Goes on with a job that was run on a foil, where another job is that one with more records before its end mark;
+    none where it is not."""
+    if not ran.ended or not job.startswith(ran.job[:-1]) or not len(ran.job) < len(job) <= MOST_BYTES:
+        return None
+    longer = ran.longer(job)
+    run_from(foil, longer, len(ran.job) - 1)
+    return longer
+
+
 def line_of(job, at, step):
     """The line for a step of the record at a place."""
     word, answer = step.word, step.answer
@@ -83,7 +95,7 @@ class Bench:
         self.sheet = Sheet(library)
         self.jobs = (None,) * FOILS
         self.runs = [None] * FOILS
-        self.kept = collections.OrderedDict()
+        self.kept, self.bases = collections.OrderedDict(), collections.OrderedDict()
 
     # the jobs
 
@@ -114,10 +126,8 @@ class Bench:
             return False
         old, trial = self.runs[k], self.sheet.copy()
         foil = trial.foil(k)
-        if old and old.ended and job.startswith(old.job[:-1]) and len(job) > len(old.job):
-            ran = old.longer(job)
-            run_from(foil, ran, len(old.job) - 1)
-        else:
+        ran = run_on(foil, old, job) if old else None
+        if ran is None:
             ran = Ran(job)
             run_from(foil, ran, 0)
         runs = list(self.runs)
@@ -140,11 +150,22 @@ class Bench:
                 ran.held = held(sheet.foil(k), ran)
         self.sheet.lists, self.runs = sheet.lists, runs
 
-    def alone(self, job):
-        """What comes of a job on a sheet of its own."""
-        foil, ran = Sheet(self.library).foil(0), Ran(job)
-        run_from(foil, ran, 0)
-        return held(foil, ran)
+    def alone(self, base, more):
+        """What comes of a job on a sheet of its own: of records, more of them, and the end mark. The sheet that the
+        first records leave is kept, for others that begin with them."""
+        if base not in self.bases:
+            sheet, ran = Sheet(self.library), Ran(base + END)
+            run_from(sheet.foil(0), ran, 0)
+            self.bases[base] = sheet, ran
+            while len(self.bases) > BASES:
+                self.bases.popitem(last=False)
+        sheet, ran = self.bases[base]
+        foil = sheet.copy().foil(0)
+        longer = run_on(foil, ran, base + more + END) if more else ran
+        if longer is None:
+            foil, longer = Sheet(self.library).foil(0), Ran(base + more + END)
+            run_from(foil, longer, 0)
+        return held(foil, longer)
 
     # questions
 

@@ -34,17 +34,17 @@ def after(session, k, text):
 def add_step(session, k, step, name=""):
     """Adds a step as a line of its own: what was said of it. Where it is refused, nothing is changed."""
     before, text = with_lines(session, k, [texts.step_line(step.word, step.numbers, name)])
-    outcome = last_of(after(session, k, text))
+    outcome = last_of(session, after(session, k, text))
     if outcome.number:
         refuse(session, before, step, outcome.number)
     commit(session, k, text)
     return outcome
 
 
-def last_of(account):
+def last_of(session, account):
     """What was said of the last step of a text."""
     if account.run.fault:
-        raise Refused(shown.refused(account.run.fault.number, {}, step="the whole file"))
+        raise Refused(shown.refused(account.run.fault.number, session.table, step="the whole file"))
     return account.run.outcomes[-1].said
 
 
@@ -149,7 +149,8 @@ def begin(session, k, board):
     line, source = texts.board_line(*board), session.order.texts[k]
     read = session.order.reads[k]
     if not source.strip():
-        text = texts.EMPTY % line
+        inks = [figures for figures in map(texts.ink_of, session.order.texts) if figures["sheet"] is not None]
+        text = texts.inked(texts.EMPTY % line, inks[0] if inks else {})
     elif read.text and textform.step_of(read.text.lines[0].said.split(",")[0].split()).word == "board":
         text = texts.reboarded(source, read.text.lines[0].number, line)
     else:

@@ -22,8 +22,8 @@ It prints the address of its page, opens it in the browser, and serves it until 
 machine can reach it, and only by that address. TEXT is a text or a job file, or the name of an order in the orders'
 folder; it is not changed itself: a save goes to the orders' folder, as text, job, picture, slip, words and carton's
 page. docs/SCREEN.md says what is on the page, and README what the exit status means."""
-
-LEFT = "the order has changes that are not saved: they are kept in the orders' folder, and shown when it is opened again"
+LEFT = ("the order has changes that are not saved: they are kept in the orders' folder, and shown when it is opened "
+        "again")
 
 
 def main(given=None):
@@ -88,7 +88,7 @@ def opened(kept, word):
     except Fault as fault:
         raise statuses.Misused(fault.why)
     title = source.title if shelf.NAME.fullmatch(source.title) and ".." not in source.title else ""
-    return kept.begin(Order(title, [text] + [""] * (FOILS - 1), unsaved=True), left=bool(title))
+    return kept.begin(Order(title, [text] + [""] * (FOILS - 1), saved=False), left=bool(title))
 
 
 def order_of(kept, path):

@@ -86,11 +86,11 @@ class Library:
             self.set_jobs(jobs)
             return self.put(question)
 
-    def alone(self, job):
-        """What comes of a job on a sheet of its own."""
+    def alone(self, base, more):
+        """What comes of a job on a sheet of its own: of records, more of them, and the end mark."""
         with self.lock:
             self.start()
-            return self.put({"ask": "alone", "job": job.hex()})
+            return self.put({"ask": "alone", "base": base.hex(), "more": more.hex()})
 
     def start(self):
         """Starts the process, where there is none."""

@@ -34,9 +34,10 @@ def read(source):
 class Order:
     """An order: its name, its texts, and its changes."""
 
-    def __init__(self, name="", texts=None, version=1, unsaved=False):
-        self.name, self.version, self.unsaved = name, version, unsaved
+    def __init__(self, name="", texts=None, saved=True):
+        self.name, self.version = name, 1
         self.texts = tuple(texts or [""] * FOILS)
+        self.saved = self.texts if saved else None
         self.done, self.undone = [], []
         self.other, self.draft = "", ""
         self.reads = [read(text) for text in self.texts]
@@ -49,6 +50,11 @@ class Order:
             made[foil] = changed.text and changed.text.job
         return tuple(made)
 
+    @property
+    def unsaved(self):
+        """Whether the texts are others than those that were opened or saved."""
+        return self.texts != self.saved
+
     def put(self, foil, text):
         """Puts another text, and counts the version up."""
         texts = list(self.texts)
@@ -56,7 +62,6 @@ class Order:
         self.texts = tuple(texts)
         self.reads[foil] = read(text)
         self.version += 1
-        self.unsaved = True
 
     def change(self, foil, text):
         """A change, which can be undone."""

@@ -24,7 +24,7 @@ def jobs_of(values):
 # the questions: how each is put to the bench
 QUESTIONS = {
     "jobs": lambda bench, asked: bench.set_jobs(jobs_of(asked["jobs"])),
-    "alone": lambda bench, asked: bench.alone(bytes.fromhex(asked["job"])),
+    "alone": lambda bench, asked: bench.alone(bytes.fromhex(asked["base"]), bytes.fromhex(asked["more"])),
     "look_up": lambda bench, asked: bench.look_up(asked["foil"], asked["point"]),
     "find": lambda bench, asked: bench.find(asked["foil"], asked["from"], asked["to"], asked["net"], asked["ink"]),
     "book": lambda bench, asked: bench.book(asked["foil"], asked["net"], asked["corners"], asked["ink"]),

@@ -5,7 +5,7 @@ from screen import changes, moving, papers, questions
 from screen.library import Unasked
 from screen.order import FOILS, Order
 from screen.session import Fault
-from screen.shelf import good, restored
+from screen.shelf import good
 
 # the largest number of a call, and the longest lists that are taken
 MOST, CORNERS, WISHES = 0xFFFF, 8192, 400
@@ -194,7 +194,7 @@ def template(session, asked):
     refuse_unsaved(session, asked)
     texts = session.shelf.texts(wanted)
     session.shelf.drop_draft()
-    return take(session, session.shelf.begin(Order("", texts, unsaved=True)))
+    return take(session, session.shelf.begin(Order("", texts, saved=False)))
 
 
 def save(session, asked):
@@ -203,7 +203,7 @@ def save(session, asked):
         session.shelf.refuse(session.order, wanted)
     files, gone, without = papers.files(session, wanted)
     written = session.shelf.save(session.order, wanted, files, gone)
-    session.order.name, session.order.unsaved, session.order.draft = wanted, False, ""
+    session.order.name, session.order.saved, session.order.draft = wanted, session.order.texts, ""
     session.told.notify_all()
     return {"files": written, "without": without}
 

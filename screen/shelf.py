@@ -195,10 +195,11 @@ class Shelf:
         self.slot = name or None
         return "another screen has this order open, %s" % self.holder(name) if name else ""
 
-    def locked(self, slot):
-        """The lock of a slot, held; none where another screen holds it."""
+    def locked(self, slot, make=True):
+        """The lock of a slot, held; none where another screen holds it. Where there is none it is made on demand."""
+        how = os.O_RDWR | os.O_NOFOLLOW | os.O_CLOEXEC | (os.O_CREAT if make else 0)
         with self.own() as own:
-            lock = os.open(slot + ".lock", os.O_RDWR | os.O_CREAT | os.O_NOFOLLOW | os.O_CLOEXEC, 0o644, dir_fd=own)
+            lock = os.open(slot + ".lock", how, 0o644, dir_fd=own)
         try:
             fcntl.flock(lock, fcntl.LOCK_EX | fcntl.LOCK_NB)
         except OSError:
@@ -210,7 +211,10 @@ class Shelf:
         """Whether a screen has an order open, this one or another."""
         if name == self.slot:
             return True
-        lock = self.locked(name)
+        try:
+            lock = self.locked(name, make=False)
+        except FileNotFoundError:
+            return False
         if lock is not None:
             os.close(lock)
         return lock is None

@@ -20,10 +20,10 @@ class Command(unittest.TestCase):
 
     def start(self, *words):
         """Starts the command on an orders' folder of its own."""
-        script = [sys.executable, program.ROOT / "foil-screen", "--no-browser", "--orders", self.folder.name + "/orders"]
-        return subprocess.Popen([*script, *words], stdin=subprocess.DEVNULL, stdout=subprocess.PIPE,
-                                stderr=subprocess.PIPE, text=True,
-                                env={**os.environ, "FOIL_LIBRARY": str(given.FOUND)})
+        script = [sys.executable, program.ROOT / "foil-screen", "--no-browser"]
+        return subprocess.Popen(
+            [*script, "--orders", self.folder.name + "/orders", *words], stdin=subprocess.DEVNULL, text=True,
+            stdout=subprocess.PIPE, stderr=subprocess.PIPE, env={**os.environ, "FOIL_LIBRARY": str(given.FOUND)})
 
     def said(self, *words):
         """What the command says where it does not serve: its status and its words."""
