@@ -49,7 +49,7 @@ export class Desk {
     const { state } = this, { foil, whole } = state;
     const begun = foil.begun;
     if (begun) this.view.show(foil.width, foil.height);
-    this.drawing.show(begun ? foil : null);
+    if (begun || !this.isEarlier(foil)) this.drawing.show(begun ? foil : null);
     this.overlay.set({ foil: begun ? foil : null });
     this.tellNothing();
     this.text.show();
@@ -59,7 +59,13 @@ export class Desk {
     this.tellOrder();
     this.tellLibrary();
     this.markAgain();
-    this.under.again();
+    this.under.renew();
+    if (begun && this.under.point) this.tool.move(this.under.point);
+  }
+
+  /** Whether the drawing is of the same foil, from before a line of its text could not be read: it stays, dimmed. */
+  isEarlier(foil) {
+    return foil.unread.length > 0 && this.drawing.foil !== null && this.drawing.foil.foil === foil.foil;
   }
 
   /** The library could not be asked at all: the text alone is shown. */
@@ -81,7 +87,9 @@ export class Desk {
     const { foil } = this.state, place = byId("nothing");
     place.hidden = foil.begun;
     place.classList.toggle("refused", Boolean(foil.unread.length || foil.fault));
-    place.textContent = foil.unread.length ? "Nothing is drawn: a line of the text cannot be read.\n"
+    place.classList.toggle("earlier", Boolean(!foil.begun && this.drawing.foil));
+    this.stage.dataset.behind = Boolean(this.state.behind || !foil.begun && this.drawing.foil);
+    place.textContent = foil.unread.length ? "Nothing is asked of this text: a line of it cannot be read.\n"
         + foil.unread.map(fault => `line ${fault.line}: ${fault.why}`).join("\n")
       : foil.fault ? `There is no foil (${foil.fault.number}): ${foil.fault.says}\n${foil.fault.to_do}`
         : "This foil is not begun.\nNew… begins it, or type its board into the text.";
@@ -118,7 +126,7 @@ export class Desk {
   /** The drawing is not of the text that is seen, and why; or it is, where `words` is empty. */
   behind(words, actions = null) {
     this.state.behind = words;
-    this.stage.dataset.behind = Boolean(words);
+    this.stage.dataset.behind = Boolean(words || this.state.foil && !this.state.foil.begun && this.drawing.foil);
     warn("behind", words, actions);
   }
 
@@ -300,13 +308,19 @@ export class Desk {
   }
 
   async undo() {
-    const envelope = await this.change("undo");
-    if (envelope.answer) say("One step back.");
+    await this.stepped(await this.change("undo"), "One step back");
   }
 
   async redo() {
-    const envelope = await this.change("redo");
-    if (envelope.answer) say("One step forth.");
+    await this.stepped(await this.change("redo"), "One step forth");
+  }
+
+  /** A step back or forth was made: the foil that it is about is shown. */
+  async stepped(envelope, words) {
+    if (!envelope.answer) return;
+    const { foil } = envelope.answer;
+    if (foil !== this.state.at) await this.state.load(foil);
+    say(`${words}, on foil ${foil}.`);
   }
 
   async chooseFoil(k) {

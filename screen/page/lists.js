@@ -31,7 +31,20 @@ function showRefusals(desk, foil) {
   for (const check of foil.checks) if (!PUT.includes(check.matter)) items.push(checkItem(desk, check));
   for (const stray of foil.strays) items.push(lineItem(desk, stray.line, stray.why));
   byId("refusals-count").textContent = items.length ? items.length : "";
-  byId("refusals").replaceChildren(...(items.length ? items : [element("li", { kind: "empty", text: "nothing" })]));
+  renew(byId("refusals"), items.length ? items : [element("li", { kind: "empty", text: "nothing" })]);
+}
+
+/** Puts other items into a list; the focus and what is being typed stay where they are. */
+function renew(place, items) {
+  const active = place.contains(document.activeElement) ? document.activeElement : null;
+  const label = active && (active.getAttribute("aria-label") || active.textContent);
+  const typed = active && active.value !== active.defaultValue ? active.value : null;
+  place.replaceChildren(...items);
+  if (!active) return;
+  const again = [...place.querySelectorAll("button, input")]
+    .find(other => (other.getAttribute("aria-label") || other.textContent) === label);
+  (again || place).focus({ preventScroll: true });
+  if (again && typed !== null && again.tagName === "INPUT") again.value = typed;
 }
 
 /** A line of the list: a button that goes there, and others beside it. */
@@ -126,7 +139,7 @@ async function relay(desk, step, lift) {
 function showNets(desk, foil) {
   const body = byId("nets").tBodies[0], tones = colours();
   byId("nets-count").textContent = foil.nets.length || "";
-  body.replaceChildren(...foil.nets.map(net => netRow(desk, net, tones)));
+  renew(body, foil.nets.map(net => netRow(desk, net, tones)));
 }
 
 function netRow(desk, net, tones) {
@@ -162,7 +175,7 @@ function swatch(net, tones) {
 /** A field for a name, which is sent when it is left or Enter is pressed. */
 function nameInput(name, label, send) {
   const made = document.createElement("input");
-  made.value = name;
+  made.value = made.defaultValue = name;
   made.setAttribute("aria-label", label);
   made.maxLength = 40;
   made.placeholder = "name";
@@ -175,7 +188,7 @@ function nameInput(name, label, send) {
 
 function showKeys(desk, foil) {
   byId("keys-count").textContent = foil.patches.length || "";
-  byId("keys").replaceChildren(...foil.patches.map(patch => keyItem(desk, patch)));
+  renew(byId("keys"), foil.patches.map(patch => keyItem(desk, patch)));
 }
 
 function keyItem(desk, patch) {

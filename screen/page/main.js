@@ -11,6 +11,7 @@ For whoever tests the page, `window.screenState` holds what is shown, read anew 
     version, foilAt      of the order that is shown; the number of the foil
     text, unsent         as it is seen; whether it was typed and is not the server's yet
     foil                 FOIL as it is drawn
+    behind               the drawing is of an earlier text, dimmed: this text could not be read, or not be asked
     drawn                {tracks: [{net, legs, corners, colour}], patches: [BOX], strips: [BOX], refused: [{word, net,
                          number, start, end, box, line}]}: what is on the canvas, by the layers that are on
     under                what is shown of the point under the pointer: {point, answer, refused, took} or null; `took`
@@ -20,6 +21,7 @@ For whoever tests the page, `window.screenState` holds what is shown, read anew 
     tool, marked         the tool held; {nets, boxes, lines}
     view                 {scale, left, top}; paints: how often the drawing was drawn
     warnings             the warnings that stand, by kind
+    library, screens     as the last envelope had them
     pixelOf(x, y)        the place of a point's middle in the window, [clientX, clientY]
     goTo(x, y)           shows a point in the middle of the view
 
@@ -122,7 +124,8 @@ function shown() {
     get text() { return text.area.value; },
     get unsent() { return text.unsent; },
     get foil() { return state.foil; },
-    get drawn() { return drawnOf(drawing.foil); },
+    get behind() { return desk.stage.dataset.behind === "true"; },
+    get drawn() { return drawnOf(state.foil && state.foil.begun ? drawing.foil : null); },
     get under() { return under.answer; },
     get lit() { return overlay.lit; },
     get preview() { return desk.shownWay; },
@@ -131,6 +134,8 @@ function shown() {
     get view() { return { scale: view.scale, left: view.left, top: view.top }; },
     get paints() { return drawing.paints; },
     get warnings() { return warningsNow(); },
+    get library() { return state.library; },
+    get screens() { return state.screens; },
     pixelOf(x, y) {
       const box = desk.stage.getBoundingClientRect(), [px, py] = view.toPixel(x + 0.5, y + 0.5);
       return [box.left + px, box.top + py];

@@ -95,10 +95,12 @@ export function saveAs(desk) {
   const name = field("name of the order", { value: desk.state.whole.order.name, maxlength: 60, id: "save-name" });
   const links = element("p", { text: "To look at: " });
   for (const [kind, called] of FILES) links.append(fileLink(desk, kind, called), " ");
-  openDialog("Save the order", [name, links], [["Save", async () => {
-    const given = name.querySelector("input").value.trim();
-    closeDialog();
-    saved(desk, await daring(desk, "save", { name: given }));
+  const told = element("div", { kind: "said" });
+  openDialog("Save the order", [name, links, told], [["Save", async () => {
+    const envelope = await daring(desk, "save", { name: name.querySelector("input").value.trim() });
+    told.textContent = wordsOf(envelope);
+    saved(desk, envelope);
+    return !(envelope.fault && envelope.fault.kind === "name");
   }]]);
 }
 

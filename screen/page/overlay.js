@@ -75,15 +75,21 @@ export class Overlay {
     pen.setLineDash([]);
   }
 
-  /** An outline around the ink of marked nets and around marked boxes. */
+  /** An outline around the ink of marked nets, all legs of a net in one, and around marked boxes. */
   paintMarked() {
     const { pen, foil } = this, edge = 3 / this.view.scale;
-    pen.strokeStyle = this.colours.mark;
+    const legs = foil.nets.filter(net => this.marked.nets.has(net.net)).flatMap(net => net.legs);
+    const around = by => {
+      const path = new Path2D();
+      for (const leg of legs) path.rect(...this.rectangle(widened(leg, foil.half + by)));
+      return path;
+    };
+    pen.fillStyle = pen.strokeStyle = this.colours.mark;
+    pen.fill(around(2 * edge));
+    pen.globalCompositeOperation = "destination-out";
+    pen.fill(around(edge / 2));
+    pen.globalCompositeOperation = "source-over";
     pen.lineWidth = 3;
-    for (const net of foil.nets) {
-      if (!this.marked.nets.has(net.net)) continue;
-      for (const leg of net.legs) pen.strokeRect(...this.rectangle(widened(leg, foil.half + edge)));
-    }
     for (const box of this.marked.boxes) pen.strokeRect(...this.rectangle(widened(box, edge)));
   }
 

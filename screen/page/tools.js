@@ -106,6 +106,7 @@ class Lay extends Tool {
 /** A way drawn by hand, corner by corner; a press on its last corner books it. */
 class Way extends Tool {
   corners = [];
+  pressed = null;                 // the last point that was pressed, which need not be level with the corner before it
 
   hint() {
     return this.corners.length ? "Click the next corner; click the last one again, or press B, to book the way. "
@@ -127,8 +128,9 @@ class Way extends Tool {
 
   async press(point) {
     if (!this.corners.length) this.corners = [point];
-    else if (same(point, this.corners.at(-1))) return this.book();
+    else if (same(point, this.pressed) || same(point, this.corners.at(-1))) return this.book();
     else this.corners = extended(this.corners, point);
+    this.pressed = point;
     this.desk.plan({ anchor: this.corners[0], corners: this.corners });
     this.newest.want(point);
   }
@@ -146,6 +148,7 @@ class Way extends Tool {
 
   back() {
     this.corners = this.corners.slice(0, -1);
+    this.pressed = null;
     this.newest.drop();
     this.desk.plan(this.corners.length ? { anchor: this.corners[0], corners: this.corners } : {});
     this.desk.preview("");

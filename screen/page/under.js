@@ -18,7 +18,13 @@ export class Under {
     this.again();
   }
 
-  /** Asks of the same point anew, as the foil is another one. */
+  /** The foil may be another one: the strip that is lit is no answer any more, and the same point is asked of anew. */
+  renew() {
+    this.answer = null;
+    this.desk.overlay.set({ lit: null, blocks: [] });
+    this.again();
+  }
+
   again() {
     const { foil } = this.desk.state;
     if (!this.point || !foil || !foil.begun) return this.clear();
