@@ -3,6 +3,7 @@
 Two nets are short where their ink has a point in common, and too near where fewer points than the gap lie between. A
 net is in parts where its ink is not of one piece: ink is of one piece where it has a point in common or lies side by
 side; two points that touch at a corner do not."""
+import functools
 import itertools
 import textwrap
 from typing import NamedTuple
@@ -56,8 +57,14 @@ def pairs(foil):
     """For each two nets the legs that are nearest to each other, and how many points lie between their ink: less than 0
     where it has points in common."""
     for one, other in itertools.combinations(foil.nets, 2):
-        between, a, b = min((between_ink(a, b, foil.half), a, b) for a in one.legs for b in other.legs)
+        between, a, b = nearest_legs(tuple(one.legs), tuple(other.legs), foil.half)
         yield between, (one, a), (other, b)
+
+
+@functools.lru_cache(maxsize=1 << 14)
+def nearest_legs(one, other, half):
+    """The legs of two nets that are nearest to each other, after how many points lie between their ink."""
+    return min((between_ink(a, b, half), a, b) for a in one for b in other)
 
 
 def between_ink(a, b, half):

@@ -4,8 +4,8 @@ import collections
 from desk import advice, foils, job as jobs, lines
 from desk.boxes import area, common
 
-# how often the library is asked for one picture, and how many of its answers are kept
-MOST, KEPT = 200, 400
+# how many lifts are tried for one picture; how many answers of the library are kept, and how many notes
+MOST, KEPT, NOTED = 200, 400, 2000
 
 
 class Asked(advice.Asked):
@@ -13,7 +13,7 @@ class Asked(advice.Asked):
 
     def __init__(self, library, board, kept):
         super().__init__(None, board)
-        self.library, self.kept, self.left = library, kept, MOST
+        self.library, self.kept = library, kept
 
     def run(self, table, *more):
         """What comes of steps on the foil with this table: their outcomes and the strips, or none."""
@@ -44,21 +44,35 @@ class Adviser:
     """Gives notes on refused steps."""
 
     def __init__(self, library):
-        self.library, self.kept = library, collections.OrderedDict()
+        self.library = library
+        self.kept, self.noted = collections.OrderedDict(), collections.OrderedDict()
 
     def notes(self, account):
         """What would help with each refused step of a text, by its key: sentences."""
-        run, made = account.run, {}
+        run, made, left = account.run, {}, MOST
         if account.foil is None or not account.is_done:
             return made
-        good, board = foils.made_good(run), run.outcomes[0].step
-        asked = Asked(self.library, board, self.kept)
+        good, board = account.made_good, run.outcomes[0].step
         for outcome, table in zip(run.outcomes, foils.tables(run)):
             if outcome.said.number:
                 case, stead = advice.Case(board, table, account.foil.keys, outcome.step), good.get(outcome.key)
-                made[outcome.key] = advice.helping(case, outcome.said.number, None if stead else asked)
+                lifts = len(foils.legs_of(table)) if outcome.said.number == 9 and not stead else 0
+                made[outcome.key] = list(self.helping(case, outcome.said.number, not stead, lifts <= left))
                 made[outcome.key] += [advice.in_its_stead(stead, account.text)] if stead else []
+                left -= lifts if lifts <= left else 0
         return made
+
+    def helping(self, case, number, ask, tried):
+        """What would help with a refused step, worked out once: without the library where nothing is to be asked, and
+        with lifts that are tried or not."""
+        key = (case.board, tuple(case.table), case.step, number, frozenset(case.keys.items()), ask, tried)
+        if key not in self.noted:
+            asked = Asked(self.library, case.board, self.kept)
+            asked.left = MOST if tried else 0
+            self.noted[key] = advice.helping(case, number, asked if ask else None)
+            while len(self.noted) > NOTED:
+                self.noted.popitem(last=False)
+        return self.noted[key]
 
     def here(self, account, step, number, lifts=False):
         """What would help with a step that was refused on the foil as it stands; lifts are tried on demand."""

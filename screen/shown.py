@@ -25,6 +25,7 @@ class Account:
         self.names = names.names_of(text)
         self.called = foils.called_by(self.run, self.names)
         self.foil = foils.foil_of(self.run, self.names)
+        self.made_good = foils.made_good(self.run)
 
     @property
     def is_done(self):
@@ -99,7 +100,8 @@ def foil(k, source, account, counts, table, notes, ink):
         patches=[patch_seen(account, outcome) for outcome in patches],
         nets=nets_seen(account, nets, dict(each), texts.ink_of(source)["dead"]), strips=held["strips"],
         free=words.left_free(run.strips) if account.is_done else "",
-        open=[open_seen(account, outcome, table) for outcome in foils.left_open(run)],
+        open=[open_seen(account, outcome, table) for outcome in run.refused
+              if outcome.step.word == "track" and outcome.key not in account.made_good],
         missing=missing_seen(account, table), zones=zones(account),
         checks=[check_seen(finding) for finding in checks.findings(account.foil, LISTED)] if account.is_done else [],
         ink=ink_seen(source, account.board, each, number and refused(number, table, ink_range(source, account))))
