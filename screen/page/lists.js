@@ -60,7 +60,7 @@ function lineItem(desk, line, words) {
 }
 
 function rowItem(desk, row) {
-  const made = item("of-row", 0, `line ${row.line}: ${row.said}: ${row.words.join(" ")}`, () => desk.goToLine(row.line),
+  const made = item("of-row", 0, `line ${row.line}: ${row.said}: ${row.words.join("\n")}`, () => desk.goToLine(row.line),
                     dropButton(desk, row.line));
   made.dataset.line = row.line;
   return made;
@@ -102,7 +102,7 @@ function dropButton(desk, line) {
 
 /** Asks which single lift would open a way, each tried; the answer stands below the line. */
 function helpButton(desk, step, asked) {
-  return button("If lifted?", async event => {
+  return button("Which lift?", async event => {
     const place = event.target.closest("li");
     const envelope = await desk.state.ask("opens", asked);
     place.querySelector(".helps")?.remove();
