@@ -31,3 +31,8 @@ export function pointBox([x, y]) {
 export function spanned([ax, ay], [bx, by]) {
   return [Math.min(ax, bx), Math.min(ay, by), Math.max(ax, bx) + 1, Math.max(ay, by) + 1];
 }
+
+/** A box whichever way round it was given. */
+export function ordered([ax, ay, bx, by]) {
+  return [Math.min(ax, bx), Math.min(ay, by), Math.max(ax, bx), Math.max(ay, by)];
+}

@@ -1,5 +1,5 @@
 /* The dialog of the page: one at a time, with a head, a body and buttons. Escape closes it. */
-import { button, element } from "./say.js";
+import { button, element } from "./elements.js";
 
 const place = document.getElementById("dialog");
 

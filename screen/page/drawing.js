@@ -3,16 +3,16 @@
 It draws what the state holds and nothing else. Points that are blocked for the pen are those of no strip: they are
 hatched. Only what is in the view is drawn, so that 4,096 strips and a foil of 4,096 by 4,096 points go as smoothly as
 a small one. */
-import { common, widened } from "./boxes.js";
+import { common, ordered, widened } from "./boxes.js";
 import { colours, DASHES, hatch } from "./colours.js";
+import { paintLabels } from "./labels.js";
+import { paintRulers } from "./rulers.js";
 import { RULER } from "./view.js";
 
 const THINNEST = 1.6;             // ink that is narrower in pixels cannot be seen, and is drawn as wide as this
 const GRID = 14;                  // from so many pixels a point on there are lines between points
 const OUTLINED = 3;               // strips that are lower or narrower in pixels have no outline
 const MANY = 10;                  // where so many steps are refused their lines are dim
-const APART = 44;                 // the least between two numbers of a ruler
-const FONT = "system-ui, sans-serif";
 
 export class Drawing {
   constructor(canvas, view, layers) {
@@ -56,7 +56,7 @@ export class Drawing {
       pen.clip();
       this.paintFoil();
       pen.restore();
-      this.paintRulers();
+      paintRulers(this);
     }
     this.paints += 1;
   }
@@ -73,7 +73,7 @@ export class Drawing {
     if (layers.refused && crowded) this.paintRefused(crowded);
     this.paintTracks();
     if (layers.refused && !crowded) this.paintRefused(crowded);
-    this.paintLabels();
+    paintLabels(this);
   }
 
   /** A box of points as a rectangle in whole pixels of the drawing, not empty. */
@@ -219,74 +219,6 @@ export class Drawing {
     }
     pen.setLineDash([5, 3]);
   }
-
-  /** The names of keys, the numbers of nets with their names where there is room, the numbers of refusals. */
-  paintLabels() {
-    const { foil, pen } = this, taken = [];
-    pen.textAlign = "center";
-    pen.textBaseline = "middle";
-    for (const patch of foil.patches) if (patch.name) this.paintLabel(patch.name, patch.box, "key", taken);
-    for (const net of foil.nets) {
-      const leg = net.legs.reduce((best, other) => lengthOf(other) > lengthOf(best) ? other : best);
-      const name = net.name ? net.net + " " + net.name : String(net.net);
-      this.paintLabel(this.view.scale * lengthOf(leg) > 90 ? name : String(net.net), leg, "label", taken, net.dead);
-    }
-    if (!this.layers.refused) return;
-    for (const step of foil.refused.slice(0, 200)) {
-      const box = step.box ? ordered(step.box) : step.start && [...step.start, ...step.end];
-      if (box) this.paintLabel((step.net || step.word) + " (" + step.number + ")", box, "refused", taken);
-    }
-  }
-
-  /** A label at the middle of what is seen of a box, with a halo; left out where another one is. */
-  paintLabel(text, box, colour, taken, dead = false) {
-    const seen = common(widened(ordered(box), 0.01), this.view.seen);
-    if (seen[0] > seen[2] || seen[1] > seen[3]) return;
-    const shown = (text.length > 24 ? text.slice(0, 22) + ".." : text) + (dead ? " dead" : "");
-    const [px, py] = this.view.toPixel((seen[0] + seen[2]) / 2, (seen[1] + seen[3]) / 2);
-    const { pen } = this;
-    pen.font = "bold 12px " + FONT;
-    const wide = pen.measureText(shown).width / 2 + 2;
-    const spot = [px - wide, py - 8, px + wide, py + 8];
-    if (taken.some(other => meets(spot, other))) return;
-    taken.push(spot);
-    pen.lineJoin = "round";
-    pen.lineWidth = 3.5;
-    pen.strokeStyle = this.colours.halo;
-    pen.strokeText(shown, px, py);
-    pen.fillStyle = this.colours[dead ? "dead" : colour];
-    pen.fillText(shown, px, py);
-  }
-
-  /** The numbers of points, at the top and on the left, with a tick at the middle of the point. */
-  paintRulers() {
-    const { pen, view } = this, step = rulerStep(view.scale), [x0, y0, x1, y1] = view.seen;
-    pen.fillStyle = this.colours.ruler;
-    pen.fillRect(0, 0, view.wide, RULER - 2);
-    pen.fillRect(0, 0, RULER - 2, view.high);
-    pen.fillStyle = pen.strokeStyle = this.colours.tick;
-    pen.font = "11px " + FONT;
-    pen.lineWidth = 1;
-    pen.textAlign = "center";
-    pen.textBaseline = "middle";
-    pen.beginPath();
-    for (let x = Math.ceil(x0 / step) * step; x < x1; x += step) {
-      const px = view.toPixel(x + 0.5, 0)[0];
-      if (px < RULER) continue;
-      pen.fillText(x, px, RULER / 2 - 4);
-      pen.moveTo(px, RULER - 8);
-      pen.lineTo(px, RULER - 3);
-    }
-    pen.textAlign = "right";
-    for (let y = Math.ceil(y0 / step) * step; y < y1; y += step) {
-      const py = view.toPixel(0, y + 0.5)[1];
-      if (py < RULER) continue;
-      pen.fillText(y, RULER - 8, py);
-      pen.moveTo(RULER - 6, py);
-      pen.lineTo(RULER - 3, py);
-    }
-    pen.stroke();
-  }
 }
 
 /** Gives a canvas the size of the view, in pixels of the device: how many of them a pixel has. */
@@ -300,27 +232,7 @@ export function fitCanvas(canvas, view) {
   return ratio;
 }
 
-/** A box whichever way round it was given. */
-export function ordered([ax, ay, bx, by]) {
-  return [Math.min(ax, bx), Math.min(ay, by), Math.max(ax, bx), Math.max(ay, by)];
-}
-
 function addLine(path, [ax, ay], [bx, by]) {
   path.moveTo(ax, ay);
   path.lineTo(bx, by);
-}
-
-function meets(a, b) {
-  return a[0] < b[2] && a[2] > b[0] && a[1] < b[3] && a[3] > b[1];
-}
-
-function lengthOf([x0, y0, x1, y1]) {
-  return x1 - x0 + y1 - y0;
-}
-
-/** How many points there are between two numbers of a ruler: 1, 2 or 5 with zeros. */
-function rulerStep(scale) {
-  let step = 1;
-  while (step * scale < APART) step = String(step)[0] === "2" ? step * 5 / 2 : step * 2;
-  return step;
 }

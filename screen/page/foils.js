@@ -1,6 +1,6 @@
 /* The eight foils of a sheet as tabs, with how many entries each has and may still take. Arrow keys go from tab to
 tab. */
-import { element } from "./say.js";
+import { element } from "./elements.js";
 
 const bar = document.getElementById("foils");
 

@@ -1,6 +1,7 @@
 /* Forms: a whole order form of up to 40 nets, the figures of the ink, and the keys of the keyboard. */
 import { openDialog } from "./dialogs.js";
-import { element, say } from "./say.js";
+import { element } from "./elements.js";
+import { say } from "./say.js";
 import { wordsOf } from "./wire.js";
 
 const FORM = "A line for each net, up to 40: NET and x and y of its two ends; a name after #. They are laid in this "

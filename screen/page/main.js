@@ -1,9 +1,9 @@
 /* The page of the screen: it starts here.
 
-Modules: desk ties all together; wire and state speak with the server (screen/PROTOCOL.md); watch sees changes of
-other tabs; view, drawing, overlay, colours and boxes draw; pointer, tools and under follow the pointer and the
-keyboard's cursor; text is the text beside the foil; lists, foils, layers, forms, orders, dialogs, shortcuts and say
-are the rest.
+Modules: desk ties all together; wire and state speak with the server (screen/PROTOCOL.md), and watch sees changes of
+other tabs; view, drawing with labels and rulers, overlay, colours and boxes draw; pointer and shortcuts listen;
+under, tools, tool, laying and patching follow the pointer and the keyboard's cursor; text is the text beside the
+foil; marks, refusals, lists, foils, layers, forms, orders, dialogs, elements, telling and say are the rest.
 
 For whoever tests the page, `window.screenState` holds what is shown, read anew at each use:
 
@@ -31,9 +31,9 @@ have data-net, data-number, data-line, rows of #nets data-net and data-ohms, ite
 data-version. */
 import { Desk } from "./desk.js";
 import { listenToInk, showShortcuts } from "./forms.js";
-import { layers, listenToLayers, remember, remembered, setTheme, toggleTheme } from "./layers.js";
-import { warningsNow } from "./say.js";
+import { listenToLayers, remember, remembered, setTheme, toggleTheme } from "./layers.js";
 import { listenToKeys, SHORTCUTS } from "./shortcuts.js";
+import { shown } from "./shown.js";
 import { watch } from "./watch.js";
 
 const byId = id => document.getElementById(id);
@@ -46,7 +46,7 @@ listenToInk(desk);
 listenToKeys(desk);
 listenToPart();
 listenToTools();
-window.screenState = shown();
+window.screenState = shown(desk);
 start();
 
 /** Asks for the order until it is there; then watches it. */
@@ -108,52 +108,4 @@ function listenToPart() {
     const by = { ArrowLeft: -20, ArrowRight: 20 }[event.key];
     if (by) put(Number(part.getAttribute("aria-valuenow")) + by);
   });
-}
-
-/** What is shown, for whoever tests the page. */
-function shown() {
-  const { state, view, drawing, overlay, pointer, text, under } = desk;
-  return {
-    get ready() { return Boolean(state.whole); },
-    get idle() {
-      return Boolean(state.whole) && !state.busy && !text.unsent && !pointer.waiting && !drawing.asked && !overlay.asked
-        && !under.newest.busy && !desk.tool.newest.busy;
-    },
-    get version() { return state.version; },
-    get foilAt() { return state.at; },
-    get text() { return text.area.value; },
-    get unsent() { return text.unsent; },
-    get foil() { return state.foil; },
-    get behind() { return desk.stage.dataset.behind === "true"; },
-    get drawn() { return drawnOf(state.foil && state.foil.begun ? drawing.foil : null); },
-    get under() { return under.answer; },
-    get lit() { return overlay.lit; },
-    get preview() { return desk.shownWay; },
-    get tool() { return desk.toolName; },
-    get marked() { return { ...desk.marked, nets: [...desk.marked.nets] }; },
-    get view() { return { scale: view.scale, left: view.left, top: view.top }; },
-    get paints() { return drawing.paints; },
-    get warnings() { return warningsNow(); },
-    get library() { return state.library; },
-    get screens() { return state.screens; },
-    pixelOf(x, y) {
-      const box = desk.stage.getBoundingClientRect(), [px, py] = view.toPixel(x + 0.5, y + 0.5);
-      return [box.left + px, box.top + py];
-    },
-    goTo(x, y) { view.centre(x + 0.5, y + 0.5); },
-  };
-}
-
-/** What is on the canvas of a foil. */
-function drawnOf(foil) {
-  if (!foil) return { tracks: [], patches: [], strips: [], refused: [] };
-  const strips = [];
-  for (let at = 0; at < foil.strips.length; at += 4) strips.push(Array.from(foil.strips.slice(at, at + 4)));
-  return {
-    tracks: foil.nets.map(({ net, legs, corners, colour }) => ({ net, legs, corners, colour })),
-    patches: foil.patches.map(patch => patch.box),
-    strips: layers.strips || layers.blocked ? strips : [],
-    refused: layers.refused ? foil.refused.map(({ word, net, number, start, end, box, line }) =>
-      ({ word, net, number, start, end, box, line })) : [],
-  };
 }

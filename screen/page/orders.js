@@ -2,7 +2,8 @@
 carton's page, and a print at a given size of a point. */
 import { closeDialog, confirmed, field, openDialog } from "./dialogs.js";
 import { remember, remembered } from "./layers.js";
-import { button, count, element, say } from "./say.js";
+import { button, element } from "./elements.js";
+import { count, say } from "./say.js";
 import { wordsOf } from "./wire.js";
 
 const FILES = [["text", "text"], ["job", "job file"], ["picture", "picture"], ["slip", "slip"]];

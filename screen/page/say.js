@@ -1,5 +1,6 @@
 /* What is said to the person: a line at the foot, which screen readers read out; and warnings that stay until what
 they warn of is over. */
+import { button } from "./elements.js";
 
 const byId = id => document.getElementById(id);
 const warnings = new Map();
@@ -37,26 +38,6 @@ function showWarnings() {
     place.append(line);
   }
   place.hidden = warnings.size === 0;
-}
-
-/** A button with a label and what it does. */
-export function button(label, act, attributes = {}) {
-  const made = document.createElement("button");
-  made.type = "button";
-  made.textContent = label;
-  for (const [name, value] of Object.entries(attributes)) made.setAttribute(name, value);
-  made.addEventListener("click", act);
-  return made;
-}
-
-/** An element with a class, a text and children. */
-export function element(tag, { kind = "", text = "", data = {} } = {}, ...children) {
-  const made = document.createElement(tag);
-  if (kind) made.className = kind;
-  if (text !== "") made.textContent = text;
-  Object.assign(made.dataset, data);
-  made.append(...children);
-  return made;
 }
 
 /** A number of things in words. */

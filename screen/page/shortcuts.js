@@ -66,7 +66,7 @@ function plain(desk, event) {
     0: () => desk.view.fit(), a: () => desk.view.pan(-PAN, 0), d: () => desk.view.pan(PAN, 0),
     e: () => desk.view.pan(0, -PAN), x: () => desk.view.pan(0, PAN), b: () => desk.book(),
     s: () => document.getElementById("snap").click(), n: () => document.getElementById("net").focus(),
-    f: () => desk.orderForm(), g: () => desk.nextRefusal(), Delete: () => desk.liftMarked(),
+    f: () => desk.orderForm(), g: () => desk.marks.goToNext(), Delete: () => desk.liftMarked(),
     Backspace: () => desk.tool.back(), "?": () => showShortcuts(SHORTCUTS),
   }[key] || null;
 }

@@ -112,13 +112,13 @@ export class TextPane {
   caretMoved() {
     const line = this.caretLine;
     if (line === this.told && !this.unsent) return;
-    this.desk.markLine(line);
+    this.desk.marks.setLine(line);
     this.tellLine();
   }
 
   gutterClicked(event) {
     const line = Number(event.target.dataset.line);
-    if (line) this.desk.goToLine(line);
+    if (line) this.desk.marks.goToLine(line);
   }
 
   /** What came of the caret's line, below the text. */
