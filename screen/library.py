@@ -119,8 +119,10 @@ class Library:
 
     def put(self, question):
         """Puts a question: the answer."""
+        left = memoryview(json.dumps(question).encode() + b"\n")
         try:
-            self.process.stdin.write(json.dumps(question).encode() + b"\n")
+            while left:
+                left = left[self.process.stdin.write(left):]
         except OSError:
             self.fail(ended(self.process))
         told = json.loads(self.line(time.monotonic() + self.longest))

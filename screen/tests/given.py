@@ -83,7 +83,10 @@ class Page:
 
     def state(self, k=0):
         """The order as it stands."""
-        return self.ask("state", foil=k)["answer"]
+        told = self.ask("state", foil=k)
+        if "answer" not in told:
+            raise AssertionError(told)
+        return told["answer"]
 
 
 @with_library
@@ -119,7 +122,9 @@ class Served(unittest.TestCase):
 
     def have(self, text, k=0):
         """Has a text on a foil: the foil."""
-        return self.page.change("text", foil=k, text=text)["answer"]["state"]["foil"]
+        told = self.page.change("text", foil=k, text=text)
+        self.assertIn("answer", told, told)
+        return told["answer"]["state"]["foil"]
 
     def foil(self, k=0):
         """A foil as it stands."""
