@@ -194,7 +194,9 @@ class Bench:
     def join(self, k, net, point, ink):
         """What a join would give, on a copy."""
         foil = self.sheet.copy().foil(k)
-        return changed_by(foil, net, foil.join(net, point), ink)
+        before = length_of(foil, net)
+        made = changed_by(foil, net, foil.join(net, point), ink)
+        return {**made, "length": made["length"] - before, "net_length": made["length"]} if not made["number"] else made
 
     def draw(self, k, box):
         """What a patch would be answered, on a copy."""
@@ -264,10 +266,14 @@ def told(way, lay=0):
 
 def measured(foil, net, ink):
     """The length of a net by the slip, and its ohms, where the ink is known."""
-    rows = [line.split() for line in foil.slip().data.decode("ascii").splitlines()]
-    length = next((int(row[2]) for row in rows if int(row[0]) == net), None)
     ohms = foil.ohms(net, ink) if ink else None
-    return {"length": length, "ohms": ohms and ohms.ohms}
+    return {"length": length_of(foil, net), "ohms": ohms and ohms.ohms}
+
+
+def length_of(foil, net):
+    """The length of a net by the slip; 0 where it is not on the foil."""
+    rows = [line.split() for line in foil.slip().data.decode("ascii").splitlines()]
+    return next((int(row[2]) for row in rows if int(row[0]) == net), 0)
 
 
 def changed_by(foil, net, way, ink):

@@ -53,8 +53,6 @@ def asked(session, k, box, by, nets):
     patch = next((outcome for outcome in account.standing()[0] if outcome.step.numbers == tuple(box)), None)
     if patch is None:
         raise Fault("asked", "there is no patch %d %d %d %d" % tuple(box))
-    if min(box[0] + by[0], box[1] + by[1]) < 0:
-        raise Refused(shown.refused(3, session.table, ["the patch would reach past the foil"], "patch"))
     tracks = tracks_of(account, box)[0]
     if nets is not None:
         wrong = [net for net in nets if net not in account.standing()[1]]
@@ -62,7 +60,21 @@ def asked(session, k, box, by, nets):
             raise Fault("asked", "net %d is not on the foil" % wrong[0])
         tracks = {net: steps[0] for net, steps in account.standing()[1].items()
                   if net in nets and len(steps) == 1 and steps[0].step.word == "track"}
-    return account, Move(patch, tuple(by), tracks)
+    move = Move(patch, tuple(by), tracks)
+    refuse_unasked(account, move)
+    return account, move
+
+
+def refuse_unasked(account, move):
+    """Refuses a move that no call can be asked about, since it has numbers below 0."""
+    x, y = moved_patch(move)[:2]
+    if min(x, y) < 0:
+        raise Fault("asked", "the patch would begin at %d,%d: no call can be asked about numbers below 0" % (x, y))
+    for net in move.tracks:
+        for x, y in new_ends(account, move, net):
+            if min(x, y) < 0:
+                raise Fault("asked", "an end of net %d would go along, to %d,%d: no call can be asked about numbers "
+                            "below 0" % (net, x, y))
 
 
 def new_ends(account, move, net):

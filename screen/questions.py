@@ -65,6 +65,7 @@ def way_seen(session, k, said, step):
     dead = shown.texts.ink_of(session.order.texts[k])["dead"]
     ohms = said.get("ohms")
     return {"corners": said["corners"], "bends": said["bends"], "length": said.get("length"), "ohms": ohms,
+            "net_length": said.get("net_length", said.get("length")),
             "dead": ohms is not None and shown.ohms.is_dead(ohms, dead),
             "lay": shown.refused(said["lay"], session.table, step=step) if said.get("lay") else None}
 

@@ -72,7 +72,8 @@ class Clicks(given.Served):
         made = self.done("join", foil=0, net=1, point=[2, 5])
         self.assertEqual(made["way"]["corners"], tried["corners"])
         net, = made["state"]["foil"]["nets"]
-        self.assertEqual(net["length"], tried["length"])
+        self.assertEqual((tried["corners"], tried["length"]), ([[2, 5], [2, 0]], 5))
+        self.assertEqual((net["length"], tried["net_length"]), (13, 13))
         self.assertEqual(made["state"]["foil"]["text"].splitlines()[2].split()[:2], ["leg", "1"])
         self.assertEqual(net["lines"], [2, 3])
 

@@ -36,14 +36,23 @@ class Moves(given.Served):
     def test_a_move_that_cannot_be(self):
         self.have("board 20 12 0\npatch 2 2 4 4\ntrack 1 5 3 18 3\ntrack 2 0 8 19 8\npatch 10 10 12 12\nend\n")
         before = self.page.state()
-        for by, number in (([0, 5], 21), ([0, 30], 3), ([-3, 0], 3), ([0, -3], 3)):
+        for by, number in (([0, 5], 21), ([0, 30], 3)):
             told = self.page.change("move", foil=0, box=[2, 2, 4, 4], by=by)
             self.assertEqual(told["refused"]["number"], number, told)
+        for by in ([-3, 0], [0, -3]):
+            told = self.page.change("move", foil=0, box=[2, 2, 4, 4], by=by)
+            self.assertIn("no call can be asked", told["fault"]["why"])
         told = self.page.change("move", foil=0, box=[10, 10, 12, 12], by=[6, -8])
         self.assertEqual(told["refused"]["number"], 21, told)
         self.assertIn("net 1", told["refused"]["here"][0])
         self.assertEqual(self.page.change("move", foil=0, box=[1, 1, 2, 2], by=[1, 1])["fault"]["kind"], "asked")
         self.assertEqual(self.page.state(), before)
+
+    def test_an_end_that_would_go_below_0(self):
+        self.have(given.sample("less-ink"))
+        for word in ("try_move", "move"):
+            told = self.page.change(word, foil=0, box=[4, 2, 5, 7], by=[-2, 3])
+            self.assertIn("an end of net 1 would go along, to -1,7", told["fault"]["why"])
 
     def test_names_and_remarks_stay(self):
         self.have("# a remark\nboard 20 12 0, patch 2 2 4 4  # key: on\ntrack 1 5 3 18 3  # net: one\n\nend\n")
@@ -58,7 +67,8 @@ class Moves(given.Served):
                 patch = chance.choice(before["patches"])
                 by = [chance.randint(-6, 6), chance.randint(-6, 6)]
                 told = self.page.change("move", foil=0, box=patch["box"], by=by)
-                if "refused" in told:
+                if "answer" not in told:
+                    self.assertTrue("refused" in told or "below 0" in told["fault"]["why"], told)
                     self.assertEqual(self.foil()["text"], before["text"])
                     continue
                 after = told["answer"]["state"]["foil"]
