@@ -83,7 +83,7 @@ export function showInk(foil) {
   form.elements.sheet.value = ink.sheet ?? "";
   form.elements.bend.value = ink.bend ?? "";
   form.elements.width.value = ink.given ? ink.width : "";
-  form.elements.width.placeholder = `pen: ${ink.width}`;
+  form.elements.width.placeholder = ink.width === null ? "the pen's" : `pen: ${ink.width}`;
   form.elements.dead.value = ink.dead ?? "";
   tellInk(said, ink);
 }

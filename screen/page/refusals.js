@@ -12,7 +12,9 @@ const PUT = ["open", "not on the foil"];   // matters of the check list that sta
 /** Shows the list of a foil. */
 export function showRefusals(desk, foil) {
   const items = [...foil.unread.map(fault => lineItem(desk, fault.line, "cannot be read: " + fault.why))];
-  if (foil.fault) items.push(lineItem(desk, foil.fault.line, `(${foil.fault.number}) ${foil.fault.says}`));
+  if (foil.fault && !foil.rows.some(row => row.refused && row.line === foil.fault.line)) {
+    items.push(lineItem(desk, foil.fault.line, `(${foil.fault.number}) ${foil.fault.says}`));
+  }
   items.push(...foil.refused.map(step => step.word === "track" ? openItem(desk, step) : missingItem(desk, step)));
   const listed = new Set(foil.refused.map(step => step.line));
   for (const row of foil.rows) {

@@ -3,16 +3,17 @@ import { count, warn } from "./say.js";
 
 const byId = id => document.getElementById(id);
 
-/** Where there is no foil to be drawn, why not. */
+/** Where there is no foil to be drawn, why not; over an earlier drawing, or that of a file at fault, at its foot. */
 export function tellNothing(desk) {
-  const { foil } = desk.state, place = byId("nothing");
-  place.hidden = foil.begun;
+  const { foil } = desk.state, place = byId("nothing"), drawn = Boolean(desk.drawing.foil);
+  place.hidden = foil.begun && !foil.fault;
   place.classList.toggle("refused", Boolean(foil.unread.length || foil.fault));
-  place.classList.toggle("earlier", Boolean(!foil.begun && desk.drawing.foil));
-  desk.stage.dataset.behind = Boolean(desk.state.behind || !foil.begun && desk.drawing.foil);
+  place.classList.toggle("earlier", drawn);
+  desk.stage.dataset.behind = Boolean(desk.state.behind || !foil.begun && drawn);
   place.textContent = foil.unread.length ? "Nothing is asked of this text: a line of it cannot be read.\n"
       + foil.unread.map(fault => `line ${fault.line}: ${fault.why}`).join("\n")
-    : foil.fault ? `There is no foil (${foil.fault.number}): ${foil.fault.says}\n${foil.fault.to_do}`
+    : foil.fault ? `${foil.begun ? "Drawn is what was done up to here" : "There is no foil"} (${foil.fault.number}): `
+      + `${foil.fault.says}\n${foil.fault.to_do}`
       : "This foil is not begun.\nNew… begins it, or type its board into the text.";
 }
 
