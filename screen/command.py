@@ -85,10 +85,10 @@ def opened(kept, word):
         source = sources.source(word)
         given = source.content
         text = textform.show(given) if source.is_job else shelf.decoded(given, source.name)
+        title = source.title if shelf.NAME.fullmatch(source.title) and ".." not in source.title else ""
+        return kept.begin(Order(title, [text] + [""] * (FOILS - 1), saved=False), left=bool(title))
     except Fault as fault:
         raise statuses.Misused(fault.why)
-    title = source.title if shelf.NAME.fullmatch(source.title) and ".." not in source.title else ""
-    return kept.begin(Order(title, [text] + [""] * (FOILS - 1), saved=False), left=bool(title))
 
 
 def order_of(kept, path):

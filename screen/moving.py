@@ -92,22 +92,21 @@ def moved_patch(move):
 
 def text_of(account, source, move, legs):
     """The text after a move, with the nets in `legs` kept as legs."""
-    lines, made = texts.lines_of(source), {}
+    lines, made, patch = texts.lines_of(source), {}, account.line_of(move.patch.place)
 
-    def change(number):
-        patch_line = account.line_of(move.patch.place) == number
+    def without(words):
+        """A step that stays, or none for one of a net that is laid or put anew."""
+        gone = words[0] in ("track", "lift", "leg") and (int(words[1]) in move.tracks or int(words[1]) in legs)
+        return None if gone else words
 
-        def step(words):
-            if patch_line and words[0] == "patch":
-                return ["patch", *map(str, moved_patch(move))]
-            if words[0] in ("track", "lift", "leg") and (int(words[1]) in move.tracks or int(words[1]) in legs):
-                return None
-            return words
-        return step
+    def moved(words):
+        """The same on the line of the patch."""
+        return ["patch", *map(str, moved_patch(move))] if words[0] == "patch" else without(words)
 
     for line in account.text.lines:
         if line.said.split()[0] not in ("end", "bytes"):
-            made[line.number] = texts.with_steps(lines[line.number - 1], change(line.number))
+            change = moved if line.number == patch else without
+            made[line.number] = texts.with_steps(lines[line.number - 1], change)
     new = [texts.step_line("leg", (net, *box), name_of(account, net) if at == 0 else "")
            for net in legs for at, box in enumerate(legs[net])]
     new += [texts.step_line("track", (net, *start, *end), name_of(account, net)) for net, (start, end) in

@@ -1,7 +1,7 @@
 """What is asked of a foil as it stands: nothing is changed by it."""
 from desk import advice, job as jobs
 from screen import advising, shown
-from screen.session import Fault, Refused
+from screen.session import Refused
 
 
 def refuse(session, account, step, number, more=None, lifts=False):

@@ -1,6 +1,5 @@
 """What the page can ask, by name, with what each wants: PROTOCOL.md has it in words. A request is checked here, and
 done by questions, changes, moving, the order or the shelf."""
-from desk import job as jobs
 from screen import changes, moving, papers, questions
 from screen.library import Unasked
 from screen.order import FOILS, Order
@@ -96,10 +95,12 @@ def numbers(value, key, count, least=0):
 # what asks
 
 def find(session, asked):
+    """The way of a track before it is laid."""
     return questions.find(session, asked.foil, asked.numbers("from", 2), asked.numbers("to", 2), asked.net(False))
 
 
 def opens(session, asked):
+    """The lifts that would help: for a patch, or for a track."""
     if asked.has("box"):
         return questions.lets(session, asked.foil, asked.numbers("box", 4))
     return questions.opens(session, asked.foil, asked.numbers("from", 2), asked.numbers("to", 2), asked.net(False))
@@ -112,6 +113,7 @@ def moved(asked):
 
 
 def watch(session, asked):
+    """Waits for a change."""
     session.watch(*(asked.values.get(key) for key in ("version", "generation", "screens")))
     return {}
 
@@ -137,17 +139,20 @@ ASKING = {
 # what changes
 
 def relay(session, asked):
+    """Lifts a net for a track, and lays it again."""
     step = questions.track(asked.net(), asked.numbers("from", 2), asked.numbers("to", 2))
     return changes.relay(session, asked.foil, asked.number("lift"), step, asked.word("name", 200))
 
 
 def name(session, asked):
+    """Names a key or a net."""
     if asked.has("box"):
         return changes.name_key(session, asked.foil, asked.numbers("box", 4), asked.word("name", 200))
     return changes.name_net(session, asked.foil, asked.net(), asked.word("name", 200))
 
 
 def ink(session, asked):
+    """Keeps the ink's figures."""
     figures = {key: asked.figure(key) for key in ("sheet", "bend", "width", "dead")}
     return changes.put_ink(session, asked.foil, figures)
 
@@ -176,6 +181,7 @@ def take(session, order):
 
 
 def open_order(session, asked):
+    """Opens a past order."""
     wanted = good(asked.word("name"))
     refuse_unsaved(session, asked)
     session.shelf.texts(wanted)
@@ -184,12 +190,14 @@ def open_order(session, asked):
 
 
 def new_order(session, asked):
+    """Begins an order without a name."""
     refuse_unsaved(session, asked)
     session.shelf.drop_draft()
     return take(session, session.shelf.begin(Order()))
 
 
 def template(session, asked):
+    """Begins an order with the texts of a past one."""
     wanted = good(asked.word("name"))
     refuse_unsaved(session, asked)
     texts = session.shelf.texts(wanted)
@@ -198,6 +206,7 @@ def template(session, asked):
 
 
 def save(session, asked):
+    """Saves the order, under its name or another."""
     wanted = good(asked.word("name") or session.order.name)
     if not asked.truth("force"):
         session.shelf.refuse(session.order, wanted)

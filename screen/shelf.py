@@ -237,7 +237,7 @@ class Shelf:
         if self.lock is None:
             return
         content = json.dumps({"name": order.name, "when": now(), "texts": order.texts}).encode()
-        with contextlib.suppress(OSError), self.own() as own:
+        with contextlib.suppress(OSError, Fault), self.own() as own:
             self.write(own, self.slot + ".draft", content, sure=False)
 
     def drop_draft(self):

@@ -1,5 +1,4 @@
 """Orders: saved, opened again, copied, told apart from those of other screens, and not lost with a server."""
-import json
 import subprocess
 import threading
 import time
