@@ -32,6 +32,7 @@ data-version. */
 import { Desk } from "./desk.js";
 import { listenToInk, showShortcuts } from "./forms.js";
 import { listenToLayers, remember, remembered, setTheme, toggleTheme } from "./layers.js";
+import { say } from "./say.js";
 import { listenToKeys, SHORTCUTS } from "./shortcuts.js";
 import { shown } from "./shown.js";
 import { watch } from "./watch.js";
@@ -46,6 +47,7 @@ listenToInk(desk);
 listenToKeys(desk);
 listenToPart();
 listenToTools();
+listenToPoint();
 window.screenState = shown(desk);
 start();
 
@@ -87,6 +89,17 @@ function listenToTools() {
       desk.hold(next.dataset.tool);
       next.focus();
     });
+  });
+}
+
+/** The field for a point: Enter puts the cursor there. */
+function listenToPoint() {
+  byId("go").addEventListener("submit", event => {
+    event.preventDefault();
+    const found = /^\s*(\d+)\D+(\d+)\s*$/.exec(byId("point").value);
+    if (!found || !desk.marks.goToPoint([Number(found[1]), Number(found[2])])) {
+      say(`${byId("point").value || "nothing"}: no point of this foil, as in 12 40`, true);
+    }
   });
 }
 

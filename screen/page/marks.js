@@ -1,11 +1,13 @@
 /* What is marked: nets, boxes and lines of the text. A line marks its track, a track its line, and a line of a list
 both. */
-import { pointBox } from "./boxes.js";
+import { pointBox, widened } from "./boxes.js";
 import { markLists } from "./lists.js";
 import { say } from "./say.js";
 import { netWords } from "./tool.js";
 
 const byId = id => document.getElementById(id);
+const APART = 4;                  // pixels from which points are told apart
+const ROOM = 20;                  // points around one that is gone to
 const NEAR = 6;                   // pixels from which a track is still hit
 
 export class Marks {
@@ -65,6 +67,17 @@ export class Marks {
     const x = Math.min(Math.max(Math.floor((box[0] + box[2]) / 2), 0), this.desk.view.size.width - 1);
     const y = Math.min(Math.max(Math.floor((box[1] + box[3]) / 2), 0), this.desk.view.size.height - 1);
     this.desk.pointer.put([x, y]);
+  }
+
+  /** Puts the cursor on a point and shows it, large enough to be told from the next; whether there is such a point. */
+  goToPoint([x, y]) {
+    const { foil } = this.desk.state, { view } = this.desk;
+    if (!foil || !foil.begun || x >= foil.width || y >= foil.height) return false;
+    if (view.scale < APART) view.goTo(widened(pointBox([x, y]), ROOM));
+    view.reveal(x, y);
+    this.desk.pointer.put([x, y]);
+    this.desk.stage.focus({ preventScroll: true });
+    return true;
   }
 
   /** Goes to the next line of the list of refusals. */

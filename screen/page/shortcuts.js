@@ -7,6 +7,7 @@ const PAN = 80;                   // pixels
 
 export const SHORTCUTS = [
   ["Arrows", "move the cursor on the foil; with Shift ten points"],
+  [".", "goes to a point, by its x and y"],
   ["Enter", "a click on the point under the cursor"],
   ["Escape", "drops what was begun; then: marks nothing"],
   ["Backspace", "takes the last corner of a way back"],
@@ -66,6 +67,7 @@ function plain(desk, event) {
     0: () => desk.view.fit(), a: () => desk.view.pan(-PAN, 0), d: () => desk.view.pan(PAN, 0),
     e: () => desk.view.pan(0, -PAN), x: () => desk.view.pan(0, PAN), b: () => desk.book(),
     s: () => document.getElementById("snap").click(), n: () => document.getElementById("net").focus(),
+    ".": () => document.getElementById("point").select(),
     f: () => desk.orderForm(), g: () => desk.marks.goToNext(), Delete: () => desk.liftMarked(),
     Backspace: () => desk.tool.back(), "?": () => showShortcuts(SHORTCUTS),
   }[key] || null;

@@ -37,9 +37,10 @@ export class Tool {
 }
 
 /** A way's figures in words. */
-export function wayWords({ bends, length, ohms, dead }) {
+export function wayWords({ bends, length, net_length: whole, ohms, dead }) {
   const resistance = ohms === null || ohms === undefined ? "" : `, ${ohms.toFixed(3)} ohms${dead ? " (dead)" : ""}`;
-  return `${count(bends, "bend")}, length ${length}${resistance}`;
+  const net = whole && whole !== length ? `; the net then ${whole}` : "";
+  return `${count(bends, "bend")}, length ${length}${net}${resistance}`;
 }
 
 /** A net in words. */
