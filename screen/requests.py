@@ -8,6 +8,8 @@ from screen.shelf import good
 
 # the largest number of a call, and the longest lists that are taken
 MOST, CORNERS, WISHES = 0xFFFF, 8192, 400
+# a figure of the ink is less
+LARGEST = 1e9
 
 
 class Asked:
@@ -62,9 +64,11 @@ class Asked:
     def figure(self, key):
         """A number with or without decimals, or none."""
         given = self.values.get(key)
-        if given is not None and (isinstance(given, bool) or not isinstance(given, (int, float))):
+        if given is None:
+            return None
+        if isinstance(given, bool) or not isinstance(given, (int, float)) or not abs(given) < LARGEST:
             raise Fault("asked", "`%s` is no number" % key)
-        return given if given is None else float(given)
+        return float(given)
 
     def wishes(self):
         """The nets of an order form."""

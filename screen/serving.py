@@ -145,7 +145,7 @@ class Handler(BaseHTTPRequestHandler):
         except Exception as fault:
             status, made = 500, {"fault": {"kind": "mistake", "why": statuses.mistake(fault)}}
         about = {} if status == 403 else session.envelope()
-        self.send(status, "application/json", json.dumps({**about, **made}, separators=(",", ":")), POLICY)
+        self.send(status, "application/json", answer_of({**about, **made}), POLICY)
 
     def refuse(self):
         """Another method than GET and POST."""
@@ -170,6 +170,11 @@ class Handler(BaseHTTPRequestHandler):
         if self.command != "HEAD":
             self.wfile.write(content)
         self.wfile.flush()
+
+
+def answer_of(values):
+    """An answer as JSON, which has no number that is none."""
+    return json.dumps(values, separators=(",", ":"), allow_nan=False)
 
 
 def page_file(name):

@@ -1,5 +1,7 @@
 """Lines, names and ink figures of a text: what a click writes into it. A line is only ever put in, taken out, or
 changed in the step or the name that is meant; all else stays as it was typed."""
+import argparse
+import math
 import re
 
 from desk import arguments, job as jobs, names, ohms, textform
@@ -115,9 +117,10 @@ def ink_of(text):
 def figure_of(word):
     """A figure, or none."""
     try:
-        return arguments.figure(word)
-    except Exception:
+        figure = arguments.figure(word)
+    except argparse.ArgumentTypeError:
         return None
+    return figure if math.isfinite(figure) else None
 
 
 def inked(text, figures):
