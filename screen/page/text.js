@@ -16,6 +16,8 @@ export class TextPane {
     this.marks = document.getElementById("line-marks");
     this.said = document.getElementById("line-said");
     this.unsent = false;          // what is seen was typed and is not yet the server's
+    this.base = "";               // the text that it was typed into
+    this.sending = null;
     this.timer = 0;
     this.lines = new Set();       // the marked lines
     this.listen();
@@ -39,7 +41,7 @@ export class TextPane {
     for (const row of foil.rows) if (row.line) lines.set(row.line, [...(lines.get(row.line) || []), row]);
     this.rows = lines;
     this.unread = new Map(foil.unread.map(fault => [fault.line, fault.why]));
-    if (!this.unsent && this.area.value !== foil.text) this.put(foil.text);
+    if (!this.unsent) this.put(foil.text);
     this.area.disabled = false;
     this.paint();
     this.tellLine();
@@ -47,6 +49,8 @@ export class TextPane {
 
   /** Puts a text in place of what is there, and keeps caret and scrolling. */
   put(text) {
+    this.base = text;
+    if (this.area.value === text) return;
     const { selectionStart, scrollTop, scrollLeft } = this.area;
     this.area.value = text;
     this.area.setSelectionRange(selectionStart, selectionStart);
@@ -61,45 +65,42 @@ export class TextPane {
     this.paint();
   }
 
-  /** Sends what was typed, where it is not sent yet; resolves when that is done. */
+  /** Sends what was typed, where it is not sent yet; resolves when that is done or has failed. */
   async send() {
     clearTimeout(this.timer);
+    while (this.unsent && this.sending) await this.sending;
     if (!this.unsent) return;
-    const text = this.area.value, { state } = this.desk, foil = state.at;
-    const envelope = await state.change("text", { foil, text }, { quiet: true });
-    if (envelope.answer) {
-      if (this.area.value === text) this.unsent = false;
-      if (!this.unsent) this.show();
-      this.desk.behind("");
-    } else {
-      this.failed(envelope);
-    }
+    this.sending = this.sendNow().finally(() => { this.sending = null; });
+    await this.sending;
+  }
+
+  async sendNow() {
+    const text = this.area.value, { state } = this.desk;
+    if (state.foil.text !== this.base) return this.tellMet();
+    const envelope = await state.change("text", { text }, { quiet: true });
+    if (!envelope.answer) return this.failed(envelope);
+    this.base = text;
+    this.unsent = this.area.value !== text;
+    this.show();
+    this.desk.behind("");
   }
 
   /** The text could not be sent: it stays, and the page says that the drawing is not of it. */
-  failed(envelope) {
+  async failed(envelope) {
     if (envelope.fault && envelope.fault.kind === "stale") {
-      this.desk.behind("Another screen changed this order. What you typed is kept here, and is not sent.", [
-        ["Send mine", async () => { await this.reload(false); this.send(); }],
-        ["Take theirs", () => this.reload(true)]]);
-    } else {
-      this.desk.behind("What is drawn is of an earlier text: " + wordsOf(envelope),
-                       [["Send again", () => this.send()]]);
-      this.timer = setTimeout(() => this.send(), AGAIN);
+      const loaded = await this.desk.state.load();
+      if (loaded.answer) return this.sendNow();
     }
+    this.desk.behind("What is drawn is of an earlier text: " + wordsOf(envelope), [["Send again", () => this.send()]]);
+    this.timer = setTimeout(() => this.send(), AGAIN);
   }
 
-  /** Asks for the state anew; with `give`, what was typed is given up. */
-  async reload(give) {
-    if (give) this.unsent = false;
-    await this.desk.state.load();
-    if (give) this.desk.behind("");
-  }
-
-  /** What is typed is given up, as another foil or order is shown. */
-  forget() {
-    clearTimeout(this.timer);
-    this.unsent = false;
+  /** The text was changed elsewhere while it was typed into: which of the two it is to be is for the person to say. */
+  tellMet() {
+    const { state } = this.desk;
+    this.desk.behind("This text was changed elsewhere while you typed. What you typed is kept here, and is not sent.", [
+      ["Send mine", () => { this.base = state.foil.text; this.send(); }],
+      ["Take theirs", () => { this.unsent = false; this.desk.behind(""); this.desk.show(); }]]);
   }
 
   // lines
