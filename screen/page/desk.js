@@ -88,7 +88,7 @@ export class Desk {
   /** The drawing is not of the text that is seen, and why; or it is, where `words` is empty. */
   behind(words, actions = null) {
     this.state.behind = words;
-    this.stage.dataset.behind = Boolean(words || this.state.foil && !this.state.foil.begun && this.drawing.foil);
+    this.stage.dataset.behind = Boolean(this.drawing.foil && (words || !this.state.foil.begun));
     warn("behind", words, actions);
   }
 
@@ -222,11 +222,16 @@ export class Desk {
     await this.state.load(k);
   }
 
-  open() { return orders.openOrders(this); }
-  save() { return orders.save(this); }
-  saveAs() { return orders.saveAs(this); }
-  newOrder() { return orders.newOrder(this); }
-  carton() { return orders.carton(this); }
-  print() { return orders.printFoil(this); }
-  orderForm() { return orderForm(this); }
+  open() { return this.withOrder(orders.openOrders); }
+  save() { return this.withOrder(orders.save); }
+  saveAs() { return this.withOrder(orders.saveAs); }
+  newOrder() { return this.withOrder(orders.newOrder); }
+  carton() { return this.withOrder(orders.carton); }
+  print() { return this.withOrder(orders.printFoil); }
+  orderForm() { return this.withOrder(orderForm); }
+
+  /** Does something that is about the order, once it is there. */
+  withOrder(act) {
+    return this.state.whole ? act(this) : say("The order could not be asked for yet.", true);
+  }
 }

@@ -49,6 +49,8 @@ listenToPart();
 listenToTools();
 listenToPoint();
 window.screenState = shown(desk);
+window.addEventListener("error", event => desk.broken(event.error || event));
+window.addEventListener("unhandledrejection", event => desk.broken(event.reason));
 start();
 
 /** Asks for the order until it is there; then watches it. */

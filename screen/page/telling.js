@@ -9,7 +9,7 @@ export function tellNothing(desk) {
   place.hidden = foil.begun && !foil.fault;
   place.classList.toggle("refused", Boolean(foil.unread.length || foil.fault));
   place.classList.toggle("earlier", drawn);
-  desk.stage.dataset.behind = Boolean(desk.state.behind || !foil.begun && drawn);
+  desk.stage.dataset.behind = drawn && Boolean(desk.state.behind || !foil.begun);
   place.textContent = foil.unread.length ? "Nothing is asked of this text: a line of it cannot be read.\n"
       + foil.unread.map(fault => `line ${fault.line}: ${fault.why}`).join("\n")
     : foil.fault ? `${foil.begun ? "Drawn is what was done up to here" : "There is no foil"} (${foil.fault.number}): `

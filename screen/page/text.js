@@ -76,6 +76,7 @@ export class TextPane {
 
   async sendNow() {
     const text = this.area.value, { state } = this.desk;
+    if (!state.foil) return this.later("the order could not be asked for yet");
     if (state.foil.text !== this.base) return this.tellMet();
     const envelope = await state.change("text", { text }, { quiet: true });
     if (!envelope.answer) return this.failed(envelope);
@@ -91,7 +92,12 @@ export class TextPane {
       const loaded = await this.desk.state.load();
       if (loaded.answer) return this.sendNow();
     }
-    this.desk.behind("What is drawn is of an earlier text: " + wordsOf(envelope), [["Send again", () => this.send()]]);
+    this.later(wordsOf(envelope));
+  }
+
+  /** Says why what was typed is not sent, and sends it again after a while. */
+  later(why) {
+    this.desk.behind("What was typed is not asked yet: " + why, [["Send again", () => this.send()]]);
     this.timer = setTimeout(() => this.send(), AGAIN);
   }
 
