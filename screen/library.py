@@ -63,10 +63,11 @@ class Library:
         return self.process is not None and self.process.poll() is None
 
     def seen(self):
-        """What the page is told of it."""
-        there = self.standing
-        return {"generation": self.generation, "pid": self.process.pid if there else None, "standing": there,
-                "why": "" if there else self.why or (ended(self.process) if self.process else "it is not started yet")}
+        """What the page is told of it. Nothing is waited for, and another thread may end it meanwhile."""
+        process = self.process
+        there = process is not None and process.poll() is None
+        why = "" if there else self.why or (ended(process) if process else "it is not started yet")
+        return {"generation": self.generation, "pid": process.pid if there else None, "standing": there, "why": why}
 
     def set_jobs(self, jobs):
         """Has the sheet that these jobs give: what each foil holds, by foil."""
