@@ -1,4 +1,5 @@
 """Orders: saved, opened again, copied, told apart from those of other screens, and not lost with a server."""
+import re
 import subprocess
 import threading
 import time
@@ -178,7 +179,9 @@ class Orders(given.Served):
         page = self.page.get("print/foil?foil=0&mm=0.5").decode()
         self.assertEqual(self.page.status, 200)
         self.assertIn("the foil 61 by 61 mm", page)
-        self.assertIn("<svg", page)
+        wide, unit, scale = (float(re.search(form, page)[1]) for form in (
+            r'<svg [^>]*\bwidth="([\d.]+)mm"', r'viewBox="0 0 ([\d.]+) ', r"scale\(([\d.]+)\)"))
+        self.assertAlmostEqual(wide / unit * scale, 0.5, 3)
         self.assertIn("sandbox", self.page.headers["Content-Security-Policy"])
         carton = self.page.get("print/carton?foil=0").decode()
         self.assertIn("No track is open", carton)
