@@ -35,7 +35,7 @@ export function orderForm(desk) {
 }
 
 /** The nets of an order form; `fault` says which line cannot be read. */
-export function wishesOf(text) {
+function wishesOf(text) {
   const wishes = [];
   for (const [at, line] of text.split("\n").entries()) {
     if (!line.trim()) continue;

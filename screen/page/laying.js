@@ -172,7 +172,7 @@ function showWay(desk, envelope, plan, straight) {
 
 /** Corners with one more, level with the last or upright over it, whichever is nearer to the point; a corner in the
 middle of a straight is left out. */
-export function extended(corners, [x, y]) {
+function extended(corners, [x, y]) {
   const [lx, ly] = corners.at(-1);
   const level = Math.abs(x - lx) >= Math.abs(y - ly);
   const next = level ? [x, ly] : [lx, y];

@@ -1,7 +1,7 @@
 /* The keys of the keyboard that hold wherever the focus is, but for fields in which something is typed. */
 import { dialogOpen } from "./dialogs.js";
 import { showShortcuts } from "./forms.js";
-import { toggleLayer, toggleTheme } from "./layers.js";
+import { toggleLayer } from "./layers.js";
 
 const PAN = 80;                   // pixels
 
@@ -23,9 +23,9 @@ export const SHORTCUTS = [
   ["1 2 3 4", "layers: strips, clearance, blocked, refused"],
   ["Ctrl+Z Ctrl+Y", "undo, redo"],
   ["Ctrl+O Ctrl+S Ctrl+P", "past orders, save, print"],
-  ["Alt+D", "light or dark"],
-  ["Alt+0 Alt+7", "foil 0 to foil 7"],
-  ["Alt+T Alt+F", "to the text, to the foil"],
+  ["[ ]", "the foil before, the next one; also Alt+0 to Alt+7"],
+  ["I", "to the text; Escape goes back to the foil"],
+  ["C", "light or dark"],
   ["?", "this list"],
 ];
 
@@ -50,8 +50,7 @@ function withCtrl(desk, event) {
 
 function withAlt(desk, event) {
   const digit = /^Digit([0-7])$/.exec(event.code);
-  if (digit) return () => desk.chooseFoil(Number(digit[1]));
-  return { KeyD: toggleTheme, KeyT: () => desk.text.area.focus(), KeyF: () => desk.stage.focus() }[event.code];
+  return digit && (() => desk.chooseFoil(Number(digit[1])));
 }
 
 function plain(desk, event) {
@@ -68,6 +67,8 @@ function plain(desk, event) {
     e: () => desk.view.pan(0, -PAN), x: () => desk.view.pan(0, PAN), b: () => desk.book(),
     s: () => document.getElementById("snap").click(), n: () => document.getElementById("net").focus(),
     ".": () => document.getElementById("point").select(),
+    "[": () => desk.chooseFoil((desk.state.at + 7) % 8), "]": () => desk.chooseFoil((desk.state.at + 1) % 8),
+    i: () => desk.text.area.focus(), c: () => document.getElementById("theme").click(),
     f: () => desk.orderForm(), g: () => desk.marks.goToNext(), Delete: () => desk.liftMarked(),
     Backspace: () => desk.tool.back(), "?": () => showShortcuts(SHORTCUTS),
   }[key] || null;
