@@ -45,8 +45,8 @@ export class Overlay {
     pen.beginPath();
     pen.rect(RULER, RULER, view.wide - RULER, view.high - RULER);
     pen.clip();
-    this.paintLit();
     this.paintMarked();
+    this.paintLit();
     this.paintPlan();
     this.paintCursor();
     pen.restore();
@@ -134,14 +134,17 @@ export class Overlay {
     pen.lineCap = "butt";
   }
 
-  /** The foil as a move would leave it: its patches and the ink of its nets as outlines. */
+  /** The foil as a move would leave it: the ink of the nets that are another way there. */
   paintGhost(ghost) {
-    const { pen } = this;
-    pen.lineWidth = 1.5;
-    for (const patch of ghost.patches) pen.strokeRect(...this.rectangle(patch.box));
+    const { pen } = this, before = new Map(this.foil.nets.map(net => [net.net, String(net.legs)]));
+    const path = new Path2D();
     for (const net of ghost.nets) {
-      for (const leg of net.legs) pen.strokeRect(...this.rectangle(widened(leg, this.foil.half)));
+      if (before.get(net.net) === String(net.legs)) continue;
+      for (const leg of net.legs) path.rect(...this.rectangle(widened(leg, this.foil.half)));
     }
+    pen.globalAlpha = 0.5;
+    pen.fill(path);
+    pen.globalAlpha = 1;
   }
 
   /** A spot with a ring, at a point that a tool has taken. */
