@@ -3,7 +3,7 @@ stays as it was.
 
 A join and a way drawn by hand have no line of their own in the text form: they stand there as `leg` lines of their net,
 which put the same entries. That these are the same is seen to before the text is taken."""
-from desk import job as jobs, textform
+from desk import job as jobs
 from screen import order as orders, questions, shown, texts
 from screen.questions import refuse, step_said
 from screen.session import Fault, Refused
@@ -151,7 +151,7 @@ def begin(session, k, board):
     if not source.strip():
         inks = [figures for figures in map(texts.ink_of, session.order.texts) if figures["sheet"] is not None]
         text = texts.inked(texts.EMPTY % line, inks[0] if inks else {})
-    elif read.text and textform.step_of(read.text.lines[0].said.split(",")[0].split()).word == "board":
+    elif read.text and read.text.lines[0].said.startswith("board "):
         text = texts.reboarded(source, read.text.lines[0].number, line)
     else:
         raise Fault("unread", "the text of foil %d has no board that could be changed" % k)

@@ -53,6 +53,8 @@ def asked(session, k, box, by, nets):
     patch = next((outcome for outcome in account.standing()[0] if outcome.step.numbers == tuple(box)), None)
     if patch is None:
         raise Fault("asked", "there is no patch %d %d %d %d" % tuple(box))
+    if account.text.line_of(patch.place).said.startswith("bytes"):
+        raise Fault("asked", "the patch is in a line of bytes, which no click changes")
     tracks = tracks_of(account, box)[0]
     if nets is not None:
         wrong = [net for net in nets if net not in account.standing()[1]]

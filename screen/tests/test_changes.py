@@ -176,6 +176,19 @@ class Clicks(given.Served):
             self.assertEqual(self.page.change("draw", foil=0, box=[0, 0, 1, 1])["fault"]["kind"], "unread")
         self.assertTrue(self.have("board 9 9 0\nend\n")["begun"])
 
+    def test_a_foil_is_begun_or_given_another_board(self):
+        board = {"width": 12, "height": 10, "half": 1, "gap": 2}
+        for text in ("end\n", "bytes 00\n", "patch 0 0 1 1\nend\n", "what\n"):
+            self.have(text)
+            self.assertEqual(self.page.change("begin", foil=0, **board)["fault"]["kind"], "unread")
+        self.have("# so\nboard 9 9 0, patch 4 2 5 7  # key: on\nend\n")
+        made = self.done("begin", foil=0, **board)["state"]["foil"]
+        self.assertEqual(made["text"], "# so\nboard 12 10 pen 1 2, patch 4 2 5 7  # key: on\nend\n")
+        self.assertEqual(made["board"], board)
+        self.done("ink", foil=0, sheet=0.5, bend=0.5, width=None, dead=None)
+        made = self.done("begin", foil=1, **board)["state"]["foil"]
+        self.assertEqual(made["text"], "# ink: sheet 0.5 bend 0.5\nboard 12 10 pen 1 2\nend\n")
+
     def test_a_refused_line_stands_in_the_lists(self):
         made = self.have(given.SMALL)
         self.assertEqual([(of["net"], of["number"], of["line"]) for of in made["open"]], [(2, 8, 3)])

@@ -54,6 +54,11 @@ class Moves(given.Served):
             told = self.page.change(word, foil=0, box=[4, 2, 5, 7], by=[-2, 3])
             self.assertIn("an end of net 1 would go along, to -1,7", told["fault"]["why"])
 
+    def test_a_patch_in_a_line_of_bytes(self):
+        self.have("board 20 12 0\nbytes 02 02 00 02 00 04 00 04 00\nend\n")
+        told = self.page.change("move", foil=0, box=[2, 2, 4, 4], by=[1, 1])
+        self.assertIn("a line of bytes", told["fault"]["why"])
+
     def test_names_and_remarks_stay(self):
         self.have("# a remark\nboard 20 12 0, patch 2 2 4 4  # key: on\ntrack 1 5 3 18 3  # net: one\n\nend\n")
         told = self.page.change("move", foil=0, box=[2, 2, 4, 4], by=[1, 1])["answer"]["state"]["foil"]
