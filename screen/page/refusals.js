@@ -76,7 +76,8 @@ function goToStep(desk, step, box) {
 }
 
 function dropButton(desk, line) {
-  return button("Take out", () => desk.change("drop", { line }), { title: "Takes the line out of the text" });
+  return button("Take out", () => desk.change("drop", { line }),
+                { title: "Takes the line out of the text", "aria-label": `Take out line ${line}` });
 }
 
 /** Asks which single lift would open a way, each tried; the answer stands below the line. */
@@ -86,7 +87,7 @@ function helpButton(desk, step, asked) {
     const envelope = await desk.state.ask("opens", asked);
     place.querySelector(".helps")?.remove();
     place.append(helpOf(desk, step, envelope));
-  }, { title: "Tries each single lift" });
+  }, { title: "Tries each single lift", "aria-label": `Which lift? For line ${step.line}` });
 }
 
 function helpOf(desk, step, envelope) {
