@@ -20,7 +20,7 @@ NETS = {"track": 2, "lift": 3, "leg": 4}
 
 
 class Disagreed(Exception):
-    """Two calls that must agree do not."""
+    """Calls do not agree that must: which."""
 
 
 @dataclass
@@ -235,11 +235,6 @@ class Bench:
         said = [(net, foil.ohms(net, ink)) for net in foil.nets]
         return [[net, int(answer.refusal), answer.ohms] for net, answer in said]
 
-    def save(self, k):
-        """The foil as a job file."""
-        said = self.sheet.foil(k).save()
-        return {"number": int(said.refusal), "job": said.data.hex()}
-
 
 def is_tight(runs):
     """Whether these runs may have met the sheet's limit on entries: then their order counts."""
@@ -252,11 +247,17 @@ def held(foil, ran):
     """What a job has left on its foil: its lines, its record, its table, its strips and its slip."""
     if not is_begun(ran):
         return {"lines": ran.lines, "ended": False, "board": None, "entries": [], "strips": [], "slip": ""}
-    sheet, board = foil.sheet, foil.board
-    slip = foil.slip()
+    board = foil.board
     return {"lines": ran.lines, "ended": ran.ended, "board": board[:4], "entries": foil.entries,
-            "strips": sheet.lists.strips_of(foil.k)[:4 * board.strips], "slip": slip.data.decode("ascii"),
-            "slip_number": int(slip.refusal)}
+            "strips": foil.sheet.lists.strips_of(foil.k)[:4 * board.strips], "slip": slip_of(foil)}
+
+
+def slip_of(foil):
+    """The lines of a foil's slip."""
+    slip = foil.slip()
+    if not slip.accepted:
+        raise Disagreed("the slip of a foil was refused (%d)" % slip.refusal)
+    return slip.data.decode("ascii")
 
 
 def told(way, lay=0):
@@ -272,7 +273,7 @@ def measured(foil, net, ink):
 
 def length_of(foil, net):
     """The length of a net by the slip; 0 where it is not on the foil."""
-    rows = [line.split() for line in foil.slip().data.decode("ascii").splitlines()]
+    rows = [line.split() for line in slip_of(foil).splitlines()]
     return next((int(row[2]) for row in rows if int(row[0]) == net), 0)
 
 

@@ -152,6 +152,9 @@ class Session:
     # changes
 
     def changed(self):
-        """The order has changed: tabs that watch are told, and a draft is kept."""
-        self.shelf.keep_draft(self.order)
+        """The order has changed: tabs that watch are told, and a draft is kept while there is something to save."""
+        if self.order.unsaved:
+            self.shelf.keep_draft(self.order)
+        else:
+            self.shelf.drop_draft()
         self.told.notify_all()

@@ -171,6 +171,11 @@ class Orders(given.Served):
         self.assertEqual(list((self.folder / "orders" / ".screen").glob("*.draft")), [])
         self.have("board 3 3 0\nend\n")
         self.assertEqual(len(list((self.folder / "orders" / ".screen").glob("*.draft"))), 1)
+        self.assertTrue(self.page.state()["order"]["unsaved"])
+        self.page.change("undo")
+        self.assertFalse(self.page.state()["order"]["unsaved"])
+        self.assertEqual(list((self.folder / "orders" / ".screen").glob("*.draft")), [])
+        self.page.change("redo")
         self.page.change("new", discard=True)
         self.assertEqual(list((self.folder / "orders" / ".screen").glob("*.draft")), [])
 
