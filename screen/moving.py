@@ -1,4 +1,5 @@
-"""A key that is moved, with its tracks: those with an end near it are lifted and laid anew, their ends moved with it.
+"""A key that is moved, with its tracks: those with an end near it, and to no other patch nearer, are lifted and laid
+anew, their ends moved with it.
 
 In the text the patch's line gets its new place, the lines of its tracks go, and tracks between the moved ends stand
 behind all others. Every other track stays where it is: one that would take another way, now that the text is run
@@ -6,7 +7,7 @@ without those, is kept as `leg` lines."""
 from typing import NamedTuple
 
 from desk import blocking, foils, job as jobs
-from desk.boxes import area, common, widened
+from desk.boxes import apart, area, common, widened
 from screen import changes, questions, shown, texts
 from screen.session import Fault, Refused
 
@@ -28,18 +29,19 @@ def shifted(point, by):
     return (point[0] + by[0], point[1] + by[1])
 
 
-def near(point, box, pen):
-    """Whether a point is as near to a key as an end of its track."""
-    return area(common(blocking.point_box(point), widened(box, blocking.reach(0, pen) + 1 + NEAR))) > 0
+def is_end_of(account, box, point):
+    """Whether a point is as near to a key as an end of its track, and to no other patch nearer."""
+    at, pen = blocking.point_box(point), account.held["board"][2:]
+    others = [apart(at, other) for net, *other in account.held["entries"] if not net]
+    return area(common(at, widened(box, blocking.reach(0, pen) + 1 + NEAR))) > 0 and apart(at, box) <= min(others)
 
 
 def tracks_of(account, box):
     """The tracks that go with a key, by net; and the nets near it that stay, since they have legs of their own."""
-    pen = account.held["board"][2:]
     tracks, stay = {}, []
     for net, steps in account.standing()[1].items():
         ends = [end for outcome in steps if outcome.step.word == "track" for end in foils.points_of(outcome.step)]
-        if any(near(end, box, pen) for end in ends):
+        if any(is_end_of(account, box, end) for end in ends):
             if len(steps) == 1:
                 tracks[net] = steps[0]
             else:
@@ -81,8 +83,7 @@ def refuse_unasked(account, move):
 
 def new_ends(account, move, net):
     """The ends of a track after the move: those near the key go with it."""
-    pen = account.held["board"][2:]
-    return [shifted(end, move.by) if near(end, move.patch.step.numbers, pen) else end
+    return [shifted(end, move.by) if is_end_of(account, move.patch.step.numbers, end) else end
             for end in foils.points_of(move.tracks[net].step)]
 
 

@@ -26,6 +26,11 @@ class Moves(given.Served):
         back = self.page.change("undo", foil=0)["answer"]["state"]["foil"]
         self.assertEqual((back["text"], back["job"]), (before["text"], before["job"]))
 
+    def test_an_end_between_two_keys_is_that_of_the_nearer(self):
+        self.have("board 20 12 0\npatch 2 2 4 4\npatch 7 2 9 4\ntrack 1 6 3 6 9\ntrack 2 4 3 4 9\nend\n")
+        self.assertEqual(self.page.ask("tracks_of", foil=0, box=[2, 2, 4, 4])["answer"]["nets"], [2])
+        self.assertEqual(self.page.ask("tracks_of", foil=0, box=[7, 2, 9, 4])["answer"]["nets"], [1])
+
     def test_others_that_would_take_another_way_are_kept_as_legs(self):
         text = "board 20 12 0\npatch 2 2 4 4\ntrack 1 5 3 18 3\ntrack 2 5 1 12 6\nend\n"
         before = self.have(text)
