@@ -33,7 +33,8 @@ def is_end_of(account, box, point):
     """Whether a point is as near to a key as an end of its track, and to no other patch nearer."""
     at, pen = blocking.point_box(point), account.held["board"][2:]
     others = [apart(at, other) for net, *other in account.held["entries"] if not net]
-    return area(common(at, widened(box, blocking.reach(0, pen) + 1 + NEAR))) > 0 and apart(at, box) <= min(others)
+    return area(common(at, widened(box, blocking.reach(0, pen) + 1 + NEAR))) > 0 and (
+        apart(at, box) <= min(others, default=0))
 
 
 def tracks_of(account, box):
