@@ -213,11 +213,6 @@ module _ (m : ℕ → Bool) (P : ℕ → Type 0) (down : (x : ℕ) → m (suc x)
       let i : x + (z - x) ≡ z = omega arith in
       subst P i (go-up (z - x) x (λ a b c. h a (omega arith) (omega arith)) k))
 
--- targets on marked columns only are steady
-pub marked-steady : (T : ℕ → ℕ → Type 0) (m : ℕ → Bool) → ((x y : ℕ) → T x y → m x ≡ true) → Steady T m
-marked-steady T m h =
-    record { down = λ x y e t. clash (h (suc x) y t) e; up = λ x y e t. clash (h x y t) e }
-
 module _ (f : ℕ → ℕ → Bool) (m : ℕ → Bool) (size : ℕ) (M : Marks f m size) where
   module _ (T : ℕ → ℕ → Type 0) (steady : Steady T m) where
     between : (g e : ℕ) → ((z : ℕ) → g < z → z < e → m z ≡ false) → Between f T g e

@@ -131,9 +131,6 @@ module _ {T : Type 0} (tell : Room → Step → T → After Answer T) (Q : T →
   unfolding shownBy
   itself n s x g = record { is = refl; kept = keeps n s x g }
 
-  pub steps-keep : (ss : List Step) (x : T) → Q x → Q (actAll (tell r) ss x .state)
-  steps-keep ss x g = steps-shown (λ y. y) Q (tell r) (tell r) (itself (r .output)) ss x g .kept
-
   pub each-keeps : (ss : List Step) (n : ℕ) (x : T) → Q x → Q (actEach tell (withOutput r n) ss x .state)
   each-keeps ss n x g = each-shown (λ y. y) Q tell tell r itself ss n x g .kept
 

@@ -9,7 +9,7 @@ use Rattle.foil_spec.specs.Foil.{Point, Layout, netOk}
 use Rattle.foil_spec.specs.Paths.{isPathTo, bends, pathLength}
 use Rattle.foil_spec.specs.Corners.{cornersIn}
 use Rattle.foil_spec.specs.Nets.{inUse, netLength, netBends}
-use Rattle.foil_spec.specs.Ledger.{without, freeFor, onLegs, onNet, legs, short, tooFine}
+use Rattle.foil_spec.specs.Ledger.{without, freeFor, onLegs, legs, short, tooFine}
 use Rattle.foil_spec.specs.Ledger.{lift, join, refused, accepted, laid}
 use Rattle.path_laws.specs.First.{IsFirst}
 use Rattle.ledger_laws.specs.Moments.{Moment, AtEvery}

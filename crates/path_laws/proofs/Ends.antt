@@ -2,7 +2,7 @@
 -- one to the point where it ends.
 use Prim.Native.Nat.{ℕ}
 use mathlib.Core.Path.{_≡_, refl, sym, ap, _∙_, subst}
-use mathlib.Core.Bool.{Bool, true, false, _&&_, and-true, and-false}
+use mathlib.Core.Bool.{Bool, true, _&&_, and-true, and-false}
 use mathlib.Core.List.{List, [], _∷_}
 use Rattle.foil_spec.specs.Foil.{Point, same}
 use Rattle.foil_spec.specs.Paths.{Heading, either, after, segment, leads, at, isPathTo, isPath}

@@ -10,9 +10,9 @@ use mathlib.Core.Logic.{_⊎_, inl, inr, ⊎-elim, by-cases}
 use lib.ListN.{length}
 use Rattle.foil_spec.specs.Foil.{Point, same}
 use Rattle.foil_spec.specs.Paths.{either, segment, leads, isPathTo, bends, cornersBefore}
-use Rattle.foil_spec.specs.Paths.{stepsFrom, pathLength, before, at}
+use Rattle.foil_spec.specs.Paths.{stepsFrom, pathLength, before}
 use Rattle.foil_spec.specs.Paths.{shortest, goings, firstFrom, firstPathTo}
-use Rattle.list_laws.proofs.Tests.{clash, and-l, and-r, parts, true-or-false}
+use Rattle.list_laws.proofs.Tests.{clash, and-l, parts, true-or-false}
 use Rattle.list_laws.proofs.Members.{In, Sorted}
 use Rattle.path_laws.proofs.Segments.{same-eq, same-self, Level, Upright, of-segment}
 use Rattle.path_laws.proofs.Goings.{of-goings, in-goings, sorted-goings}

@@ -87,17 +87,6 @@ of-before cs ds h =
     (or-cases (ltb (pathLength cs) (pathLength ds))
     (eqb (pathLength cs) (pathLength ds) && cornersBefore cs ds) h)
 
--- the order of paths is strict
-before-both : (cs ds : List Point) → before cs ds ≡ true → before ds cs ≡ true → ⊥
-before-both cs ds h k = go (of-before cs ds h) (of-before ds cs k)
-  where
-    go : (pathLength cs < pathLength ds) ⊎ ((pathLength cs ≡ pathLength ds) × (cornersBefore cs ds ≡ true))
-        → (pathLength ds < pathLength cs) ⊎ ((pathLength ds ≡ pathLength cs) × (cornersBefore ds cs ≡ true)) → ⊥
-    go (inl a) (inl b) = omega arith
-    go (inl a) (inr b) = omega arith
-    go (inr a) (inl b) = omega arith
-    go (inr a) (inr b) = corners-both cs ds (a .1) (b .1)
-
 -- Of ways to go on from p whose corners are in order, `shortest` takes the first in the order of paths.
 module _ (p : Point) where
   -- cs comes no later than ds

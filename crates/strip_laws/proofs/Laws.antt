@@ -10,13 +10,12 @@ use lib.ListN.{length, getD}
 use borrow.Author.Tests.{lt-ltb, ltb-true}
 use Rattle.foil_spec.specs.Lists.{keep}
 use Rattle.foil_spec.specs.Foil.{Point, point}
-use Rattle.foil_spec.specs.Strips.{Run, runs, starts, isRun, rowOf, Strip, strips, holds, placeOf}
+use Rattle.foil_spec.specs.Strips.{Run, starts, isRun, rowOf, Strip, strips, holds, placeOf}
 use Rattle.list_laws.proofs.Tests.{both, clash, and-i, parts}
 use Rattle.list_laws.proofs.Members.{In, in-keep, of-keep, Sorted, sorted-keep}
 use Rattle.strip_laws.specs.Rules.{IsRun, columns, IsStrip, stripBefore, Stop, FoundStrip}
 use Rattle.strip_laws.proofs.Stop.{stop-of, starts-zero, starts-after, starts-not}
 use Rattle.strip_laws.proofs.Runs.{isRun-yes, run-starts, run-lt, run-Stop}
-use Rattle.strip_laws.proofs.Runs.{of-runs, in-runs, fromBefore, sorted-runs}
 use Rattle.strip_laws.proofs.Strips.{Begun, of-strips, in-strips, rows-of, ends-later, top-starts}
 use Rattle.strip_laws.proofs.Strips.{Held, of-holds, to-holds, stripOf, strip-only, strip-begun, strip-held}
 use Rattle.strip_laws.proofs.Strips.{none-stands, stands-alone, sorted-strips, place-in}
@@ -60,18 +59,6 @@ module _ (g : ℕ → Bool) (W : ℕ) (r : Run) where
   run-no : {A : Type 0} → A ⊎ (IsRun g W r → ⊥) → A ⊎ (isRun g W r ≡ false)
   run-no (inl a) = inl a
   run-no (inr n) = inr (both (isRun g W r) (λ e. absurd (n (run-means e))) (λ e. e))
-
-  -- the listed runs of a row are its runs
-  pub listed-run : In r (runs g W) → isRun g W r ≡ true
-  listed-run = of-runs g W r
-
-  -- and all of them
-  pub run-listed : isRun g W r ≡ true → In r (runs g W)
-  run-listed = in-runs g W r
-
--- from left to right
-pub runs-in-order : (g : ℕ → Bool) (W : ℕ) → Sorted fromBefore (runs g W)
-runs-in-order g W = sorted-runs g W
 
 module _ (f : ℕ → ℕ → Bool) (W H : ℕ) where
   -- the listed strips are strips
