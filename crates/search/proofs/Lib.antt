@@ -4,4 +4,5 @@ pub mod Choice
 pub mod Written
 pub mod Search
 pub mod Finding
+pub mod Here
 pub mod OneTarget

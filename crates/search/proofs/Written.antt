@@ -60,6 +60,10 @@ written cs out l =
     sets-eq (numbers cs) out 0 (omega arith)
     ∙ ap (λ (n : ℕ). numbers cs ++ drop n out) (zero-add (length (numbers cs)))
 
+-- one corner
+pub corner-written : (x y : ℕ) (out : List ℕ) → 2 ≤ length out → Written (point x y ∷ []) out (put out 0 x y)
+corner-written x y out l = put-more out 0 x y [] ∙ written (point x y ∷ []) out l
+
 turns-length : (up : Bool) (cols rows : List ℕ) (i j : ℕ) (qs : List ℕ) → length (turns up cols rows i j qs) ≡ length qs
 unfolding turns
 turns-length up cols rows i j [] = refl

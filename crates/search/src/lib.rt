@@ -15,10 +15,12 @@ use labels::put_corner;
 use labels::rounds;
 use labels::upright_step;
 use runs::next_stop;
+use sowing::is_boxed;
 use sowing::sow_targets;
 ghost use mathlib.Core.Path.{_≡_};
 ghost use mathlib.Core.Bool.{true};
-ghost use mathlib.Core.List.{List};
+ghost use mathlib.Core.List.{List, [], _∷_};
+ghost use mathlib.Core.Option.{some};
 ghost use Prim.Native.Nat.{ℕ, _+_, _*_, _≤_, _<_};
 ghost use lib.ListN.{length};
 ghost use Rattle.foil_spec.specs.Foil.{Point, point};
@@ -625,6 +627,17 @@ fn path_among_many(
     )
 }
 
+// The path from a target to itself: one corner, written to the front of `out` where it fits. Answers how many there are.
+fn stay(out: &mut [u16], x: u16, y: u16) -> usize
+    ensures { λ r. ⌜ Found (some (point x y ∷ [])) (now (out .entry)) (now (out .exit)) r ⌝ }
+{
+    if out.len() < 2 {
+        return 1;
+    }
+    put_corner(out, 0, x, y);
+    1
+}
+
 // Searches the first path of fewest bends and least length from a point that the first n boxes leave free to a target,
 // which is a point in one of the first k target boxes that they leave free. Answers how many corners it has, 0 where
 // there is no path. Where they fit, they are written to the front of `out`, and else nothing is.
@@ -643,6 +656,9 @@ pub fn first_path_to(
     ensures { λ r. ⌜ PathFound (firstPathTo (boxFree w h n (now (boxes .entry))) w h (point sx sy)
         (target w h n (now (boxes .entry)) k (now (targets .entry)))) (now (out .entry)) (now (out .exit)) r ⌝ }
 {
+    if is_boxed(targets, k, false, sx, sy) {
+        return stay(out, sx, sy);
+    }
     if n + k <= FEW {
         return path_among_few(out, boxes, n, targets, k, w, h, sx, sy);
     }

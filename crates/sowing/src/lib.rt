@@ -38,7 +38,7 @@ fn box_has(boxes: &[u16], k: usize, upright: bool, x: u16, y: u16) -> bool
 }
 
 // Whether one of the first n boxes of a table has it.
-fn is_boxed(boxes: &[u16], n: usize, upright: bool, x: u16, y: u16) -> bool
+pub fn is_boxed(boxes: &[u16], n: usize, upright: bool, x: u16, y: u16) -> bool
     requires { ⌜ n * 5 ≤ length (now boxes) ⌝ }
     ensures { λ r. ⌜ r ≡ boxed n (now (boxes .entry)) upright x y ⌝ }
 {

@@ -1,35 +1,53 @@
--- By how many boxes there are.
+-- A target is there already; else by how many boxes there are.
 use native.Mathlib.Omega.{arith}
+use mathlib.Core.Path.{sym, _∙_}
 use borrow.Author.Needs.{needs}
+use Rattle.search.proofs.Here.{found-here}
 use Rattle.search.proofs.first_path_to.Statement.{statement}
 use Rattle.search.proofs.first_path_to.Tie as tie
 
 -- back to the start
-abbrev atStart : tie.After-shared-slice-known2 → tie.Start
-atStart c = c .before .before .before
+abbrev atStart : tie.After-is-boxed → tie.Start
+atStart c = c .before .before .before .before
 
-add-if1 : tie.Need-add-if1
-add-if1 c = let few = atStart c .pre .few in omega arith
+is-boxed-requires : tie.Need-is-boxed-requires
+is-boxed-requires c κs = c .before .before .before .pre .targets .len
 
-path-among-few-requires : tie.Need-path-among-few-requires
-path-among-few-requires c κs = (atStart (c .before .before) .pre, omega (arith, c .before .if1 .taken))
+stay-requires : tie.Need-stay-requires
+stay-requires c κs = search needs
 
 same-length : tie.Need-same-length
 same-length c = search needs
 
 returns : tie.Need-returns
-returns c = c .before .before .path-among-few .ensures
+returns c =
+    let at-stay = c .before .before in
+    let test = at-stay .before .before in
+    found-here (atStart (test .before) .pre) (sym (test .before .is-boxed .ensures) ∙ test .if1 .taken)
+    (at-stay .stay .ensures)
 
-path-among-many-requires : tie.Need-path-among-many-requires
-path-among-many-requires c κs = atStart (c .before .before) .pre
+add-if2 : tie.Need-add-if2
+add-if2 c = let few = atStart (c .before) .pre .few in omega arith
+
+path-among-few-requires : tie.Need-path-among-few-requires
+path-among-few-requires c κs = (atStart (c .before .before .before) .pre, omega (arith, c .before .if2 .taken))
 
 same-length-2 : tie.Need-same-length-2
 same-length-2 c = search needs
 
 returns-2 : tie.Need-returns-2
-returns-2 c = c .before .before .path-among-many .ensures
+returns-2 c = c .before .before .path-among-few .ensures
+
+path-among-many-requires : tie.Need-path-among-many-requires
+path-among-many-requires c κs = atStart (c .before .before .before) .pre
+
+same-length-3 : tie.Need-same-length-3
+same-length-3 c = search needs
+
+returns-3 : tie.Need-returns-3
+returns-3 c = c .before .before .path-among-many .ensures
 
 pub first-path-to-spec : {M : Type 1} → statement M
 first-path-to-spec =
-    tie.close (tie.spec add-if1 path-among-few-requires same-length returns path-among-many-requires same-length-2
-    returns-2)
+    tie.close (tie.spec is-boxed-requires stay-requires same-length returns add-if2 path-among-few-requires
+    same-length-2 returns-2 path-among-many-requires same-length-3 returns-3)

@@ -1,0 +1,52 @@
+-- From a target the first path is there already: one corner.
+use Prim.Native.Nat.{ℕ, _≤_, _<_}
+use native.Mathlib.Omega.{arith}
+use mathlib.Core.Path.{_≡_, refl, _∙_}
+use mathlib.Core.Bool.{Bool, true, false}
+use mathlib.Core.List.{List, [], _∷_}
+use mathlib.Core.Option.{some}
+use lib.ListN.{length}
+use Rattle.foil_spec.specs.Foil.{Point, point}
+use Rattle.foil_spec.specs.Paths.{goings, shortest, firstFrom, firstPathTo}
+use Rattle.list_laws.proofs.Tests.{and-i}
+use Rattle.zones.specs.Boxes.{boxFree}
+use Rattle.grid.specs.Targets.{inBoxes, target}
+use Rattle.labels.specs.Walk.{put}
+use Rattle.sowing.specs.Seeds.{boxed}
+use Rattle.search.specs.Grid.{Aimed}
+use Rattle.search.specs.Search.{Found}
+use Rattle.search.proofs.Written.{corner-written}
+
+-- where the corner does not fit, and where it does
+pub stay-unfit : (p : Point) (out : List ℕ) → length out < 2 → Found (some (p ∷ [])) out out 1
+stay-unfit p out few =
+    record {
+      nowhere = λ zero. absurd (omega arith);
+      count = refl;
+      corners = λ fit. absurd (omega arith);
+      untouched = λ many. refl;
+    }
+
+pub stay-put : (x y : ℕ) (out out′ : List ℕ) → 2 ≤ length out → out′ ≡ put out 0 x y
+    → Found (some (point x y ∷ [])) out out′ 1
+stay-put x y out out′ fit e =
+    record {
+      nowhere = λ zero. absurd (omega arith);
+      count = refl;
+      corners = λ room. e ∙ corner-written x y out fit;
+      untouched = λ many. absurd (omega arith);
+    }
+
+-- the first path from a target
+target-first : (f : ℕ → ℕ → Bool) (W H : ℕ) (S : Point) (T : Point → Bool) → f (S .x) (S .y) ≡ true → T S ≡ true
+    → firstPathTo f W H S T ≡ some (S ∷ [])
+unfolding firstPathTo firstFrom goings shortest
+target-first f W H S T e t = rw e (rw (t, firstFrom) refl)
+
+pub found-here : {z : List ℕ} {n : ℕ} {t : List ℕ} {k w h x y : ℕ} → Aimed z n t k w h (point x y)
+    → boxed k t false x y ≡ true → {out out′ : List ℕ} {r : ℕ} → Found (some (point x y ∷ [])) out out′ r
+    → Found (firstPathTo (boxFree w h n z) w h (point x y) (target w h n z k t)) out out′ r
+unfolding target inBoxes boxed
+found-here {z} {n} {t} {k} {w} {h} {x} {y} A b F =
+    rw (target-first (boxFree w h n z) w h (point x y) (target w h n z k t) (A .s-free)
+    (and-i {a = inBoxes k t x y} b (A .s-free))) F
