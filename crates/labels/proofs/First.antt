@@ -93,7 +93,7 @@ pub trail-greedy : {f : ℕ → ℕ → Bool} {T : ℕ → ℕ → Type 0} → T
     Labelled f T cross n lines m r own → Labelled (flip f) (flip T) lines m cross n r other →
     Measured f T cross n lines m own wown → Measured (flip f) (flip T) lines m cross n other wother →
     {i j v : ℕ} {qs : List ℕ} → Trail own other wown wother edge edge′ cross lines m n j i v qs → i < n → j < m →
-    v ≤ r + 1 → along own j i ≡ v →
+    v ≤ r + 1 + 1 → along own j i ≡ v →
     Greedy (coords cross lines qs) f T (getD cross i 0) (getD lines j 0)
     × (ink (coords cross lines qs) (getD cross i 0) (getD lines j 0) ≡ along wown j i)
 trail-greedy tf F F′ A B AM BM {i} {j} done li lj lr e =

@@ -13,9 +13,10 @@ use Rattle.runs.specs.Ink.{Inked, Lean}
 use Rattle.labels.specs.Pass.{zeros, Cell, kept, none, new, Pass, Below, floor, Full, Queued, Room, Added, PassTo}
 use Rattle.labels.specs.Rounds.{Twin, Begun, Rounds, start, more, Ended, stuck}
 use Rattle.labels.proofs.Pass.{visited-all, visited-full, passing-room}
+use Rattle.labels.proofs.Part.{pass-parts, parts-below, parts-lean}
 
 -- One crossing in a pass.
-pub cell-keep : {other edge : List ℕ} {line n v k a b : ℕ} → Cell other edge line n v k a b → a ≢ 0 → b ≡ a
+cell-keep : {other edge : List ℕ} {line n v k a b : ℕ} → Cell other edge line n v k a b → a ≢ 0 → b ≡ a
 cell-keep (kept h) z = refl
 cell-keep (none h) z = refl
 cell-keep (new q l r e) z = absurd (z refl)
@@ -30,14 +31,9 @@ cell-one (kept h) p z = z
 cell-one (none h) p z = z
 cell-one (new q l r e) p z = absurd (omega arith)
 
-cell-below : {other edge : List ℕ} {line n v k a b : ℕ} → Cell other edge line n v k a b → a ≤ v → b ≤ v + 1
-cell-below (kept h) z = omega arith
-cell-below (none h) z = omega arith
-cell-below (new q l r e) z = omega arith
-
 module _ {other edge : List ℕ} {m n v : ℕ} {l l′ : List ℕ} (P : Pass other edge m n v l l′) where
   pub pass-below : Below m n l v → Below m n l′ (v + 1)
-  pass-below B = record { le = λ i li k lk. cell-below (P .cell i li k lk) (B .le i li k lk) }
+  pass-below B = parts-below (pass-parts P) B
 
   module _ {t t′ : List ℕ} {q₀ q : ℕ} (A : Added m n v l l′ t t′ q₀ q) where
     -- the queue of the labels v still is that after the pass
@@ -77,19 +73,7 @@ module _ {other edge : List ℕ} {m n v : ℕ} {l l′ : List ℕ} (P : Pass oth
 pub pass-lean : {other inks edge cross : List ℕ} {m n v : ℕ} {l l′ w w′ : List ℕ} → Lines cross n → 1 ≤ v →
     Pass other edge m n v l l′ → Inked other inks edge cross m n v l l′ w w′ → Lean n m other inks → Lean m n l w →
     Lean m n l′ w′
-pass-lean {other} {inks} {edge} {cross} {m} {n} {v} {l} {l′} {w} {w′} C pos P I O L = record {
-  le = λ i li k lk z. pick i li k lk z (along l i k) (along l′ i k) refl refl (P .cell i li k lk);
-}
-  where
-    pick : (i : ℕ) → i < m → (k : ℕ) → k < n → along l′ i k ≢ 0 → (a b : ℕ) → along l i k ≡ a → along l′ i k ≡ b →
-        Cell other edge i n v k a b → along w′ i k ≤ 4095 * along l′ i k
-    pick i li k lk z a b ea eb (kept x) =
-        let e = I .kept i li k lk (rw ea x) in omega (arith, L .le i li k lk (rw ea x))
-    pick i li k lk z a b ea eb (none x) = absurd (z eb)
-    pick i li k lk z a b ea eb (new q lq r e) =
-        let s = I .fresh i li k lk ea z in
-        let t = s .le q lq r e in
-        omega (arith, O .le q lq i li (omega arith), C .below k lk, C .below q lq)
+pass-lean C pos P I O L = parts-lean C pos (pass-parts P) I O L
 
 module _ {el eu cols rows : List ℕ} {nc nr : ℕ} (C : Lines cols nc) (R : Lines rows nr) {l₀ u₀ wl₀ wu₀ : List ℕ}
     (bl : Lean nr nc l₀ wl₀) (bu : Lean nc nr u₀ wu₀) where

@@ -12,12 +12,14 @@ use Rattle.foil_spec.specs.Paths.{gap}
 use Rattle.course_laws.specs.Course.{flip, Span, Course, Within, TargetFree}
 use Rattle.course_laws.proofs.Course.{span-sym, span-start, within-more, within-course, course-within}
 use Rattle.runs.specs.Line.{along, across, Linked, isStop}
-use Rattle.runs.specs.Ink.{LeastInk, Inked}
-use Rattle.labels.specs.Pass.{Cell, kept, none, new, Pass, Below}
-use Rattle.labels.specs.Rounds.{Rounds, start, more}
+use Rattle.grid.specs.Lines.{Lines}
+use Rattle.runs.specs.Ink.{LeastInk, Inked, Lean}
+use Rattle.labels.specs.Pass.{Cell, kept, none, new, Pass, Part, stood, got, Parts, Below}
+use Rattle.labels.specs.Rounds.{Rounds, start, more, Last}
 use Rattle.labels.specs.Walk.{Grounded}
 use Rattle.runs.proofs.Line.{linked-sym, of-stop, to-stop}
-use Rattle.labels.proofs.Going.{cell-keep, pass-below}
+use Rattle.labels.proofs.Part.{pass-parts, part-keep, parts-below, parts-lean}
+use Rattle.labels.proofs.Going.{pass-below}
 use Rattle.labels.proofs.Faithful.{Faithful}
 
 -- what the label a of the point (x, y) says after n rounds
@@ -48,13 +50,12 @@ course-free zero f T tf x y r = tf x y r
 course-free (suc n) f T tf x y r = span-start f y x (r .0) (r .1)
 
 -- fewer rounds say less
+says-less : {f : ℕ → ℕ → Bool} {T : ℕ → ℕ → Type 0} (r : ℕ) {x y a : ℕ} → Says f T (r + 1) x y a → Says f T r x y a
+says-less r s = record { never = λ e k l h. s .never e k (omega arith) h; course = s .course; least = s .least }
+
 labelled-less : {f : ℕ → ℕ → Bool} {T : ℕ → ℕ → Type 0} {cross : List ℕ} {n : ℕ} {lines : List ℕ} {m : ℕ} (r : ℕ)
     {lab : List ℕ} → Labelled f T cross n lines m (r + 1) lab → Labelled f T cross n lines m r lab
-labelled-less r L = record {
-  says = λ j lj i li.
-      let s = L .says j lj i li in
-      record { never = λ e k l h. s .never e k (omega arith) h; course = s .course; least = s .least };
-}
+labelled-less r L = record { says = λ j lj i li. says-less r (L .says j lj i li) }
 
 -- A pass.
 module _ {f : ℕ → ℕ → Bool} {T : ℕ → ℕ → Type 0} (tf : TargetFree f T) {cross : List ℕ} {n : ℕ} {lines : List ℕ} {m : ℕ}
@@ -123,6 +124,18 @@ module _ {f : ℕ → ℕ → Bool} {T : ℕ → ℕ → Type 0} (tf : TargetFre
     least = λ k z x l t. s .never refl x (omega arith) t;
   }
 
+  part-cell : (i j : ℕ) → i < n → j < m → (a b : ℕ) → Part other edge j n (r + 1) i a b →
+      Says f T r (getD cross i 0) (getD lines j 0) a → Says f T r (getD cross i 0) (getD lines j 0) b
+  part-cell i j li lj a b stood s = s
+  part-cell i j li lj a b (got q lq lk e) s = says-less r (pass-cell i j li lj a b (new q lq lk e) s)
+
+  -- a part of a pass leaves labels as right as they were
+  parts-labels : {l l′ : List ℕ} → Labelled f T cross n lines m r l → Parts other edge m n (r + 1) l l′ →
+      Labelled f T cross n lines m r l′
+  parts-labels {l} {l′} L P = record {
+    says = λ j lj i li. part-cell i j li lj (along l j i) (along l′ j i) (P .part j lj i li) (L .says j lj i li);
+  }
+
   pass-labels : {l l′ : List ℕ} → Labelled f T cross n lines m r l → Pass other edge m n (r + 1) l l′ →
       Labelled f T cross n lines m (r + 1) l′
   pass-labels {l} {l′} L P = record {
@@ -167,23 +180,23 @@ module _ {f : ℕ → ℕ → Bool} {T : ℕ → ℕ → Type 0} (tf : TargetFre
             let c = u .2 in
             ⊎-elim (λ z. let y = z .0 in omega arith) (λ z. omega arith) (w .5)
 
-    pass-inks : {l l′ w w′ : List ℕ} → Labelled f T cross n lines m r l → Measured f T cross n lines m l w →
-        Pass other edge m n (r + 1) l l′ → Inked other inks edge cross m n (r + 1) l l′ w w′ →
+    parts-inks : {l l′ w w′ : List ℕ} → Labelled f T cross n lines m r l → Measured f T cross n lines m l w →
+        Parts other edge m n (r + 1) l l′ → Inked other inks edge cross m n (r + 1) l l′ w w′ →
         Measured f T cross n lines m l′ w′
-    pass-inks {l} {l′} {w} {w′} A M P I = record {
-      says = λ j lj i li. pick j lj i li (along l j i) (along l′ j i) refl refl (P .cell j lj i li);
+    parts-inks {l} {l′} {w} {w′} A M P I = record {
+      says = λ j lj i li. pick j lj i li (along l j i) (along l′ j i) refl refl (P .part j lj i li);
     }
       where
         pick : (j : ℕ) → j < m → (i : ℕ) → i < n → (a b : ℕ) → along l j i ≡ a → along l′ j i ≡ b →
-            Cell other edge j n (r + 1) i a b →
+            Part other edge j n (r + 1) i a b →
             Measures f T (getD cross i 0) (getD lines j 0) (along l′ j i) (along w′ j i)
-        pick j lj i li a b ea eb (kept z) =
-            rw (I .kept j lj i li (rw ea z), eb ∙ sym ea) (M .says j lj i li)
-        pick j lj i li a b ea eb (none z) = record {
+        pick j lj i li zero b ea eb stood = record {
           within = λ k e. absurd (omega arith);
           least = λ k e. absurd (omega arith);
         }
-        pick j lj i li a b ea eb (new q lq lk e) =
+        pick j lj i li (suc a) b ea eb stood =
+            rw (I .kept j lj i li (λ z. omega arith), eb ∙ sym ea) (M .says j lj i li)
+        pick j lj i li a b ea eb (got q lq lk e) =
             rw eb
             (new-ink i j (along w′ j i) li lj (A .says j lj i li .never ea)
             (I .fresh j lj i li ea (λ z. omega arith)))
@@ -225,8 +238,11 @@ module _ {f : ℕ → ℕ → Bool} {T : ℕ → ℕ → Type 0} (tf : TargetFre
       let A = rounds-labels B r in
       let K = rounds-inks B M r in
       let l2 = pass-labels tf L (A .1) (A .0) (rw e at x) in
-      let k2 = pass-inks tf L (A .1) (K .1) (A .0) (K .0) (rw e at x) (rw e at a) in
-      (k2, pass-inks (λ a b t. tf b a t) U (labelled-less (v - 1) l2) k2 (A .1) (K .1) (rw e at y) (rw e at b))
+      let k2 = parts-inks tf L (A .1) (K .1) (A .0) (K .0) (pass-parts (rw e at x)) (rw e at a) in (
+        k2,
+        parts-inks (λ a b t. tf b a t) U (labelled-less (v - 1) l2) k2 (A .1) (K .1) (pass-parts (rw e at y))
+            (rw e at b),
+      )
 
 -- A round that changes nothing: what has no label then leads to no target.
 module _ {f : ℕ → ℕ → Bool} {T : ℕ → ℕ → Type 0} (tf : TargetFree f T) {cross : List ℕ} {n : ℕ} {lines : List ℕ} {m : ℕ}
@@ -253,38 +269,46 @@ module _ {f : ℕ → ℕ → Bool} {T : ℕ → ℕ → Type 0} (tf : TargetFre
           (step-course tf F B i j q a li lj lq lk (e ∙ sym (add-one a)))
 
 -- Every label but the first rests on one of the other direction, and is at most as large as the rounds allow.
-grounded-pass : {other inks edge cross : List ℕ} {m n v : ℕ} {l l′ w w′ : List ℕ} → Pass other edge m n v l l′ →
+grounded-own : {other inks edge cross : List ℕ} {m n v : ℕ} {l l′ w w′ : List ℕ} → Parts other edge m n v l l′ →
     Inked other inks edge cross m n v l l′ w w′ → Grounded l other w inks edge cross m n →
     Grounded l′ other w′ inks edge cross m n
-grounded-pass {other} {inks} {edge} {cross} {m} {n} {v} {l} {l′} {w} {w′} P I G = record {
-  next = λ i li k lk u p e. go i li k lk u p (along l i k) (along l′ i k) refl refl (P .cell i li k lk) e;
+grounded-own {other} {inks} {edge} {cross} {m} {n} {v} {l} {l′} {w} {w′} P I G = record {
+  next = λ i li k lk u p e. go i li k lk u p (along l i k) (along l′ i k) refl refl (P .part i li k lk) e;
 }
   where
     go : (i : ℕ) → i < m → (k : ℕ) → k < n → (u : ℕ) → 1 ≤ u → (x y : ℕ) → along l i k ≡ x → along l′ i k ≡ y →
-        Cell other edge i n v k x y → along l′ i k ≡ u + 1 →
+        Part other edge i n v k x y → along l′ i k ≡ u + 1 →
         (q : ℕ) × (q < n) × Linked edge i k q
         × (isStop other inks cross i (getD cross k 0) u (along w′ i k) q ≡ true)
-    go i li k lk u p x y ex ey (kept z) h =
-        rw (I .kept i li k lk (rw ex z)) (G .next i li k lk u p (ex ∙ sym ey ∙ h))
-    go i li k lk u p x y ex ey (none z) h = absurd (omega arith)
-    go i li k lk u p x y ex ey (new q lq z e) h =
+    go i li k lk u p x y ex ey stood h =
+        rw (I .kept i li k lk (λ f. omega arith)) (G .next i li k lk u p (ex ∙ sym ey ∙ h))
+    go i li k lk u p x y ex ey (got q lq z e) h =
         let L = I .fresh i li k lk ex (λ f. omega arith) in
         let le = L .le (L .q) (L .below) (L .linked) (L .stop) in
         let ge = L .ge in
         (L .q, L .below, L .linked, to-stop _ _ _ _ _ _ _ _ (omega (arith, L .stop)) (omega arith))
 
--- a pass of the other direction keeps what is rested on
+-- the labels of the other direction keep what is rested on
 grounded-other : {own wown other other′ inks inks′ edge edge′ cross lines : List ℕ} {m n v : ℕ} →
-    Pass own edge′ n m v other other′ → Inked own wown edge′ lines n m v other other′ inks inks′ →
+    Parts own edge′ n m v other other′ → Inked own wown edge′ lines n m v other other′ inks inks′ →
     {l w : List ℕ} → Grounded l other w inks edge cross m n → Grounded l other′ w inks′ edge cross m n
 grounded-other P I G = record {
   next = λ i li k lk u p e.
       let r = G .next i li k lk u p e in
       let s = of-stop _ _ _ _ _ _ _ _ (r .3) in
-      let on = cell-keep (P .cell (r .0) (r .1) i li) (omega (arith, s .0)) in
+      let on = part-keep (P .part (r .0) (r .1) i li) (omega (arith, s .0)) in
       let ink = I .kept (r .0) (r .1) i li (omega (arith, s .0)) in
       (r .0, r .1, r .2, to-stop _ _ _ _ _ _ _ _ (on ∙ s .0) (rw ink (s .1)));
 }
+
+-- a part of a round
+grounded-more : {el eu cols rows : List ℕ} {nc nr v : ℕ} {l u wl wu l′ u′ wl′ wu′ : List ℕ} →
+    Parts u el nr nc v l l′ → Inked u wu el cols nr nc v l l′ wl wl′ →
+    Parts l′ eu nc nr v u u′ → Inked l′ wl′ eu rows nc nr v u u′ wu wu′ →
+    Grounded l u wl wu el cols nr nc × Grounded u l wu wl eu rows nc nr →
+    Grounded l′ u′ wl′ wu′ el cols nr nc × Grounded u′ l′ wu′ wl′ eu rows nc nr
+grounded-more x a y b G =
+    (grounded-other y b (grounded-own x a (G .0)), grounded-own y b (grounded-other x a (G .1)))
 
 module _ {el eu cols rows : List ℕ} {nc nr : ℕ} {l₀ u₀ wl₀ wu₀ : List ℕ} (bl : Below nr nc l₀ 1) (bu : Below nc nr u₀ 1)
   where
@@ -295,8 +319,7 @@ module _ {el eu cols rows : List ℕ} {nc nr : ℕ} {l₀ u₀ wl₀ wu₀ : Lis
       record { next = λ i li j lj w p e. let b = bu .le i li j lj in absurd (omega arith) },
     )
     rounds-grounded (more r x a y b) =
-        let ih = rounds-grounded r in
-        (grounded-other y b (grounded-pass x a (ih .0)), grounded-pass y b (grounded-other x a (ih .1)))
+        grounded-more (pass-parts x) a (pass-parts y) b (rounds-grounded r)
 
     pub rounds-below : {v : ℕ} {l u wl wu : List ℕ} → Rounds el eu cols rows nc nr l₀ u₀ wl₀ wu₀ v l u wl wu →
         Below nr nc l v × Below nc nr u v
@@ -326,3 +349,51 @@ module _ {f : ℕ → ℕ → Bool} {T : ℕ → ℕ → Type 0} (tf : TargetFre
         stuck-step tf L (still .0) (still .1) (low .1) k (ih .1),
         stuck-step (λ a b t. tf b a t) U (still .1) (still .0) (low .0) k (ih .0),
       )
+
+-- The last round, with labels that were right before: all of them are as right then, and those of the crossing that it
+-- is about are right after one round more.
+module _ {el eu cols rows : List ℕ} {nc nr i j v : ℕ} {l u wl wu l′ u′ wl′ wu′ : List ℕ} (p : 1 ≤ v)
+    (E : Last el eu cols rows nc nr i j v l u wl wu l′ u′ wl′ wu′) where
+  same-round : v ≡ v - 1 + 1
+  same-round = omega arith
+
+  pub last-below : Below nr nc l v × Below nc nr u v → Below nr nc l′ (v + 1) × Below nc nr u′ (v + 1)
+  last-below B = (parts-below (E .level) (B .0), parts-below (E .upright) (B .1))
+
+  pub last-lean : Lines cols nc → Lines rows nr → Lean nr nc l wl × Lean nc nr u wu →
+      Lean nr nc l′ wl′ × Lean nc nr u′ wu′
+  last-lean C R H =
+      let k = parts-lean C p (E .level) (E .level-inks) (H .1) (H .0) in
+      (k, parts-lean R p (E .upright) (E .upright-inks) k (H .1))
+
+  pub last-grounded : Grounded l u wl wu el cols nr nc × Grounded u l wu wl eu rows nc nr →
+      Grounded l′ u′ wl′ wu′ el cols nr nc × Grounded u′ l′ wu′ wl′ eu rows nc nr
+  last-grounded G = grounded-more (E .level) (E .level-inks) (E .upright) (E .upright-inks) G
+
+  module _ {f : ℕ → ℕ → Bool} {T : ℕ → ℕ → Type 0} (tf : TargetFree f T) (L : Faithful f T cols nc rows nr el)
+      (U : Faithful (flip f) (flip T) rows nr cols nc eu) (B : Both f T cols nc rows nr (v - 1) l u) where
+    pub last-labels : Both f T cols nc rows nr (v - 1) l′ u′
+    last-labels =
+        let l2 = parts-labels tf L (B .1) (B .0) (rw same-round at (E .level)) in
+        (l2, parts-labels (λ a b t. tf b a t) U l2 (B .1) (rw same-round at (E .upright)))
+
+    pub last-inks : Measured f T cols nc rows nr l wl × Measured (flip f) (flip T) rows nr cols nc u wu →
+        Measured f T cols nc rows nr l′ wl′ × Measured (flip f) (flip T) rows nr cols nc u′ wu′
+    last-inks M =
+        let k2 = parts-inks tf L (B .1) (M .1) (B .0) (M .0) (rw same-round at (E .level))
+        (rw same-round at (E .level-inks)) in (
+          k2,
+          parts-inks (λ a b t. tf b a t) U (last-labels .0) k2 (B .1) (M .1) (rw same-round at (E .upright))
+              (rw same-round at (E .upright-inks)),
+        )
+
+    pub last-level : i < nc → j < nr → Says f T (v - 1 + 1) (getD cols i 0) (getD rows j 0) (along l′ j i)
+    last-level li lj =
+        pass-cell tf L (B .1) i j li lj (along l j i) (along l′ j i) (rw same-round at (E .level-here))
+        (B .0 .says j lj i li)
+
+    pub last-upright : i < nc → j < nr →
+        Says (flip f) (flip T) (v - 1 + 1) (getD rows j 0) (getD cols i 0) (along u′ i j)
+    last-upright li lj =
+        pass-cell (λ a b t. tf b a t) U (last-labels .0) j i lj li (along u i j) (along u′ i j)
+        (rw same-round at (E .upright-here)) (B .1 .says i li j lj)

@@ -270,7 +270,7 @@ module _ {m n v line lo hi : ℕ} {l₀ l l′ t₀ t t′ : List ℕ} {q₀ q q
           (λ f. absurd (y (f ∙ x)))
 
 -- The inks that come with the labels of a run.
-inked-none : (other inks edge cross : List ℕ) (m n v : ℕ) (l w : List ℕ) → Inked other inks edge cross m n v l l w w
+pub inked-none : (other inks edge cross : List ℕ) (m n v : ℕ) (l w : List ℕ) → Inked other inks edge cross m n v l l w w
 inked-none other inks edge cross m n v l w = record {
   size = refl;
   kept = λ i li k lk z. refl;

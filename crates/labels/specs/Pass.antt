@@ -2,11 +2,12 @@
 use Prim.Native.Nat.{ℕ, zero, suc, _+_, _-_, _*_, _≤_, _<_}
 use mathlib.Core.Path.{_≡_}
 use mathlib.Core.Logic.{_≢_}
+use mathlib.Core.Bool.{Bool, true, false}
 use mathlib.Core.List.{List, [], _∷_}
 use lib.ListN.{getD, set, length}
 use Rattle.grid.specs.Size.{stride, area}
 use Rattle.runs.specs.Line.{along, across, Linked, RunStart, RunEnd, Left}
-use Rattle.runs.specs.Ink.{RunInked, Inked}
+use Rattle.runs.specs.Ink.{RunInked, LeastInk, Inked}
 
 -- how many places have no label
 unfoldable pub zeros : List ℕ → ℕ
@@ -23,6 +24,25 @@ pub data Cell (other edge : List ℕ) (line n v k : ℕ) : ℕ → ℕ → Type 
 -- the labels before and after a pass
 pub record Pass (other edge : List ℕ) (m n v : ℕ) (l₀ l : List ℕ) : Type 0 where
   pub cell : (i : ℕ) → i < m → (k : ℕ) → k < n → Cell other edge i n v k (along l₀ i k) (along l i k)
+
+-- a crossing before and after a part of a pass
+pub data Part (other edge : List ℕ) (line n v k : ℕ) : ℕ → ℕ → Type 0 where
+  stood : {a : ℕ} → Part other edge line n v k a a
+  got : (q : ℕ) → q < n → Linked edge line k q → across other line q ≡ v → Part other edge line n v k 0 (v + 1)
+
+-- the labels before and after a part of a pass
+pub record Parts (other edge : List ℕ) (m n v : ℕ) (l₀ l : List ℕ) : Type 0 where
+  pub part : (i : ℕ) → i < m → (k : ℕ) → k < n → Part other edge i n v k (along l₀ i k) (along l i k)
+
+-- crossing k of a line alone gets what a pass gives it: labels and inks before and after, and whether it has a label
+pub data Alone (other inks edge cross : List ℕ) (line n k v : ℕ)
+    : List ℕ → List ℕ → List ℕ → List ℕ → Bool → Type 0 where
+  had : {l w : List ℕ} → along l line k ≢ 0 → Alone other inks edge cross line n k v l l w w true
+  gets : {l w : List ℕ} (s : ℕ) → along l line k ≡ 0 → LeastInk other inks edge cross line n v k s →
+      Alone other inks edge cross line n k v l (set l (line * stride + k) (v + 1)) w (set w (line * stride + k) s) true
+  misses : {l w : List ℕ} → along l line k ≡ 0 →
+      ((q : ℕ) → q < n → Linked edge line k q → across other line q ≢ v) →
+      Alone other inks edge cross line n k v l l w w false
 
 -- every label is at most v
 pub record Below (m n : ℕ) (lab : List ℕ) (v : ℕ) : Type 0 where
@@ -96,11 +116,6 @@ pub data Visit (other inks edge cross : List ℕ) (line n k v : ℕ)
   ran : {l₀ l w₀ w t₀ t : List ℕ} {q₀ q : ℕ} (lo hi : ℕ) → RunStart edge line k lo → RunEnd edge line n k hi →
       RunInked other inks cross line v lo hi hi l₀ w₀ w → RunPushed line lo hi v l₀ l t₀ t q₀ q →
       Visit other inks edge cross line n k v l₀ l w₀ w t₀ t q₀ q
-
--- a crossing before and after a part of a pass
-pub data Part (other edge : List ℕ) (line n v k : ℕ) : ℕ → ℕ → Type 0 where
-  stood : {a : ℕ} → Part other edge line n v k a a
-  got : (q : ℕ) → q < n → Linked edge line k q → across other line q ≡ v → Part other edge line n v k 0 (v + 1)
 
 -- all that is joined with crossing k of a line has a label, or that is left to the visit of a crossing before it
 pub data Done (other edge : List ℕ) (line n v : ℕ) (l : List ℕ) (k : ℕ) : Type 0 where

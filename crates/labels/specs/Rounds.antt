@@ -10,7 +10,7 @@ use Rattle.grid.specs.Size.{stride}
 use Rattle.grid.specs.Lines.{Lines}
 use Rattle.runs.specs.Line.{along, labelTop}
 use Rattle.runs.specs.Ink.{Inked, Lean}
-use Rattle.labels.specs.Pass.{Pass, Below, Queued, Room}
+use Rattle.labels.specs.Pass.{Cell, Pass, Parts, Below, Queued, Room}
 
 -- the grid's lines, and the sizes of its lists: labels l and u, inks wl and wu, edges el and eu, level and upright
 pub record Sized (l u wl wu el eu cols rows : List ℕ) (nc nr : ℕ) : Type 0 where
@@ -49,11 +49,32 @@ pub data Rounds (el eu cols rows : List ℕ) (nc nr : ℕ) (l₀ u₀ wl₀ wu�
       Pass l′ eu nc nr v u u′ → Inked l′ wl′ eu rows nc nr v u u′ wu wu′ →
       Rounds el eu cols rows nc nr l₀ u₀ wl₀ wu₀ (v + 1) l′ u′ wl′ wu′
 
--- the crossing of column i and row j has a label, or it has none and a round changes nothing
+-- the last round, which looks for the label v: the crossing of column i and row j gets what a round gives it, and any
+-- other that or nothing
+pub record Last (el eu cols rows : List ℕ) (nc nr i j v : ℕ) (l₀ u₀ wl₀ wu₀ l u wl wu : List ℕ) : Type 0 where
+  pub level : Parts u₀ el nr nc v l₀ l
+  pub level-inks : Inked u₀ wu₀ el cols nr nc v l₀ l wl₀ wl
+  pub level-here : Cell u₀ el j nc v i (along l₀ j i) (along l j i)
+  pub upright : Parts l eu nc nr v u₀ u
+  pub upright-inks : Inked l wl eu rows nc nr v u₀ u wu₀ wu
+  pub upright-here : Cell l eu i nr v j (along u₀ i j) (along u i j)
+  pub some : (along l j i ≢ 0) ⊎ (along u i j ≢ 0)
+
+-- whether the round that looks for the label v is the last: labels and inks before and after
+pub data Tried (el eu cols rows : List ℕ) (nc nr i j v : ℕ)
+    : List ℕ → List ℕ → List ℕ → List ℕ → List ℕ → List ℕ → List ℕ → List ℕ → Bool → Type 0 where
+  reached : {l₀ u₀ wl₀ wu₀ l u wl wu : List ℕ} → Last el eu cols rows nc nr i j v l₀ u₀ wl₀ wu₀ l u wl wu →
+      Tried el eu cols rows nc nr i j v l₀ u₀ wl₀ wu₀ l u wl wu true
+  missed : {l u wl wu : List ℕ} → along l j i ≡ 0 → along u i j ≡ 0 →
+      Tried el eu cols rows nc nr i j v l u wl wu l u wl wu false
+
+-- the crossing of column i and row j has a label after a last round, or it has none and a round changes nothing
 pub data Ended (el eu cols rows : List ℕ) (nc nr i j : ℕ) (l₀ u₀ wl₀ wu₀ : List ℕ)
     : List ℕ → List ℕ → List ℕ → List ℕ → Bool → Type 0 where
-  found : {v : ℕ} {l u wl wu : List ℕ} → v < labelTop → Rounds el eu cols rows nc nr l₀ u₀ wl₀ wu₀ v l u wl wu →
-      (along l j i ≢ 0) ⊎ (along u i j ≢ 0) → Ended el eu cols rows nc nr i j l₀ u₀ wl₀ wu₀ l u wl wu true
+  found : {v : ℕ} {l u wl wu l′ u′ wl′ wu′ : List ℕ} → v < labelTop →
+      Rounds el eu cols rows nc nr l₀ u₀ wl₀ wu₀ v l u wl wu →
+      Last el eu cols rows nc nr i j v l u wl wu l′ u′ wl′ wu′ →
+      Ended el eu cols rows nc nr i j l₀ u₀ wl₀ wu₀ l′ u′ wl′ wu′ true
   stuck : {v : ℕ} {l u wl wu wl′ wu′ : List ℕ} → Rounds el eu cols rows nc nr l₀ u₀ wl₀ wu₀ v l u wl wu →
       along l j i ≡ 0 → along u i j ≡ 0 → Pass u el nr nc v l l → Pass l eu nc nr v u u →
       Ended el eu cols rows nc nr i j l₀ u₀ wl₀ wu₀ l u wl′ wu′ false

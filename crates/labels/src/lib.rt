@@ -9,6 +9,8 @@
 use grid::STRIDE;
 use runs::ahead_of;
 use runs::behind_of;
+use runs::first_stop;
+use runs::ink_at;
 use runs::ink_blank;
 use runs::ink_run;
 use runs::is_left;
@@ -22,8 +24,8 @@ ghost use Rattle.grid.specs.Size.{stride, area};
 ghost use Rattle.grid.specs.Lines.{Lines};
 ghost use Rattle.runs.specs.Line.{along, across, labelTop};
 ghost use Rattle.runs.specs.Ink.{Low, Lean, Blank};
-ghost use Rattle.labels.specs.Pass.{floor, Joined, Full, Queued, Room, Push, RunPushed, Visit, PassTo};
-ghost use Rattle.labels.specs.Rounds.{Sized, Begun, Ended};
+ghost use Rattle.labels.specs.Pass.{floor, Joined, Full, Queued, Room, Push, RunPushed, Visit, PassTo, Alone};
+ghost use Rattle.labels.specs.Rounds.{Sized, Begun, Tried, Ended};
 ghost use Rattle.labels.specs.Walk.{put, Walkable, LevelWalk, UprightWalk};
 
 // Gives crossing k of a line, which has no label, the label v + 1 and puts it at the end q of the queue; the end then.
@@ -249,8 +251,77 @@ fn label_queue(
     end
 }
 
-// Rounds of a level and an upright pass until the crossing of column i and row j has a label, or a round labels
-// nothing. Returns whether it has one. The queues have the targets, and end at a and b.
+// Gives crossing k of a line alone what a pass gives it: if it has no label and is joined with a label v of the other
+// direction, the label v + 1 and its ink. Returns whether it has a label then.
+fn label_alone(
+    labels: &mut [u32],
+    own: &mut [u32],
+    other: &[u32],
+    inks: &[u32],
+    edge: &[u8],
+    cross: &[u16],
+    line: usize,
+    n: usize,
+    k: usize,
+    v: u32,
+) -> bool
+    requires { ⌜ (line < stride) × Lines (now cross) n × (k < n) × (v < labelTop)
+        × (line * stride + stride ≤ length (now edge)) ⌝ }
+    requires { ⌜ (n * stride ≤ length (now other)) × (n * stride ≤ length (now inks))
+        × Low (now other) (now inks) line n v ⌝ }
+    requires { ⌜ (line * stride + stride ≤ length (now labels)) × (line * stride + stride ≤ length (now own)) ⌝ }
+    ensures { λ r. ⌜ Alone (now (other .entry)) (now (inks .entry)) (now (edge .entry)) (now (cross .entry)) line n k v
+        (now (labels .entry)) (now (labels .exit)) (now (own .entry)) (now (own .exit)) r ⌝ }
+{
+    if labels[line * STRIDE + k] != 0 {
+        return true;
+    }
+    let lo = run_start(edge, line, k);
+    let hi = run_end(edge, line, n, k);
+    let h = first_stop(other, line, lo, hi, v);
+    if h == hi {
+        return false;
+    }
+    labels[line * STRIDE + k] = v + 1;
+    own[line * STRIDE + k] = ink_at(other, inks, cross, line, n, h, hi, k, v);
+    true
+}
+
+// Gives the crossing of column i and row j alone what a round gives it that looks for the label v. Returns whether it
+// has a label then: the round would be the last one.
+fn last_round(
+    level: &mut [u32],
+    upright: &mut [u32],
+    il: &mut [u32],
+    iu: &mut [u32],
+    el: &[u8],
+    eu: &[u8],
+    cols: &[u16],
+    rows: &[u16],
+    nc: usize,
+    nr: usize,
+    i: usize,
+    j: usize,
+    v: u32,
+) -> bool
+    requires { ⌜ Sized (now level) (now upright) (now il) (now iu) (now el) (now eu) (now cols) (now rows) nc nr
+        × (i < nc) × (j < nr) × (1 ≤ v) × (v < labelTop) ⌝ }
+    requires { ⌜ Lean nr nc (now level) (now il) × Lean nc nr (now upright) (now iu) ⌝ }
+    ensures { λ r. ⌜ Tried (now (el .entry)) (now (eu .entry)) (now (cols .entry)) (now (rows .entry)) nc nr i j v
+        (now (level .entry)) (now (upright .entry)) (now (il .entry)) (now (iu .entry))
+        (now (level .exit)) (now (upright .exit)) (now (il .exit)) (now (iu .exit)) r ⌝ }
+{
+    let along = label_alone(level, il, upright, iu, el, cols, j, nc, i, v);
+    let up = label_alone(upright, iu, level, il, eu, rows, i, nr, j, v);
+    if along {
+        return true;
+    }
+    up
+}
+
+// Rounds of a level and an upright pass until the crossing of column i and row j gets a label, or a round labels
+// nothing. Returns whether it has one. The last round labels that crossing alone: a walk from it comes over smaller
+// labels only. The queues have the targets, and end at a and b.
 pub fn rounds(
     level: &mut [u32],
     upright: &mut [u32],
@@ -284,10 +355,7 @@ pub fn rounds(
     let mut ua = 0;
     let mut ub = b;
     loop {
-        if level[j * STRIDE + i] != 0 {
-            return true;
-        }
-        if upright[i * STRIDE + j] != 0 {
+        if last_round(level, upright, il, iu, el, eu, cols, rows, nc, nr, i, j, v) {
             return true;
         }
         let le = label_queue(

@@ -160,6 +160,44 @@ module _ {other inks : List ℕ} {line v lo hi : ℕ} {g : ℕ → ℕ} {top : �
           over-near best (g k) (g (S .q)) (across inks line (S .q)) (S .near)
           (lowest (S .q) (omega arith) (omega arith))
 
+-- The least at x over the stops from h on, one crossing after the other.
+module _ {other inks cross : List ℕ} {line v h hi x : ℕ} where
+  pub least-one : {s : ℕ} → h < hi → across other line h ≡ v → s ≡ across inks line h + gap x (getD cross h 0) →
+      Least other inks cross line v h hi h (h + 1) x s
+  least-one {s} l e m = record {
+    le = λ q f t z. let i : q ≡ h = omega arith in rw (i, m) (omega arith);
+    q = h;
+    from = omega arith;
+    to = l;
+    stop = e;
+    ge = omega arith;
+  }
+
+  pub least-more : {k y s r : ℕ} → h < k → k < hi → Least other inks cross line v h hi h k x s →
+      y ≡ gap x (getD cross k 0) → Carried other inks line v k y s r → Least other inks cross line v h hi h (k + 1) x r
+  least-more {k} {y} {s} {r} lk hk L m C = pick (C .is)
+    where
+      all : (q : ℕ) → h ≤ q → q < k + 1 → across other line q ≡ v → r ≤ across inks line q + gap x (getD cross q 0)
+      all q f t e = go (decLt q k)
+        where
+          go : Dec (q < k) → r ≤ across inks line q + gap x (getD cross q 0)
+          go (yes p) = omega (arith, C .no-farther, L .le q f p e)
+          go (no p) =
+              let i : k ≡ q = omega arith in
+              let a = C .no-more (subst (λ (j : ℕ). across other line j ≡ v) (sym i) e) in
+              subst (λ (j : ℕ). r ≤ across inks line j + gap x (getD cross j 0)) i (omega arith)
+
+      pick : (r ≡ s) ⊎ ((across other line k ≡ v) × (r ≡ across inks line k + y)) →
+          Least other inks cross line v h hi h (k + 1) x r
+      pick (inl i) =
+          record { le = all; q = L .q; from = L .from; to = L .to; stop = L .stop; ge = omega (arith, L .ge) }
+      pick (inr i) =
+          record { le = all; q = k; from = omega arith; to = hk; stop = i .0; ge = omega (arith, i .1) }
+
+  pub least-done : {k s : ℕ} → k ≡ hi → Least other inks cross line v h hi h k x s →
+      Least other inks cross line v h hi h hi x s
+  least-done {s = s} e L = subst (λ (j : ℕ). Least other inks cross line v h hi h j x s) e L
+
 module _ {other inks cross : List ℕ} {line v lo hi : ℕ} where
   -- from both sides
   least-both : {k x s t : ℕ} → Least other inks cross line v lo hi lo (k + 1) x s →

@@ -62,3 +62,10 @@ pub record Stop (other inks edge cross : List ℕ) (line n at v s r : ℕ) : Typ
   pub le : r ≤ n
   pub before : (k : ℕ) → k < r → Linked edge line at k → isStop other inks cross line (getD cross at 0) v s k ≡ false
   pub found : r < n → Linked edge line at r × (isStop other inks cross line (getD cross at 0) v s r ≡ true)
+
+-- r is the first of the crossings lo to hi, hi excluded, of a line that has the label v in the other direction, or hi
+pub record FirstStop (other : List ℕ) (line v lo hi r : ℕ) : Type 0 where
+  pub from : lo ≤ r
+  pub le : r ≤ hi
+  pub before : (k : ℕ) → k < r → lo ≤ k → across other line k ≢ v
+  pub stop : r < hi → across other line r ≡ v

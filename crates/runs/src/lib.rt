@@ -4,12 +4,12 @@ use grid::STRIDE;
 ghost use Prim.Native.Nat.{_+_, _-_, _*_, _≤_, _<_, min};
 ghost use mathlib.Core.Path.{_≡_};
 ghost use mathlib.Core.Bool.{true};
-ghost use lib.ListN.{length};
+ghost use lib.ListN.{getD, length};
 ghost use Rattle.foil_spec.specs.Paths.{gap};
 ghost use Rattle.grid.specs.Size.{stride};
 ghost use Rattle.grid.specs.Lines.{Lines};
-ghost use Rattle.runs.specs.Line.{across, RunStart, RunEnd, Left, isStop, Scanned, Stop, labelTop};
-ghost use Rattle.runs.specs.Ink.{Low, Carried, Ahead, Behind, InkPut, Blank, RunInked};
+ghost use Rattle.runs.specs.Line.{across, RunStart, RunEnd, Left, isStop, Scanned, Stop, FirstStop, labelTop};
+ghost use Rattle.runs.specs.Ink.{Low, Carried, Least, Ahead, Behind, InkPut, Blank, RunInked};
 
 // How many steps two numbers are apart.
 pub fn steps(a: u16, b: u16) -> u32
@@ -205,6 +205,49 @@ fn carry(other: &[u32], inks: &[u32], line: usize, k: usize, v: u32, x: u32, bes
         return best;
     }
     lesser(inks[k * STRIDE + line] + x, best)
+}
+
+// The first of the crossings lo to hi, hi excluded, of a line that has the label v in the other direction, or hi.
+pub fn first_stop(other: &[u32], line: usize, lo: usize, hi: usize, v: u32) -> usize
+    requires { ⌜ (line < stride) × (lo ≤ hi) × (hi ≤ stride) × (hi * stride ≤ length (now other)) ⌝ }
+    ensures { λ r. ⌜ FirstStop (now (other .entry)) line v lo hi r ⌝ }
+{
+    let mut k = lo;
+    while k < hi {
+        if other[k * STRIDE + line] == v {
+            return k;
+        }
+        k += 1;
+    }
+    hi
+}
+
+// The least ink at crossing `at` over the stops for the label v from crossing h, which is one, to hi, hi excluded.
+pub fn ink_at(
+    other: &[u32],
+    inks: &[u32],
+    cross: &[u16],
+    line: usize,
+    n: usize,
+    h: usize,
+    hi: usize,
+    at: usize,
+    v: u32,
+) -> u32
+    requires { ⌜ (line < stride) × Lines (now cross) n × (hi ≤ n) × (h < hi) × (at < n) × (v < labelTop) ⌝ }
+    requires { ⌜ (n * stride ≤ length (now other)) × (n * stride ≤ length (now inks)) ⌝ }
+    requires { ⌜ Low (now other) (now inks) line n v × (across (now other) line h ≡ v) ⌝ }
+    ensures { λ r. ⌜ Least (now (other .entry)) (now (inks .entry)) (now (cross .entry)) line v h hi h hi
+        (getD (now (cross .entry)) at 0) r ⌝ }
+{
+    let x = cross[at];
+    let mut best = inks[h * STRIDE + line] + steps(x, cross[h]);
+    let mut k = h + 1;
+    while k < hi {
+        best = carry(other, inks, line, k, v, steps(x, cross[k]), best);
+        k += 1;
+    }
+    best
 }
 
 // The sweep down the crossings lo to hi, hi excluded, of a run: the least ink at each over the stops for the label v

@@ -76,20 +76,17 @@ module _ {l u wl wu ku rows : List ℕ} {nr i j : ℕ} where
     unfolding labelAt
     upright-start e c = rw e (goes true c)
 
--- the labels l and u and the inks wl and wu are right after n rounds, and the start is the crossing of column i and
--- row j
+-- the labels l and u and the inks wl and wu are right after n rounds, and those of the start, the crossing of column i
+-- and row j, after one more
 module _ {f : ℕ → ℕ → Bool} {T : ℕ → ℕ → Type 0} (tf : TargetFree f T) {cols : List ℕ} {nc : ℕ} {rows : List ℕ} {nr : ℕ}
     {kl ku : List ℕ} (L : Faithful f T cols nc rows nr kl) (U : Faithful (flip f) (flip T) rows nr cols nc ku)
     (R : Rising rows nr) {n : ℕ} {l u wl wu : List ℕ} (A : Labelled f T cols nc rows nr n l)
     (B : Labelled (flip f) (flip T) rows nr cols nc n u) (AM : Measured f T cols nc rows nr l wl)
     (BM : Measured (flip f) (flip T) rows nr cols nc u wu) (G : Grounded u l wu wl ku rows nc nr)
-    {i j : ℕ} (i-in : i < nc) (j-in : j < nr) (l-most : along l j i ≤ n + 1) (u-most : along u i j ≤ n + 1) where
-  level-says : Says f T n (getD cols i 0) (getD rows j 0) (along l j i)
-  level-says = A .says j j-in i i-in
-
-  upright-says : Says (flip f) (flip T) n (getD rows j 0) (getD cols i 0) (along u i j)
-  upright-says = B .says i i-in j j-in
-
+    {i j : ℕ} (i-in : i < nc) (j-in : j < nr)
+    (level-says : Says f T (n + 1) (getD cols i 0) (getD rows j 0) (along l j i))
+    (upright-says : Says (flip f) (flip T) (n + 1) (getD rows j 0) (getD cols i 0) (along u i j))
+    (l-most : along l j i ≤ n + 1 + 1) (u-most : along u i j ≤ n + 1 + 1) where
   -- fewer segments than the chosen label says do not lead to a target
   level-low : (k m : ℕ) → Choice l u wl wu ku rows nr i j false → along l j i ≡ k + 1 → m < k
       → Course m (flip f) (flip T) (getD rows j 0) (getD cols i 0) → ⊥

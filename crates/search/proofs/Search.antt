@@ -22,13 +22,14 @@ use Rattle.grid.specs.Targets.{inBoxes, target}
 use Rattle.runs.specs.Line.{along, labelTop}
 use Rattle.runs.specs.Ink.{Lean}
 use Rattle.labels.specs.Pass.{Pass, Below}
-use Rattle.labels.specs.Rounds.{Rounds, Ended, found, stuck}
+use Rattle.labels.specs.Rounds.{Rounds, Last, Ended, found, stuck}
 use Rattle.labels.specs.Walk.{Grounded}
 use Rattle.runs.proofs.Inks.{lean-low}
 use Rattle.labels.proofs.Going.{rounds-lean}
 use Rattle.labels.proofs.Faithful.{Faithful}
-use Rattle.labels.proofs.Meaning.{Labelled, Measured, rounds-pos, rounds-labels, rounds-inks, rounds-below}
-use Rattle.labels.proofs.Meaning.{rounds-grounded, rounds-stuck}
+use Rattle.labels.proofs.Meaning.{Says, Labelled, Measured, rounds-pos, rounds-labels, rounds-inks, rounds-below}
+use Rattle.labels.proofs.Meaning.{rounds-grounded, rounds-stuck, last-labels, last-level, last-upright, last-inks}
+use Rattle.labels.proofs.Meaning.{last-below, last-lean, last-grounded}
 use Rattle.labels.proofs.First.{coords}
 use Rattle.search.specs.Grid.{Aimed, Grid}
 use Rattle.sowing.specs.Seeds.{Sown}
@@ -148,25 +149,37 @@ module _ {z : List ℕ} {n : ℕ} {t : List ℕ} {k w h : ℕ} {S : Point} (P : 
       go true on out =
           out .1 i (B .i-in) j (B .j-in) zu (path-course ks (flip f) (flip (On T)) (start .y) (start .x) on)
 
-  -- the start has a label, after rounds up to v
-  module _ {v : ℕ} (r : Rounds kl ku cols rows nc nr (B .l₀) (B .u₀) (B .wl₀) (B .wu₀) v l u wl wu) where
+  -- the start has a label, after rounds up to v and a last one
+  module _ {v : ℕ} {l₁ u₁ wl₁ wu₁ : List ℕ}
+      (r : Rounds kl ku cols rows nc nr (B .l₀) (B .u₀) (B .wl₀) (B .wu₀) v l₁ u₁ wl₁ wu₁)
+      (E : Last kl ku cols rows nc nr i j v l₁ u₁ wl₁ wu₁ l u wl wu) where
+    before : Labelled f (On T) cols nc rows nr (v - 1) l₁ × Labelled (flip f) (flip (On T)) rows nr cols nc (v - 1) u₁
+    before = rounds-labels target-free L U seeds r
+
     labelled : Labelled f (On T) cols nc rows nr (v - 1) l × Labelled (flip f) (flip (On T)) rows nr cols nc (v - 1) u
-    labelled = rounds-labels target-free L U seeds r
+    labelled = last-labels (rounds-pos r) E target-free L U before
+
+    level-says : Says f (On T) (v - 1 + 1) (start .x) (start .y) (along l j i)
+    level-says = last-level (rounds-pos r) E target-free L U before (B .i-in) (B .j-in)
+
+    upright-says : Says (flip f) (flip (On T)) (v - 1 + 1) (start .y) (start .x) (along u i j)
+    upright-says = last-upright (rounds-pos r) E target-free L U before (B .i-in) (B .j-in)
 
     measured : Measured f (On T) cols nc rows nr l wl × Measured (flip f) (flip (On T)) rows nr cols nc u wu
-    measured = rounds-inks target-free L U seeds seed-inks r
+    measured = last-inks (rounds-pos r) E target-free L U before (rounds-inks target-free L U seeds seed-inks r)
 
     grounded : Grounded l u wl wu kl cols nr nc × Grounded u l wu wl ku rows nc nr
-    grounded = rounds-grounded level-low upright-low r
+    grounded = last-grounded (rounds-pos r) E (rounds-grounded level-low upright-low r)
 
-    lean : (1 ≤ v) × Lean nr nc l wl × Lean nc nr u wu
+    lean : Lean nr nc l wl × Lean nc nr u wu
     lean =
-        rounds-lean C R (sown-lean level-sown) (sown-lean upright-sown) r
+        let k = rounds-lean C R (sown-lean level-sown) (sown-lean upright-sown) r in
+        last-lean (rounds-pos r) E C R (k .1, k .2)
 
-    below : Below nr nc l v × Below nc nr u v
-    below = rounds-below level-low upright-low r
+    below : Below nr nc l (v + 1) × Below nc nr u (v + 1)
+    below = last-below (rounds-pos r) E (rounds-below level-low upright-low r)
 
-    most : (along l j i ≤ (v - 1) + 1) × (along u i j ≤ (v - 1) + 1)
+    most : (along l j i ≤ v - 1 + 1 + 1) × (along u i j ≤ v - 1 + 1 + 1)
     most =
         let p = rounds-pos r in
         let a = below .0 .le j (B .j-in) i (B .i-in) in
@@ -178,10 +191,10 @@ module _ {z : List ℕ} {n : ℕ} {t : List ℕ} {k w h : ℕ} {S : Point} (P : 
     unfolding labelAt
     fewest k false c e =
         fewest-level target-free L U (R .rising) (labelled .0) (labelled .1) (measured .0) (measured .1)
-        (grounded .1) (B .i-in) (B .j-in) (most .0) (most .1) k c e
+        (grounded .1) (B .i-in) (B .j-in) level-says upright-says (most .0) (most .1) k c e
     fewest k true c e =
         fewest-upright target-free L U (R .rising) (labelled .0) (labelled .1) (measured .0) (measured .1)
-        (grounded .1) (B .i-in) (B .j-in) (most .0) (most .1) k c e
+        (grounded .1) (B .i-in) (B .j-in) level-says upright-says (most .0) (most .1) k c e
 
     best : (k : ℕ) (qs : List ℕ) (up : Bool) → Choice l u wl wu ku rows nr i j up → labelAt up l u i j ≡ k + 1
         → Trails up l u wl wu kl ku cols rows nc nr i j (k + 1) qs
@@ -189,10 +202,10 @@ module _ {z : List ℕ} {n : ℕ} {t : List ℕ} {k w h : ℕ} {S : Point} (P : 
     unfolding labelAt Trails
     best k qs false c e tr =
         walk-level target-free L U (R .rising) (labelled .0) (labelled .1) (measured .0) (measured .1)
-        (grounded .1) (B .i-in) (B .j-in) (most .0) (most .1) k qs c e tr
+        (grounded .1) (B .i-in) (B .j-in) level-says upright-says (most .0) (most .1) k qs c e tr
     best k qs true c e tr =
         walk-upright target-free L U (R .rising) (labelled .0) (labelled .1) (measured .0) (measured .1)
-        (grounded .1) (B .i-in) (B .j-in) (most .0) (most .1) k qs c e tr
+        (grounded .1) (B .i-in) (B .j-in) level-says upright-says (most .0) (most .1) k qs c e tr
 
     takes : (k : ℕ) (qs : List ℕ) (up : Bool) → Choice l u wl wu ku rows nr i j up → labelAt up l u i j ≡ k + 1
         → Trails up l u wl wu kl ku cols rows nc nr i j (k + 1) qs
@@ -203,7 +216,7 @@ module _ {z : List ℕ} {n : ℕ} {t : List ℕ} {k w h : ℕ} {S : Point} (P : 
         (corners-are (start ∷ corners up (coordinates up cols rows qs) (start .x) (start .y))
         (best-first f w h inside start T start-free up (coordinates up cols rows qs) (best k qs up c e tr)))
 
-below-top : {m n v : ℕ} {lab : List ℕ} → v < labelTop → Below m n lab v → Below m n lab labelTop
+below-top : {m n v : ℕ} {lab : List ℕ} → v < labelTop → Below m n lab (v + 1) → Below m n lab labelTop
 below-top l B = record { le = λ i li k lk. let b = B .le i li k lk in omega arith }
 
 -- What the choice is asked of, and what `labels` answers.
@@ -215,12 +228,12 @@ module _ {z : List ℕ} {n : ℕ} {t : List ℕ} {k w h : ℕ} {S : Point} (P : 
     where
       go : (b : Bool) → Ended kl ku cols rows nc nr i j (B .l₀) (B .u₀) (B .wl₀) (B .wu₀) l u wl wu b → b ≡ true
           → Choosing l u wl nr i j
-      go true (found m r p) e =
-          let low = below P G B r .0 .le j (B .j-in) i (B .i-in) in
+      go true (found m r E) e =
+          let low = below P G B r E .0 .le j (B .j-in) i (B .i-in) in
           record {
-            some = p;
+            some = E .some;
             top = omega arith;
-            low = λ v one. lean-low i v (lean P G B r .1) (B .i-in) one;
+            low = λ v one. lean-low i v (lean P G B r E .0) (B .i-in) one;
           }
       go false (stuck r zl zu p q) e = clash e refl
 
@@ -255,10 +268,10 @@ module _ {z : List ℕ} {n : ℕ} {t : List ℕ} {k w h : ℕ} {S : Point} (P : 
       go : Ended kl ku cols rows nc nr i j (B .l₀) (B .u₀) (B .wl₀) (B .wu₀) l u wl wu true
           → Searched (firstPathTo (boxFree w h n z) w h S (target w h n z k t)) cols rows kl ku l u wl wu
           (record { columns = nc; rows = nr; i = i; j = j; upright = up; corners = labelAt up l u i j })
-      go (found m r p) =
+      go (found m r E) =
           let one = choice-some up c in
           let e : labelAt up l u i j ≡ (labelAt up l u i j - 1) + 1 = omega arith in
-          let F = fewest P G B r (labelAt up l u i j - 1) up c e in
+          let F = fewest P G B r E (labelAt up l u i j - 1) up c e in
           let q = fewest-first (f P G B) w h (inside P G B) (start P G B) (T P G B) (start-free P G B)
           (labelAt up l u i j - 1) F in
           record {
@@ -276,19 +289,19 @@ module _ {z : List ℕ} {n : ℕ} {t : List ℕ} {k w h : ℕ} {S : Point} (P : 
                   level-edges = le;
                   upright-edges = ue;
                 };
-                level = grounded P G B r .0;
-                upright = grounded P G B r .1;
-                level-low = below-top m (below P G B r .0);
-                upright-low = below-top m (below P G B r .1);
-                level-lean = lean P G B r .1;
-                upright-lean = lean P G B r .2;
+                level = grounded P G B r E .0;
+                upright = grounded P G B r E .1;
+                level-low = below-top m (below P G B r E .0);
+                upright-low = below-top m (below P G B r E .1);
+                level-lean = lean P G B r E .0;
+                upright-lean = lean P G B r E .1;
               };
               i-in = B .i-in;
               j-in = B .j-in;
               some = one;
               label = refl;
               takes = λ qs tr.
-                  takes P G B r (labelAt up l u i j - 1) qs up c e
+                  takes P G B r E (labelAt up l u i j - 1) qs up c e
                   (subst (λ (v : ℕ). Trails up l u wl wu kl ku cols rows nc nr i j v qs) e tr);
             };
           }

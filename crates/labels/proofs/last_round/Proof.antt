@@ -1,0 +1,109 @@
+-- The level label of the crossing, then its upright one.
+use native.Mathlib.Omega.{arith}
+use borrow.Author.Needs.{needs}
+use Rattle.runs.proofs.Inks.{lean-low}
+use Rattle.labels.proofs.Part.{alone-lean}
+use Rattle.labels.proofs.Last.{sized-same, tried-level, tried-upright}
+use Rattle.labels.proofs.last_round.Statement.{statement}
+use Rattle.labels.proofs.last_round.Tie as tie
+
+-- back to the start, and to what was answered for the level and for the upright label
+abbrev atStart : tie.After-label-alone-arg4 → tie.Start
+atStart c = c .before .before .before .before .before .before .before .before .before .before .before .before
+
+abbrev atLevel : tie.After-label-alone-arg8 → tie.After-label-alone
+atLevel c = c .before .before .before .before .before .before .before .before
+
+abbrev atUpright : tie.After-slice-known8 → tie.After-label-alone2
+atUpright c = c .before .before .before .before
+
+label-alone-requires : tie.Need-label-alone-requires
+label-alone-requires c κs =
+    let pre = atStart c .pre in
+    let sized = pre .0 .0 in (
+      (
+        omega (arith, sized .row-lines .few),
+        sized .column-lines,
+        pre .0 .1,
+        pre .0 .4,
+        omega (arith, sized .level-edges),
+      ),
+      (
+        (sized .upright, sized .upright-inks, lean-low _ _ (pre .1 .1) (pre .0 .2) (pre .0 .3)),
+        (omega (arith, sized .level), omega (arith, sized .level-inks)),
+      ),
+    )
+
+label-alone-requires-2 : tie.Need-label-alone-requires-2
+label-alone-requires-2 c κs =
+    let level = atLevel c .label-alone in
+    let pre = atStart (atLevel c .before) .pre in
+    let sized = pre .0 .0 in
+    let lean = alone-lean (pre .0 .1) (sized .column-lines .few) (sized .column-lines) (pre .0 .3) (level .ensures)
+    (omega (arith, sized .level, level .kept .0)) (omega (arith, sized .level-inks, level .kept .1 .0)) (pre .1 .1)
+    (pre .1 .0) in (
+      (
+        omega (arith, sized .column-lines .few),
+        sized .row-lines,
+        pre .0 .2,
+        pre .0 .4,
+        omega (arith, sized .upright-edges),
+      ),
+      (
+        (
+          omega (arith, sized .level, level .kept .0),
+          omega (arith, sized .level-inks, level .kept .1 .0),
+          lean-low _ _ lean (pre .0 .1) (pre .0 .3),
+        ),
+        (omega (arith, sized .upright), omega (arith, sized .upright-inks)),
+      ),
+    )
+
+same-length : tie.Need-same-length
+same-length c = search needs
+
+same-length-2 : tie.Need-same-length-2
+same-length-2 c = search needs
+
+same-length-3 : tie.Need-same-length-3
+same-length-3 c = search needs
+
+same-length-4 : tie.Need-same-length-4
+same-length-4 c = search needs
+
+returns : tie.Need-returns
+returns c =
+    let upright = atUpright (c .before) in
+    let level = atLevel (upright .before) in
+    let pre = atStart (level .before) .pre in
+    tried-level
+    (sized-same (pre .0 .0) (level .label-alone .kept .0) (upright .label-alone2 .kept .0)
+    (level .label-alone .kept .1 .0) (upright .label-alone2 .kept .1 .0))
+    (pre .0 .1) (pre .0 .2) (level .label-alone .ensures) (upright .label-alone2 .ensures) (c .if1 .taken)
+
+same-length-5 : tie.Need-same-length-5
+same-length-5 c = search needs
+
+same-length-6 : tie.Need-same-length-6
+same-length-6 c = search needs
+
+same-length-7 : tie.Need-same-length-7
+same-length-7 c = search needs
+
+same-length-8 : tie.Need-same-length-8
+same-length-8 c = search needs
+
+returns-2 : tie.Need-returns-2
+returns-2 c =
+    let upright = atUpright (c .before) in
+    let level = atLevel (upright .before) in
+    let pre = atStart (level .before) .pre in
+    tried-upright
+    (sized-same (pre .0 .0) (level .label-alone .kept .0) (upright .label-alone2 .kept .0)
+    (level .label-alone .kept .1 .0) (upright .label-alone2 .kept .1 .0))
+    (pre .0 .1) (pre .0 .2) (level .label-alone .ensures) (upright .label-alone2 .ensures) (c .if1 .left)
+
+pub last-round-spec : {M : Type 1} → statement M
+last-round-spec =
+    tie.close (tie.spec label-alone-requires label-alone-requires-2 same-length same-length-2 same-length-3
+    same-length-4 returns same-length-5 same-length-6 same-length-7 same-length-8 returns-2)

@@ -1,0 +1,113 @@
+-- The least over the stops so far is carried along.
+use Prim.Native.Nat.{_-_, _≤_, _<_}
+use native.Mathlib.Omega.{arith}
+use lib.ListN.{getD}
+use borrow.Author.Needs.{needs}
+use Rattle.runs.specs.Ink.{Least}
+use Rattle.runs.proofs.Inks.{least-one, least-more, least-done}
+use Rattle.runs.proofs.ink_at.Statement.{statement}
+use Rattle.runs.proofs.ink_at.Tie as tie
+
+abbrev Inv-loop : tie.InvT-loop
+Inv-loop other inks cross line n h hi at v x best₀ k₀ best k =
+    (h < k) × (k ≤ hi) × Least other inks cross line v h hi h k (getD cross at 0) best
+
+abbrev μ-loop : tie.MeasureT-loop
+μ-loop other inks cross line n h hi at v x best₀ k₀ best k = hi - k
+
+-- back to the start, and in the loop to its head
+abbrev atStart : tie.After-steps Inv-loop μ-loop → tie.Start Inv-loop μ-loop
+atStart c = c .before .before .before .before .before .before .before
+
+abbrev atLoop : tie.After-steps2 Inv-loop μ-loop → tie.At-loop Inv-loop μ-loop
+atLoop c = c .before .before .before
+
+mul-x : tie.Need-mul-x Inv-loop μ-loop
+mul-x c = omega arith
+
+shared-slice-read-x : tie.Need-shared-slice-read-x Inv-loop μ-loop
+shared-slice-read-x c = omega arith
+
+mul-best : tie.Need-mul-best Inv-loop μ-loop
+mul-best c = omega arith
+
+add-best : tie.Need-add-best Inv-loop μ-loop
+add-best c = omega arith
+
+mul-best-2 : tie.Need-mul-best-2 Inv-loop μ-loop
+mul-best-2 c = omega arith
+
+shared-slice-read-best : tie.Need-shared-slice-read-best Inv-loop μ-loop
+shared-slice-read-best c = omega arith
+
+mul-steps : tie.Need-mul-steps Inv-loop μ-loop
+mul-steps c = omega arith
+
+shared-slice-read-steps : tie.Need-shared-slice-read-steps Inv-loop μ-loop
+shared-slice-read-steps c = omega arith
+
+steps-requires : tie.Need-steps-requires Inv-loop μ-loop
+steps-requires c κs = search needs
+
+add-best-2 : tie.Need-add-best-2 Inv-loop μ-loop
+add-best-2 c =
+    let start = atStart c in
+    let low = start .pre .1 .1 .0 .le (start .args .h) (omega arith) (start .pre .1 .1 .1) in
+    omega (arith, low, c .steps .ensures .1)
+
+add-k : tie.Need-add-k Inv-loop μ-loop
+add-k c = omega arith
+
+loop-holds : tie.Need-loop-holds Inv-loop μ-loop
+loop-holds c =
+    let start = atStart c in
+    let e = c .steps .ensures .0 in
+    (omega arith, omega arith, least-one (omega arith) (start .pre .1 .1 .1) (omega arith))
+
+mul-steps-2 : tie.Need-mul-steps-2 Inv-loop μ-loop
+mul-steps-2 c = omega arith
+
+shared-slice-read-steps-2 : tie.Need-shared-slice-read-steps-2 Inv-loop μ-loop
+shared-slice-read-steps-2 c = omega arith
+
+steps-requires-2 : tie.Need-steps-requires-2 Inv-loop μ-loop
+steps-requires-2 c κs = search needs
+
+carry-requires : tie.Need-carry-requires Inv-loop μ-loop
+carry-requires c κs =
+    let start = atStart (atLoop c .before) in
+    let pre = start .pre in
+    let lines = pre .0 .1 in
+    let k = atLoop c .loop .k in
+    let near = lines .below (start .args .at) (pre .0 .4) in (
+      (
+        pre .0 .0,
+        omega (arith, lines .few),
+        pre .0 .5,
+        omega (arith, c .steps2 .ensures .0, near, lines .below k (omega arith)),
+      ),
+      ((omega (arith, pre .1 .0 .0), omega (arith, pre .1 .0 .1)), pre .1 .1 .0 .le k (omega arith)),
+    )
+
+add-k-2 : tie.Need-add-k-2 Inv-loop μ-loop
+add-k-2 c = omega arith
+
+loop-less : tie.Need-loop-less Inv-loop μ-loop
+loop-less c = omega arith
+
+loop-again : tie.Need-loop-again Inv-loop μ-loop
+loop-again c =
+    let inv = atLoop (c .before) .loop .inv in (
+      omega (arith, inv .0),
+      omega arith,
+      least-more (inv .0) (omega arith) (inv .2) (c .before .steps2 .ensures .0) (c .carry .ensures),
+    )
+
+returns : tie.Need-returns Inv-loop μ-loop
+returns c = let inv = c .before .loop .inv in least-done (omega arith) (inv .2)
+
+pub ink-at-spec : {M : Type 1} → statement M
+ink-at-spec =
+    tie.close (tie.spec Inv-loop μ-loop mul-x shared-slice-read-x mul-best add-best mul-best-2 shared-slice-read-best
+    mul-steps shared-slice-read-steps steps-requires add-best-2 add-k loop-holds mul-steps-2 shared-slice-read-steps-2
+    steps-requires-2 carry-requires add-k-2 loop-less loop-again returns)
