@@ -14,11 +14,11 @@ use Rattle.grid.specs.Targets.{inBoxes, target}
 use Rattle.labels.specs.Walk.{put}
 use Rattle.sowing.specs.Seeds.{boxed}
 use Rattle.search.specs.Grid.{Aimed}
-use Rattle.search.specs.Search.{Found}
+use Rattle.search.specs.Search.{PathFound}
 use Rattle.search.proofs.Written.{corner-written}
 
 -- where the corner does not fit, and where it does
-pub stay-unfit : (p : Point) (out : List ℕ) → length out < 2 → Found (some (p ∷ [])) out out 1
+pub stay-unfit : (p : Point) (out : List ℕ) → length out < 2 → PathFound (some (p ∷ [])) out out 1
 stay-unfit p out few =
     record {
       nowhere = λ zero. absurd (omega arith);
@@ -28,7 +28,7 @@ stay-unfit p out few =
     }
 
 pub stay-put : (x y : ℕ) (out out′ : List ℕ) → 2 ≤ length out → out′ ≡ put out 0 x y
-    → Found (some (point x y ∷ [])) out out′ 1
+    → PathFound (some (point x y ∷ [])) out out′ 1
 stay-put x y out out′ fit e =
     record {
       nowhere = λ zero. absurd (omega arith);
@@ -44,8 +44,8 @@ unfolding firstPathTo firstFrom goings shortest
 target-first f W H S T e t = rw e (rw (t, firstFrom) refl)
 
 pub found-here : {z : List ℕ} {n : ℕ} {t : List ℕ} {k w h x y : ℕ} → Aimed z n t k w h (point x y)
-    → boxed k t false x y ≡ true → {out out′ : List ℕ} {r : ℕ} → Found (some (point x y ∷ [])) out out′ r
-    → Found (firstPathTo (boxFree w h n z) w h (point x y) (target w h n z k t)) out out′ r
+    → boxed k t false x y ≡ true → {out out′ : List ℕ} {r : ℕ} → PathFound (some (point x y ∷ [])) out out′ r
+    → PathFound (firstPathTo (boxFree w h n z) w h (point x y) (target w h n z k t)) out out′ r
 unfolding target inBoxes boxed
 found-here {z} {n} {t} {k} {w} {h} {x} {y} A b F =
     rw (target-first (boxFree w h n z) w h (point x y) (target w h n z k t) (A .s-free)

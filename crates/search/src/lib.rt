@@ -629,7 +629,7 @@ fn path_among_many(
 
 // The path from a target to itself: one corner, written to the front of `out` where it fits. Answers how many there are.
 fn stay(out: &mut [u16], x: u16, y: u16) -> usize
-    ensures { λ r. ⌜ Found (some (point x y ∷ [])) (now (out .entry)) (now (out .exit)) r ⌝ }
+    ensures { λ r. ⌜ PathFound (some (point x y ∷ [])) (now (out .entry)) (now (out .exit)) r ⌝ }
 {
     if out.len() < 2 {
         return 1;
