@@ -105,7 +105,7 @@ class Library:
             self.fail("the library's process cannot be started: %s" % fault.strerror)
         self.generation += 1
         self.why = ""
-        absent = json.loads(self.line(time.monotonic() + self.longest))["absent"]
+        absent = self.told()["absent"]
         if absent:
             self.fail(absent)
 
@@ -126,12 +126,19 @@ class Library:
                 left = left[self.process.stdin.write(left):]
         except OSError:
             self.fail(ended(self.process))
-        told = json.loads(self.line(time.monotonic() + self.longest))
+        told = self.told()
         if "wrong" in told:
             raise Wrong(told["wrong"])
         if "strange" in told:
             raise Strange(told["strange"])
         return told["answer"]
+
+    def told(self):
+        """What the process says next."""
+        try:
+            return json.loads(self.line(time.monotonic() + self.longest))
+        except ValueError:
+            self.fail("the library's process has written something that is no answer, and was ended")
 
     def line(self, until):
         """The next line of the process."""

@@ -2,9 +2,11 @@
 import os
 import pathlib
 import signal
+import tempfile
 import threading
 import time
 import unittest
+import unittest.mock
 
 from screen import library
 from screen.tests import given
@@ -23,6 +25,13 @@ class Ended(given.Served):
         os.kill(told["pid"], how)
         os.waitid(os.P_PID, told["pid"], os.WEXITED | os.WNOWAIT)
         return told
+
+    def stop(self):
+        """Stops the library's process, so that it does not answer: its number."""
+        pid = self.page.ask("free_net", foil=0)["library"]["pid"]
+        os.kill(pid, signal.SIGSTOP)
+        os.waitid(os.P_PID, pid, os.WSTOPPED | os.WNOWAIT)
+        return pid
 
     def test_a_process_that_was_killed_is_started_anew(self):
         for how in (signal.SIGKILL, signal.SIGSEGV):
@@ -46,9 +55,7 @@ class Ended(given.Served):
 
     def test_a_crash_while_it_is_asked(self):
         """The process is stopped while it is asked, and then killed."""
-        pid = self.page.ask("free_net", foil=0)["library"]["pid"]
-        os.kill(pid, signal.SIGSTOP)
-        threading.Timer(0.3, os.kill, [pid, signal.SIGKILL]).start()
+        threading.Timer(1, os.kill, [self.stop(), signal.SIGKILL]).start()
         told = self.page.change("lay", foil=0, net=7, **{"from": [0, 8], "to": [8, 8]})
         self.assertEqual(self.page.status, 503)
         self.assertIn("signal 9", told["unasked"]["why"])
@@ -59,8 +66,7 @@ class Ended(given.Served):
     def test_one_that_does_not_answer(self):
         self.library.longest = 0.4
         self.addCleanup(setattr, self.library, "longest", library.LONGEST)
-        pid = self.page.ask("free_net", foil=0)["library"]["pid"]
-        os.kill(pid, signal.SIGSTOP)
+        pid = self.stop()
         told = self.page.ask("look_up", foil=0, x=0, y=0)
         self.assertIn("not answered", told["unasked"]["why"])
         with self.assertRaises(ProcessLookupError):
@@ -87,11 +93,32 @@ class Ended(given.Served):
         self.assertEqual(self.page.state()["foil"], self.before["foil"])
 
 
-class Answers(unittest.TestCase):
-    def test_a_process_that_writes_something_else(self):
-        """What is no JSON is a mistake, and ends the process."""
-        made = library.Library("/nowhere")
-        with self.assertRaises(library.Unasked):
-            made.start()
+class Processes(unittest.TestCase):
+    """Processes that stand for the library's own."""
+
+    def why(self, script):
+        """Why a process that runs a script is not asked."""
+        with tempfile.TemporaryDirectory() as folder:
+            path = pathlib.Path(folder) / "process.py"
+            path.write_text(script)
+            with unittest.mock.patch.object(library, "PROCESS", path):
+                made = library.Library("/nowhere", longest=20)
+                with self.assertRaises(library.Unasked) as raised:
+                    made.start()
+                    made.put({"ask": "what"})
         self.assertFalse(made.standing)
-        self.assertEqual(made.seen()["pid"], None)
+        self.assertEqual((made.seen()["pid"], made.seen()["why"]), (None, str(raised.exception)))
+        return str(raised.exception)
+
+    def test_what_is_no_answer(self):
+        self.assertIn("no answer", self.why("print('what')\nimport time; time.sleep(60)"))
+        self.assertIn("no answer", self.why("print('{\"absent\": \"\"}')\nprint('{')"))
+
+    def test_one_that_ends(self):
+        self.assertIn("status 3", self.why("import sys; sys.exit(3)"))
+        self.assertIn("status 0", self.why("print('{\"absent\": \"\"}', flush=True)\ninput()"))
+        self.assertIn("cannot be loaded", self.why("print('{\"absent\": \"it cannot be loaded\"}')"))
+
+    def test_one_that_is_killed_while_it_is_asked(self):
+        self.assertIn("signal 11", self.why("import os\nprint('{\"absent\": \"\"}', flush=True)\ninput()\n"
+                                            "os.kill(os.getpid(), 11)"))
