@@ -3,10 +3,11 @@ anew, their ends moved with it.
 
 In the text the patch's line gets its new place, the lines of its tracks go, and tracks between the moved ends stand
 behind all others. Every other track stays where it is: one that would take another way, now that the text is run
-without those, is kept as `leg` lines."""
+without those, is kept as `leg` lines. The lines of a net that was open, and would now be laid before the key's own
+tracks, go behind these."""
 from typing import NamedTuple
 
-from desk import blocking, foils, job as jobs
+from desk import blocking, foils
 from desk.boxes import apart, area, common, widened
 from screen import changes, questions, shown, texts
 from screen.session import Fault, Refused
@@ -94,28 +95,40 @@ def moved_patch(move):
     return (*shifted((x0, y0), move.by), *shifted((x1, y1), move.by))
 
 
-def text_of(account, source, move, legs):
-    """The text after a move, with the nets in `legs` kept as legs."""
-    lines, made, patch = texts.lines_of(source), {}, account.line_of(move.patch.place)
+def text_of(account, source, move, legs, later):
+    """The text after a move, with the nets in `legs` kept as legs, and the lines of those in `later` behind all."""
+    lines, made, last = texts.lines_of(source), {}, []
+    patch, gone = account.line_of(move.patch.place), {*move.tracks, *legs, *later}
 
-    def without(words):
-        """A step that stays, or none for one of a net that is laid or put anew."""
-        gone = words[0] in ("track", "lift", "leg") and (int(words[1]) in move.tracks or int(words[1]) in legs)
-        return None if gone else words
+    def stays(words):
+        """A step that stays on its line, or none."""
+        return None if net_of(words) in gone else words
 
     def moved(words):
         """The same on the line of the patch."""
-        return ["patch", *map(str, moved_patch(move))] if words[0] == "patch" else without(words)
+        return ["patch", *map(str, moved_patch(move))] if words[0] == "patch" else stays(words)
 
     for line in account.text.lines:
         if line.said.split()[0] not in ("end", "bytes"):
-            change = moved if line.number == patch else without
-            made[line.number] = texts.with_steps(lines[line.number - 1], change)
-    new = [texts.step_line("leg", (net, *box), name_of(account, net) if at == 0 else "")
-           for net in legs for at, box in enumerate(legs[net])]
-    new += [texts.step_line("track", (net, *start, *end), name_of(account, net)) for net, (start, end) in
-            ((net, new_ends(account, move, net)) for net in move.tracks)]
-    return texts.appended(texts.changed(source, made), new)
+            whole = lines[line.number - 1]
+            left = made[line.number] = texts.with_steps(whole, moved if line.number == patch else stays)
+            behind = texts.with_steps(whole, lambda words: words if net_of(words) in later else None)
+            last += [behind if left is None else texts.parted(behind)[0]] if behind else []
+    return texts.appended(texts.changed(source, made), new_lines(account, move, legs) + last)
+
+
+def net_of(words):
+    """The net of a step by its words, none for one that has none."""
+    return int(words[1]) if words[0] in ("track", "lift", "leg") else None
+
+
+def new_lines(account, move, legs):
+    """The lines of nets that are kept as legs, and those of the tracks that go with the key."""
+    kept = [texts.step_line("leg", (net, *box), name_of(account, net) if at == 0 else "")
+            for net in legs for at, box in enumerate(legs[net])]
+    ends = {net: new_ends(account, move, net) for net in move.tracks}
+    return kept + [texts.step_line("track", (net, *start, *end), name_of(account, net))
+                   for net, (start, end) in ends.items()]
 
 
 def name_of(account, net):
@@ -135,40 +148,44 @@ def boxes_by_net(account):
 def result(session, k, box, by, nets):
     """The text and the account that a move gives, and its nets; or a refusal."""
     before, move = asked(session, k, box, by, nets)
-    source, stand, legs = session.order.texts[k], boxes_by_net(before), {}
+    source, stand, legs, later = session.order.texts[k], boxes_by_net(before), {}, set()
     for _ in range(ROUNDS):
-        text = text_of(before, source, move, legs)
+        text = text_of(before, source, move, legs, later)
         account = changes.after(session, k, text)
-        if not account.is_done:
-            break
         now = boxes_by_net(account)
         others = {net: boxes for net, boxes in stand.items() if net not in move.tracks and now.get(net) != boxes}
-        if not set(others) - set(legs):
+        if not account.is_done or not set(others) - set(legs) and not set(now) - set(stand) - later:
             break
         legs.update(others)
+        later |= set(now) - set(stand)
     refuse_worse(session, before, account, move, stand)
     return text, account, sorted(move.tracks)
 
 
 def refuse_worse(session, before, account, move, stand):
     """Refuses a move after which the patch, a track of the key or another net is not there as it was."""
-    there = {tuple(entry) for entry in account.held["entries"]}
-    patch = (0, *moved_patch(move))
-    if patch not in there:
-        number = next((outcome.said.number for outcome in account.run.refused if outcome.step.word == "patch"
-                       and outcome.step.numbers == patch[1:]), 21)
-        say(session, number, jobs.Step("patch", patch[1:]), crossed_by(before, patch[1:], move))
-    now = boxes_by_net(account)
+    if not account.is_done:
+        changes.last_of(session, account)
+    box, now = moved_patch(move), boxes_by_net(account)
+    if [0, *box] not in account.held["entries"]:
+        refused = last_refused(account, lambda step: step.word == "patch" and step.numbers == box)
+        say(session, refused, crossed_by(before, box, move))
     for net in move.tracks:
         if net not in now:
-            last = [outcome for outcome in account.run.refused if outcome.step.net == net][-1]
-            session.held()
-            here = session.adviser.notes(account).get(last.key, [])
-            say(session, last.said.number, last.step, here)
+            refused = last_refused(account, lambda step: step.net == net)
+            say(session, refused, session.adviser.notes(account).get(refused.key, []))
     for net, boxes in stand.items():
         if net not in move.tracks and now.get(net) != boxes:
-            number = next((outcome.said.number for outcome in account.run.refused if outcome.step.net == net), 21)
-            say(session, number, jobs.Step("leg", (net, *boxes[0])), ["net %d cannot stay as it is" % net])
+            refused = last_refused(account, lambda step: step.net == net)
+            say(session, refused, ["net %d cannot stay as it is" % net])
+
+
+def last_refused(account, wanted):
+    """The last refused step of a kind."""
+    there = [outcome for outcome in account.run.refused if wanted(outcome.step)]
+    if not there:
+        raise Fault("mistake", "the move would change what no call has refused: nothing was changed")
+    return there[-1]
 
 
 def crossed_by(account, box, move):
@@ -179,9 +196,9 @@ def crossed_by(account, box, move):
     return ["it is too near net " + ", ".join(map(str, sorted(against)))] if against else []
 
 
-def say(session, number, step, here):
-    """Refuses a move in words."""
-    raise Refused(shown.refused(number, session.table, here, questions.step_said(step)))
+def say(session, outcome, here):
+    """Refuses a move by the step that was refused."""
+    raise Refused(shown.refused(outcome.said.number, session.table, here, questions.step_said(outcome.step)))
 
 
 def move(session, k, box, by, nets):

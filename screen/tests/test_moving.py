@@ -38,6 +38,14 @@ class Moves(given.Served):
         self.assertEqual(self.nets(told)[2], self.nets(before)[2])
         self.assertEqual(told["nets"][-1]["ends"], [[5, 9], [18, 3]])
 
+    def test_an_open_track_is_laid_behind_those_of_the_key(self):
+        self.have(given.sample("less-ink"))
+        after = self.page.change("move", foil=0, box=[4, 2, 5, 7], by=[-1, 2])["answer"]["state"]["foil"]
+        self.assertEqual(after["text"].splitlines()[1:], [
+            "board 9 9 0, patch 3 4 4 9", "track 1 0 6 6 6", "track 2 1 5 7 3        # 8: track 1 is on its end",
+            "end"])
+        self.assertEqual(self.nets(after)[1], [[0, 3, 1, 7], [0, 3, 7, 4], [6, 3, 7, 7]])
+
     def test_a_move_that_cannot_be(self):
         self.have("board 20 12 0\npatch 2 2 4 4\ntrack 1 5 3 18 3\ntrack 2 0 8 19 8\npatch 10 10 12 12\nend\n")
         before = self.page.state()
