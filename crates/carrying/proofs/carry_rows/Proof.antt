@@ -26,7 +26,10 @@ slice-aggregate-mark-nets : tie.Need-slice-aggregate-mark-nets
 slice-aggregate-mark-nets c = search needs
 
 mark-nets-requires : tie.Need-mark-nets-requires
-mark-nets-requires c κs = (small-nets _ _ (c .before .before .before .before .before .pre .0), refl)
+mark-nets-requires c κs =
+    let lists = c .before .before in
+    let start = lists .before .before .before in
+    (small-nets _ _ (start .pre .0), refl)
 
 slice-aggregate-keep-unmarked : tie.Need-slice-aggregate-keep-unmarked
 slice-aggregate-keep-unmarked c = search needs

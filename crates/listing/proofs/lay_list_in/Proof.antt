@@ -56,13 +56,14 @@ loop-again c =
     let laid = afterNext c in
     let loop = atLoop (laid .before) in
     let inv = loop .loop .inv in
-    let kept = laid .lay-next .kept in (
+    let foil = laid .lay-next .kept in
+    let told = foil .1 .1 in (
       omega arith,
-      omega (arith, kept .0, inv .1),
-      omega (arith, kept .1 .0, inv .2),
-      omega (arith, kept .1 .1 .0, inv .3),
-      omega (arith, kept .1 .1 .1 .0, inv .4),
-      omega (arith, kept .1 .1 .0, laid .lay-next .ensures .1),
+      omega (arith, foil .0, inv .1),
+      omega (arith, foil .1 .0, inv .2),
+      omega (arith, told .0, inv .3),
+      omega (arith, told .1 .0, inv .4),
+      omega (arith, told .0, laid .lay-next .ensures .1),
       next-net _ _ _ _ _ (atStart loop .pre .0) _ _ _ _ _ _ (inv .6) _ _ _ _ _ (laid .lay-next .ensures .0) (inv .3),
     )
 

@@ -66,7 +66,8 @@ add-t21 c =
     let fits =
     used-fits _ _ _ _ _ _ _ _ (atStart (atWish laid) .pre) _ (atWish laid .wish-at .ensures) _ _ _ _
     (laid .lay-in .ensures) _ (told .in-numbers .ensures) in
-    omega (arith, fits, atStart (atWish laid) .good .1 .1 .0 .0)
+    let corners = atStart (atWish laid) .good .1 .1 in
+    omega (arith, fits, corners .0 .0)
 
 either-requires : tie.Need-either-requires
 either-requires c κs = search needs
