@@ -10,6 +10,7 @@ use job::Next;
 use job::Replied;
 use job::Reply;
 use job::Told;
+use job::next_of;
 use job_report::run_one;
 use sheet_rows::SHEET_SIZE;
 ghost use Prim.Native.Nat.{_<_, _≤_};
@@ -64,14 +65,13 @@ fn count_steps(counts: &mut [u64; 32], answers: Answers) {
     count(counts, leg);
 }
 
-// Counts the steps of a record by its reply, and answers the place of the next one, if there is one.
-fn follow(counts: &mut [u64; 32], done: Replied) -> Next {
+// Counts the steps of a record by its reply.
+fn count_reply(counts: &mut [u64; 32], done: Replied) {
     let reply = done.reply;
-    let Reply::Ran(answers, next) = reply else {
-        return Next::Nowhere;
+    let Reply::Ran(answers, _) = reply else {
+        return;
     };
     count_steps(counts, answers);
-    next
 }
 
 // How the job ended with a record.
@@ -102,10 +102,12 @@ pub(crate) fn run(counts: &mut [u64; 32], bytes: &[u8]) -> Job {
     let mut at: usize = 0;
     for _ in 0..RECORDS {
         let done = run_one(&mut table, &mut strips, &mut corners, board, bytes, at);
-        board = done.board;
-        let Next::At(place) = follow(counts, done) else {
+        count_reply(counts, done);
+        let next = next_of(done);
+        let Next::At(place) = next else {
             return over(done);
         };
+        board = done.board;
         at = place;
     }
     Job {

@@ -1,5 +1,5 @@
--- What a reply says of its record: which checks it has passed, which bits its answers come from, and where the
--- corners of a track stand.
+-- What a reply says of its record: where the job goes on, which checks it has passed, which bits its answers come
+-- from, and where the corners of a track stand.
 use Prim.Native.Nat.{ℕ, zero, suc, _+_, _/_, _≤_}
 use native.Mathlib.Omega.{arith}
 use mathlib.Core.Path.{_≡_, refl, sym, ap, _∙_, subst}
@@ -9,6 +9,7 @@ use mathlib.Core.Logic.{_⊎_, inl, inr, ⊎-elim}
 use mathlib.Core.Option.{Option, none, some}
 use lib.Dec.{leb, ltb, eqb}
 use lib.ListN.{length, drop}
+use types.Run.{OneOf}
 use borrow.Author.Tests.{ltb-false, leb-false}
 use Rattle.foil_spec.specs.Lists.{range}
 use Rattle.foil_spec.specs.Limits.{maxBytes}
@@ -20,16 +21,18 @@ use Rattle.foil_spec.specs.Lent.{Lent, held, sound, stepOn, overFront, outputAf
 use Rattle.foil_spec.specs.Job.{has, isEnd, recordEnd, stepAt, stepsAt, steps, recordChecks}
 use Rattle.foil_spec.specs.Calls.{Reply as Outcome, answered, ran, atEnd, measured, laidAll, runRecord, endsJob}
 use Rattle.foil_spec.specs.Calls.{andThen, actAll}
-use Rattle.foil_spec.specs.Calls.{actRecord, tooLarge, wholeRefusals, reply, callOn, outputAll}
+use Rattle.foil_spec.specs.Calls.{actRecord, tooLarge, wholeRefusals, reply, callOn, outputAll, placeAfter}
 use Rattle.list_laws.proofs.Tests.{both, or-l, not-ff}
 use Rattle.ledger_laws.proofs.Refusals.{none-applies, unrefused-own}
 use Rattle.ledger_laws.proofs.CornerLists.{corners-read}
 use Rattle.ledger_laws.proofs.Lay.{lay-seeks, laid-on}
 use Rattle.ledger_laws.proofs.Opening.{end-no-board}
-use Rattle.job.specs.Contract.{setBelow, answersOf, nextOf, replyOf}
+use Rattle.job.specs.Contract.{setBelow, answersOf, nextOf, nextIn, replyOf}
 use Rattle.job.specs.Parts.{Whole, ranTo}
 use Rattle.job.specs.declared.Answers.{Answers}
 use Rattle.job.specs.declared.Next.{Next}
+use Rattle.job.specs.declared.Next.the-variants.{Nowhere}
+use Rattle.job.specs.declared.Reply.{Reply}
 use Rattle.job.specs.declared.Reply.the-variants.{Refused, Ran, AtEnd}
 use Rattle.job.proofs.Acting.{ran-from}
 use Rattle.job.proofs.Bits.{still-output}
@@ -65,6 +68,31 @@ has-run on (ran given p) a n e = record { given = given; place = p; is = refl; a
 has-run on atEnd a n e = absurd (let z : _≡_ {A = ℕ} 0 1 = cc in omega arith)
 has-run on (measured x) a n e = absurd (let z : _≡_ {A = ℕ} 0 1 = cc in omega arith)
 has-run on (laidAll given) a n e = absurd (let z : _≡_ {A = ℕ} 0 1 = cc in omega arith)
+
+-- ---- where the job goes on
+
+-- 1 is the key of steps that were run, 0 and 2 those of the other replies
+pub not-run : OneOf (0 ∷ 2 ∷ []) 1 → ⊥
+not-run (inl e) = omega arith
+not-run (inr e) = omega arith
+
+pub next-run : (x : Reply) (a : Answers) (n : Next) → x ≡ Ran a n → n ≡ nextIn x
+unfolding nextIn
+next-run x a n e = rw e refl
+
+pub next-other : (x : Reply) → ((a : Answers) (n : Next) → x ≡ Ran a n → ⊥) → Nowhere ≡ nextIn x
+unfolding nextIn
+next-other (Refused n) other = refl
+next-other (Ran a n) other = absurd (other a n refl)
+next-other AtEnd other = refl
+
+pub next-is : (on : ℕ → Bool) (o : Outcome) → nextIn (replyOf on o) ≡ nextOf (placeAfter o)
+unfolding nextIn replyOf nextOf placeAfter
+next-is on (answered a) = refl
+next-is on (ran given place) = refl
+next-is on atEnd = refl
+next-is on (measured x) = refl
+next-is on (laidAll given) = refl
 
 -- ---- the checks that it has passed
 

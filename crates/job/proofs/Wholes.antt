@@ -11,7 +11,7 @@ use lib.Dec.{leb, ltb, eqb}
 use lib.ListN.{length, getD}
 use borrow.Author.Tests.{le-ltb, ltb-false, leb-false, eq-eqb, ne-eqb}
 use Rattle.foil_spec.specs.Limits.{maxBytes}
-use Rattle.foil_spec.specs.Ledger.{first, refused, numberOf, Room, afterLent}
+use Rattle.foil_spec.specs.Ledger.{first, numberOf, Room, afterLent}
 use Rattle.foil_spec.specs.Lent.{Lent, lent, sound, roomIn, stepOn, outputAfter}
 use Rattle.foil_spec.specs.Job.{mapByte, has, isEnd, recordEnd, steps, recordChecks}
 use Rattle.foil_spec.specs.Calls.{actRecord, tooLarge, wholeRefusals, reply}
@@ -23,7 +23,7 @@ use Rattle.foil.specs.declared.lent.Checked.{Checked}
 use Rattle.foil.specs.declared.lent.Checked.the-variants.{Passed, Refused}
 use Rattle.foil.proofs.Giving.{long-room}
 use Rattle.job.specs.Contract.{replyOf, Replies, RecordIn}
-use Rattle.job.specs.Parts.{Lends, LendingChecked, Ready, checkedOf, refusedBy, StepsDone}
+use Rattle.job.specs.Parts.{Lends, Ready, checkedOf, refusedBy, StepsDone}
 use Rattle.job.specs.declared.Reply.the-variants.{AtEnd}
 use Rattle.job.specs.declared.Replied.{Replied}
 
@@ -39,11 +39,7 @@ unfolding checkedOf
 checked-none (some k) e = absurd (let z : _≡_ {A = ℕ} 0 1 = cc in omega arith)
 checked-none none e = refl
 
--- what was lent passed the checks
-pub lends : {bs : List ℕ} {at : ℕ} {m : Lent} {k : Checked} → LendingChecked bs at m k → k ≡ Passed → Lends bs at m
-lends h e = h .passed e
-
--- 13 does not apply then
+-- 13 does not apply to what may be lent
 unbroken : (bs : List ℕ) (at : ℕ) (m : Lent) → Lends bs at m → (not (sound m) && not (eqb at 0)) ≡ false
 unbroken bs at m l =
     by-cases (ℕ-discrete at 0)
@@ -123,10 +119,6 @@ module _ (limit : ℕ) (bs : List ℕ) (at : ℕ) (b : Board) (t s out : List �
   refused-done n e r q =
       call-done (some n) e r t s out
       (rw q (record { reply = refl; board = refl; table = refl; strips = refl; output = refl }))
-
-  pub lending-refused : (k : Checked) → LendingChecked bs at m k → (n : ℕ) → k ≡ Refused n → (r : Replied)
-      → r ≡ refusedBy n b → RecordIn limit bs at m out r t s out
-  lending-refused k h n e r q = refused-done n (h .refused n e limit (length out)) r q
 
   module _ (l : Lends bs at m) where
     -- the checks that are left are the record's own

@@ -56,6 +56,12 @@ unfoldable pub nextOf : Option ℕ → Next
 nextOf (some n) = At n
 nextOf none = Nowhere
 
+-- where a job goes on after a reply
+unfoldable pub nextIn : Reply → Next
+nextIn (Refused n) = Nowhere
+nextIn (Ran a next) = next
+nextIn AtEnd = Nowhere
+
 -- document 01's number and values for each case of a record's reply, which is never ohms nor a list's; `on` says which
 -- bits are set
 unfoldable pub replyOf : (ℕ → Bool) → Outcome → Reply

@@ -1,17 +1,17 @@
 -- What the contracts of a record's parts say.
 use Prim.Native.Nat.{ℕ, _+_, _*_, _≤_, _<_}
 use mathlib.Core.Path.{_≡_}
-use mathlib.Core.Bool.{Bool, true, false, cond, not}
+use mathlib.Core.Bool.{Bool, true, false, cond}
 use mathlib.Core.List.{List}
 use mathlib.Core.Option.{Option, none, some}
 use lib.Dec.{eqb}
 use lib.ListN.{length}
 use Rattle.foil_spec.specs.Lists.{range, any}
 use Rattle.foil_spec.specs.Limits.{tableSize, stripsSize, maxBytes}
-use Rattle.foil_spec.specs.Ledger.{Answer, first, reads, Room, short, After}
+use Rattle.foil_spec.specs.Ledger.{Answer, reads, Room, short, After}
 use Rattle.foil_spec.specs.Lent.{Lent, lent, sound, roomIn, stepOn}
 use Rattle.foil_spec.specs.Job.{mapBits, stepBits, has, fieldsAt, recordEnd, stepAt, stepsAt, steps}
-use Rattle.foil_spec.specs.Calls.{endsJob, actAll, actRecord, wholeRefusals, outputAll}
+use Rattle.foil_spec.specs.Calls.{endsJob, actAll, actRecord, outputAll}
 use Rattle.foil_spec.specs.declared.Board.{Board}
 use Rattle.foil.specs.Contract.{answerOf}
 use Rattle.foil.specs.declared.Answer.{Answer as Answered}
@@ -50,18 +50,12 @@ unfoldable pub checkedOf : Option ℕ → Checked
 checkedOf none = checked.Passed
 checkedOf (some n) = checked.Refused n
 
--- what is known of the bytes and of what is lent where 18, 12 and 13 do not refuse the record at a place
+-- 18, 12 and 13 do not refuse the record at a place of the bytes that is lent m
 pub record Lends (bs : List ℕ) (at : ℕ) (m : Lent) : Type 0 where
   pub few : length bs ≤ maxBytes
   pub table : tableSize ≤ length (m .table)
   pub strips : stripsSize ≤ length (m .strips)
   pub fine : (at ≡ 0 → ⊥) → sound m ≡ true
-
--- r says that they do not, or the number that refuses the record
-pub record LendingChecked (bs : List ℕ) (at : ℕ) (m : Lent) (r : Checked) : Type 0 where
-  pub passed : r ≡ checked.Passed → Lends bs at m
-  pub refused : (n : ℕ) → r ≡ checked.Refused n → (limit output : ℕ)
-      → first (wholeRefusals (roomIn limit m output) (not (sound m)) bs at) ≡ some n
 
 -- a record that is refused as a whole
 abbrev pub refusedBy : ℕ → Board → Replied

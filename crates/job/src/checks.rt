@@ -1,12 +1,8 @@
-// The checks of a record, in their order.
+// The checks that are a record's own, in their order.
 use crate::fields::MAP_BITS;
 use crate::fields::fields_at;
 use crate::fields::has;
 use foil::Checked;
-use foil::lent_refusal;
-use foil::lists_short;
-use foil_spec::Board;
-use foil_spec::MAX_BYTES;
 ghost use mathlib.Core.Path.{_≡_};
 ghost use mathlib.Core.Bool.{not, _&&_, _||_, xor};
 ghost use Prim.Native.Nat.{_≤_, _<_};
@@ -14,32 +10,8 @@ ghost use lib.Dec.{eqb};
 ghost use lib.ListN.{length};
 ghost use Rattle.foil_spec.specs.Limits.{maxBytes};
 ghost use Rattle.foil_spec.specs.Ledger.{first};
-ghost use Rattle.foil_spec.specs.Lent.{lent};
 ghost use Rattle.foil_spec.specs.Job.{has as hasBit, recordChecks};
-ghost use Rattle.job.specs.Parts.{checkedOf, LendingChecked};
-
-// The checks before the record itself is looked at: 18, 12 and, unless the place is 0, 13.
-pub(crate) fn lending_refusal(
-    table: &[u16],
-    strips: &[u16],
-    board: Board,
-    bytes: &[u8],
-    at: usize,
-) -> Checked
-    ensures { λ r. ⌜ LendingChecked (now (bytes .entry)) at
-        (lent board (now (table .entry)) (now (strips .entry))) r ⌝ }
-{
-    if MAX_BYTES < bytes.len() {
-        return Checked::Refused(18);
-    }
-    if at != 0 {
-        return lent_refusal(table, strips, board);
-    }
-    if lists_short(table, strips) {
-        return Checked::Refused(12);
-    }
-    Checked::Passed
-}
+ghost use Rattle.job.specs.Parts.{checkedOf};
 
 // The checks of the record at a place.
 pub(crate) fn record_refusal(bytes: &[u8], at: usize) -> Checked

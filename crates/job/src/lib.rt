@@ -3,7 +3,6 @@ mod checks;
 mod fields;
 mod running;
 
-use checks::lending_refusal;
 use checks::record_refusal;
 pub use fields::STEP_BITS;
 use fields::field;
@@ -16,8 +15,8 @@ ghost use Prim.Native.Nat.{_≤_, _<_};
 ghost use Rattle.foil_spec.specs.Limits.{maxEntries};
 ghost use Rattle.foil_spec.specs.Lent.{lent};
 ghost use Rattle.foil_spec.specs.Job.{stepBits, field as fieldOf};
-ghost use Rattle.job.specs.Contract.{toldIn, RecordIn};
-ghost use Rattle.job.specs.Parts.{Given, refusedBy};
+ghost use Rattle.job.specs.Contract.{toldIn, nextIn, RecordIn};
+ghost use Rattle.job.specs.Parts.{Lends, Given, refusedBy};
 
 // What a step of a record answered, if the record has that step and it was run.
 pub enum Told {
@@ -79,8 +78,19 @@ pub struct Replied {
     pub board: Board,
 }
 
+// Where a job goes on after a record.
+pub fn next_of(done: Replied) -> Next
+    ensures { λ r. ⌜ r ≡ nextIn (done .reply) ⌝ }
+{
+    let reply = done.reply;
+    let Reply::Ran(_, next) = reply else {
+        return Next::Nowhere;
+    };
+    next
+}
+
 // Runs the record that begins at place `at` of the job file's bytes, on a foil that may have so many
-// entries. What is lent is checked once, before its steps.
+// entries. That 18, 12 and 13 do not refuse it is known.
 pub fn run_record_in(
     table: &mut [u16],
     strips: &mut [u16],
@@ -90,15 +100,12 @@ pub fn run_record_in(
     bytes: &[u8],
     at: usize,
 ) -> Replied
+    requires { ⌜ Lends (now bytes) at (lent board (now table) (now strips)) ⌝ }
     requires { ⌜ limit ≤ maxEntries ⌝ }
     ensures { λ r. ⌜ RecordIn limit (now (bytes .entry)) at
         (lent board (now (table .entry)) (now (strips .entry))) (now (corners .entry))
         r (now (table .exit)) (now (strips .exit)) (now (corners .exit)) ⌝ }
 {
-    let lending = lending_refusal(table, strips, board, bytes, at);
-    if let Checked::Refused(number) = lending {
-        return refuse(number, board);
-    }
     let checked = record_refusal(bytes, at);
     if let Checked::Refused(number) = checked {
         return refuse(number, board);

@@ -2,25 +2,25 @@
 use Prim.Native.Nat.{ℕ, zero, suc, _+_, _≤_}
 use native.Mathlib.Omega.{arith}
 use mathlib.Core.Path.{_≡_, refl, sym, ap, _∙_, subst}
-use mathlib.Core.Bool.{Bool}
 use mathlib.Core.List.{List}
-use mathlib.Core.Option.{Option, none, some}
+use mathlib.Core.Option.{none, some}
 use lib.ListN.{length}
 use Rattle.foil_spec.specs.Limits.{maxBytes}
 use Rattle.foil_spec.specs.Ledger.{After}
 use Rattle.foil_spec.specs.Job.{jobRoom, has}
-use Rattle.foil_spec.specs.Calls.{Reply as Outcome, answered, ran, atEnd, measured, laidAll, placeAfter}
+use Rattle.foil_spec.specs.Calls.{Reply as Outcome, atEnd, placeAfter}
 use Rattle.foil_spec.specs.Sheet.{SheetLent, noBoard, view}
 use Rattle.foil_spec.specs.declared.Board.{Board}
-use Rattle.job.specs.Contract.{nextOf, replyOf}
+use Rattle.job.specs.Contract.{nextOf, nextIn}
 use Rattle.job.specs.declared.Next.{Next}
 use Rattle.job.specs.declared.Next.the-variants.{At, Nowhere}
 use Rattle.job.specs.declared.Replied.{Replied}
+use Rattle.job.proofs.Replies.{next-is}
 use Rattle.sheet_laws.specs.Jobs.{onlyFoil0}
 use Rattle.job_report.specs.Report.{ranRecord, RecordRan}
 use Rattle.job_report.proofs.Places.{Later, call-later, at-place, nowhere}
 use Rattle.job_end.specs.Left.{endedOf, jobEnd, boardLeft, JobLeft}
-use Rattle.job_end.specs.Parts.{nextIn, endedBy}
+use Rattle.job_end.specs.Parts.{endedBy}
 use Rattle.job_end.specs.declared.Ended.{Ended}
 use Rattle.job_end.proofs.Reading.{lastOf, from, last-one, one-more, whole}
 use Rattle.job_end.proofs.Ending.{same-end}
@@ -38,14 +38,6 @@ pub all-to-come : (bs t s : List ℕ) (b : Board) → b ≡ noBoard
 all-to-come bs t s b e =
     subst (λ (x : Board). ToCome bs (onlyFoil0 noBoard t s) 0 0 (onlyFoil0 x t s)) (sym e)
     (record { more = maxBytes; counted = refl; enough = λ h. omega arith; comes = whole bs t s })
-
-next-is : (on : ℕ → Bool) (o : Outcome) → nextIn (replyOf on o) ≡ nextOf (placeAfter o)
-unfolding nextIn replyOf nextOf placeAfter
-next-is on (answered a) = refl
-next-is on (ran given place) = refl
-next-is on atEnd = refl
-next-is on (measured x) = refl
-next-is on (laidAll given) = refl
 
 module _ (bs : List ℕ) (m₀ : SheetLent) (count at : ℕ) (m : SheetLent) (now : ToCome bs m₀ count at m) where
   abbrev done : After Outcome SheetLent

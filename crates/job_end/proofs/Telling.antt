@@ -1,37 +1,17 @@
 -- What a record's reply tells, case by case.
 use Prim.Native.Nat.{ℕ}
-use native.Mathlib.Omega.{arith}
 use mathlib.Core.Path.{_≡_, refl}
-use mathlib.Core.List.{[], _∷_}
-use mathlib.Core.Logic.{inl, inr}
-use types.Run.{OneOf}
 use Rattle.foil_spec.specs.declared.Board.{Board}
 use Rattle.foil.specs.declared.Answer.{Answer}
 use Rattle.job.specs.declared.Told.{Told}
 use Rattle.job.specs.declared.Told.the-variants.{Nothing, Said}
 use Rattle.job.specs.declared.Answers.{Answers}
 use Rattle.job.specs.declared.Next.{Next}
-use Rattle.job.specs.declared.Next.the-variants.{Nowhere}
 use Rattle.job.specs.declared.Reply.{Reply}
 use Rattle.job.specs.declared.Reply.the-variants.{Refused, Ran, AtEnd}
 use Rattle.job_report.specs.Told.{numberIn}
-use Rattle.job_end.specs.Parts.{nextIn, numberTold, endedBy}
+use Rattle.job_end.specs.Parts.{numberTold, endedBy}
 use Rattle.job_end.specs.declared.Ended.the-variants.{AtMark, ByBoard, ByFile}
-
--- 1 is the key of steps that were run, 0 and 2 those of the other replies
-pub not-run : OneOf (0 ∷ 2 ∷ []) 1 → ⊥
-not-run (inl e) = omega arith
-not-run (inr e) = omega arith
-
-pub next-run : (x : Reply) (a : Answers) (n : Next) → x ≡ Ran a n → n ≡ nextIn x
-unfolding nextIn
-next-run x a n e = rw e refl
-
-pub next-other : (x : Reply) → ((a : Answers) (n : Next) → x ≡ Ran a n → ⊥) → Nowhere ≡ nextIn x
-unfolding nextIn
-next-other (Refused n) none = refl
-next-other (Ran a n) none = absurd (none a n refl)
-next-other AtEnd none = refl
 
 pub told-nothing : (t : Told) → t ≡ Nothing → 0 ≡ numberTold t
 unfolding numberTold

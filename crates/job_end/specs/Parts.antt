@@ -3,19 +3,11 @@ use Prim.Native.Nat.{ℕ}
 use Rattle.foil_spec.specs.declared.Board.{Board}
 use Rattle.job.specs.declared.Told.{Told}
 use Rattle.job.specs.declared.Told.the-variants.{Nothing, Said}
-use Rattle.job.specs.declared.Next.{Next}
-use Rattle.job.specs.declared.Next.the-variants.{Nowhere}
 use Rattle.job.specs.declared.Reply.{Reply}
 use Rattle.job.specs.declared.Reply.the-variants.{Refused, Ran, AtEnd}
 use Rattle.job_report.specs.Told.{numberIn}
 use Rattle.job_end.specs.declared.Ended.{Ended}
 use Rattle.job_end.specs.declared.Ended.the-variants.{AtMark, ByBoard, ByFile}
-
--- where a job goes on after a reply
-unfoldable pub nextIn : Reply → Next
-nextIn (Refused n) = Nowhere
-nextIn (Ran a next) = next
-nextIn AtEnd = Nowhere
 
 -- the number of what was told, 0 if nothing was
 unfoldable pub numberTold : Told → ℕ

@@ -17,13 +17,14 @@ use job::Next;
 use job::Replied;
 use job::Reply;
 use job::Told;
+use job::next_of;
 use job_report::run_one;
 use sheet_rows::SHEET_SIZE;
 ghost use mathlib.Core.Path.{_≡_};
 ghost use Rattle.foil_spec.specs.Sheet.{noBoard};
 ghost use Rattle.sheet_laws.specs.Jobs.{onlyFoil0};
 ghost use Rattle.job_end.specs.Left.{JobLeft};
-ghost use Rattle.job_end.specs.Parts.{nextIn, numberTold, endedBy};
+ghost use Rattle.job_end.specs.Parts.{numberTold, endedBy};
 
 // More records than any file has that is not too long, and one call more for its end.
 const RECORDS: usize = 60001;
@@ -59,17 +60,6 @@ pub fn run_job(
     }
     // No job comes here: each record takes a byte, and a file that is too long is refused by the first call.
     Ended::ByFile(18)
-}
-
-// Where a job goes on after a record.
-fn next_of(done: Replied) -> Next
-    ensures { λ r. ⌜ r ≡ nextIn (done .reply) ⌝ }
-{
-    let reply = done.reply;
-    let Reply::Ran(_, next) = reply else {
-        return Next::Nowhere;
-    };
-    next
 }
 
 // How a job ended with its last record.

@@ -2,6 +2,7 @@
 pub mod Foil0
 pub mod Places
 pub mod Output
+pub mod Coming
 pub mod Answering
 pub mod Telling
 pub mod Reporting

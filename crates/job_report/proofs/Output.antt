@@ -125,7 +125,7 @@ stored (suc k) bs at l m x w v g =
 
 -- ---- the first record
 
-long-room : short jobRoom ≡ false
+pub long-room : short jobRoom ≡ false
 unfolding short jobRoom
 long-room = refl
 

@@ -41,28 +41,30 @@ fields-board bs at (suc k) set = omega (arith, fields-board bs at k set)
 
 -- a record after which there is a next place, where `act` does a step and `broken` says that the state breaks a rule
 module _ {S : Type 0} (act : Step → S → After Answer S) (r : Room) (broken : Bool) (bs : List ℕ) (at : ℕ) (s : S) where
-  record Goes (n : ℕ) : Type 0 where
-    unrefused : first (wholeRefusals r broken bs at) ≡ none
-    not-end : isEnd bs at ≡ false
-    place : recordEnd bs at ≡ n
+  pub record Goes (n : ℕ) : Type 0 where
+    pub unrefused : first (wholeRefusals r broken bs at) ≡ none
+    pub not-end : isEnd bs at ≡ false
+    pub none-ends : any endsJob (actAll act (steps bs at) s .answer) ≡ false
+    pub place : recordEnd bs at ≡ n
 
-  goes : (n : ℕ)
+  pub goes : (n : ℕ)
       → placeAfter
       (actRecord act (first (wholeRefusals r broken bs at)) (isEnd bs at) (steps bs at) (recordEnd bs at) s .answer)
       ≡ some n → Goes n
   unfolding actRecord placeAfter
   goes n = go (first (wholeRefusals r broken bs at)) (isEnd bs at) refl refl
     where
-      ends : (t : Bool) → cond t none (some (recordEnd bs at)) ≡ some n → recordEnd bs at ≡ n
+      ends : (t : Bool) → cond t none (some (recordEnd bs at)) ≡ some n → (t ≡ false) × (recordEnd bs at ≡ n)
       ends true h = absurd (let z : _≡_ {A = ℕ} 0 1 = cc in omega arith)
-      ends false h = cc
+      ends false h = (refl, cc)
 
       go : (o : Option ℕ) (e : Bool) → first (wholeRefusals r broken bs at) ≡ o → isEnd bs at ≡ e
           → placeAfter (actRecord act o e (steps bs at) (recordEnd bs at) s .answer) ≡ some n → Goes n
       go (some k) e f g h = absurd (let z : _≡_ {A = ℕ} 0 1 = cc in omega arith)
       go none true f g h = absurd (let z : _≡_ {A = ℕ} 0 1 = cc in omega arith)
       go none false f g h =
-          record { unrefused = f; not-end = g; place = ends (any endsJob (actAll act (steps bs at) s .answer)) h }
+          let last = ends (any endsJob (actAll act (steps bs at) s .answer)) h in
+          record { unrefused = f; not-end = g; none-ends = last .0; place = last .1 }
 
   later : (n : ℕ) → Goes n → Later bs at n
   unfolding wholeRefusals afterLent recordChecks tooLarge

@@ -59,6 +59,7 @@ module _ (bs : List ℕ) (at : ℕ) (b : Board) (t₀ s₀ out : List ℕ) (d : 
       → r .board ≡ d .board → RecordReported bs at m out old new r t s out′
   reported old new r o lines e f p n c =
       record {
+        places = done .places;
         lines = subst (λ (x : List ℕ). Put old 0 x new (r .size)) (sym f) p;
         next = n ∙ ap (λ (x : Outcome). nextOf (placeAfter x)) (sym e);
         state = ap (λ (x : Board). onlyFoil0 x t s) c ∙ done .state;

@@ -16,12 +16,18 @@ use Rattle.job.specs.Contract.{nextOf, replyOf}
 use Rattle.job.specs.declared.Replied.{Replied}
 use Rattle.lines.specs.Output.{replyLines, output}
 use Rattle.putting.specs.Put.{Put}
+use Rattle.sheet.specs.Contract.{Continues}
 use Rattle.sheet_laws.specs.Jobs.{onlyFoil0}
 use Rattle.job_report.specs.declared.Reported.{Reported}
 
 -- the record at a place, run on foil 0 of a sheet in the room of a job
 abbrev pub ranRecord : List ℕ → ℕ → SheetLent → After Reply SheetLent
 ranRecord bs at m = sheetCall jobRoom 0 (runRecord bs at) m
+
+-- the record at a place may be run on a sheet else empty, where foil 0 has the record b, the sheet the table t and the
+-- foil the strips s: it is at place 0, or the foil keeps the rules
+pub record MayCome (at : ℕ) (b : Board) (t s : List ℕ) : Type 0 where
+  pub continues : Continues 0 at (onlyFoil0 b t s)
 
 -- the record at a place was lent m, which has the 512 places of a sheet, and the corner list out: it answered r, and
 -- left the corner list out′ and a sheet else empty, of the table t and of foil 0's strips s
@@ -41,6 +47,7 @@ recordLines bs at m =
 -- answered r; all else is left so
 pub record RecordReported (bs : List ℕ) (at : ℕ) (m : SheetLent) (out old new : List ℕ) (r : Reported)
     (t s out′ : List ℕ) : Type 0 where
+  pub places : sheetSize ≤ length (m .table)
   pub lines : Put old 0 (recordLines bs at m) new (r .size)
   pub next : r .next ≡ nextOf (placeAfter (ranRecord bs at m .answer))
   pub state : onlyFoil0 (r .board) t s ≡ ranRecord bs at m .state

@@ -1,6 +1,7 @@
 // A job file, record by record: the record at a place is run on foil 0 of a sheet else empty, and its lines are written
 // to the front of a lent list of bytes. Whoever writes out what each call gave, from place 0 on, writes the job's
-// output.
+// output. A record is run at place 0, or on a foil that keeps the rules, as the record before it has left it; so none
+// checks the foil again.
 mod answers;
 mod strip_lines;
 
@@ -13,7 +14,7 @@ use job::Next;
 use job::Replied;
 use job::Reply;
 use lines::file_line;
-use sheet::run_record;
+use sheet::continue_job;
 use sheet_rows::SHEET_SIZE;
 use sheet_rows::board_at;
 use sheet_rows::only_foil_0;
@@ -22,7 +23,7 @@ ghost use mathlib.Core.Path.{_≡_};
 ghost use Prim.Native.Nat.{_≤_};
 ghost use Rattle.job.specs.declared.Next.the-variants.{Nowhere};
 ghost use Rattle.sheet_laws.specs.Jobs.{onlyFoil0};
-ghost use Rattle.job_report.specs.Report.{RecordRan, RecordReported};
+ghost use Rattle.job_report.specs.Report.{MayCome, RecordRan, RecordReported};
 
 // How many bytes the lines of a record may take.
 pub const OUT_SIZE: usize = 131072;
@@ -45,6 +46,7 @@ pub fn report_record(
     bytes: &[u8],
     at: usize,
 ) -> Reported
+    requires { ⌜ MayCome at board (now table) (now strips) ⌝ }
     ensures { λ r. ⌜ RecordReported (now (bytes .entry)) at
         (onlyFoil0 board (now (table .entry)) (now (strips .entry))) (now (corners .entry))
         (now (out .entry)) (now (out .exit)) r
@@ -77,11 +79,12 @@ pub fn run_one(
     bytes: &[u8],
     at: usize,
 ) -> Replied
+    requires { ⌜ MayCome at board (now table) (now strips) ⌝ }
     ensures { λ r. ⌜ RecordRan (now (bytes .entry)) at
         (onlyFoil0 board (now (table .entry)) (now (strips .entry))) (now (corners .entry))
         r (now (table .exit)) (now (strips .exit)) (now (corners .exit)) ⌝ }
 {
-    let done = run_record(table, strips, corners, only_foil_0(board), 0, bytes, at);
+    let done = continue_job(table, strips, corners, only_foil_0(board), 0, bytes, at);
     let reply = done.reply;
     let sheet = done.sheet;
     Replied {

@@ -193,7 +193,8 @@ module _ (k : ℕ) (m : SheetLent) (rows : List ℕ) (o : TakenOut k m rows) whe
   -- ---- the foil's own 13
 
   module _ (n : ℕ) (h : LentChecked (view k m) (checked.Refused n)) where
-    own-first : (output : ℕ) (rs : List Refusal) → first (afterLent (room k m output) (not (sound v)) rs) ≡ some n
+    pub own-first : (output : ℕ) (rs : List Refusal)
+        → first (afterLent (room k m output) (not (sound (view k m))) rs) ≡ some n
     own-first output rs =
         ap (λ (r : Room). first (afterLent r (not (sound v)) rs)) (room-view k m output (o .eight-foils) (o .here))
         ∙ h _ output rs

@@ -2,27 +2,28 @@
 use Prim.Native.Nat.{ℕ, zero, suc, _+_, _≤_, _<_}
 use native.Mathlib.Omega.{arith}
 use mathlib.Core.Path.{_≡_, refl, sym, ap, _∙_, subst}
-use mathlib.Core.Bool.{Bool, true, false, not, _||_, or-false, or-assoc}
+use mathlib.Core.Bool.{Bool, true, false, not, _||_, and-true, or-false, or-assoc}
 use mathlib.Core.List.{List, [], _∷_}
 use mathlib.Core.Option.{Option, none, some}
 use lib.ListN.{length, getD, take}
 use lib.Seq.{take-all}
-use borrow.Author.Tests.{lt-ltb, le-ltb}
+use borrow.Author.Tests.{lt-ltb, le-ltb, ltb-false, ne-eqb}
 use Rattle.foil_spec.specs.Lists.{any}
 use Rattle.foil_spec.specs.Limits.{tableSize, maxBytes, sheetFoils}
 use Rattle.foil_spec.specs.Ledger.{Room, short, Answer, numberOf, first, afterLent, After}
 use Rattle.foil_spec.specs.Lent.{Lent, lent, sound, roomIn, stepOn, outputAfter}
-use Rattle.foil_spec.specs.Job.{stepBits, has, steps, isEnd, recordEnd}
+use Rattle.foil_spec.specs.Job.{stepBits, has, steps, isEnd, recordEnd, recordChecks}
 use Rattle.foil_spec.specs.Calls.{runRecord, Reply, tooLarge, actAll, actRecord, wholeRefusals, reply, callOn}
 use Rattle.foil_spec.specs.Calls.{answersIn, outputAll, outputBy}
 use Rattle.foil_spec.specs.Sheet.{countsOk, limitOf, SheetLent, noBoard, counts, view, sheetRoom, opening}
-use Rattle.foil_spec.specs.Sheet.{sheetRefusal}
+use Rattle.foil_spec.specs.Sheet.{sheetRefusal, unless, sheetCall}
 use Rattle.foil_spec.specs.declared.Board.{Board}
+use Rattle.foil.specs.Contract.{LentChecked}
 use Rattle.foil.specs.declared.lent.Checked.{Checked}
 use Rattle.foil.specs.declared.lent.Checked.the-variants as checked
 use Rattle.list_laws.proofs.Tests.{both}
 use Rattle.job.specs.Contract.{setBelow, saidAt, toldAt, byBit, answersOf, replyOf, Replies, RecordIn}
-use Rattle.job.specs.Parts.{ranTo}
+use Rattle.job.specs.Parts.{Lends, ranTo}
 use Rattle.job.specs.declared.Answers.{Answers}
 use Rattle.job.specs.declared.Replied.{Replied}
 use Rattle.job.proofs.Acting.{ran-few}
@@ -31,11 +32,11 @@ use Rattle.sheet_laws.specs.Back.{writing, rewrote}
 use Rattle.sheet_laws.proofs.Alone.{room-view}
 use Rattle.sheet_rows.specs.Rows.{sheetLent}
 use Rattle.sheet_rows.specs.declared.Sheet.{Sheet}
-use Rattle.sheet.specs.Contract.{onSheet, SheetRecordDone}
+use Rattle.sheet.specs.Contract.{onSheet, Continues, SheetRecordDone}
 use Rattle.sheet.specs.Parts.{sheetOpening, TakenOut, Lending, refusedOn, RecordLending, took, someTook, tookAny}
-use Rattle.sheet.specs.Parts.{Closable, Closed, refusedRecord}
+use Rattle.sheet.specs.Parts.{RecordChecked, Closable, Closed, refusedRecord}
 use Rattle.sheet.specs.declared.SheetReplied.{SheetReplied}
-use Rattle.sheet.proofs.Checking.{room, refused-on, out-long, foil-is}
+use Rattle.sheet.proofs.Checking.{room, refused-on, out-long, foil-is, own-first}
 use Rattle.sheet.proofs.Closing.{accepts-taken, answers, may-close, leaves}
 
 -- ---- 23, 18, and the checks that other calls begin with too
@@ -74,6 +75,60 @@ module _ (k : ℕ) (m : SheetLent) (bs : List ℕ) where
     pub record-not-out : RecordLending k m bs rows x → (n : ℕ) → x ≡ checked.Refused n → (at output : ℕ)
         → onSheet k (runRecord bs at) m output ≡ refusedOn n m
     record-not-out h n e = subst (RecordLending k m bs rows) e h
+
+-- ---- the foil's own 13
+
+pub at-start : (k at : ℕ) (m : SheetLent) → at ≡ 0 → Continues k at m
+at-start k at m z = record { fine = λ ne. absurd (ne z) }
+
+module _ (k : ℕ) (m : SheetLent) (bs rows : List ℕ) (o : TakenOut k m rows) (few : tooLarge bs ≡ false) where
+  -- no record of the bytes is refused before the foil is looked at
+  pub record-goes : (at output : ℕ) → sheetRefusal (room k m output) false k (runRecord bs at) ≡ none
+  unfolding sheetRefusal opening afterLent first
+  record-goes at output = let l = o .here in rw (le-ltb 7 k (omega arith), few, out-long k m rows o output) refl
+
+  -- the body is run where 13 need not be tried
+  pub record-lends : (at : ℕ) → Continues k at m → (b : Board) → b ≡ getD (m .boards) k noBoard
+      → tableSize ≤ length rows → Lends bs at (lent b rows (m .strips))
+  unfolding tooLarge
+  record-lends at c b e long =
+      record {
+        few = ltb-false maxBytes (length bs) few;
+        table = long;
+        strips = o .strips;
+        fine = λ later. ap sound (foil-is k m rows o b e) ∙ c .fine later;
+      }
+
+  own-refused : (at : ℕ) → (at ≡ 0 → ⊥) → (n : ℕ) → LentChecked (view k m) (checked.Refused n)
+      → RecordChecked k m bs at (checked.Refused n)
+  unfolding sheetCall unless reply actRecord wholeRefusals first
+  own-refused at later n h output =
+      rw (
+        o .eight-foils .limits,
+        record-goes at output,
+        few,
+        ne-eqb at 0 later,
+        and-true (not (sound (view k m))),
+        own-first k m rows o n h output (recordChecks bs at),
+      )
+      refl
+
+  -- what `lent_refusal` answers of the foil that was taken out
+  pub record-checked : (at : ℕ) → (at ≡ 0 → ⊥) → (b : Board) → b ≡ getD (m .boards) k noBoard → (x : Checked)
+      → LentChecked (lent b rows (m .strips)) x → RecordChecked k m bs at x
+  record-checked at later b e checked.Passed h =
+      record { fine = λ ne. ap sound (sym (foil-is k m rows o b e)) ∙ h }
+  record-checked at later b e (checked.Refused n) h =
+      own-refused at later n
+      (subst (λ (v : Lent). LentChecked v (checked.Refused n)) (foil-is k m rows o b e) h)
+
+module _ (k : ℕ) (m : SheetLent) (bs : List ℕ) (at : ℕ) (x : Checked) (h : RecordChecked k m bs at x) where
+  pub continues : x ≡ checked.Passed → Continues k at m
+  continues e = subst (RecordChecked k m bs at) e h
+
+  pub refused-so : (n : ℕ) → x ≡ checked.Refused n → (output : ℕ)
+      → onSheet k (runRecord bs at) m output ≡ refusedOn n m
+  refused-so n e = subst (RecordChecked k m bs at) e h
 
 -- ---- whether a step was accepted: bit by bit, and by the list of answers
 
@@ -191,8 +246,7 @@ module _ (k : ℕ) (sheet : Sheet) (t s bs : List ℕ) (at : ℕ) (out : List �
       (d : Replied) (rows′ s′ out′ : List ℕ)
       (e : RecordIn limit bs at (lent b rows s) out d rows′ s′ out′) where
     goes : sheetRefusal (room k m n) false k (runRecord bs at) ≡ none
-    unfolding sheetRefusal opening afterLent first
-    goes = let l = o .here in rw (le-ltb 7 k (omega arith), few, out-long k m rows o n) refl
+    goes = record-goes k m bs rows o few at n
 
     -- what it does to the foil alone
     abbrev alone : After Reply Lent

@@ -1,15 +1,16 @@
 -- What the contracts of the calls on a foil of a sheet say: answer, records and lists are what the definitions give.
 use Prim.Native.Nat.{ℕ, _/_}
 use mathlib.Core.Path.{_≡_}
+use mathlib.Core.Bool.{true}
 use mathlib.Core.List.{List}
 use lib.ListN.{length}
 use Rattle.foil_spec.specs.Lists.{each}
 use Rattle.foil_spec.specs.Ledger.{Step, refused, After}
 use Rattle.foil_spec.specs.Ledger.{Answer as Outcome}
-use Rattle.foil_spec.specs.Lent.{overFront}
+use Rattle.foil_spec.specs.Lent.{sound, overFront}
 use Rattle.foil_spec.specs.Job.{has}
 use Rattle.foil_spec.specs.Calls.{Call, step, runRecord, ohms, layList, Reply, answered, laidAll, outputBy}
-use Rattle.foil_spec.specs.Sheet.{SheetLent, counts, sheetRoom, sheetCall}
+use Rattle.foil_spec.specs.Sheet.{SheetLent, counts, view, sheetRoom, sheetCall}
 use Rattle.foil_spec.specs.declared.Ink.{Ink}
 use Rattle.foil.specs.Contract.{answerOf}
 use Rattle.foil.specs.declared.Answer.{Answer}
@@ -58,6 +59,11 @@ pub record SheetReadDone (k : ℕ) (c : Step) (m : SheetLent) (out : List ℕ) (
 pub record SheetOhmsDone (k net : ℕ) (i : Ink) (m : SheetLent) (r : Resistance) : Type 0 where
   pub answer : r ≡ resistanceOf (onSheet k (ohms net i) m 0 .answer)
   pub state : m ≡ onSheet k (ohms net i) m 0 .state
+
+-- the record at a place need not try 13 on foil k of m: it is at place 0, where a foil is begun, or the foil keeps the
+-- rules
+pub record Continues (k at : ℕ) (m : SheetLent) : Type 0 where
+  pub fine : (at ≡ 0 → ⊥) → sound (view k m) ≡ true
 
 -- the record at a place of the bytes bs was run on foil k, lent m and the corner list out
 pub record SheetRecordDone (k : ℕ) (bs : List ℕ) (at : ℕ) (m : SheetLent) (out : List ℕ) (r : SheetReplied)

@@ -28,7 +28,7 @@ use Rattle.sheet_rows.specs.Rows.{sheetLent}
 use Rattle.sheet_rows.specs.declared.Sheet.{Sheet}
 use Rattle.sheet.specs.declared.SheetDone.{SheetDone}
 use Rattle.sheet.specs.declared.SheetReplied.{SheetReplied}
-use Rattle.sheet.specs.Contract.{onSheet}
+use Rattle.sheet.specs.Contract.{onSheet, Continues}
 
 -- ---- the checks
 
@@ -84,6 +84,11 @@ abbrev pub RecordLending : ℕ → SheetLent → List ℕ → List ℕ → Check
 RecordLending k m bs rows checked.Passed = TakenOut k m rows × (tooLarge bs ≡ false)
 RecordLending k m bs rows (checked.Refused n) =
     (at output : ℕ) → onSheet k (runRecord bs at) m output ≡ refusedOn n m
+
+-- 13 need not be tried for the record at a place of the bytes bs, or that record is refused by this number
+abbrev pub RecordChecked : ℕ → SheetLent → List ℕ → ℕ → Checked → Type 0
+RecordChecked k m bs at checked.Passed = Continues k at m
+RecordChecked k m bs at (checked.Refused n) = (output : ℕ) → onSheet k (runRecord bs at) m output ≡ refusedOn n m
 
 -- ---- the end of a call
 

@@ -4,6 +4,7 @@ use foil::Checked;
 use foil::lent_refusal;
 use foil_spec::MAX_BYTES;
 use foil_spec::STRIPS_SIZE;
+use foil_spec::TABLE_SIZE;
 use listing::too_many;
 use sheet_rows::FOILS;
 use sheet_rows::SHEET_SIZE;
@@ -16,7 +17,7 @@ ghost use mathlib.Core.List.{[]};
 ghost use Rattle.tables.specs.Rows.{rowsOf};
 ghost use Rattle.foil.specs.Contract.{FirstChecked};
 ghost use Rattle.sheet_rows.specs.Rows.{sheetLent};
-ghost use Rattle.sheet.specs.Parts.{sheetOpening, Lending, ListOpening, RecordLending, Opening};
+ghost use Rattle.sheet.specs.Parts.{sheetOpening, Lending, ListOpening, RecordLending, RecordChecked, Opening};
 
 // The refusals before foil k is looked at: 23, 12, and 13 for the counts.
 fn sheet_checks(sheet: Sheet, k: usize, table: &[u16], strips: &[u16]) -> Checked
@@ -121,4 +122,28 @@ pub(crate) fn lend_for_record(
         return Checked::Refused(18);
     }
     lend_foil(rows, table, strips, sheet, k)
+}
+
+// The checks of a record at place `at`. At place 0, where a foil is begun, the foil is not looked at; later these are
+// the checks before it and the foil's own 13.
+pub(crate) fn check_for_record(
+    table: &[u16],
+    strips: &[u16],
+    sheet: Sheet,
+    k: usize,
+    bytes: &[u8],
+    at: usize,
+) -> Checked
+    ensures { λ r. ⌜ RecordChecked k (sheetLent (sheet .boards) (now (table .entry)) (now (strips .entry)))
+        (now (bytes .entry)) at r ⌝ }
+{
+    if at == 0 {
+        return Checked::Passed;
+    }
+    let mut rows = [0u16; TABLE_SIZE];
+    let lending = lend_for_record(&mut rows, table, strips, sheet, k, bytes);
+    if let Checked::Refused(number) = lending {
+        return Checked::Refused(number);
+    }
+    lent_refusal(&rows, strips, board_at(sheet, k))
 }

@@ -32,6 +32,7 @@ pub use queries::look_up;
 pub use queries::ohms;
 pub use queries::save;
 pub use queries::slip;
+pub use record::continue_job;
 pub use record::run_record;
 pub use sheet_rows::Sheet;
 use sheet_rows::board_at;

@@ -1,5 +1,6 @@
 // Running a record of a job file on a foil of a sheet.
 use crate::SheetReplied;
+use crate::checks::check_for_record;
 use crate::checks::lend_for_record;
 use crate::finishing::accepts;
 use crate::finishing::close;
@@ -14,7 +15,7 @@ use sheet_rows::board_at;
 use sheet_rows::limit;
 ghost use mathlib.Core.Path.{_≡_};
 ghost use Rattle.sheet_rows.specs.Rows.{sheetLent};
-ghost use Rattle.sheet.specs.Contract.{SheetRecordDone};
+ghost use Rattle.sheet.specs.Contract.{Continues, SheetRecordDone};
 ghost use Rattle.sheet.specs.Parts.{took as isTaken, someTook, tookAny, refusedRecord};
 
 // Runs the record that begins at place `at` of the job file's bytes on foil k.
@@ -27,6 +28,29 @@ pub fn run_record(
     bytes: &[u8],
     at: usize,
 ) -> SheetReplied
+    ensures { λ r. ⌜ SheetRecordDone k (now (bytes .entry)) at
+        (sheetLent (sheet .boards) (now (table .entry)) (now (strips .entry))) (now (corners .entry))
+        r (now (table .exit)) (now (strips .exit)) (now (corners .exit)) ⌝ }
+{
+    let checked = check_for_record(table, strips, sheet, k, bytes, at);
+    if let Checked::Refused(number) = checked {
+        return refuse(number, sheet);
+    }
+    continue_job(table, strips, corners, sheet, k, bytes, at)
+}
+
+// The same where the record begins the job, or the foil is known to keep the rules, as each record of a job leaves it
+// for the next: the foil is not checked again.
+pub fn continue_job(
+    table: &mut [u16],
+    strips: &mut [u16],
+    corners: &mut [u16],
+    sheet: Sheet,
+    k: usize,
+    bytes: &[u8],
+    at: usize,
+) -> SheetReplied
+    requires { ⌜ Continues k at (sheetLent (sheet .boards) (now table) (now strips)) ⌝ }
     ensures { λ r. ⌜ SheetRecordDone k (now (bytes .entry)) at
         (sheetLent (sheet .boards) (now (table .entry)) (now (strips .entry))) (now (corners .entry))
         r (now (table .exit)) (now (strips .exit)) (now (corners .exit)) ⌝ }

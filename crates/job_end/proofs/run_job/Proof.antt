@@ -1,9 +1,12 @@
--- After each record, what is still to come leaves what the whole file does; the loop is left by its last reply.
+-- After each record, what is still to come leaves what the whole file does, and the next record may come; the loop is
+-- left by its last reply.
 use Prim.Native.Nat.{_≤_, _-_}
 use native.Mathlib.Omega.{arith}
 use borrow.Author.Needs.{needs}
 use Rattle.foil_spec.specs.Sheet.{noBoard}
 use Rattle.sheet_laws.specs.Jobs.{onlyFoil0}
+use Rattle.job_report.specs.Report.{MayCome}
+use Rattle.job_report.proofs.Coming.{first-comes, run-comes}
 use Rattle.job_end.proofs.Leaving.{ToCome, all-to-come, goes-on, stops}
 use Rattle.job_end.proofs.run_job.Statement.{statement}
 use Rattle.job_end.proofs.run_job.Tie as tie
@@ -11,6 +14,7 @@ use Rattle.job_end.proofs.run_job.Tie as tie
 abbrev Inv-loop : tie.InvT-loop
 Inv-loop table₀ strips₀ bytes _ _ _ _ table strips _ board at counter =
     (counter ≤ 60001) × ToCome bytes (onlyFoil0 noBoard table₀ strips₀) counter at (onlyFoil0 board table strips)
+    × MayCome at board table strips
 
 abbrev μ-loop : tie.MeasureT-loop
 μ-loop _ _ _ _ _ _ _ _ _ _ _ _ counter = 60001 - counter
@@ -32,7 +36,7 @@ no-board-requires : tie.Need-no-board-requires Inv-loop μ-loop
 no-board-requires c κs = search needs
 
 loop-holds : tie.Need-loop-holds Inv-loop μ-loop
-loop-holds c = (omega arith, all-to-come _ _ _ _ (c .no-board .ensures))
+loop-holds c = (omega arith, all-to-come _ _ _ _ (c .no-board .ensures), first-comes _ _ _)
 
 run-one-requires : tie.Need-run-one-requires Inv-loop μ-loop
 run-one-requires c κs = search needs
@@ -67,6 +71,8 @@ loop-again c =
       omega arith,
       goes-on _ _ _ _ _ (atLoop met .loop .inv .1) _ _ _ _ _ (afterRunOne met .run-one .ensures) _
           (met .next-of .ensures) _ (c .before .before .next .given .1),
+      run-comes _ _ _ _ _ _ _ _ _ _ (afterRunOne met .run-one .ensures) _ (met .next-of .ensures) _
+          (c .before .before .next .given .1),
     )
 
 returns-2 : tie.Need-returns-2 Inv-loop μ-loop

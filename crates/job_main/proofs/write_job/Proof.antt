@@ -1,17 +1,20 @@
--- What a record gave comes next in the job's output; and after the last one all of it is written.
+-- What a record gave comes next in the job's output, and the next record may come; after the last one all of the
+-- output is written.
 use Prim.Native.Nat.{ℕ, _≤_, _-_}
 use native.Mathlib.Omega.{arith}
 use lib.ListN.{length-replicate}
 use borrow.Author.Needs.{needs}
 use Rattle.foil_spec.specs.Limits.{sheetSize}
 use Rattle.sheet_laws.specs.Jobs.{onlyFoil0}
+use Rattle.job_report.specs.Report.{MayCome}
+use Rattle.job_report.proofs.Coming.{first-comes, reported-comes}
 use Rattle.job_main.proofs.Still.{Still, none-yet, next-lines, goes-on, ends, all-told}
 use Rattle.job_main.proofs.write_job.Statement.{statement}
 use Rattle.job_main.proofs.write_job.Tie as tie
 
 abbrev Inv-loop : tie.InvT-loop
 Inv-loop bytes _ _ _ _ _ _ _ _ _ table strips _ board at written counter =
-    (counter ≤ 60001) × Still bytes written counter at (onlyFoil0 board table strips)
+    (counter ≤ 60001) × Still bytes written counter at (onlyFoil0 board table strips) × MayCome at board table strips
 
 abbrev μ-loop : tie.MeasureT-loop
 μ-loop _ _ _ _ _ _ _ _ _ _ _ _ _ _ _ _ counter = 60001 - counter
@@ -33,7 +36,11 @@ no-board-requires : tie.Need-no-board-requires Inv-loop μ-loop
 no-board-requires c κs = search needs
 
 loop-holds : tie.Need-loop-holds Inv-loop μ-loop
-loop-holds c = (omega arith, none-yet _ _ _ _ (c .no-board .ensures) (length-replicate {A = ℕ} sheetSize 0))
+loop-holds c = (
+  omega arith,
+  none-yet _ _ _ _ (c .no-board .ensures) (length-replicate {A = ℕ} sheetSize 0),
+  first-comes _ _ _,
+)
 
 report-record-requires : tie.Need-report-record-requires Inv-loop μ-loop
 report-record-requires c κs = search needs
@@ -70,6 +77,7 @@ loop-again c =
       omega arith,
       goes-on _ _ _ _ _ (atLoop done .loop .inv .1) (omega arith) _ _ _ _ _ _ _ (done .report-record .ensures .0)
           (done .report-record .ensures .1) _ (lines .write-lines .ensures) _ (c .before .before .next .given .1),
+      reported-comes _ _ _ _ _ _ _ _ _ _ _ _ (done .report-record .ensures .0) _ (c .before .before .next .given .1),
     )
 
 returns-2 : tie.Need-returns-2 Inv-loop μ-loop

@@ -1,29 +1,42 @@
--- `foil_test::run::run` is safe and ends: the loop counts the records.
+-- `foil_test::run::run` is safe and ends: the loop counts the records, and each may come after the one before it.
 use Prim.Native.Nat.{_≤_, _-_}
+use native.Mathlib.Omega.{arith}
 use borrow.Author.Needs.{needs}
+use Rattle.job_report.specs.Report.{MayCome}
+use Rattle.job_report.proofs.Coming.{first-comes, run-comes}
 use Rattle.foil_test.proofs.run.run.Statement.{statement}
 use Rattle.foil_test.proofs.run.run.Tie as tie
 
 abbrev Inv-loop : tie.InvT-loop
-Inv-loop _ _ _ _ _ _ _ _ _ _ _ _ _ _ counter = counter ≤ 60001
+Inv-loop _ _ _ _ _ _ _ _ _ table strips _ board at counter = (counter ≤ 60001) × MayCome at board table strips
 
 abbrev μ-loop : tie.MeasureT-loop
 μ-loop _ _ _ _ _ _ _ _ _ _ _ _ _ _ counter = 60001 - counter
+
+-- back from the loop's end to next_of, and from there to run_one
+abbrev thisNext : tie.After-board Inv-loop μ-loop → tie.After-next-of Inv-loop μ-loop
+thisNext c = c .before .before .before .before
+
+abbrev afterRunOne : tie.After-next-of Inv-loop μ-loop → tie.After-run-one Inv-loop μ-loop
+afterRunOne c = c .before .before .before
 
 no-board-requires : tie.Need-no-board-requires Inv-loop μ-loop
 no-board-requires c κs = search needs
 
 loop-holds : tie.Need-loop-holds Inv-loop μ-loop
-loop-holds c = search needs
+loop-holds c = (omega arith, first-comes _ _ _)
 
 run-one-requires : tie.Need-run-one-requires Inv-loop μ-loop
 run-one-requires c κs = search needs
 
-follow-requires : tie.Need-follow-requires Inv-loop μ-loop
-follow-requires c κs = search needs
+count-reply-requires : tie.Need-count-reply-requires Inv-loop μ-loop
+count-reply-requires c κs = search needs
 
-enum-known-place : tie.Need-enum-known-place Inv-loop μ-loop
-enum-known-place c = search needs
+next-of-requires : tie.Need-next-of-requires Inv-loop μ-loop
+next-of-requires c κs = search needs
+
+enum-known-next : tie.Need-enum-known-next Inv-loop μ-loop
+enum-known-next c = search needs
 
 enum-told : tie.Need-enum-told Inv-loop μ-loop
 enum-told c = search needs
@@ -41,7 +54,12 @@ loop-less : tie.Need-loop-less Inv-loop μ-loop
 loop-less c = search needs
 
 loop-again : tie.Need-loop-again Inv-loop μ-loop
-loop-again c = search needs
+loop-again c =
+    let met = thisNext c in (
+      omega arith,
+      run-comes _ _ _ _ _ _ _ _ _ _ (afterRunOne met .run-one .ensures) _ (met .next-of .ensures) _
+          (c .before .before .next .given .1),
+    )
 
 returns-2 : tie.Need-returns-2 Inv-loop μ-loop
 returns-2 c = search needs
@@ -55,8 +73,9 @@ run-spec =
     no-board-requires
     loop-holds
     run-one-requires
-    follow-requires
-    enum-known-place
+    count-reply-requires
+    next-of-requires
+    enum-known-next
     enum-told
     over-requires
     returns

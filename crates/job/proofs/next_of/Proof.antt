@@ -1,8 +1,8 @@
 -- Steps that were run have a next place, any other reply has none.
 use borrow.Author.Needs.{needs}
-use Rattle.job_end.proofs.Telling.{not-run, next-run, next-other}
-use Rattle.job_end.proofs.next_of.Statement.{statement}
-use Rattle.job_end.proofs.next_of.Tie as tie
+use Rattle.job.proofs.Replies.{not-run, next-run, next-other}
+use Rattle.job.proofs.next_of.Statement.{statement}
+use Rattle.job.proofs.next_of.Tie as tie
 
 enum-known-reply : tie.Need-enum-known-reply
 enum-known-reply c = search needs
