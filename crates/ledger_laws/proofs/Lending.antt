@@ -400,28 +400,27 @@ begun-record r bs xs n l m e =
       ends = rw (a .unrefused, a .not-end, b .is) refl;
     }
 
-module _ (r : Room) (l : Layout) where
-  -- what is known where a call begins a foil by a new foil, or by one that is carried over
-  new-taken : (W H : ℕ) (d : Clearance) → ledgerCall r (step (newFoil W H d)) l .answer ≡ answered accepted
-      → refusalOf r false (newFoil W H d) l ≡ none
-  unfolding ledgerCall reply
-  new-taken W H d e = step-taken r (newFoil W H d) l accepted no-accepted cc
+-- a call that begins a foil is a step that reads nothing of what is lent and is not refused, or a record at place 0
+pub by-begins : (P : Call → Reply → Type 0)
+    → ((s : Step) → reads s ≡ false → (a : Answer) → ((n : ℕ) → refused n ≡ a → ⊥) → P (step s) (answered a))
+    → ((bs : List ℕ) (xs : List Answer) (n : Option ℕ) → P (runRecord bs 0) (ran (accepted ∷ xs) n))
+    → (c : Call) (a : Reply) → Begins c a → P c a
+by-begins P one whole c a (inl (W, H, p, e, h)) =
+    subst₂ P (sym e) (sym h) (one (newFoil W H (byPen p)) (new-blind W H (byPen p)) accepted no-accepted)
+by-begins P one whole c a (inr (inl (bs, xs, n, e, h))) = subst₂ P (sym e) (sym h) (whole bs xs n)
+by-begins P one whole c a (inr (inr (o, ns, e, h))) =
+    subst₂ P (sym e) (sym h) (one (carry o) (carry-blind o) (wrote ns) (no-wrote ns))
 
-  carry-taken : (o : Old) (ns : List ℕ) → ledgerCall r (step (carry o)) l .answer ≡ answered (wrote ns)
-      → refusalOf r false (carry o) l ≡ none
-  unfolding ledgerCall reply
-  carry-taken o ns e = step-taken r (carry o) l (wrote ns) (no-wrote ns) cc
+call-taken : (r : Room) (l : Layout) (s : Step) (a : Answer) → ((n : ℕ) → refused n ≡ a → ⊥)
+    → ledgerCall r (step s) l .answer ≡ answered a → refusalOf r false s l ≡ none
+unfolding ledgerCall reply
+call-taken r l s a never e = step-taken r s l a never cc
 
 pub begun : (r : Room) (c : Call) (l : Layout) (m : Lent) → Begins c (ledgerCall r c l .answer) → Begun r c l m
-begun r c l m (inl (W, H, p, e, h)) =
-    subst (λ (x : Call). ledgerCall r x l .answer ≡ answered accepted → Begun r x l m) (sym e)
-    (λ q. begun-call (newFoil W H (byPen p)) (new-blind W H (byPen p)) r l (new-taken r l W H (byPen p) q) m) h
-begun r c l m (inr (inl (bs, xs, n, e, h))) =
-    subst (λ (x : Call). ledgerCall r x l .answer ≡ ran (accepted ∷ xs) n → Begun r x l m) (sym e)
-    (begun-record r bs xs n l m) h
-begun r c l m (inr (inr (o, ns, e, h))) =
-    subst (λ (x : Call). ledgerCall r x l .answer ≡ answered (wrote ns) → Begun r x l m) (sym e)
-    (λ q. begun-call (carry o) (carry-blind o) r l (carry-taken r l o ns q) m) h
+begun r c l m b =
+    by-begins (λ x a. ledgerCall r x l .answer ≡ a → Begun r x l m)
+    (λ s blind a never e. begun-call s blind r l (call-taken r l s a never e) m)
+    (λ bs xs n. begun-record r bs xs n l m) c (ledgerCall r c l .answer) b refl
 
 pub lend-begun : (c : Lending) (l : Layout) (m : Lent) → Begun (roomFor c m) (c .call) l (front c m)
     → lend c m ≡ shown m (told m c l)
@@ -451,12 +450,7 @@ module _ (r : Room) (l l′ : Layout) where
       rw (a .unrefused, a .not-end, b .is, new) refl
 
   pub begins-anew : (c : Call) → Begins c (ledgerCall r c l .answer) → ledgerCall r c l ≡ ledgerCall r c l′
-  begins-anew c (inl (W, H, p, e, h)) =
-      subst (λ (x : Call). ledgerCall r x l .answer ≡ answered accepted → ledgerCall r x l ≡ ledgerCall r x l′) (sym e)
-      (λ q. call-anew (newFoil W H (byPen p)) (new-blind W H (byPen p)) (new-taken r l W H (byPen p) q)) h
-  begins-anew c (inr (inl (bs, xs, n, e, h))) =
-      subst (λ (x : Call). ledgerCall r x l .answer ≡ ran (accepted ∷ xs) n → ledgerCall r x l ≡ ledgerCall r x l′)
-      (sym e) (record-anew bs xs n) h
-  begins-anew c (inr (inr (o, ns, e, h))) =
-      subst (λ (x : Call). ledgerCall r x l .answer ≡ answered (wrote ns) → ledgerCall r x l ≡ ledgerCall r x l′)
-      (sym e) (λ q. call-anew (carry o) (carry-blind o) (carry-taken r l o ns q)) h
+  begins-anew c b =
+      by-begins (λ x a. ledgerCall r x l .answer ≡ a → ledgerCall r x l ≡ ledgerCall r x l′)
+      (λ s blind a never e. call-anew s blind (call-taken r l s a never e)) record-anew c (ledgerCall r c l .answer) b
+      refl

@@ -4,13 +4,12 @@ use native.Mathlib.Omega.{arith}
 use mathlib.Core.Path.{_≡_, refl, sym, ap, _∙_, subst}
 use mathlib.Core.Bool.{Bool, true, false, not, cond}
 use mathlib.Core.List.{List, [], _∷_}
-use mathlib.Core.Logic.{inl, inr}
 use mathlib.Core.Option.{Option, none, some}
 use borrow.Author.Tests.{eqb-true}
 use Rattle.foil_spec.specs.Lists.{any}
 use Rattle.foil_spec.specs.Foil.{Layout}
-use Rattle.foil_spec.specs.Ledger.{Clearance, byPen, Step, newFoil, Answer, refused, first, Room, short, After, settle}
-use Rattle.foil_spec.specs.Ledger.{refusalOf, ledgerStep, reads, carry, accepted, wrote, says}
+use Rattle.foil_spec.specs.Ledger.{Clearance, Step, newFoil, Answer, refused, first, Room, short, After, settle}
+use Rattle.foil_spec.specs.Ledger.{refusalOf, ledgerStep, reads, accepted, says}
 use Rattle.foil_spec.specs.Lent.{Lent, held, sound, stepOn}
 use Rattle.foil_spec.specs.Job.{mapByte, has, isEnd, steps, recordEnd, recordChecks}
 use Rattle.foil_spec.specs.Calls.{Call, step, runRecord, Reply, answered, ran, atEnd, measured, laidAll, endsJob}
@@ -18,10 +17,10 @@ use Rattle.foil_spec.specs.Calls.{andThen, actAll, actRecord, wholeRefusals, re
 use Rattle.foil_spec.specs.Sequence.{Begins}
 use Rattle.list_laws.proofs.Tests.{both, clash}
 use Rattle.ledger_laws.proofs.Line.{line}
-use Rattle.ledger_laws.proofs.Lending.{new-ends, new-blind, carry-blind, Begun, Opens, board-first, opens}
+use Rattle.ledger_laws.proofs.Lending.{new-ends, new-blind, Begun, Opens, board-first, opens}
 use Rattle.ledger_laws.proofs.Steps.{shown}
 use Rattle.ledger_laws.proofs.Lending.{shortNumber, call-short, whole-at-0, begun-record, own-checks}
-use Rattle.ledger_laws.proofs.Lending.{blind-refusal, blind-answer, no-accepted, no-wrote, taken-on}
+use Rattle.ledger_laws.proofs.Lending.{by-begins, blind-refusal, blind-answer, taken-on}
 
 -- a reply after which there is no next place, and no strip is told
 abbrev pub Over : Reply → Type 0
@@ -180,34 +179,10 @@ module _ (r : Room) (l : Layout) (m : Lent) where
       (λ t. t)
 
   pub begins-told : (c : Call) → Begins c (callOn r c m .answer) → Begins c (ledgerCall r c l .answer)
-  begins-told c (inl (W, H, p, e, h)) =
-      inl (
-        W,
-        H,
-        p,
-        e,
-        subst (λ (x : Call). callOn r x m .answer ≡ answered accepted → ledgerCall r x l .answer ≡ answered accepted)
-            (sym e) (call-told (newFoil W H (byPen p)) (new-blind W H (byPen p)) accepted no-accepted) h,
-      )
-  begins-told c (inr (inl (bs, xs, n, e, h))) =
-      inr (inl (
-        bs,
-        xs,
-        n,
-        e,
-        subst
-            (λ (x : Call).
-            callOn r x m .answer ≡ ran (accepted ∷ xs) n → ledgerCall r x l .answer ≡ ran (accepted ∷ xs) n)
-            (sym e)
-            (λ q. sym (same-opening bs (opening r bs l m (ran-long bs (accepted ∷ xs) n q))) ∙ q) h,
-      ))
-  begins-told c (inr (inr (o, ns, e, h))) =
-      inr (inr (
-        o,
-        ns,
-        e,
-        subst
-            (λ (x : Call).
-            callOn r x m .answer ≡ answered (wrote ns) → ledgerCall r x l .answer ≡ answered (wrote ns))
-            (sym e) (call-told (carry o) (carry-blind o) (wrote ns) (no-wrote ns)) h,
-      ))
+  begins-told c b =
+      subst (Begins c)
+      (by-begins (λ x a. callOn r x m .answer ≡ a → callOn r x m .answer ≡ ledgerCall r x l .answer)
+      (λ s blind a never e. e ∙ sym (call-told s blind a never e))
+      (λ bs xs n e. same-opening bs (opening r bs l m (ran-long bs (accepted ∷ xs) n e))) c (callOn r c m .answer)
+      b refl)
+      b
