@@ -174,7 +174,7 @@ export class Pointer {
     if (!point) return this.step(0, 0);
     this.after(() => tool.press(point)).then(() => {
       this.desk.tellHint();
-      this.desk.tool.move(point);
+      if (this.cursor) this.desk.tool.move(this.cursor);
     });
   }
 }
