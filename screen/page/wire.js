@@ -7,7 +7,7 @@ time, and of those that came meanwhile the newest alone. */
 export class Wire {
   /** `onEnvelope` is called with every envelope, `onGone` where the server did not answer. */
   constructor(onEnvelope, onGone) {
-    this.screen = "s" + Math.random().toString(36).slice(2, 10) + Date.now().toString(36);
+    this.screen = idOfTab();
     this.onEnvelope = onEnvelope;
     this.onGone = onGone;
     this.flying = 0;
@@ -33,6 +33,19 @@ export class Wire {
     if (envelope.gone) this.onGone(envelope.gone);
     else this.onEnvelope(envelope);
     return envelope;
+  }
+}
+
+/** An id that no other tab has; a tab that is loaded anew keeps its own, so that it is not counted twice. */
+function idOfTab() {
+  const [loaded] = performance.getEntriesByType("navigation");
+  const made = "s" + Math.random().toString(36).slice(2, 10) + Date.now().toString(36);
+  try {
+    const id = (loaded && loaded.type === "reload" && sessionStorage.getItem("screen")) || made;
+    sessionStorage.setItem("screen", id);
+    return id;
+  } catch {
+    return made;                  // a browser that keeps nothing
   }
 }
 
