@@ -73,11 +73,10 @@ pub tried-last : {el eu cols rows : List ℕ} {nc nr i j v : ℕ} {l₀ u₀ wl�
 tried-last (reached E) e m r = found m r E
 tried-last (missed x y) e m r = clash e refl
 
-pub tried-on : {el eu cols rows : List ℕ} {nc nr i j v : ℕ} {l₀ u₀ wl₀ wu₀ l u wl wu l′ u′ wl′ wu′ ql qu : List ℕ}
-    {la lb ua ub : ℕ} {b : Bool} → Tried el eu cols rows nc nr i j v l u wl wu l′ u′ wl′ wu′ b → b ≡ false →
-    Going el eu cols rows nc nr l₀ u₀ wl₀ wu₀ v l u wl wu ql qu la lb ua ub →
-    Going el eu cols rows nc nr l₀ u₀ wl₀ wu₀ v l′ u′ wl′ wu′ ql qu la lb ua ub
-    × (along l′ j i ≡ 0) × (along u′ i j ≡ 0)
+pub tried-on : {el eu cols rows : List ℕ} {nc nr i j v : ℕ} {l₀ u₀ wl₀ wu₀ l u wl wu l′ u′ wl′ wu′ ml mu : List ℕ}
+    {b : Bool} → Tried el eu cols rows nc nr i j v l u wl wu l′ u′ wl′ wu′ b → b ≡ false →
+    Going el eu cols rows nc nr l₀ u₀ wl₀ wu₀ v l u wl wu ml mu →
+    Going el eu cols rows nc nr l₀ u₀ wl₀ wu₀ v l′ u′ wl′ wu′ ml mu × (along l′ j i ≡ 0) × (along u′ i j ≡ 0)
 tried-on (reached E) e G = clash refl e
 tried-on (missed x y) e G = (G, x, y)
 

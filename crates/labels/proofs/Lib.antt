@@ -1,5 +1,6 @@
 -- What is proved of the labels' code, and what labels mean.
 pub mod Runs
+pub mod Marks
 pub mod Pass
 pub mod Part
 pub mod Going

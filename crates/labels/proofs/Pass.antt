@@ -1,4 +1,4 @@
--- Laws of a pass: visiting only the crossings with the label v, from the queue, does what a pass over all lines does.
+-- Laws of a pass: visiting only the crossings with the label v does what a pass over all lines does.
 use Prim.Native.Nat.{ℕ, zero, suc, _+_, _-_, _*_, _≤_, _<_}
 use native.Mathlib.Nat.{add-zero}
 use native.Mathlib.Omega.{arith}
@@ -6,21 +6,19 @@ use native.Mathlib.Decide.{decLe, decLt, ℕ-discrete}
 use mathlib.Core.Path.{_≡_, refl, sym, subst, _∙_}
 use mathlib.Core.Logic.{_≢_}
 use mathlib.Core.List.{List}
-use lib.ListN.{getD}
-use borrow.Author.Count.{below-more}
+use lib.ListN.{getD, length}
 use Rattle.grid.specs.Size.{stride}
-use Rattle.runs.specs.Line.{along, across, Linked, RunStart, RunEnd, Left}
+use Rattle.runs.specs.Line.{along, across, Linked, RunStart, RunEnd}
 use Rattle.runs.specs.Ink.{Blank, RunInked, LeastInk, Inked}
-use Rattle.labels.specs.Pass.{zeros, Cell, kept, none, new, Pass, floor, Joined, Full, Queued, Room}
-use Rattle.labels.specs.Pass.{Fill, held, fresh}
-use Rattle.labels.specs.Pass.{RunFilled, RunPushed, Visit, passed, left, ran, Part, stood, got}
-use Rattle.labels.specs.Pass.{Done, labelled, waits, Visited, Added}
-use Rattle.labels.specs.Pass.{PassTo}
+use Rattle.labels.specs.Pass.{zeros, Cell, kept, none, new, Pass, floor, Joined, Full, Spans, Marks, Marked}
+use Rattle.labels.specs.Pass.{Widened, NextNew, Fill, held, fresh, RunFilled, Visit, passed, left, ran}
+use Rattle.labels.specs.Pass.{Part, stood, got, Done, labelled, waits, Visited, Spanned, PassTo}
+use Rattle.labels.proofs.Runs.{zeros-le}
 use Rattle.runs.proofs.Line.{linked-sym, linked-trans, in-run, run-joined}
 
 -- a visit of a crossing whose run has labels
-pub visit-passed : {other inks edge cross l w t : List ℕ} {line n k v low q : ℕ} → low ≡ floor v →
-    low < along l line k → Visit other inks edge cross line n k v l l w w t t q q
+pub visit-passed : {other inks edge cross l w : List ℕ} {line n k v low : ℕ} → low ≡ floor v →
+    low < along l line k → Visit other inks edge cross line n k v l l w w 0 0 0
 visit-passed {l = l} {line = line} {k = k} {v = v} e x = let z : floor v < along l line k = omega arith in passed z
 
 -- a run none of whose labels is above 0 so far, since that of crossing k is not
@@ -87,36 +85,65 @@ part-fill : {other edge : List ℕ} {line n v k a b c : ℕ} (h : ℕ) → h < n
 part-fill h l r e x (held y) = x
 part-fill h l r e x fresh = part-fresh h l r e x refl
 
-visited-none : (other edge from : List ℕ) (m n v a : ℕ) (l : List ℕ) → Full edge l m n (floor v) →
-    Visited other edge from m n v a a l l 0
-visited-none other edge from m n v a l F = record {
+visited-none : (other edge : List ℕ) (m n v : ℕ) (l : List ℕ) → Full edge l m n (floor v) →
+    Visited other edge m n v 0 l l 0
+visited-none other edge m n v l F = record {
   size = refl;
   part = λ i li k lk. stood;
-  did = λ r p q. absurd (omega arith);
+  did = λ i li k lk p. absurd (omega arith);
   count = add-zero (zeros l);
   same = λ e. refl;
   full = F;
 }
 
--- place p of the queue is crossing h of a line, and its label is v
-module _ {other edge from : List ℕ} {m n v a p : ℕ} {l₀ l : List ℕ} {c line h : ℕ} (ll : line < m) (lh : h < n)
-    (el : getD from (2 * p + 1) 0 ≡ line) (eh : getD from (2 * p) 0 ≡ h)
-    (G : Visited other edge from m n v a p l₀ l c) where
+-- no crossing between two places has the label v
+visited-past : {other edge : List ℕ} {m n v p r : ℕ} {l₀ l : List ℕ} {c : ℕ} →
+    ((i : ℕ) → i < m → (k : ℕ) → k < n → p ≤ k * stride + i → k * stride + i < r → across other i k ≢ v) →
+    Visited other edge m n v p l₀ l c → Visited other edge m n v r l₀ l c
+visited-past {other} {edge} {m} {n} {v} {p} {r} {l₀} {l} free G = record {
+  size = G .size;
+  part = G .part;
+  did = λ i li k lk lt e. pick i li k lk lt e (decLt (k * stride + i) p);
+  count = G .count;
+  same = G .same;
+  full = G .full;
+}
+  where
+    pick : (i : ℕ) → i < m → (k : ℕ) → k < n → k * stride + i < r → across other i k ≡ v → Dec (k * stride + i < p) →
+        Done other edge i n v l k
+    pick i li k lk lt e (yes y) = G .did i li k lk y e
+    pick i li k lk lt e (no y) = absurd (free i li k lk (omega arith) lt e)
+
+-- crossing h of a line is visited
+module _ {other edge : List ℕ} {m n v : ℕ} {l₀ l : List ℕ} {c line h : ℕ} (ll : line < m) (lh : h < n) (fm : m ≤ stride)
+    (G : Visited other edge m n v (h * stride + line) l₀ l c) where
+  -- what was done before and what is done at h
+  did-more : {l′ : List ℕ} →
+      ((i : ℕ) → i < m → (k : ℕ) → k < n → Done other edge i n v l k → Done other edge i n v l′ k) →
+      Done other edge line n v l′ h → (i : ℕ) → i < m → (k : ℕ) → k < n → k * stride + i < h * stride + (line + 1) →
+      across other i k ≡ v → Done other edge i n v l′ k
+  did-more {l′} grown d i li k lk lt e = pick (decLt (k * stride + i) (h * stride + line))
+    where
+      pick : Dec (k * stride + i < h * stride + line) → Done other edge i n v l′ k
+      pick (yes y) = grown i li k lk (G .did i li k lk y e)
+      pick (no y) =
+          let ek : k ≡ h = omega arith in
+          let ei : i ≡ line = omega arith in
+          rw (ei, ek) d
+
   -- nothing is to be filled
-  visited-as-is : Done other edge line n v l h → Visited other edge from m n v a (p + 1) l₀ l c
+  visited-as-is : Done other edge line n v l h → Visited other edge m n v (h * stride + (line + 1)) l₀ l c
   visited-as-is d = record {
     size = G .size;
     part = G .part;
-    did = below-more
-        (λ r. a ≤ r → Done other edge (getD from (2 * r + 1) 0) n v l (getD from (2 * r) 0)) p (G .did)
-        (λ at. rw (el, eh) d);
+    did = did-more (λ i li k lk x. x) d;
     count = G .count;
     same = G .same;
     full = G .full;
   }
 
   -- its run was filled before
-  visited-skip : floor v < along l line h → Visited other edge from m n v a (p + 1) l₀ l c
+  visited-skip : floor v < along l line h → Visited other edge m n v (h * stride + (line + 1)) l₀ l c
   visited-skip t = visited-as-is (labelled (λ q lq z. G .full .joined line ll .on h q lh lq z t))
 
   -- its run is filled now
@@ -128,17 +155,14 @@ module _ {other edge from : List ℕ} {m n v a p : ℕ} {l₀ l : List ℕ} {c l
     in-line : (k : ℕ) → lo ≤ k → k < hi → Linked edge line k h
     in-line k x y = run-joined s e k x y h (s .le) (e .after)
 
-    visited-run : Visited other edge from m n v a (p + 1) l₀ l′ (c + r)
+    visited-run : Visited other edge m n v (h * stride + (line + 1)) l₀ l′ (c + r)
     visited-run = record {
       size = R .size ∙ G .size;
       part = λ i li k lk.
           fill-cases R few (e .le) i k lk
           (λ x y z. rw x (part-fill h lh (in-line k y z) ev (G .part line ll k lk) (R .fill k z y)))
           (λ x. rw x (G .part i li k lk));
-      did = below-more
-          (λ t. a ≤ t → Done other edge (getD from (2 * t + 1) 0) n v l′ (getD from (2 * t) 0)) p
-          (λ t lt at. done-grown R few (e .le) (G .did t lt at))
-          (λ at. rw (el, eh) (labelled run-on));
+      did = did-more (λ i li k lk d. done-grown R few (e .le) d) (labelled run-on);
       count = omega (arith, G .count, R .count);
       same = λ z. R .same (omega arith) ∙ G .same (omega arith);
       full = record {
@@ -153,10 +177,10 @@ module _ {other edge from : List ℕ} {m n v a p : ℕ} {l₀ l : List ℕ} {c l
       };
     }
 
--- When the whole queue is visited, all that is joined with a label v of the other direction has a label: a visit that
--- was left to a crossing before it came to one that was not.
-module _ {other edge from : List ℕ} {m n v a b : ℕ} {l₀ l : List ℕ} {c : ℕ} (Q : Queued from a b n m other v)
-    (G : Visited other edge from m n v a b l₀ l c) (i : ℕ) (li : i < m) where
+-- When all are visited, all that is joined with a label v of the other direction has a label: a visit that was left to
+-- a crossing before it came to one that was not.
+module _ {other edge : List ℕ} {m n v : ℕ} {l₀ l : List ℕ} {c : ℕ} (fm : m ≤ stride)
+    (G : Visited other edge m n v (n * stride) l₀ l c) (i : ℕ) (li : i < m) where
   by-done : (k : ℕ) → k < n → ((j : ℕ) → j < k → across other i j ≡ v → (q : ℕ) → q < n → Linked edge i j q
       → along l i q ≢ 0) → Done other edge i n v l k → (q : ℕ) → q < n → Linked edge i k q → along l i q ≢ 0
   by-done k lk before (labelled h) q lq z = h q lq z
@@ -168,11 +192,7 @@ module _ {other edge from : List ℕ} {m n v a b : ℕ} {l₀ l : List ℕ} {c :
       → along l i q ≢ 0
   up-to zero k lt lk e q lq z = absurd (omega arith)
   up-to (suc most) k lt lk e q lq z =
-      let t = Q .whole k lk i li e in
-      by-done k lk (λ j lj. up-to most j (omega arith) (omega arith))
-      (subst (λ (x : ℕ). Done other edge i n v l x) (t .3)
-      (subst (λ (x : ℕ). Done other edge x n v l (getD from (2 * t .0) 0)) (t .4) (G .did (t .0) (t .2) (t .1))))
-      q lq z
+      by-done k lk (λ j lj. up-to most j (omega arith) (omega arith)) (G .did i li k lk (omega arith) e) q lq z
 
   all-labelled : (k : ℕ) → k < n → across other i k ≡ v → (q : ℕ) → q < n → Linked edge i k q → along l i q ≢ 0
   all-labelled k = up-to (suc k) k (omega arith)
@@ -180,10 +200,10 @@ module _ {other edge from : List ℕ} {m n v a b : ℕ} {l₀ l : List ℕ} {c :
 suc-on : (x : ℕ) → suc x ≢ 0
 suc-on x e = omega (arith, e)
 
--- the whole queue is visited: a pass over all lines
-pub visited-all : {other edge from : List ℕ} {m n v a b : ℕ} {l₀ l : List ℕ} {c : ℕ} → Queued from a b n m other v →
-    Visited other edge from m n v a b l₀ l c → Pass other edge m n v l₀ l
-visited-all {other} {edge} {from} {m} {n} {v} {a} {b} {l₀} {l} Q G = record {
+-- all are visited: a pass over all lines
+pub visited-all : {other edge : List ℕ} {m n v : ℕ} {l₀ l : List ℕ} {c : ℕ} → m ≤ stride →
+    Visited other edge m n v (n * stride) l₀ l c → Pass other edge m n v l₀ l
+visited-all {other} {edge} {m} {n} {v} {l₀} {l} fm G = record {
   cell = λ i li k lk. cell i li k lk (along l₀ i k) (along l i k) (G .part i li k lk) refl;
 }
   where
@@ -191,14 +211,14 @@ visited-all {other} {edge} {from} {m} {n} {v} {a} {b} {l₀} {l} Q G = record {
         Cell other edge i n v k x y
     cell i li k lk x y (got q lq z e) w = new q lq z e
     cell i li k lk zero y stood w =
-        none (λ q lq z e. all-labelled Q G i li q lq e k lk (linked-sym edge i k q z) (sym w))
+        none (λ q lq z e. all-labelled fm G i li q lq e k lk (linked-sym edge i k q z) (sym w))
     cell i li k lk (suc x) y stood w = kept (suc-on x)
 
 -- and what is joined with any label has one
-pub visited-full : {other edge from : List ℕ} {m n v a b : ℕ} {l₀ l : List ℕ} {c : ℕ} → 1 ≤ v →
-    Queued from a b n m other v → Visited other edge from m n v a b l₀ l c →
+pub visited-full : {other edge : List ℕ} {m n v : ℕ} {l₀ l : List ℕ} {c : ℕ} → 1 ≤ v → m ≤ stride →
+    Visited other edge m n v (n * stride) l₀ l c →
     ((i : ℕ) → i < m → (k : ℕ) → k < n → along l i k ≡ 1 → across other i k ≡ 1) → Full edge l m n (floor (v + 1))
-visited-full {other} {edge} {from} {m} {n} {v} {a} {b} {l₀} {l} pos Q G twin = record {
+visited-full {other} {edge} {m} {n} {v} {l₀} {l} pos fm G twin = record {
   joined = λ i li. record { on = λ k q lk lq z t. pick i li k q lk lq z t (decLt (floor v) (along l i k)) };
 }
   where
@@ -207,67 +227,35 @@ visited-full {other} {edge} {from} {m} {n} {v} {a} {b} {l₀} {l} pos Q G twin =
     pick i li k q lk lq z t (yes x) = G .full .joined i li .on k q lk lq z x
     pick i li k q lk lq z t (no x) =
         let one = twin i li k lk (omega arith) in
-        all-labelled Q G i li k lk (omega arith) q lq z
+        all-labelled fm G i li k lk (omega arith) q lq z
 
--- What the runs add to the queue.
-added-none : (m n v : ℕ) (l t : List ℕ) (q : ℕ) → Added m n v l l t t q q
-added-none m n v l t q = record {
-  grew = omega arith;
-  size = refl;
-  old = λ i p. refl;
-  line-in = λ p a b. absurd (omega arith);
-  cross-in = λ p a b. absurd (omega arith);
-  sound = λ p a b. absurd (omega arith);
-  whole = λ i li k lk z y. absurd (y z);
-}
+-- What the marks span.
+spanned-none : {t : List ℕ} {m n : ℕ} (l : List ℕ) → Marks t n → Spanned t m n l l
+spanned-none l M = record { fit = M; whole = λ i li k lk z y. absurd (y z) }
 
-module _ {m n v line lo hi : ℕ} {l₀ l l′ t₀ t t′ : List ℕ} {q₀ q q′ : ℕ} (few : n ≤ stride) (ll : line < m)
-    (le : hi ≤ n) (A : Added m n v l₀ l t₀ t q₀ q) (P : RunPushed line lo hi v l l′ t t′ q q′) where
-  added-run : Added m n v l₀ l′ t₀ t′ q₀ q′
-  added-run = record {
-    grew = let x = A .grew in let y = P .grew in omega arith;
-    size = P .size ∙ A .size;
-    old = λ i a. let x = A .grew in P .old i (omega arith) ∙ A .old i a;
-    line-in = λ p a b. in-line p a b (decLt p q);
-    cross-in = λ p a b. in-cross p a b (decLt p q);
-    sound = λ p a b. right p a b (decLt p q);
-    whole = λ i li k lk z y. all i li k lk z y (ℕ-discrete (along l i k) 0);
-  }
-    where
-      in-line : (p : ℕ) → p < q′ → q₀ ≤ p → Dec (p < q) → getD t′ (2 * p) 0 < m
-      in-line p a b (yes x) = omega (arith, P .old (2 * p) (omega arith), A .line-in p x b)
-      in-line p a b (no x) = omega (arith, P .lines p a (omega arith))
+spanned-same : {t t′ : List ℕ} {m n : ℕ} {l₀ l : List ℕ} {line lo hi c : ℕ} → hi ≤ n → Widened line lo hi c t t′ →
+    Spanned t m n l₀ l → Spanned t′ m n l₀ l
+spanned-same le W A =
+    record {
+      fit = W .marks _ le (A .fit);
+      whole = λ i li k lk z y. W .old i k (A .whole i li k lk z y);
+    }
 
-      in-cross : (p : ℕ) → p < q′ → q₀ ≤ p → Dec (p < q) → getD t′ (2 * p + 1) 0 < n
-      in-cross p a b (yes x) = omega (arith, P .old (2 * p + 1) (omega arith), A .cross-in p x b)
-      in-cross p a b (no x) = omega (arith, P .below p a (omega arith))
-
-      right : (p : ℕ) → p < q′ → q₀ ≤ p → Dec (p < q) →
-          along l′ (getD t′ (2 * p) 0) (getD t′ (2 * p + 1) 0) ≡ v + 1
-      right p a b (yes x) =
-          let s = A .sound p x b in
-          rw (P .old (2 * p) (omega arith), P .old (2 * p + 1) (omega arith))
-          (run-held (P .run) few le (getD t (2 * p) 0) (getD t (2 * p + 1) 0) (A .cross-in p x b) (omega arith) ∙ s)
-      right p a b (no x) = rw (P .lines p a (omega arith)) (P .sound p a (omega arith))
-
-      all : (i : ℕ) → i < m → (k : ℕ) → k < n → along l₀ i k ≡ 0 → along l′ i k ≢ 0 → Dec (along l i k ≡ 0) →
-          (p : ℕ) × (q₀ ≤ p) × (p < q′) × (getD t′ (2 * p) 0 ≡ i) × (getD t′ (2 * p + 1) 0 ≡ k)
-      all i li k lk z y (no x) =
-          let w = A .whole i li k lk z x in
-          let g = P .grew in (
-            w .0,
-            w .1,
-            omega (arith, w .2),
-            P .old (2 * w .0) (omega (arith, w .2)) ∙ w .3,
-            P .old (2 * w .0 + 1) (omega (arith, w .2)) ∙ w .4,
-          )
-      all i li k lk z y (yes x) =
-          fill-cases (P .run) few le i k lk
-          (λ f lk′ hk.
-          let w = P .whole k hk lk′ (rw f at x) in
-          let g = A .grew in
-          (w .0, omega (arith, w .1), w .2, P .lines (w .0) (w .2) (w .1) ∙ sym f, w .3))
-          (λ f. absurd (y (f ∙ x)))
+-- a run with new labels, or with none
+spanned-run : {t t′ : List ℕ} {m n v line lo hi : ℕ} {l₀ l l′ : List ℕ} {c : ℕ} → n ≤ stride → hi ≤ n →
+    RunFilled line lo hi v l l′ c → Widened line lo hi c t t′ → Spanned t m n l₀ l → Spanned t′ m n l₀ l′
+spanned-run {t} {t′} {m} {n} {v} {line} {lo} {hi} {l₀} {l} {l′} {c} few le R W A =
+    record {
+      fit = W .marks n le (A .fit);
+      whole = λ i li k lk z y. pick i li k lk z y (ℕ-discrete (along l i k) 0) (ℕ-discrete c 0);
+    }
+  where
+    pick : (i : ℕ) → i < m → (k : ℕ) → k < n → along l₀ i k ≡ 0 → along l′ i k ≢ 0 → Dec (along l i k ≡ 0) →
+        Dec (c ≡ 0) → Spans t′ i k
+    pick i li k lk z y (no x) d = W .old i k (A .whole i li k lk z x)
+    pick i li k lk z y (yes x) (yes d) = absurd (rw (R .same d) at y x)
+    pick i li k lk z y (yes x) (no d) =
+        fill-cases R few le i k lk (λ f a b. rw f (W .new d k a b)) (λ f. absurd (y (f ∙ x)))
 
 -- The inks that come with the labels of a run.
 pub inked-none : (other inks edge cross : List ℕ) (m n v : ℕ) (l w : List ℕ) → Inked other inks edge cross m n v l l w w
@@ -281,8 +269,8 @@ part-held : {other edge : List ℕ} {line n v k a b : ℕ} → Part other edge l
 part-held stood z = z
 part-held (got q l r e) z = absurd (z refl)
 
-module _ {other inks edge cross from : List ℕ} {m n v a p : ℕ} {l₀ l l′ w₀ w w′ : List ℕ} {c r line h lo hi : ℕ}
-    (lh : h < n) (few : n ≤ stride) (G : Visited other edge from m n v a p l₀ l c) (s : RunStart edge line h lo)
+module _ {other inks edge cross : List ℕ} {m n v p : ℕ} {l₀ l l′ w₀ w w′ : List ℕ} {c r line h lo hi : ℕ}
+    (lh : h < n) (few : n ≤ stride) (G : Visited other edge m n v p l₀ l c) (s : RunStart edge line h lo)
     (e : RunEnd edge line n h hi) (R : RunFilled line lo hi v l l′ r)
     (K : RunInked other inks cross line v lo hi hi l w w′) (I : Inked other inks edge cross m n v l₀ l w₀ w) where
   ink-cases : (i k : ℕ) → k < n → {P : Type 0} → (i ≡ line → lo ≤ k → k < hi → P) → (along w′ i k ≡ along w i k → P) → P
@@ -322,60 +310,118 @@ module _ {other inks edge cross from : List ℕ} {m n v a p : ℕ} {l₀ l l′ 
       pick i li k lk z y (yes x) =
           fill-cases R few (e .le) i k lk (λ f g t. rw f (ink-fresh k g t (rw f at x))) (λ f. absurd (y (f ∙ x)))
 
--- A pass, place after place of the queue.
-pub passing-none : (other inks edge cross from : List ℕ) (m n v a : ℕ) (l w t : List ℕ) (q : ℕ) →
-    Full edge l m n (floor v) →
-    PassTo other inks edge cross from m n v a a l l w w t t q q
-passing-none other inks edge cross from m n v a l w t q F = record {
-  visited = let e : 0 ≡ q - q = omega arith in
-      subst (λ (c : ℕ). Visited other edge from m n v a a l l c) e (visited-none other edge from m n v a l F);
+-- A pass, place after place of the other direction's labels.
+pub passing-none : (other inks edge cross : List ℕ) (m n v : ℕ) (l w : List ℕ) {t : List ℕ} → Marks t n →
+    Full edge l m n (floor v) → PassTo other inks edge cross m n v 0 l l w w t 0
+passing-none other inks edge cross m n v l w M F = record {
+  visited = visited-none other edge m n v l F;
   inked = inked-none other inks edge cross m n v l w;
-  added = added-none m n v l t q;
+  spanned = spanned-none l M;
 }
 
-module _ {other inks edge cross from : List ℕ} {m n v a b p : ℕ} {l₀ l w₀ w t₀ t : List ℕ} {q₀ q line h : ℕ}
-    (few : n ≤ stride) (ap : a ≤ p) (pb : p < b) (el : line ≡ getD from (2 * p + 1) 0) (eh : h ≡ getD from (2 * p) 0)
-    (Q : Queued from a b n m other v) (G : PassTo other inks edge cross from m n v a p l₀ l w₀ w t₀ t q₀ q) where
-  ll : line < m
-  ll = rw el (Q .cross-in p ap pb)
+pub passing-at : {other inks edge cross : List ℕ} {m n v p r : ℕ} {l₀ l w₀ w t : List ℕ} {c : ℕ} → p ≡ r →
+    PassTo other inks edge cross m n v p l₀ l w₀ w t c → PassTo other inks edge cross m n v r l₀ l w₀ w t c
+passing-at e G = rw (← e) G
 
-  lh : h < n
-  lh = rw eh (Q .line-in p ap pb)
-
-  pub passing-more : {l′ w′ t′ : List ℕ} {q′ : ℕ} → Visit other inks edge cross line n h v l l′ w w′ t t′ q q′ →
-      PassTo other inks edge cross from m n v a (p + 1) l₀ l′ w₀ w′ t₀ t′ q₀ q′
-  passing-more (passed x) = record {
-    visited = visited-skip ll lh (sym el) (sym eh) (G .visited) x;
-    inked = G .inked;
-    added = G .added;
-  }
-  passing-more (left x) = record {
-    visited = visited-as-is ll lh (sym el) (sym eh) (G .visited) (waits x);
-    inked = G .inked;
-    added = G .added;
-  }
-  passing-more {l′} {w′} {t′} {q′} (ran lo hi s e K P) =
-      let o = G .added .grew in
-      let w = P .grew in
-      let c : (q - q₀) + (q′ - q) ≡ q′ - q₀ = omega arith in
-      record {
-        visited = subst (λ (k : ℕ). Visited other edge from m n v a (p + 1) l₀ l′ k) c
-            (visited-run ll lh (sym el) (sym eh) (G .visited) few (rw (el, eh) (Q .sound p ap pb)) s e (P .run));
-        inked = inked-run lh few (G .visited) s e (P .run) K (G .inked);
-        added = added-run few ll (e .le) (G .added) P;
-      }
-
-pub passing-done : {other inks edge cross from : List ℕ} {m n v a p b : ℕ} {l₀ l w₀ w t₀ t : List ℕ} {q₀ q : ℕ} →
-    p ≡ b → PassTo other inks edge cross from m n v a p l₀ l w₀ w t₀ t q₀ q →
-    PassTo other inks edge cross from m n v a b l₀ l w₀ w t₀ t q₀ q
-passing-done e h = rw (← e) h
-
--- there is still room for every crossing without a label
-pub passing-room : {other inks edge cross from : List ℕ} {m n v a p last : ℕ} {l₀ l w₀ w t₀ t : List ℕ} {q₀ q : ℕ} →
-    Room last l₀ t₀ q₀ → PassTo other inks edge cross from m n v a p l₀ l w₀ w t₀ t q₀ q → Room last l t q
-passing-room r P = record {
-  labels = omega (arith, r .labels, P .visited .size);
-  few = omega (arith, r .few, P .visited .size);
-  places = omega (arith, r .places, P .visited .size, P .added .size);
-  left = omega (arith, r .left, P .visited .count, P .visited .size, P .added .grew);
+-- from one crossing of line h of the other direction to the next with the label v
+pub passing-next : {other inks edge cross : List ℕ} {m n v h at end r : ℕ} {l₀ l w₀ w t : List ℕ} {c : ℕ} →
+    m ≤ stride → NextNew other h at end v r → end ≤ m →
+    PassTo other inks edge cross m n v (h * stride + at) l₀ l w₀ w t c →
+    PassTo other inks edge cross m n v (h * stride + r) l₀ l w₀ w t c
+passing-next {other} {v = v} {h = h} fm N le G = record {
+  visited = visited-past
+      (λ i li k lk a b.
+      let rl = N .le in
+      let e : k ≡ h = omega arith in
+      subst (λ (x : ℕ). across other i x ≢ v) (sym e) (N .before i (omega arith) (omega arith)))
+      (G .visited);
+  inked = G .inked;
+  spanned = G .spanned;
 }
+
+-- from the line's first crossing to the first with the label v after its marks begin
+pub passing-first : {other inks edge cross from : List ℕ} {m n v h at end r : ℕ} {l₀ l w₀ w t : List ℕ} {c : ℕ} →
+    m ≤ stride → h < n → at + getD from (2 * h) 0 ≡ stride → end ≤ m → Marked from n m other v →
+    NextNew other h at end v r → PassTo other inks edge cross m n v (h * stride) l₀ l w₀ w t c →
+    PassTo other inks edge cross m n v (h * stride + r) l₀ l w₀ w t c
+passing-first {other} {m = m} {n = n} {v = v} {h = h} {at = at} {r = r} fm lh e le F N G = record {
+  visited = visited-past (λ i li k lk a b x. outside i li k lk a b x (decLt i at)) (G .visited);
+  inked = G .inked;
+  spanned = G .spanned;
+}
+  where
+    outside : (i : ℕ) → i < m → (k : ℕ) → k < n → h * stride ≤ k * stride + i → k * stride + i < h * stride + r →
+        across other i k ≡ v → Dec (i < at) → ⊥
+    outside i li k lk a b x d =
+        let rl = N .le in
+        let ek : k ≡ h = omega arith in
+        let y : across other i h ≡ v = rw ek at x in
+        pick y (omega arith) d
+      where
+        pick : across other i h ≡ v → i < r → Dec (i < at) → ⊥
+        pick y ir (yes z) = let s = F .whole h lh i li y .from in omega arith
+        pick y ir (no z) = N .before i ir (omega arith) y
+
+-- and from where its marks end to the next line
+pub passing-line : {other inks edge cross from : List ℕ} {m n v h at : ℕ} {l₀ l w₀ w t : List ℕ} {c : ℕ} → m ≤ stride →
+    h < n → getD from (2 * h + 1) 0 ≤ at → Marked from n m other v →
+    PassTo other inks edge cross m n v (h * stride + at) l₀ l w₀ w t c →
+    PassTo other inks edge cross m n v ((h + 1) * stride) l₀ l w₀ w t c
+passing-line {other} {v = v} {h = h} fm lh le F G = record {
+  visited = visited-past
+      (λ i li k lk a b x.
+      let ek : k ≡ h = omega arith in
+      let y : across other i h ≡ v = rw ek at x in
+      let s = F .whole h lh i li y .to in
+      omega arith)
+      (G .visited);
+  inked = G .inked;
+  spanned = G .spanned;
+}
+
+-- there are no more new labels than places that had none
+pub passing-few : {other inks edge cross : List ℕ} {m n v p : ℕ} {l₀ l w₀ w t : List ℕ} {c : ℕ} →
+    PassTo other inks edge cross m n v p l₀ l w₀ w t c → c + zeros l ≤ length l₀
+passing-few {l₀ = l₀} G = omega (arith, G .visited .count, zeros-le l₀)
+
+-- a visit takes from the places without a label as many as it gives labels
+pub visit-count : {other inks edge cross : List ℕ} {line n k v lo hi c : ℕ} {l l′ w w′ : List ℕ} →
+    Visit other inks edge cross line n k v l l′ w w′ lo hi c → zeros l′ + c ≡ zeros l
+visit-count {l = l} (passed x) = add-zero (zeros l)
+visit-count {l = l} (left x) = add-zero (zeros l)
+visit-count (ran s e K R) = R .count
+
+-- its run is on the line
+pub visit-in : {other inks edge cross : List ℕ} {line n k v lo hi c : ℕ} {l l′ w w′ : List ℕ} → k < n →
+    Visit other inks edge cross line n k v l l′ w w′ lo hi c → (lo ≤ n) × (hi ≤ n)
+visit-in lk (passed x) = (omega arith, omega arith)
+visit-in lk (left x) = (omega arith, omega arith)
+visit-in lk (ran s e K R) = (omega (arith, s .le), e .le)
+
+-- crossing h of a line is visited, and its marks are made to span the run
+module _ {other inks edge cross : List ℕ} {m n v : ℕ} {l₀ l w₀ w t : List ℕ} {c line h : ℕ} (few : n ≤ stride)
+    (fm : m ≤ stride) (ll : line < m) (lh : h < n) (ev : across other line h ≡ v)
+    (G : PassTo other inks edge cross m n v (h * stride + line) l₀ l w₀ w t c) where
+  pub passing-more : {l′ w′ t′ : List ℕ} {lo hi d : ℕ} → Visit other inks edge cross line n h v l l′ w w′ lo hi d →
+      Widened line lo hi d t t′ →
+      PassTo other inks edge cross m n v (h * stride + (line + 1)) l₀ l′ w₀ w′ t′ (c + d)
+  passing-more (passed x) W = rw (add-zero c) (record {
+    visited = visited-skip ll lh fm (G .visited) x;
+    inked = G .inked;
+    spanned = spanned-same (omega arith) W (G .spanned);
+  })
+  passing-more (left x) W = rw (add-zero c) (record {
+    visited = visited-as-is ll lh fm (G .visited) (waits x);
+    inked = G .inked;
+    spanned = spanned-same (omega arith) W (G .spanned);
+  })
+  passing-more (ran s e K R) W = record {
+    visited = visited-run ll lh fm (G .visited) few ev s e R;
+    inked = inked-run lh few (G .visited) s e R K (G .inked);
+    spanned = spanned-run few (e .le) R W (G .spanned);
+  }
+
+-- A part of a pass, whatever went before it.
+pub record PassOn (other inks edge cross : List ℕ) (m n v p r : ℕ) (l l′ w w′ t t′ : List ℕ) (c c′ : ℕ) : Type 0 where
+  pub on : (l₀ w₀ : List ℕ) → PassTo other inks edge cross m n v p l₀ l w₀ w t c →
+      PassTo other inks edge cross m n v r l₀ l′ w₀ w′ t′ c′

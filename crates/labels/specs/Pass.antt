@@ -5,7 +5,7 @@ use mathlib.Core.Logic.{_≢_}
 use mathlib.Core.Bool.{Bool, true, false}
 use mathlib.Core.List.{List, [], _∷_}
 use lib.ListN.{getD, set, length}
-use Rattle.grid.specs.Size.{stride, area}
+use Rattle.grid.specs.Size.{stride}
 use Rattle.runs.specs.Line.{along, across, Linked, RunStart, RunEnd, Left}
 use Rattle.runs.specs.Ink.{RunInked, LeastInk, Inked}
 
@@ -60,33 +60,53 @@ pub record Joined (edge lab : List ℕ) (line n b : ℕ) : Type 0 where
 pub record Full (edge lab : List ℕ) (m n b : ℕ) : Type 0 where
   pub joined : (i : ℕ) → i < m → Joined edge lab i n b
 
--- the places a to b of a queue, two numbers each, are the lines and crossings with the label v
-pub record Queued (queue : List ℕ) (a b m n : ℕ) (lab : List ℕ) (v : ℕ) : Type 0 where
-  pub line-in : (p : ℕ) → a ≤ p → p < b → getD queue (2 * p) 0 < m
-  pub cross-in : (p : ℕ) → a ≤ p → p < b → getD queue (2 * p + 1) 0 < n
-  pub sound : (p : ℕ) → a ≤ p → p < b → along lab (getD queue (2 * p) 0) (getD queue (2 * p + 1) 0) ≡ v
-  pub whole : (i : ℕ) → i < m → (k : ℕ) → k < n → along lab i k ≡ v →
-      (p : ℕ) × (a ≤ p) × (p < b) × (getD queue (2 * p) 0 ≡ i) × (getD queue (2 * p + 1) 0 ≡ k)
+-- the marks of a line, two numbers, span its crossing k: the first is as much as `stride` is above the crossing where
+-- they begin, the second is the crossing where they end
+pub record Spans (marks : List ℕ) (line k : ℕ) : Type 0 where
+  pub from : stride ≤ k + getD marks (2 * line) 0
+  pub to : k < getD marks (2 * line + 1) 0
 
--- the labels have room for the lines up to `last`, and a queue that ends at q has room for every place without a label
-pub record Room (last : ℕ) (lab queue : List ℕ) (q : ℕ) : Type 0 where
-  pub labels : last * stride + stride ≤ length lab
-  pub few : length lab ≤ area
-  pub places : 2 * length lab ≤ length queue
-  pub left : q + zeros lab ≤ length lab
+-- the marks of all lines are such, and end at crossing n at the latest
+pub record Marks (marks : List ℕ) (n : ℕ) : Type 0 where
+  pub from : (i : ℕ) → getD marks (2 * i) 0 ≤ stride
+  pub to : (i : ℕ) → getD marks (2 * i + 1) 0 ≤ n
 
--- crossing k of a line is pushed: labels, queue and the queue's end before and after
-pub data Push (line k v : ℕ) : List ℕ → List ℕ → List ℕ → List ℕ → ℕ → ℕ → Type 0 where
-  stays : {l t : List ℕ} {q : ℕ} → along l line k ≢ 0 → Push line k v l l t t q q
-  puts : {l t : List ℕ} {q : ℕ} → along l line k ≡ 0 →
-      Push line k v l (set l (line * stride + k) (v + 1)) t (set (set t (2 * q) line) (2 * q + 1) k) q (q + 1)
+-- and those of m lines with n crossings each span all crossings with the label v
+pub record Marked (marks : List ℕ) (m n : ℕ) (lab : List ℕ) (v : ℕ) : Type 0 where
+  pub fit : Marks marks n
+  pub whole : (i : ℕ) → i < m → (k : ℕ) → k < n → along lab i k ≡ v → Spans marks i k
 
--- a crossing of a run before and after the run is pushed
+-- the marks of a line are made to span the crossings lo to hi, hi excluded, c of which have new labels: the marks
+-- before and after
+pub record Widened (line lo hi c : ℕ) (t₀ t : List ℕ) : Type 0 where
+  pub size : length t ≡ length t₀
+  pub marks : (n : ℕ) → hi ≤ n → Marks t₀ n → Marks t n
+  pub old : (i k : ℕ) → Spans t₀ i k → Spans t i k
+  pub new : c ≢ 0 → (k : ℕ) → lo ≤ k → k < hi → Spans t line k
+
+-- r is the first crossing of a line with the label v from the crossing `at` on, or `end`
+pub record NextNew (lab : List ℕ) (line at end v r : ℕ) : Type 0 where
+  pub le : r ≤ end
+  pub before : (j : ℕ) → j < r → at ≤ j → along lab line j ≢ v
+  pub found : r < end → (at ≤ r) × (along lab line r ≡ v)
+
+-- s is the sum of a line's labels before crossing k, each of which is 1 at most
+pub record Summed (lab : List ℕ) (line k s : ℕ) : Type 0 where
+  pub le : s ≤ k
+  pub none : s ≡ 0 → (j : ℕ) → j < k → along lab line j ≡ 0
+
+-- crossing k of a line gets the label v + 1, if it has none: the labels before and after, c of which are new
+pub data CellFilled (line k v : ℕ) : List ℕ → List ℕ → ℕ → Type 0 where
+  stays : {l : List ℕ} → along l line k ≢ 0 → CellFilled line k v l l 0
+  puts : {l : List ℕ} → along l line k ≡ 0 → CellFilled line k v l (set l (line * stride + k) (v + 1)) 1
+
+-- a crossing of a run before and after the run gets labels
 pub data Fill (v : ℕ) : ℕ → ℕ → Type 0 where
   held : {a : ℕ} → a ≢ 0 → Fill v a a
   fresh : Fill v 0 (v + 1)
 
--- the crossings lo to k, k excluded, of a line are pushed: what it did to the labels, c of which are new
+-- the crossings lo to k, k excluded, of a line get labels where they have none: the labels before and after, c of which
+-- are new
 pub record RunFilled (line lo k v : ℕ) (l₀ l : List ℕ) (c : ℕ) : Type 0 where
   pub size : length l ≡ length l₀
   pub fill : (j : ℕ) → j < k → lo ≤ j → Fill v (along l₀ line j) (along l line j)
@@ -95,56 +115,39 @@ pub record RunFilled (line lo k v : ℕ) (l₀ l : List ℕ) (c : ℕ) : Type 0 
   pub count : zeros l + c ≡ zeros l₀
   pub same : c ≡ 0 → l ≡ l₀
 
--- and what it added to the queue
-pub record RunPushed (line lo k v : ℕ) (l₀ l t₀ t : List ℕ) (q₀ q : ℕ) : Type 0 where
-  pub run : RunFilled line lo k v l₀ l (q - q₀)
-  pub grew : q₀ ≤ q
-  pub size : length t ≡ length t₀
-  pub old : (i : ℕ) → i < 2 * q₀ → getD t i 0 ≡ getD t₀ i 0
-  pub lines : (p : ℕ) → p < q → q₀ ≤ p → getD t (2 * p) 0 ≡ line
-  pub below : (p : ℕ) → p < q → q₀ ≤ p → getD t (2 * p + 1) 0 < k
-  pub sound : (p : ℕ) → p < q → q₀ ≤ p → along l line (getD t (2 * p + 1) 0) ≡ v + 1
-  pub whole : (j : ℕ) → j < k → lo ≤ j → along l₀ line j ≡ 0 →
-      (p : ℕ) × (q₀ ≤ p) × (p < q) × (getD t (2 * p + 1) 0 ≡ j)
-
--- a visit of crossing k of a line: its run gets inks and is pushed, or its label says that this was done, or it is left
--- to the visit of a crossing before it
+-- a visit of crossing k of a line: its run, lo to hi, gets inks and labels, c of which are new, or its label says that
+-- this was done, or it is left to the visit of a crossing before it
 pub data Visit (other inks edge cross : List ℕ) (line n k v : ℕ)
-    : List ℕ → List ℕ → List ℕ → List ℕ → List ℕ → List ℕ → ℕ → ℕ → Type 0 where
-  passed : {l w t : List ℕ} {q : ℕ} → floor v < along l line k → Visit other inks edge cross line n k v l l w w t t q q
-  left : {l w t : List ℕ} {q : ℕ} → Left other edge line k v → Visit other inks edge cross line n k v l l w w t t q q
-  ran : {l₀ l w₀ w t₀ t : List ℕ} {q₀ q : ℕ} (lo hi : ℕ) → RunStart edge line k lo → RunEnd edge line n k hi →
-      RunInked other inks cross line v lo hi hi l₀ w₀ w → RunPushed line lo hi v l₀ l t₀ t q₀ q →
-      Visit other inks edge cross line n k v l₀ l w₀ w t₀ t q₀ q
+    : List ℕ → List ℕ → List ℕ → List ℕ → ℕ → ℕ → ℕ → Type 0 where
+  passed : {l w : List ℕ} → floor v < along l line k → Visit other inks edge cross line n k v l l w w 0 0 0
+  left : {l w : List ℕ} → Left other edge line k v → Visit other inks edge cross line n k v l l w w 0 0 0
+  ran : {l₀ l w₀ w : List ℕ} {lo hi c : ℕ} → RunStart edge line k lo → RunEnd edge line n k hi →
+      RunInked other inks cross line v lo hi hi l₀ w₀ w → RunFilled line lo hi v l₀ l c →
+      Visit other inks edge cross line n k v l₀ l w₀ w lo hi c
 
 -- all that is joined with crossing k of a line has a label, or that is left to the visit of a crossing before it
 pub data Done (other edge : List ℕ) (line n v : ℕ) (l : List ℕ) (k : ℕ) : Type 0 where
   labelled : ((q : ℕ) → q < n → Linked edge line k q → along l line q ≢ 0) → Done other edge line n v l k
   waits : Left other edge line k v → Done other edge line n v l k
 
--- the places a to p of the other direction's queue are visited: what that did to the labels, c of which are new
-pub record Visited (other edge from : List ℕ) (m n v a p : ℕ) (l₀ l : List ℕ) (c : ℕ) : Type 0 where
+-- the crossings with the label v before place p of the other direction's labels are visited: what that did to the
+-- labels, c of which are new
+pub record Visited (other edge : List ℕ) (m n v p : ℕ) (l₀ l : List ℕ) (c : ℕ) : Type 0 where
   pub size : length l ≡ length l₀
   pub part : (i : ℕ) → i < m → (k : ℕ) → k < n → Part other edge i n v k (along l₀ i k) (along l i k)
-  pub did : (r : ℕ) → r < p → a ≤ r → Done other edge (getD from (2 * r + 1) 0) n v l (getD from (2 * r) 0)
+  pub did : (i : ℕ) → i < m → (k : ℕ) → k < n → k * stride + i < p → across other i k ≡ v → Done other edge i n v l k
   pub count : zeros l + c ≡ zeros l₀
   pub same : c ≡ 0 → l ≡ l₀
   pub full : Full edge l m n (floor v)
 
--- and what it added to the queue of this direction
-pub record Added (m n v : ℕ) (l₀ l t₀ t : List ℕ) (q₀ q : ℕ) : Type 0 where
-  pub grew : q₀ ≤ q
-  pub size : length t ≡ length t₀
-  pub old : (i : ℕ) → i < 2 * q₀ → getD t i 0 ≡ getD t₀ i 0
-  pub line-in : (p : ℕ) → p < q → q₀ ≤ p → getD t (2 * p) 0 < m
-  pub cross-in : (p : ℕ) → p < q → q₀ ≤ p → getD t (2 * p + 1) 0 < n
-  pub sound : (p : ℕ) → p < q → q₀ ≤ p → along l (getD t (2 * p) 0) (getD t (2 * p + 1) 0) ≡ v + 1
-  pub whole : (i : ℕ) → i < m → (k : ℕ) → k < n → along l₀ i k ≡ 0 → along l i k ≢ 0 →
-      (p : ℕ) × (q₀ ≤ p) × (p < q) × (getD t (2 * p) 0 ≡ i) × (getD t (2 * p + 1) 0 ≡ k)
+-- the marks span the crossings that got labels
+pub record Spanned (marks : List ℕ) (m n : ℕ) (l₀ l : List ℕ) : Type 0 where
+  pub fit : Marks marks n
+  pub whole : (i : ℕ) → i < m → (k : ℕ) → k < n → along l₀ i k ≡ 0 → along l i k ≢ 0 → Spans marks i k
 
--- a pass up to place p of that queue, where this queue ended at q₀ and ends at q then
-pub record PassTo (other inks edge cross from : List ℕ) (m n v a p : ℕ) (l₀ l w₀ w t₀ t : List ℕ) (q₀ q : ℕ)
-    : Type 0 where
-  pub visited : Visited other edge from m n v a p l₀ l (q - q₀)
+-- a pass up to place p of the other direction's labels: labels and inks before and after, the marks and the number of
+-- new labels then
+pub record PassTo (other inks edge cross : List ℕ) (m n v p : ℕ) (l₀ l w₀ w t : List ℕ) (c : ℕ) : Type 0 where
+  pub visited : Visited other edge m n v p l₀ l c
   pub inked : Inked other inks edge cross m n v l₀ l w₀ w
-  pub added : Added m n v l₀ l t₀ t q₀ q
+  pub spanned : Spanned t m n l₀ l

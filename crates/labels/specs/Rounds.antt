@@ -1,16 +1,16 @@
 -- The rounds of the search on a grid with nc columns and nr rows: a level label of column i and row j stands at
 -- j * stride + i, an upright one at i * stride + j; 0 is no label, and targets have the label 1 in both lists.
-use Prim.Native.Nat.{ℕ, _+_, _-_, _*_, _≤_, _<_}
+use Prim.Native.Nat.{ℕ, _+_, _*_, _≤_, _<_}
 use mathlib.Core.Path.{_≡_}
 use mathlib.Core.Logic.{_≢_, _⊎_}
 use mathlib.Core.Bool.{Bool, true, false}
 use mathlib.Core.List.{List}
 use lib.ListN.{length}
-use Rattle.grid.specs.Size.{stride}
+use Rattle.grid.specs.Size.{stride, area}
 use Rattle.grid.specs.Lines.{Lines}
 use Rattle.runs.specs.Line.{along, labelTop}
 use Rattle.runs.specs.Ink.{Inked, Lean}
-use Rattle.labels.specs.Pass.{Cell, Pass, Parts, Below, Queued, Room}
+use Rattle.labels.specs.Pass.{Cell, Pass, Parts, Below}
 
 -- the grid's lines, and the sizes of its lists: labels l and u, inks wl and wu, edges el and eu, level and upright
 pub record Sized (l u wl wu el eu cols rows : List ℕ) (nc nr : ℕ) : Type 0 where
@@ -28,17 +28,15 @@ pub record Twin (l u : List ℕ) (nc nr : ℕ) : Type 0 where
   pub level : (i : ℕ) → i < nr → (k : ℕ) → k < nc → along l i k ≡ 1 → along u k i ≡ 1
   pub upright : (i : ℕ) → i < nc → (k : ℕ) → k < nr → along u i k ≡ 1 → along l k i ≡ 1
 
--- before the first round: the queues, which end at a and b, have the targets, which alone have labels
-pub record Begun (l u wl wu ql qu : List ℕ) (nc nr a b : ℕ) : Type 0 where
-  pub level : Queued ql 0 a nr nc l 1
-  pub upright : Queued qu 0 b nc nr u 1
+-- before the first round only the targets have labels, and the lists of labels are no larger than the grid may be
+pub record Begun (l u wl wu : List ℕ) (nc nr : ℕ) : Type 0 where
   pub twin : Twin l u nc nr
   pub level-low : Below nr nc l 1
   pub upright-low : Below nc nr u 1
   pub level-lean : Lean nr nc l wl
   pub upright-lean : Lean nc nr u wu
-  pub level-room : Room (nr - 1) l ql a
-  pub upright-room : Room (nc - 1) u qu b
+  pub level-few : length l ≤ area
+  pub upright-few : length u ≤ area
 
 -- after some rounds, the next of which looks for the label v: labels l and u, inks wl and wu
 pub data Rounds (el eu cols rows : List ℕ) (nc nr : ℕ) (l₀ u₀ wl₀ wu₀ : List ℕ)

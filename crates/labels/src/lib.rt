@@ -5,7 +5,7 @@
 // column, so that one function serves both directions: a line is a row or a column, `cross` has the numbers of its
 // crossings, `labels` and `own` have the labels and inks of its own direction, and `other` and `inks` those of the
 // other one. Where both directions meet, `il` and `iu` are the level and the upright inks, `el` and `eu` the edges, and
-// `ql` and `qu` the queues.
+// `ml` and `mu` the marks: where, on each line, the labels of the round before are.
 use grid::STRIDE;
 use runs::ahead_of;
 use runs::behind_of;
@@ -14,97 +14,156 @@ use runs::ink_at;
 use runs::ink_blank;
 use runs::ink_run;
 use runs::is_left;
+use runs::nearer;
 use runs::next_stop;
 use runs::run_end;
 use runs::run_start;
 ghost use mathlib.Core.Path.{_≡_};
-ghost use Prim.Native.Nat.{_+_, _-_, _*_, _≤_, _<_};
+ghost use Prim.Native.Nat.{ℕ, _+_, _*_, _≤_, _<_, max};
 ghost use lib.ListN.{length};
 ghost use Rattle.grid.specs.Size.{stride, area};
 ghost use Rattle.grid.specs.Lines.{Lines};
 ghost use Rattle.runs.specs.Line.{along, across, labelTop};
 ghost use Rattle.runs.specs.Ink.{Low, Lean, Blank};
-ghost use Rattle.labels.specs.Pass.{floor, Joined, Full, Queued, Room, Push, RunPushed, Visit, PassTo, Alone};
+ghost use Rattle.labels.specs.Pass.{Below, floor, Joined, Full, Marks, Marked, Widened, NextNew, Summed};
+ghost use Rattle.labels.specs.Pass.{CellFilled, RunFilled, Visit, PassTo, Alone};
 ghost use Rattle.labels.specs.Rounds.{Sized, Begun, Tried, Ended};
 ghost use Rattle.labels.specs.Walk.{put, Walkable, LevelWalk, UprightWalk};
 
-// Gives crossing k of a line, which has no label, the label v + 1 and puts it at the end q of the queue; the end then.
-fn put_cell(labels: &mut [u32], queue: &mut [u16], line: usize, k: usize, v: u32, q: usize) -> usize
-    requires { ⌜ (line < stride) × (k < stride) × (v < labelTop) × Room line (now labels) (now queue) q
-        × (along (now labels) line k ≡ 0) ⌝ }
-    ensures { λ r. ⌜ Push line k v (now (labels .entry)) (now (labels .exit))
-        (now (queue .entry)) (now (queue .exit)) q r ⌝ }
-{
-    labels[line * STRIDE + k] = v + 1;
-    queue[2 * q] = line as u16;
-    queue[2 * q + 1] = k as u16;
-    q + 1
+// The marks of the lines of a direction have two numbers for each.
+const MARKS: usize = 538;
+
+// What a visit did: the crossings lo to hi, hi excluded, of the run, and how many of them got labels.
+struct Run {
+    lo: usize,
+    hi: usize,
+    new: usize,
 }
 
-// The same, if it has no label.
-pub fn push_cell(
-    labels: &mut [u32],
-    queue: &mut [u16],
-    line: usize,
-    k: usize,
-    v: u32,
-    q: usize,
-) -> usize
-    requires { ⌜ (line < stride) × (k < stride) × (v < labelTop) × Room line (now labels) (now queue) q ⌝ }
-    ensures { λ r. ⌜ Push line k v (now (labels .entry)) (now (labels .exit))
-        (now (queue .entry)) (now (queue .exit)) q r ⌝ }
+// The larger number.
+fn larger(a: u16, b: u16) -> u16
+    ensures { λ r. ⌜ r ≡ max a b ⌝ }
+{
+    if a < b {
+        return b;
+    }
+    a
+}
+
+// Makes the marks of a line span a run, unless the run has no new label.
+fn widen(marks: &mut [u16], line: usize, run: Run)
+    requires { ⌜ (line < stride) × (2 * stride ≤ length (now marks)) × (run .lo ≤ stride) × (run .hi ≤ stride) ⌝ }
+    ensures { λ _. ⌜ Widened line (run .lo) (run .hi) (run .new) (now (marks .entry)) (now (marks .exit)) ⌝ }
+{
+    if run.new == 0 {
+        return;
+    }
+    let first = larger(marks[2 * line], (STRIDE - run.lo) as u16);
+    let end = larger(marks[2 * line + 1], run.hi as u16);
+    marks[2 * line] = first;
+    marks[2 * line + 1] = end;
+}
+
+// The first crossing of a line with the label v from the crossing `at` on, or `end`.
+fn scan_new(labels: &[u32], line: usize, at: usize, end: usize, v: u32) -> usize
+    requires { ⌜ (line < stride) × (end ≤ stride) × (line * stride + stride ≤ length (now labels)) ⌝ }
+    ensures { λ r. ⌜ NextNew (now (labels .entry)) line at end v r ⌝ }
+{
+    let mut k = at;
+    while k < end {
+        if labels[line * STRIDE + k] == v {
+            return k;
+        }
+        k += 1;
+    }
+    end
+}
+
+// The same. It is no more than `end`, as `run_start` is no more than its crossing.
+fn next_new(labels: &[u32], line: usize, at: usize, end: usize, v: u32) -> usize
+    requires { ⌜ (line < stride) × (end ≤ stride) × (line * stride + stride ≤ length (now labels)) ⌝ }
+    ensures { λ r. ⌜ NextNew (now (labels .entry)) line at end v r ⌝ }
+{
+    nearer(scan_new(labels, line, at, end, v), end)
+}
+
+// The sum of the labels of a line with n crossings, each of which is 1 at most.
+fn sum_of(labels: &[u32], line: usize, n: usize) -> u32
+    requires { ⌜ (line < stride) × (n ≤ stride) × (line * stride + stride ≤ length (now labels))
+        × ((k : ℕ) → k < n → along (now labels) line k ≤ 1) ⌝ }
+    ensures { λ r. ⌜ Summed (now (labels .entry)) line n r ⌝ }
+{
+    let mut sum = 0;
+    let mut k = 0;
+    while k < n {
+        sum += labels[line * STRIDE + k];
+        k += 1;
+    }
+    sum
+}
+
+// Marks the lines, m with n crossings each, that have a target's label, from end to end.
+fn mark_targets(marks: &mut [u16], labels: &[u32], m: usize, n: usize)
+    requires { ⌜ (m ≤ stride) × (n ≤ stride) × (m * stride ≤ length (now labels))
+        × (2 * stride ≤ length (now marks)) ⌝ }
+    requires { ⌜ Below m n (now labels) 1 × Marks (now marks) n ⌝ }
+    ensures { λ _. ⌜ Marked (now (marks .exit)) m n (now (labels .entry)) 1 ⌝ }
+{
+    let mut line = 0;
+    while line < m {
+        let sum = sum_of(labels, line, n);
+        widen(
+            marks,
+            line,
+            Run {
+                lo: 0,
+                hi: n,
+                new: sum as usize,
+            },
+        );
+        line += 1;
+    }
+}
+
+// Gives crossing k of a line the label v + 1, if it has none. Returns how many labels are new.
+fn fill_cell(labels: &mut [u32], line: usize, k: usize, v: u32) -> usize
+    requires { ⌜ (line < stride) × (k < stride) × (v < labelTop) × (line * stride + stride ≤ length (now labels)) ⌝ }
+    ensures { λ r. ⌜ CellFilled line k v (now (labels .entry)) (now (labels .exit)) r ⌝ }
 {
     if labels[line * STRIDE + k] != 0 {
-        return q;
+        return 0;
     }
-    put_cell(labels, queue, line, k, v, q)
+    labels[line * STRIDE + k] = v + 1;
+    1
 }
 
 // The same for the crossings lo to hi, hi excluded.
-fn push_run(
-    labels: &mut [u32],
-    queue: &mut [u16],
-    line: usize,
-    lo: usize,
-    hi: usize,
-    v: u32,
-    q: usize,
-) -> usize
-    requires { ⌜ (line < stride) × (hi ≤ stride) × (lo ≤ hi) × (v < labelTop) × Room line (now labels) (now queue) q ⌝ }
-    ensures { λ r. ⌜ RunPushed line lo hi v (now (labels .entry)) (now (labels .exit))
-        (now (queue .entry)) (now (queue .exit)) q r ⌝ }
+fn fill_run(labels: &mut [u32], line: usize, lo: usize, hi: usize, v: u32) -> usize
+    requires { ⌜ (line < stride) × (hi ≤ stride) × (lo ≤ hi) × (v < labelTop)
+        × (line * stride + stride ≤ length (now labels)) ⌝ }
+    ensures { λ r. ⌜ RunFilled line lo hi v (now (labels .entry)) (now (labels .exit)) r ⌝ }
 {
-    let mut end = q;
+    let mut new = 0;
     let mut k = lo;
     while k < hi {
-        end = push_cell(labels, queue, line, k, v, end);
+        new += fill_cell(labels, line, k, v);
         k += 1;
     }
-    end
+    new
 }
 
 // The same where none of them has a label.
-fn push_blank(
-    labels: &mut [u32],
-    queue: &mut [u16],
-    line: usize,
-    lo: usize,
-    hi: usize,
-    v: u32,
-    q: usize,
-) -> usize
-    requires { ⌜ (line < stride) × (hi ≤ stride) × (lo ≤ hi) × (v < labelTop) × Room line (now labels) (now queue) q
-        × Blank (now labels) line lo hi ⌝ }
-    ensures { λ r. ⌜ RunPushed line lo hi v (now (labels .entry)) (now (labels .exit))
-        (now (queue .entry)) (now (queue .exit)) q r ⌝ }
+fn fill_blank(labels: &mut [u32], line: usize, lo: usize, hi: usize, v: u32) -> usize
+    requires { ⌜ (line < stride) × (hi ≤ stride) × (lo ≤ hi) × (v < labelTop)
+        × (line * stride + stride ≤ length (now labels)) × Blank (now labels) line lo hi ⌝ }
+    ensures { λ r. ⌜ RunFilled line lo hi v (now (labels .entry)) (now (labels .exit)) r ⌝ }
 {
-    let mut end = q;
     let mut k = lo;
     while k < hi {
-        end = put_cell(labels, queue, line, k, v, end);
+        labels[line * STRIDE + k] = v + 1;
         k += 1;
     }
-    end
+    hi - lo
 }
 
 // Up to which label a crossing may have no run yet in the round that looks for v: 1, the target's, in the first.
@@ -117,12 +176,11 @@ fn floor_of(v: u32) -> u32
     0
 }
 
-// Gives the run of crossing k inks and labels and puts it into the queue, unless a label above `low` says that this is
-// done, or it is left to the visit of a crossing before k; the end of the queue then.
+// Gives the run of crossing k inks and labels, unless a label above `low` says that this is done, or it is left to the
+// visit of a crossing before k.
 fn visit(
     labels: &mut [u32],
     own: &mut [u32],
-    queue: &mut [u16],
     ahead: &mut [u32],
     behind: &mut [u32],
     other: &[u32],
@@ -134,25 +192,31 @@ fn visit(
     k: usize,
     v: u32,
     low: u32,
-    q: usize,
-) -> usize
+) -> Run
     requires { ⌜ (line < stride) × Lines (now cross) n × (k < n) × (v < labelTop)
         × (line * stride + stride ≤ length (now edge)) ⌝ }
     requires { ⌜ (n * stride ≤ length (now other)) × (n * stride ≤ length (now inks))
         × (line * stride + stride ≤ length (now own)) ⌝ }
     requires { ⌜ Low (now other) (now inks) line n v × (across (now other) line k ≡ v) ⌝ }
-    requires { ⌜ Room line (now labels) (now queue) q × (stride ≤ length (now ahead))
+    requires { ⌜ (line * stride + stride ≤ length (now labels)) × (stride ≤ length (now ahead))
         × (stride ≤ length (now behind)) ⌝ }
     requires { ⌜ (low ≡ floor v) × Joined (now edge) (now labels) line n (floor v) ⌝ }
     ensures { λ r. ⌜ Visit (now (other .entry)) (now (inks .entry)) (now (edge .entry)) (now (cross .entry)) line n k v
-        (now (labels .entry)) (now (labels .exit)) (now (own .entry)) (now (own .exit))
-        (now (queue .entry)) (now (queue .exit)) q r ⌝ }
+        (now (labels .entry)) (now (labels .exit)) (now (own .entry)) (now (own .exit)) (r .lo) (r .hi) (r .new) ⌝ }
 {
     if low < labels[line * STRIDE + k] {
-        return q;
+        return Run {
+            lo: 0,
+            hi: 0,
+            new: 0,
+        };
     }
     if is_left(other, edge, line, k, v) {
-        return q;
+        return Run {
+            lo: 0,
+            hi: 0,
+            new: 0,
+        };
     }
     let lo = run_start(edge, line, k);
     let hi = run_end(edge, line, n, k);
@@ -173,7 +237,8 @@ fn visit(
             hi,
             v,
         );
-        return push_run(labels, queue, line, lo, hi, v, q);
+        let new = fill_run(labels, line, lo, hi, v);
+        return Run { lo, hi, new };
     }
     ink_blank(
         own,
@@ -189,15 +254,16 @@ fn visit(
         hi,
         v,
     );
-    push_blank(labels, queue, line, lo, hi, v, q)
+    let new = fill_blank(labels, line, lo, hi, v);
+    Run { lo, hi, new }
 }
 
-// A pass over m lines with n crossings each: labels v + 1 what is joined with a label v of the other direction. The
-// places a to b of the other queue, `from`, are the crossings with that label; the new ones are put into the queue.
-fn label_queue(
+// A pass over m lines with n crossings each: labels v + 1 what is joined with a label v of the other direction, whose
+// marks are `from`, and marks the lines where labels are new. Returns how many are.
+fn label_pass(
     labels: &mut [u32],
     own: &mut [u32],
-    queue: &mut [u16],
+    marks: &mut [u16],
     ahead: &mut [u32],
     behind: &mut [u32],
     other: &[u32],
@@ -205,50 +271,51 @@ fn label_queue(
     edge: &[u8],
     cross: &[u16],
     from: &[u16],
-    a: usize,
-    b: usize,
     m: usize,
     n: usize,
     v: u32,
-    q: usize,
 ) -> usize
-    requires { ⌜ (m ≤ stride) × Lines (now cross) n × (1 ≤ v) × (v < labelTop) × (a ≤ b) × (b ≤ area) ⌝ }
+    requires { ⌜ (m ≤ stride) × Lines (now cross) n × (1 ≤ v) × (v < labelTop) ⌝ }
     requires { ⌜ (n * stride ≤ length (now other)) × (n * stride ≤ length (now inks))
-        × (m * stride ≤ length (now own)) ⌝ }
-    requires { ⌜ (m * stride ≤ length (now edge)) × (2 * b ≤ length (now from)) × (stride ≤ length (now ahead))
-        × (stride ≤ length (now behind)) ⌝ }
-    requires { ⌜ Room (m - 1) (now labels) (now queue) q × Lean n m (now other) (now inks) ⌝ }
-    requires { ⌜ Queued (now from) a b n m (now other) v × Full (now edge) (now labels) m n (floor v) ⌝ }
+        × (m * stride ≤ length (now own)) × (m * stride ≤ length (now labels)) × (length (now labels) ≤ area) ⌝ }
+    requires { ⌜ (m * stride ≤ length (now edge)) × (2 * stride ≤ length (now from)) × (2 * stride ≤ length (now marks))
+        × (stride ≤ length (now ahead)) × (stride ≤ length (now behind)) ⌝ }
+    requires { ⌜ Lean n m (now other) (now inks) × Marked (now from) n m (now other) v × Marks (now marks) n
+        × Full (now edge) (now labels) m n (floor v) ⌝ }
     ensures { λ r. ⌜ PassTo (now (other .entry)) (now (inks .entry)) (now (edge .entry)) (now (cross .entry))
-        (now (from .entry)) m n v a b (now (labels .entry)) (now (labels .exit)) (now (own .entry)) (now (own .exit))
-        (now (queue .entry)) (now (queue .exit)) q r ⌝ }
+        m n v (n * stride) (now (labels .entry)) (now (labels .exit)) (now (own .entry)) (now (own .exit))
+        (now (marks .exit)) r ⌝ }
 {
     let low = floor_of(v);
-    let mut end = q;
-    let mut p = a;
-    while p < b {
-        let k = from[2 * p] as usize;
-        let line = from[2 * p + 1] as usize;
-        end = visit(
-            labels,
-            own,
-            queue,
-            ahead,
-            behind,
-            other,
-            inks,
-            edge,
-            cross,
-            line,
-            n,
-            k,
-            v,
-            low,
-            end,
-        );
-        p += 1;
+    let mut new = 0;
+    let mut k = 0;
+    while k < n {
+        let first = STRIDE - from[2 * k] as usize;
+        let end = from[2 * k + 1] as usize;
+        let mut line = next_new(other, k, first, end, v);
+        while line < end {
+            let run = visit(
+                labels,
+                own,
+                ahead,
+                behind,
+                other,
+                inks,
+                edge,
+                cross,
+                line,
+                n,
+                k,
+                v,
+                low,
+            );
+            new += run.new;
+            widen(marks, line, run);
+            line = next_new(other, k, line + 1, end, v);
+        }
+        k += 1;
     }
-    end
+    new
 }
 
 // Gives crossing k of a line alone what a pass gives it: if it has no label and is joined with a label v of the other
@@ -321,14 +388,12 @@ fn last_round(
 
 // Rounds of a level and an upright pass until the crossing of column i and row j gets a label, or a round labels
 // nothing. Returns whether it has one. The last round labels that crossing alone: a walk from it comes over smaller
-// labels only. The queues have the targets, and end at a and b.
+// labels only. The targets have labels.
 pub fn rounds(
     level: &mut [u32],
     upright: &mut [u32],
     il: &mut [u32],
     iu: &mut [u32],
-    ql: &mut [u16],
-    qu: &mut [u16],
     el: &[u8],
     eu: &[u8],
     cols: &[u16],
@@ -337,70 +402,62 @@ pub fn rounds(
     nr: usize,
     i: usize,
     j: usize,
-    a: usize,
-    b: usize,
 ) -> bool
     requires { ⌜ Sized (now level) (now upright) (now il) (now iu) (now el) (now eu) (now cols) (now rows) nc nr
         × (i < nc) × (j < nr) ⌝ }
-    requires { ⌜ Begun (now level) (now upright) (now il) (now iu) (now ql) (now qu) nc nr a b ⌝ }
+    requires { ⌜ Begun (now level) (now upright) (now il) (now iu) nc nr ⌝ }
     ensures { λ r. ⌜ Ended (now (el .entry)) (now (eu .entry)) (now (cols .entry)) (now (rows .entry)) nc nr i j
         (now (level .entry)) (now (upright .entry)) (now (il .entry)) (now (iu .entry))
         (now (level .exit)) (now (upright .exit)) (now (il .exit)) (now (iu .exit)) r ⌝ }
 {
     let mut ahead = [0u32; STRIDE];
     let mut behind = [0u32; STRIDE];
+    let mut ml = [0u16; MARKS];
+    let mut mu = [0u16; MARKS];
+    mark_targets(&mut ml, level, nr, nc);
+    mark_targets(&mut mu, upright, nc, nr);
     let mut v = 1u32;
-    let mut la = 0;
-    let mut lb = a;
-    let mut ua = 0;
-    let mut ub = b;
     loop {
         if last_round(level, upright, il, iu, el, eu, cols, rows, nc, nr, i, j, v) {
             return true;
         }
-        let le = label_queue(
+        let mut nl = [0u16; MARKS];
+        let mut nu = [0u16; MARKS];
+        let le = label_pass(
             level,
             il,
-            ql,
+            &mut nl,
             &mut ahead,
             &mut behind,
             upright,
             iu,
             el,
             cols,
-            qu,
-            ua,
-            ub,
+            &mu,
             nr,
             nc,
             v,
-            lb,
         );
-        let ue = label_queue(
+        let ue = label_pass(
             upright,
             iu,
-            qu,
+            &mut nu,
             &mut ahead,
             &mut behind,
             level,
             il,
             eu,
             rows,
-            ql,
-            la,
-            lb,
+            &ml,
             nc,
             nr,
             v,
-            ub,
         );
-        if le + ue == lb + ub {
+        if le + ue == 0 {
             return false;
         }
-        la = lb;
-        lb = le;
-        ua = ub;
-        ub = ue;
+        ml = nl;
+        mu = nu;
         v += 1;
     }
 }

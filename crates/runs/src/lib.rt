@@ -32,7 +32,7 @@ fn lesser(a: u32, b: u32) -> u32
 }
 
 // The smaller number.
-fn nearer(a: usize, b: usize) -> usize
+pub fn nearer(a: usize, b: usize) -> usize
     ensures { λ r. ⌜ r ≡ min a b ⌝ }
 {
     if a < b {

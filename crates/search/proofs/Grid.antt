@@ -42,8 +42,8 @@ aimed-is b es w h x y lx ly =
         both (covers e x y) (λ t. rw t refl) (λ t. rw t (none-all es))
 
 -- lists for the lines that there may be have room for those that there are
-pub label-room : {m nc nr : ℕ} {l u wl wu ql qu : List ℕ} → nc ≤ m → nr ≤ m → LabelRoom m m l u wl wu ql qu
-    → LabelRoom nc nr l u wl wu ql qu
+pub label-room : {m nc nr : ℕ} {l u wl wu : List ℕ} → nc ≤ m → nr ≤ m → LabelRoom m m l u wl wu
+    → LabelRoom nc nr l u wl wu
 label-room c r M =
     record {
       level = omega (arith, M .level);
@@ -54,8 +54,6 @@ label-room c r M =
       upright-blank = M .upright-blank;
       level-inks = omega (arith, M .level-inks);
       upright-inks = omega (arith, M .upright-inks);
-      level-queue = M .level-queue;
-      upright-queue = M .upright-queue;
     }
 
 module _ {z : List ℕ} {n : ℕ} {t : List ℕ} {k w h : ℕ} {S : Point} where

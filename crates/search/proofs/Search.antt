@@ -106,10 +106,10 @@ module _ {z : List ℕ} {n : ℕ} {t : List ℕ} {k w h : ℕ} {S : Point} (P : 
   U = upright-faithful G
 
   -- the labels before the first round
-  level-sown : Sown (λ j i. T (point (getD cols i 0) (getD rows j 0))) nr nc (B .l₀) (B .wl₀) (B .ql) (B .a)
+  level-sown : Sown (λ j i. T (point (getD cols i 0) (getD rows j 0))) nr nc (B .l₀) (B .wl₀)
   level-sown = sown-same (λ j lj i li. sym (level-aimed G j lj i li)) (B .level-sown)
 
-  upright-sown : Sown (λ i j. T (point (getD cols i 0) (getD rows j 0))) nc nr (B .u₀) (B .wu₀) (B .qu) (B .b)
+  upright-sown : Sown (λ i j. T (point (getD cols i 0) (getD rows j 0))) nc nr (B .u₀) (B .wu₀)
   upright-sown = sown-same (λ i li j lj. sym (upright-aimed G i li j lj)) (B .upright-sown)
 
   seeds : Labelled f (On T) cols nc rows nr 0 (B .l₀) × Labelled (flip f) (flip (On T)) rows nr cols nc 0 (B .u₀)

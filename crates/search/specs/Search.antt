@@ -16,7 +16,7 @@ use Rattle.search.specs.Choice.{Choice, labelAt}
 use Rattle.search.specs.declared.Start.{Start}
 
 -- the lists for the labels and inks of nc columns and nr rows have room, and there is no label yet
-pub record LabelRoom (nc nr : ℕ) (l u wl wu ql qu : List ℕ) : Type 0 where
+pub record LabelRoom (nc nr : ℕ) (l u wl wu : List ℕ) : Type 0 where
   pub level : nr * stride ≤ length l
   pub upright : nc * stride ≤ length u
   pub level-few : length l ≤ area
@@ -25,27 +25,21 @@ pub record LabelRoom (nc nr : ℕ) (l u wl wu ql qu : List ℕ) : Type 0 where
   pub upright-blank : Unlabelled u
   pub level-inks : nr * stride ≤ length wl
   pub upright-inks : nc * stride ≤ length wu
-  pub level-queue : 2 * length l ≤ length ql
-  pub upright-queue : 2 * length u ≤ length qu
 
--- the crossing (i, j) of S, the labels l₀ and u₀ and inks wl₀ and wu₀ of the targets before the first round, with the
--- queues, and the rounds
+-- the crossing (i, j) of S, the labels l₀ and u₀ and inks wl₀ and wu₀ of the targets before the first round, and the
+-- rounds
 pub record Labelling (cols rows kl ku : List ℕ) (nc nr : ℕ) (z : List ℕ) (n : ℕ) (t : List ℕ) (k : ℕ) (S : Point)
     (i j : ℕ) (found : Bool) (l u wl wu : List ℕ) : Type 0 where
   pub l₀ : List ℕ
   pub u₀ : List ℕ
   pub wl₀ : List ℕ
   pub wu₀ : List ℕ
-  pub ql : List ℕ
-  pub qu : List ℕ
-  pub a : ℕ
-  pub b : ℕ
   pub i-in : i < nc
   pub j-in : j < nr
   pub i-at : getD cols i 0 ≡ S .x
   pub j-at : getD rows j 0 ≡ S .y
-  pub level-sown : Sown (aimedAt n z k t false rows cols) nr nc l₀ wl₀ ql a
-  pub upright-sown : Sown (aimedAt n z k t true cols rows) nc nr u₀ wu₀ qu b
+  pub level-sown : Sown (aimedAt n z k t false rows cols) nr nc l₀ wl₀
+  pub upright-sown : Sown (aimedAt n z k t true cols rows) nc nr u₀ wu₀
   pub ended : Ended kl ku cols rows nc nr i j l₀ u₀ wl₀ wu₀ l u wl wu found
 
 -- where a walk starts, if the crossing (i, j) was found to have a label

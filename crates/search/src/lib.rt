@@ -3,8 +3,8 @@
 //
 // The work lists of `labels` and `walk` are `level` and `upright` for the labels of the grid's crossings in the two
 // directions, `il` and `iu` for their inks, `kl` and `ku` for the level and the upright links between crossings (STRIDE
-// places for each line that there may be), `ql` and `qu` for queues of crossings (two numbers for each label), `cols`
-// and `rows` for the lines of the grid (STRIDE places), and `mark` for marks on an axis (4,096 places).
+// places for each line that there may be), `cols` and `rows` for the lines of the grid (STRIDE places), and `mark` for
+// marks on an axis (4,096 places).
 use grid::AREA;
 use grid::STRIDE;
 use grid::collect;
@@ -33,16 +33,11 @@ ghost use Rattle.search.specs.Grid.{mostLines, Posed, Aimed, GridRoom, H
 ghost use Rattle.search.specs.Choice.{Choosing, Choice};
 ghost use Rattle.search.specs.Search.{LabelRoom, Labelling, Starts, Ready, Searched, Walked, PathFound};
 
-// A queue of crossings has two numbers for each.
-const QUEUE: usize = 144722;
-
 // Up to so many boxes and target boxes make few lines: 69 an axis. What is kept of their crossings is a quarter of
 // AREA, which takes a quarter of the time to fill.
 const FEW: usize = 33;
 
 const FEW_AREA: usize = 18561;
-
-const FEW_QUEUE: usize = 37122;
 
 // How many columns and rows the grid has.
 struct Size {
@@ -161,8 +156,6 @@ fn label(
     upright: &mut [u32],
     il: &mut [u32],
     iu: &mut [u32],
-    ql: &mut [u16],
-    qu: &mut [u16],
     kl: &[u8],
     ku: &[u8],
     cols: &[u16],
@@ -178,7 +171,7 @@ fn label(
 ) -> Arrived
     requires { ⌜ (nr * stride ≤ length (now kl)) × (nc * stride ≤ length (now ku)) × Lines (now cols) nc
         × Lines (now rows) nr ⌝ }
-    requires { ⌜ LabelRoom nc nr (now level) (now upright) (now il) (now iu) (now ql) (now qu) ⌝ }
+    requires { ⌜ LabelRoom nc nr (now level) (now upright) (now il) (now iu) ⌝ }
     requires { ⌜ Has (now cols) nc sx × Has (now rows) nr sy × (n * 5 ≤ length (now boxes))
         × ((w : ℕ) × (h : ℕ) × Boxes (now targets) k w h) ⌝ }
     ensures { λ r. ⌜ Labelling (now (cols .entry)) (now (rows .entry)) (now (kl .entry)) (now (ku .entry)) nc nr
@@ -187,52 +180,9 @@ fn label(
 {
     let i = index_of(cols, nc, sx);
     let j = index_of(rows, nr, sy);
-    let a = sow_targets(
-        level,
-        il,
-        ql,
-        boxes,
-        n,
-        targets,
-        k,
-        false,
-        rows,
-        nr,
-        cols,
-        nc,
-    );
-    let b = sow_targets(
-        upright,
-        iu,
-        qu,
-        boxes,
-        n,
-        targets,
-        k,
-        true,
-        cols,
-        nc,
-        rows,
-        nr,
-    );
-    let found = rounds(
-        level,
-        upright,
-        il,
-        iu,
-        ql,
-        qu,
-        kl,
-        ku,
-        cols,
-        rows,
-        nc,
-        nr,
-        i,
-        j,
-        a,
-        b,
-    );
+    sow_targets(level, il, boxes, n, targets, k, false, rows, nr, cols, nc);
+    sow_targets(upright, iu, boxes, n, targets, k, true, cols, nc, rows, nr);
+    let found = rounds(level, upright, il, iu, kl, ku, cols, rows, nc, nr, i, j);
     Arrived { i, j, found }
 }
 
@@ -345,8 +295,6 @@ fn labels(
     upright: &mut [u32],
     il: &mut [u32],
     iu: &mut [u32],
-    ql: &mut [u16],
-    qu: &mut [u16],
     cols: &mut [u16],
     rows: &mut [u16],
     kl: &mut [u8],
@@ -363,8 +311,7 @@ fn labels(
 ) -> Start
     requires { ⌜ Aimed (now boxes) n (now targets) k w h (point sx sy) ⌝ }
     requires { ⌜ GridRoom (n + k) (now cols) (now rows) (now kl) (now ku) (now mark) ⌝ }
-    requires { ⌜ LabelRoom (mostLines (n + k)) (mostLines (n + k)) (now level) (now upright) (now il) (now iu)
-        (now ql) (now qu) ⌝ }
+    requires { ⌜ LabelRoom (mostLines (n + k)) (mostLines (n + k)) (now level) (now upright) (now il) (now iu) ⌝ }
     ensures { λ r. ⌜ Searched (firstPathTo (boxFree w h n (now (boxes .entry))) w h (point sx sy)
         (target w h n (now (boxes .entry)) k (now (targets .entry))))
         (now (cols .exit)) (now (rows .exit)) (now (kl .exit)) (now (ku .exit))
@@ -378,8 +325,6 @@ fn labels(
         upright,
         il,
         iu,
-        ql,
-        qu,
         kl,
         ku,
         cols,
@@ -467,8 +412,6 @@ fn path_in(
     upright: &mut [u32],
     il: &mut [u32],
     iu: &mut [u32],
-    ql: &mut [u16],
-    qu: &mut [u16],
     cols: &mut [u16],
     rows: &mut [u16],
     kl: &mut [u8],
@@ -485,8 +428,7 @@ fn path_in(
 ) -> usize
     requires { ⌜ Aimed (now boxes) n (now targets) k w h (point sx sy) ⌝ }
     requires { ⌜ GridRoom (n + k) (now cols) (now rows) (now kl) (now ku) (now mark) ⌝ }
-    requires { ⌜ LabelRoom (mostLines (n + k)) (mostLines (n + k)) (now level) (now upright) (now il) (now iu)
-        (now ql) (now qu) ⌝ }
+    requires { ⌜ LabelRoom (mostLines (n + k)) (mostLines (n + k)) (now level) (now upright) (now il) (now iu) ⌝ }
     ensures { λ r. ⌜ PathFound (firstPathTo (boxFree w h n (now (boxes .entry))) w h (point sx sy)
         (target w h n (now (boxes .entry)) k (now (targets .entry))))
         (now (out .entry)) (now (out .exit)) r ⌝ }
@@ -496,8 +438,6 @@ fn path_in(
         upright,
         il,
         iu,
-        ql,
-        qu,
         cols,
         rows,
         kl,
@@ -544,8 +484,6 @@ fn path_among_few(
     let mut upright = [0u32; FEW_AREA];
     let mut il = [0u32; FEW_AREA];
     let mut iu = [0u32; FEW_AREA];
-    let mut ql = [0u16; FEW_QUEUE];
-    let mut qu = [0u16; FEW_QUEUE];
     let mut cols = [0u16; STRIDE];
     let mut rows = [0u16; STRIDE];
     let mut kl = [0u8; FEW_AREA];
@@ -557,8 +495,6 @@ fn path_among_few(
         &mut upright,
         &mut il,
         &mut iu,
-        &mut ql,
-        &mut qu,
         &mut cols,
         &mut rows,
         &mut kl,
@@ -596,8 +532,6 @@ fn path_among_many(
     let mut upright = [0u32; AREA];
     let mut il = [0u32; AREA];
     let mut iu = [0u32; AREA];
-    let mut ql = [0u16; QUEUE];
-    let mut qu = [0u16; QUEUE];
     let mut cols = [0u16; STRIDE];
     let mut rows = [0u16; STRIDE];
     let mut kl = [0u8; AREA];
@@ -609,8 +543,6 @@ fn path_among_many(
         &mut upright,
         &mut il,
         &mut iu,
-        &mut ql,
-        &mut qu,
         &mut cols,
         &mut rows,
         &mut kl,
@@ -627,7 +559,7 @@ fn path_among_many(
     )
 }
 
-// The path from a target to itself: one corner, written to the front of `out` where it fits. Answers how many there are.
+// The path from a target to itself: one corner, put at the front of `out` where it fits. Answers how many there are.
 fn stay(out: &mut [u16], x: u16, y: u16) -> usize
     ensures { λ r. ⌜ PathFound (some (point x y ∷ [])) (now (out .entry)) (now (out .exit)) r ⌝ }
 {

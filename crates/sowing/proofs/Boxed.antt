@@ -1,13 +1,13 @@
 -- Whether boxes have a point, box by box.
-use Prim.Native.Nat.{ℕ, suc, _+_, _≤_, _<_}
+use Prim.Native.Nat.{ℕ, _+_, _≤_, _<_}
 use native.Mathlib.Nat.{zero-add}
 use native.Mathlib.Omega.{arith}
 use native.Mathlib.Numerals.{add-one}
 use native.Mathlib.Decide.{decLe, decLt}
 use mathlib.Core.Path.{_≡_, refl, sym, ap, ap₂, _∙_}
 use mathlib.Core.Bool.{Bool, true, false, not, _&&_, _||_, or-false, and-comm}
-use mathlib.Core.List.{List, [], _∷_, _++_, map}
-use lib.Dec.{leb, ltb}
+use mathlib.Core.List.{List, [], _∷_, map}
+use lib.Dec.{ltb}
 use lib.ListN.{getD}
 use borrow.Author.Tests.{le-leb}
 use Rattle.foil_spec.specs.Lists.{range, any}
@@ -140,11 +140,11 @@ swap-and : (x y t : Bool) → ((x && y) && t) ≡ ((y && x) && t)
 swap-and x y t = ap (λ (b : Bool). b && t) (and-comm x y)
 
 pub box-sown : (n : ℕ) (z : List ℕ) (e : Entry) (upright : Bool) {lines : List ℕ} {m : ℕ} {cross : List ℕ} {c : ℕ}
-    {r s : Extent} {a b lo hi : ℕ} {l₀ w₀ t₀ l w t : List ℕ} {q₀ q : ℕ} → r ≡ extent (not upright) e
+    {r s : Extent} {a b lo hi : ℕ} {l₀ w₀ l w : List ℕ} → r ≡ extent (not upright) e
     → s ≡ extent upright e → FirstFrom lines m (r .from) a → FirstFrom lines m (r .to) b
     → FirstFrom cross c (s .from) lo → FirstFrom cross c (s .to) hi
-    → BlockSown a b lo hi (clearAt n z upright lines cross) l₀ w₀ t₀ q₀ l w t q
-    → Sows (aimedOne n z e upright lines cross) m c l₀ w₀ t₀ q₀ l w t q
+    → BlockSown a b lo hi (clearAt n z upright lines cross) l₀ w₀ l w
+    → Sows (aimedOne n z e upright lines cross) m c l₀ w₀ l w
 unfolding aimedOne inBlock
 box-sown n z e upright {lines} {m} {cross} {c} {r} {s} {a} {b} {lo} {hi} beside along A B L H S =
     sows-same
@@ -168,17 +168,17 @@ split-and true false true = refl
 split-and true false false = refl
 split-and false y t = refl
 
-module _ (n : ℕ) (z : List ℕ) (targets : List ℕ) (upright : Bool) (lines cross : List ℕ) {m c : ℕ} {l w t : List ℕ}
+module _ (n : ℕ) (z : List ℕ) (targets : List ℕ) (upright : Bool) (lines cross : List ℕ) {m c : ℕ} {l w : List ℕ}
   where
-    pub targets-none : {q : ℕ} → Sown (λ i c. false) m c l w t q
-        → Sown (aimedAt n z 0 targets upright lines cross) m c l w t q
+    pub targets-none : Sown (λ i c. false) m c l w
+        → Sown (aimedAt n z 0 targets upright lines cross) m c l w
     unfolding aimedAt boxed
     targets-none S = sown-same (λ i li k lk. refl) S
 
-    pub targets-more : (e : ℕ) {l′ w′ t′ : List ℕ} {q q′ : ℕ}
-        → Sown (aimedAt n z e targets upright lines cross) m c l w t q
-        → Sows (aimedOne n z (entryAt targets e) upright lines cross) m c l w t q l′ w′ t′ q′
-        → Sown (aimedAt n z (e + 1) targets upright lines cross) m c l′ w′ t′ q′
+    pub targets-more : (e : ℕ) {l′ w′ : List ℕ}
+        → Sown (aimedAt n z e targets upright lines cross) m c l w
+        → Sows (aimedOne n z (entryAt targets e) upright lines cross) m c l w l′ w′
+        → Sown (aimedAt n z (e + 1) targets upright lines cross) m c l′ w′
     unfolding aimedAt aimedOne
     targets-more e S A =
         sown-same
@@ -190,8 +190,8 @@ module _ (n : ℕ) (z : List ℕ) (targets : List ℕ) (upright : Bool) (lines c
         (clearAt n z upright lines cross i k))
         (A .sown _ S)
 
-    pub targets-done : (e k : ℕ) {q : ℕ} → e ≡ k → Sown (aimedAt n z e targets upright lines cross) m c l w t q
-        → Sown (aimedAt n z k targets upright lines cross) m c l w t q
+    pub targets-done : (e k : ℕ) → e ≡ k → Sown (aimedAt n z e targets upright lines cross) m c l w
+        → Sown (aimedAt n z k targets upright lines cross) m c l w
     targets-done e k i S = rw (← i) S
 
 -- the test is the same for both directions

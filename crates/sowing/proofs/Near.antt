@@ -86,9 +86,9 @@ module _ (n : ℕ) (z : List ℕ) (e : Entry) where
 
 -- the crossings of a target box are left free by the boxes that are enough for it just if they are by all
 pub near-sown : (n : ℕ) (z : List ℕ) (e : Entry) (upright : Bool) (lines cross : List ℕ) {m c r : ℕ}
-    {l₀ w₀ t₀ l w t : List ℕ} {q₀ q : ℕ} {a : Entry} → a ≡ e → Enough n z a r
-    → Sows (aimedOne r z e upright lines cross) m c l₀ w₀ t₀ q₀ l w t q
-    → Sows (aimedOne n z e upright lines cross) m c l₀ w₀ t₀ q₀ l w t q
+    {l₀ w₀ l w : List ℕ} {a : Entry} → a ≡ e → Enough n z a r
+    → Sows (aimedOne r z e upright lines cross) m c l₀ w₀ l w
+    → Sows (aimedOne n z e upright lines cross) m c l₀ w₀ l w
 unfolding aimedOne clearAt
 near-sown n z e upright lines cross {r = r} a-is E S =
     sows-same

@@ -1,5 +1,5 @@
 -- The labels before the first round: those of the targets.
-use Prim.Native.Nat.{ℕ, _+_, _-_, _*_, _≤_, _<_}
+use Prim.Native.Nat.{ℕ, _*_, _≤_, _<_}
 use mathlib.Core.Path.{_≡_}
 use mathlib.Core.Bool.{Bool, true, false, not, _&&_, _||_}
 use mathlib.Core.List.{List, map}
@@ -9,10 +9,9 @@ use Rattle.foil_spec.specs.Lists.{range, any}
 use Rattle.foil_spec.specs.Foil.{Entry}
 use Rattle.foil_spec.specs.Lent.{entryAt}
 use Rattle.zones.specs.Boxes.{inside, covers}
-use Rattle.grid.specs.Size.{stride}
+use Rattle.grid.specs.Size.{stride, area}
 use Rattle.grid.specs.Extent.{turned}
 use Rattle.runs.specs.Line.{along}
-use Rattle.labels.specs.Pass.{Queued, Room}
 
 -- no crossing has a label
 abbrev pub Unlabelled : List ℕ → Type 0
@@ -32,13 +31,13 @@ pub record Enough (n : ℕ) (z : List ℕ) (e : Entry) (r : ℕ) : Type 0 where
   pub same : (upright : Bool) (x y : ℕ) → turned upright (covers e) x y ≡ true
       → boxed r z upright x y ≡ boxed n z upright x y
 
--- a test of crossings, line first: on m lines with n crossings each, those that pass it have the label 1 and the ink 0
--- and stand in the queue, which ends at q, and all others have no label
-pub record Sown (on : ℕ → ℕ → Bool) (m n : ℕ) (lab inks queue : List ℕ) (q : ℕ) : Type 0 where
+-- a test of crossings, line first: on m lines with n crossings each, those that pass it have the label 1 and the ink 0,
+-- and all others have no label
+pub record Sown (on : ℕ → ℕ → Bool) (m n : ℕ) (lab inks : List ℕ) : Type 0 where
   pub one : (i : ℕ) → i < m → (c : ℕ) → c < n → on i c ≡ true → (along lab i c ≡ 1) × (along inks i c ≡ 0)
   pub rest : (i : ℕ) → i < m → (c : ℕ) → c < n → on i c ≡ false → along lab i c ≡ 0
-  pub queued : Queued queue 0 q m n lab 1
-  pub room : Room (m - 1) lab queue q
+  pub labels-fit : m * stride ≤ length lab
+  pub labels-few : length lab ≤ area
   pub inks-fit : m * stride ≤ length inks
   pub lines-few : m ≤ stride
   pub crossings-few : n ≤ stride
@@ -47,25 +46,24 @@ pub record Sown (on : ℕ → ℕ → Bool) (m n : ℕ) (lab inks queue : List �
 abbrev pub orElse : (ℕ → ℕ → Bool) → (ℕ → ℕ → Bool) → ℕ → ℕ → Bool
 orElse f g i c = f i c || g i c
 
--- labels, inks, queue and its end before and after the crossings that pass the test are sown
-pub record Sows (new : ℕ → ℕ → Bool) (m n : ℕ) (l₀ w₀ t₀ : List ℕ) (q₀ : ℕ) (l w t : List ℕ) (q : ℕ) : Type 0 where
-  pub sown : (on : ℕ → ℕ → Bool) → Sown on m n l₀ w₀ t₀ q₀ → Sown (orElse on new) m n l w t q
+-- labels and inks before and after the crossings that pass the test are sown
+pub record Sows (new : ℕ → ℕ → Bool) (m n : ℕ) (l₀ w₀ l w : List ℕ) : Type 0 where
+  pub sown : (on : ℕ → ℕ → Bool) → Sown on m n l₀ w₀ → Sown (orElse on new) m n l w
 
 -- the crossing is on one of the lines a to b, b excluded, from lo to hi, hi excluded, and passes the test
 unfoldable pub inBlock : (a b lo hi : ℕ) → (ℕ → ℕ → Bool) → ℕ → ℕ → Bool
 inBlock a b lo hi test i c = inside a b i && inside lo hi c && test i c
 
 -- these are sown, on all lines that there are
-pub record BlockSown (a b lo hi : ℕ) (test : ℕ → ℕ → Bool) (l₀ w₀ t₀ : List ℕ) (q₀ : ℕ) (l w t : List ℕ) (q : ℕ)
-    : Type 0 where
-  pub sows : (m n : ℕ) → b ≤ m → hi ≤ n → Sows (inBlock a b lo hi test) m n l₀ w₀ t₀ q₀ l w t q
+pub record BlockSown (a b lo hi : ℕ) (test : ℕ → ℕ → Bool) (l₀ w₀ l w : List ℕ) : Type 0 where
+  pub sows : (m n : ℕ) → b ≤ m → hi ≤ n → Sows (inBlock a b lo hi test) m n l₀ w₀ l w
 
 -- there are lines and crossings for them, and the labels are sown
-pub record Sowable (b hi : ℕ) (l w t : List ℕ) (q : ℕ) : Type 0 where
+pub record Sowable (b hi : ℕ) (l w : List ℕ) : Type 0 where
   pub m : ℕ
   pub n : ℕ
   pub on : ℕ → ℕ → Bool
-  pub sown : Sown on m n l w t q
+  pub sown : Sown on m n l w
   pub lines-in : b ≤ m
   pub crossings-in : hi ≤ n
 

@@ -1,12 +1,11 @@
-// The labels before the first round: each crossing of the grid that is a target gets the label 1 and the ink 0, and
-// stands in the queue. A target is a point in one of the first k target boxes that the first n boxes leave free. Each
-// function serves both directions, as in `grid` and `labels`.
+// The labels before the first round: each crossing of the grid that is a target gets the label 1 and the ink 0. A
+// target is a point in one of the first k target boxes that the first n boxes leave free. Each function serves both
+// directions, as in `grid` and `labels`.
 use foil_spec::Entry;
 use foil_spec::entry_at;
 use grid::STRIDE;
 use grid::extent_of;
 use grid::first_from;
-use labels::push_cell;
 ghost use mathlib.Core.Path.{_≡_};
 ghost use mathlib.Core.Bool.{Bool, true, false};
 ghost use Prim.Native.Nat.{ℕ, _+_, _*_, _≤_, _<_};
@@ -84,28 +83,20 @@ fn boxes_near(boxes: &[u16], n: usize, target: Entry) -> usize
     0
 }
 
-// Sows crossing k of a line, unless it has a label, and answers where the queue ends then.
-fn sow(
-    labels: &mut [u32],
-    inks: &mut [u32],
-    queue: &mut [u16],
-    line: usize,
-    k: usize,
-    q: usize,
-) -> usize
-    requires { ⌜ Sowable (line + 1) (k + 1) (now labels) (now inks) (now queue) q ⌝ }
-    ensures { λ r. ⌜ BlockSown line (line + 1) k (k + 1) (λ i c. true) (now (labels .entry)) (now (inks .entry))
-        (now (queue .entry)) q (now (labels .exit)) (now (inks .exit)) (now (queue .exit)) r ⌝ }
+// Sows crossing k of a line.
+fn sow(labels: &mut [u32], inks: &mut [u32], line: usize, k: usize)
+    requires { ⌜ Sowable (line + 1) (k + 1) (now labels) (now inks) ⌝ }
+    ensures { λ _. ⌜ BlockSown line (line + 1) k (k + 1) (λ i c. true) (now (labels .entry)) (now (inks .entry))
+        (now (labels .exit)) (now (inks .exit)) ⌝ }
 {
     inks[line * STRIDE + k] = 0;
-    push_cell(labels, queue, line, k, 0, q)
+    labels[line * STRIDE + k] = 1;
 }
 
 // The same, if the first n boxes leave it free.
 fn sow_clear(
     labels: &mut [u32],
     inks: &mut [u32],
-    queue: &mut [u16],
     boxes: &[u16],
     n: usize,
     upright: bool,
@@ -113,26 +104,23 @@ fn sow_clear(
     cross: &[u16],
     line: usize,
     k: usize,
-    q: usize,
-) -> usize
+)
     requires { ⌜ (n * 5 ≤ length (now boxes)) × (line < length (now lines)) × (k < length (now cross)) ⌝ }
-    requires { ⌜ Sowable (line + 1) (k + 1) (now labels) (now inks) (now queue) q ⌝ }
-    ensures { λ r. ⌜ BlockSown line (line + 1) k (k + 1)
+    requires { ⌜ Sowable (line + 1) (k + 1) (now labels) (now inks) ⌝ }
+    ensures { λ _. ⌜ BlockSown line (line + 1) k (k + 1)
         (clearAt n (now (boxes .entry)) upright (now (lines .entry)) (now (cross .entry)))
-        (now (labels .entry)) (now (inks .entry)) (now (queue .entry)) q
-        (now (labels .exit)) (now (inks .exit)) (now (queue .exit)) r ⌝ }
+        (now (labels .entry)) (now (inks .entry)) (now (labels .exit)) (now (inks .exit)) ⌝ }
 {
     if is_boxed(boxes, n, upright, cross[k], lines[line]) {
-        return q;
+        return;
     }
-    sow(labels, inks, queue, line, k, q)
+    sow(labels, inks, line, k);
 }
 
 // The same for the crossings lo to hi, hi excluded.
 fn sow_run(
     labels: &mut [u32],
     inks: &mut [u32],
-    queue: &mut [u16],
     boxes: &[u16],
     n: usize,
     upright: bool,
@@ -141,41 +129,24 @@ fn sow_run(
     line: usize,
     lo: usize,
     hi: usize,
-    q: usize,
-) -> usize
+)
     requires { ⌜ (n * 5 ≤ length (now boxes)) × (line < length (now lines)) × (hi ≤ length (now cross)) × (lo ≤ hi) ⌝ }
-    requires { ⌜ Sowable (line + 1) hi (now labels) (now inks) (now queue) q ⌝ }
-    ensures { λ r. ⌜ BlockSown line (line + 1) lo hi
+    requires { ⌜ Sowable (line + 1) hi (now labels) (now inks) ⌝ }
+    ensures { λ _. ⌜ BlockSown line (line + 1) lo hi
         (clearAt n (now (boxes .entry)) upright (now (lines .entry)) (now (cross .entry)))
-        (now (labels .entry)) (now (inks .entry)) (now (queue .entry)) q
-        (now (labels .exit)) (now (inks .exit)) (now (queue .exit)) r ⌝ }
+        (now (labels .entry)) (now (inks .entry)) (now (labels .exit)) (now (inks .exit)) ⌝ }
 {
-    let mut end = q;
     let mut k = lo;
     while k < hi {
-        end = sow_clear(
-            labels,
-            inks,
-            queue,
-            boxes,
-            n,
-            upright,
-            lines,
-            cross,
-            line,
-            k,
-            end,
-        );
+        sow_clear(labels, inks, boxes, n, upright, lines, cross, line, k);
         k += 1;
     }
-    end
 }
 
 // The same for the lines a to b, b excluded.
 fn sow_block(
     labels: &mut [u32],
     inks: &mut [u32],
-    queue: &mut [u16],
     boxes: &[u16],
     n: usize,
     upright: bool,
@@ -185,43 +156,25 @@ fn sow_block(
     b: usize,
     lo: usize,
     hi: usize,
-    q: usize,
-) -> usize
+)
     requires { ⌜ (n * 5 ≤ length (now boxes)) × (b ≤ length (now lines)) × (hi ≤ length (now cross)) × (a ≤ b)
         × (lo ≤ hi) ⌝ }
-    requires { ⌜ Sowable b hi (now labels) (now inks) (now queue) q ⌝ }
-    ensures { λ r. ⌜ BlockSown a b lo hi
+    requires { ⌜ Sowable b hi (now labels) (now inks) ⌝ }
+    ensures { λ _. ⌜ BlockSown a b lo hi
         (clearAt n (now (boxes .entry)) upright (now (lines .entry)) (now (cross .entry)))
-        (now (labels .entry)) (now (inks .entry)) (now (queue .entry)) q
-        (now (labels .exit)) (now (inks .exit)) (now (queue .exit)) r ⌝ }
+        (now (labels .entry)) (now (inks .entry)) (now (labels .exit)) (now (inks .exit)) ⌝ }
 {
-    let mut end = q;
     let mut line = a;
     while line < b {
-        end = sow_run(
-            labels,
-            inks,
-            queue,
-            boxes,
-            n,
-            upright,
-            lines,
-            cross,
-            line,
-            lo,
-            hi,
-            end,
-        );
+        sow_run(labels, inks, boxes, n, upright, lines, cross, line, lo, hi);
         line += 1;
     }
-    end
 }
 
 // The same for the crossings in target box e, of m lines with c crossings each.
 fn sow_box(
     labels: &mut [u32],
     inks: &mut [u32],
-    queue: &mut [u16],
     boxes: &[u16],
     n: usize,
     targets: &[u16],
@@ -231,14 +184,13 @@ fn sow_box(
     m: usize,
     cross: &[u16],
     c: usize,
-    q: usize,
-) -> usize
+)
     requires { ⌜ (n * 5 ≤ length (now boxes)) × (e * 5 + 5 ≤ length (now targets)) × Solid (entryAt (now targets) e) ⌝ }
     requires { ⌜ Lines (now lines) m × Lines (now cross) c ⌝ }
-    requires { ⌜ ((on : ℕ → ℕ → Bool) × Sown on m c (now labels) (now inks) (now queue) q) ⌝ }
-    ensures { λ r. ⌜ Sows (aimedOne n (now (boxes .entry)) (entryAt (now (targets .entry)) e) upright
-        (now (lines .entry)) (now (cross .entry))) m c (now (labels .entry)) (now (inks .entry)) (now (queue .entry)) q
-        (now (labels .exit)) (now (inks .exit)) (now (queue .exit)) r ⌝ }
+    requires { ⌜ ((on : ℕ → ℕ → Bool) × Sown on m c (now labels) (now inks)) ⌝ }
+    ensures { λ _. ⌜ Sows (aimedOne n (now (boxes .entry)) (entryAt (now (targets .entry)) e) upright
+        (now (lines .entry)) (now (cross .entry))) m c (now (labels .entry)) (now (inks .entry))
+        (now (labels .exit)) (now (inks .exit)) ⌝ }
 {
     let near = boxes_near(boxes, n, entry_at(targets, e));
     let beside = extent_of(targets, e, !upright);
@@ -250,7 +202,6 @@ fn sow_box(
     sow_block(
         labels,
         inks,
-        queue,
         boxes,
         near,
         upright,
@@ -260,15 +211,13 @@ fn sow_box(
         b,
         lo,
         hi,
-        q,
-    )
+    );
 }
 
 // The same for all targets, where there is no label yet.
 pub fn sow_targets(
     labels: &mut [u32],
     inks: &mut [u32],
-    queue: &mut [u16],
     boxes: &[u16],
     n: usize,
     targets: &[u16],
@@ -278,20 +227,18 @@ pub fn sow_targets(
     m: usize,
     cross: &[u16],
     c: usize,
-) -> usize
+)
     requires { ⌜ (n * 5 ≤ length (now boxes)) × ((w : ℕ) × (h : ℕ) × Boxes (now targets) k w h) ⌝ }
     requires { ⌜ Lines (now lines) m × Lines (now cross) c
-        × Sown (λ i c. false) m c (now labels) (now inks) (now queue) 0 ⌝ }
-    ensures { λ r. ⌜ Sown (aimedAt n (now (boxes .entry)) k (now (targets .entry)) upright
-        (now (lines .entry)) (now (cross .entry))) m c (now (labels .exit)) (now (inks .exit)) (now (queue .exit)) r ⌝ }
+        × Sown (λ i c. false) m c (now labels) (now inks) ⌝ }
+    ensures { λ _. ⌜ Sown (aimedAt n (now (boxes .entry)) k (now (targets .entry)) upright
+        (now (lines .entry)) (now (cross .entry))) m c (now (labels .exit)) (now (inks .exit)) ⌝ }
 {
-    let mut end = 0;
     let mut e = 0;
     while e < k {
-        end = sow_box(
+        sow_box(
             labels,
             inks,
-            queue,
             boxes,
             n,
             targets,
@@ -301,9 +248,7 @@ pub fn sow_targets(
             m,
             cross,
             c,
-            end,
         );
         e += 1;
     }
-    end
 }

@@ -1,4 +1,4 @@
--- The run of the crossing gets its inks from the two sweeps and is pushed, from its start to its end.
+-- The run of the crossing gets its inks from the two sweeps, and labels, from its start to its end.
 use native.Mathlib.Omega.{arith}
 use borrow.Author.Needs.{needs}
 use Rattle.labels.specs.Pass.{Visit}
@@ -6,15 +6,15 @@ use Rattle.labels.proofs.Pass.{visit-passed, blank-run}
 use Rattle.labels.proofs.visit.Statement.{statement}
 use Rattle.labels.proofs.visit.Tie as tie
 
--- back to the start, to the first test, to the run's end, to the two sweeps, and in each branch to the inks and to what
--- was pushed
-abbrev atStart : tie.After-slice-known6 → tie.Start
-atStart c = c .before .before .before .before .before .before .before .before .before .before
+-- back to the start, to the first test, to the run's end, to the two sweeps, and in each branch to the inks and to the
+-- labels
+abbrev atStart : tie.After-slice-known5 → tie.Start
+atStart c = c .before .before .before .before .before .before .before .before .before
 
-abbrev atTried : tie.After-is-left → tie.After-slice-known6
+abbrev atTried : tie.After-is-left → tie.After-slice-known5
 atTried c = c .before .before
 
-abbrev atTest : tie.After-run-end → tie.After-slice-known6
+abbrev atTest : tie.After-run-end → tie.After-slice-known5
 atTest c = atTried (c .before .before .before)
 
 abbrev atEnd : tie.After-behind-of-arg → tie.After-run-end
@@ -29,20 +29,20 @@ runSwept c = c .before .before .before .before .before .before .before
 abbrev blankSwept : tie.After-ink-blank-arg4 → tie.After-behind-of
 blankSwept c = c .before .before .before .before .before .before .before
 
-abbrev runInked : tie.After-push-run-arg2 → tie.After-ink-run
-runInked c = c .before .before .before .before
+abbrev runInked : tie.After-fill-run-arg → tie.After-ink-run
+runInked c = c .before .before .before
 
-abbrev runPushed : tie.After-slice-known11 → tie.After-push-run
-runPushed c = c .before .before .before .before
+abbrev runFilled : tie.After-slice-known9 → tie.After-fill-run
+runFilled c = c .before .before
 
 abbrev atLow : tie.After-ink-blank-arg4 → tie.Else3
 atLow c = c .before .before .before .before
 
-abbrev blankInked : tie.After-push-blank-arg2 → tie.After-ink-blank
-blankInked c = c .before .before .before .before
+abbrev blankInked : tie.After-fill-blank-arg → tie.After-ink-blank
+blankInked c = c .before .before .before
 
-abbrev blankPushed : tie.After-slice-known14 → tie.After-push-blank
-blankPushed c = c .before .before .before .before
+abbrev blankFilled : tie.After-slice-known11 → tie.After-fill-blank
+blankFilled c = c .before .before
 
 mul-if1 : tie.Need-mul-if1
 mul-if1 c = omega arith
@@ -105,12 +105,12 @@ ink-run-requires c κs =
           omega (arith, at-ahead .ahead-of .kept .0, pre .1 .1 .1 .0 .1),
           omega (arith, runSwept c .behind-of .kept .0, pre .1 .1 .1 .0 .2),
         ),
-        ((pre .1 .0 .2, pre .1 .1 .1 .0 .0 .labels), (at-ahead .ahead-of .ensures, runSwept c .behind-of .ensures)),
+        ((pre .1 .0 .2, pre .1 .1 .1 .0 .0), (at-ahead .ahead-of .ensures, runSwept c .behind-of .ensures)),
       ),
     )
 
-push-run-requires : tie.Need-push-run-requires
-push-run-requires c κs =
+fill-run-requires : tie.Need-fill-run-requires
+fill-run-requires c κs =
     let at-end = atEnd (runSwept (runInked c .before) .before) in
     let pre = atStart (atTest at-end) .pre in
     let end = at-end .run-end .ensures in (
@@ -133,14 +133,11 @@ same-length-3 c = search needs
 same-length-4 : tie.Need-same-length-4
 same-length-4 c = search needs
 
-same-length-5 : tie.Need-same-length-5
-same-length-5 c = search needs
-
 returns-3 : tie.Need-returns-3
 returns-3 c =
-    let at-end = atEnd (runSwept (runInked (runPushed c .before) .before) .before) in
-    Visit.ran _ _ (at-end .before .run-start .ensures) (at-end .run-end .ensures)
-    (runInked (runPushed c .before) .ink-run .ensures) (runPushed c .push-run .ensures)
+    let at-end = atEnd (runSwept (runInked (runFilled c .before) .before) .before) in
+    Visit.ran (at-end .before .run-start .ensures) (at-end .run-end .ensures)
+    (runInked (runFilled c .before) .ink-run .ensures) (runFilled c .fill-run .ensures)
 
 ink-blank-requires : tie.Need-ink-blank-requires
 ink-blank-requires c κs =
@@ -168,8 +165,8 @@ ink-blank-requires c κs =
       ),
     )
 
-push-blank-requires : tie.Need-push-blank-requires
-push-blank-requires c κs =
+fill-blank-requires : tie.Need-fill-blank-requires
+fill-blank-requires c κs =
     let at-end = atEnd (blankSwept (blankInked c .before) .before) in
     let at-start = at-end .before in
     let pre = atStart (atTest at-end) .pre in
@@ -185,6 +182,9 @@ push-blank-requires c κs =
           (pre .1 .1 .1 .1 .1) start end,
     )
 
+same-length-5 : tie.Need-same-length-5
+same-length-5 c = search needs
+
 same-length-6 : tie.Need-same-length-6
 same-length-6 c = search needs
 
@@ -194,21 +194,15 @@ same-length-7 c = search needs
 same-length-8 : tie.Need-same-length-8
 same-length-8 c = search needs
 
-same-length-9 : tie.Need-same-length-9
-same-length-9 c = search needs
-
-same-length-10 : tie.Need-same-length-10
-same-length-10 c = search needs
-
 returns-4 : tie.Need-returns-4
 returns-4 c =
-    let at-end = atEnd (blankSwept (blankInked (blankPushed c .before) .before) .before) in
-    Visit.ran _ _ (at-end .before .run-start .ensures) (at-end .run-end .ensures)
-    (blankInked (blankPushed c .before) .ink-blank .ensures) (blankPushed c .push-blank .ensures)
+    let at-end = atEnd (blankSwept (blankInked (blankFilled c .before) .before) .before) in
+    Visit.ran (at-end .before .run-start .ensures) (at-end .run-end .ensures)
+    (blankInked (blankFilled c .before) .ink-blank .ensures) (blankFilled c .fill-blank .ensures)
 
 pub visit-spec : {M : Type 1} → statement M
 visit-spec =
     tie.close (tie.spec mul-if1 add-if1 mul-if1-2 slice-read-if1 returns is-left-requires returns-2 run-start-requires
-    run-end-requires ahead-of-requires behind-of-requires ink-run-requires push-run-requires same-length same-length-2
-    same-length-3 same-length-4 same-length-5 returns-3 ink-blank-requires push-blank-requires same-length-6
-    same-length-7 same-length-8 same-length-9 same-length-10 returns-4)
+    run-end-requires ahead-of-requires behind-of-requires ink-run-requires fill-run-requires same-length same-length-2
+    same-length-3 same-length-4 returns-3 ink-blank-requires fill-blank-requires same-length-5 same-length-6
+    same-length-7 same-length-8 returns-4)

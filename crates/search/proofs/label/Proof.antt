@@ -8,24 +8,24 @@ use Rattle.search.proofs.label.Statement.{statement}
 use Rattle.search.proofs.label.Tie as tie
 
 -- back to the start, to S's row, to both seeds, and to the rounds
-abbrev atStart : tie.After-sow-targets-arg3 → tie.Start
+abbrev atStart : tie.After-sow-targets-arg2 → tie.Start
 atStart c = c .before .before .before .before .before .before .before .before .before .before .before .before .before
-    .before .before .before .before
+    .before
 
-abbrev atJ : tie.After-sow-targets-arg3 → tie.After-index-of2
-atJ c = c .before .before .before
+abbrev atJ : tie.After-sow-targets-arg2 → tie.After-index-of2
+atJ c = c .before .before
 
-abbrev beforeSow : tie.After-sow-targets-arg6 → tie.After-sow-targets
-beforeSow c = c .before .before .before .before .before .before .before .before .before
+abbrev beforeSow : tie.After-sow-targets-arg4 → tie.After-sow-targets
+beforeSow c = c .before .before .before .before .before .before
 
-abbrev atUpright : tie.After-rounds-arg6 → tie.After-sow-targets2
-atUpright c = c .before .before .before .before .before .before .before .before .before .before .before .before
+abbrev atUpright : tie.After-rounds-arg4 → tie.After-sow-targets2
+atUpright c = c .before .before .before .before .before .before .before .before
 
-abbrev atLevel : tie.After-rounds-arg6 → tie.After-sow-targets
+abbrev atLevel : tie.After-rounds-arg4 → tie.After-sow-targets
 atLevel c = beforeSow (atUpright c .before)
 
-abbrev atRounds : tie.After-slice-known18 → tie.After-rounds
-atRounds c = c .before .before .before .before .before .before .before .before .before .before .before .before
+abbrev atRounds : tie.After-slice-known12 → tie.After-rounds
+atRounds c = c .before .before .before .before .before .before .before .before
 
 index-of-requires : tie.Need-index-of-requires
 index-of-requires c κs = search needs
@@ -43,8 +43,7 @@ sow-targets-requires c κs =
       (
         rows,
         cols,
-        sown-none (omega (arith, atJ c .index-of2 .ensures .below)) (rows .few) (cols .few) (room .level)
-            (room .level-few) (room .level-inks) (room .level-queue) (room .level-blank),
+        sown-none (rows .few) (cols .few) (room .level) (room .level-few) (room .level-inks) (room .level-blank),
       ),
     )
 
@@ -59,8 +58,8 @@ sow-targets-requires-2 c κs =
       (
         cols,
         rows,
-        sown-none (omega (arith, atJ level .before .index-of .ensures .below)) (cols .few) (rows .few) (room .upright)
-            (room .upright-few) (room .upright-inks) (room .upright-queue) (room .upright-blank),
+        sown-none (cols .few) (rows .few) (room .upright) (room .upright-few) (room .upright-inks)
+            (room .upright-blank),
       ),
     )
 
@@ -100,13 +99,6 @@ same-length-3 c = atRounds c .rounds .kept .1 .1 .0 ∙ atLevel (atRounds c .bef
 same-length-4 : tie.Need-same-length-4
 same-length-4 c = atRounds c .rounds .kept .1 .1 .1 .0 ∙ atUpright (atRounds c .before) .sow-targets2 .kept .1 .0
 
-same-length-5 : tie.Need-same-length-5
-same-length-5 c = atRounds c .rounds .kept .1 .1 .1 .1 .0 ∙ atLevel (atRounds c .before) .sow-targets .kept .1 .1 .0
-
-same-length-6 : tie.Need-same-length-6
-same-length-6 c =
-    atRounds c .rounds .kept .1 .1 .1 .1 .1 .0 ∙ atUpright (atRounds c .before) .sow-targets2 .kept .1 .1 .0
-
 returns : tie.Need-returns
 returns c =
     let before = atRounds c .before in
@@ -119,10 +111,6 @@ returns c =
       u₀ = upright .last .0;
       wl₀ = level .last .1 .0;
       wu₀ = upright .last .1 .0;
-      ql = level .last .1 .1 .0;
-      qu = upright .last .1 .1 .0;
-      a = level .result;
-      b = upright .result;
       i-in = at-i .index-of .ensures .below;
       j-in = at-j .index-of2 .ensures .below;
       i-at = at-i .index-of .ensures .at;
@@ -135,4 +123,4 @@ returns c =
 pub label-spec : {M : Type 1} → statement M
 label-spec =
     tie.close (tie.spec index-of-requires index-of-requires-2 sow-targets-requires sow-targets-requires-2
-    rounds-requires same-length same-length-2 same-length-3 same-length-4 same-length-5 same-length-6 returns)
+    rounds-requires same-length same-length-2 same-length-3 same-length-4 returns)

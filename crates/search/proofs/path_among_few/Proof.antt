@@ -1,14 +1,13 @@
 -- The lists hold what few boxes ask for.
 use native.Mathlib.Omega.{arith}
 use borrow.Author.Needs.{needs}
-use Rattle.sowing.proofs.Seeds.{blank}
+use Rattle.labels.proofs.Marks.{blank}
 use Rattle.search.proofs.path_among_few.Statement.{statement}
 use Rattle.search.proofs.path_among_few.Tie as tie
 
 -- back to the start
 abbrev atStart : tie.After-mark → tie.Start
 atStart c = c .before .before .before .before .before .before .before .before .before .before .before .before .before
-    .before .before
 
 slice-aggregate-path-in : tie.Need-slice-aggregate-path-in
 slice-aggregate-path-in c = search needs
@@ -37,12 +36,6 @@ slice-aggregate-path-in-8 c = search needs
 slice-aggregate-path-in-9 : tie.Need-slice-aggregate-path-in-9
 slice-aggregate-path-in-9 c = search needs
 
-slice-aggregate-path-in-10 : tie.Need-slice-aggregate-path-in-10
-slice-aggregate-path-in-10 c = search needs
-
-slice-aggregate-path-in-11 : tie.Need-slice-aggregate-path-in-11
-slice-aggregate-path-in-11 c = search needs
-
 path-in-requires : tie.Need-path-in-requires
 path-in-requires c κs =
     let start = atStart c in
@@ -65,8 +58,6 @@ path-in-requires c κs =
           upright-blank = blank 18561;
           level-inks = omega (arith, few);
           upright-inks = omega (arith, few);
-          level-queue = omega arith;
-          upright-queue = omega arith;
         },
       ),
     )
@@ -81,5 +72,4 @@ pub path-among-few-spec : {M : Type 1} → statement M
 path-among-few-spec =
     tie.close (tie.spec slice-aggregate-path-in slice-aggregate-path-in-2 slice-aggregate-path-in-3
     slice-aggregate-path-in-4 slice-aggregate-path-in-5 slice-aggregate-path-in-6 slice-aggregate-path-in-7
-    slice-aggregate-path-in-8 slice-aggregate-path-in-9 slice-aggregate-path-in-10 slice-aggregate-path-in-11
-    path-in-requires same-length returns)
+    slice-aggregate-path-in-8 slice-aggregate-path-in-9 path-in-requires same-length returns)

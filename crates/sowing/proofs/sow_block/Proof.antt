@@ -1,5 +1,5 @@
 -- Line after line.
-use Prim.Native.Nat.{_+_, _-_, _≤_}
+use Prim.Native.Nat.{_-_, _≤_}
 use native.Mathlib.Omega.{arith}
 use mathlib.Core.Path.{_≡_, refl, _∙_}
 use lib.ListN.{length}
@@ -9,37 +9,36 @@ use Rattle.sowing.proofs.sow_block.Statement.{statement}
 use Rattle.sowing.proofs.sow_block.Tie as tie
 
 abbrev Inv-loop : tie.InvT-loop
-Inv-loop labels₀ inks₀ queue₀ boxes n upright lines cross a b lo hi q end₀ line₀ labels inks queue end line =
+Inv-loop labels₀ inks₀ boxes n upright lines cross a b lo hi line₀ labels inks line =
     (a ≤ line) × (line ≤ b) × (length labels ≡ length labels₀) × (length inks ≡ length inks₀)
-    × (length queue ≡ length queue₀)
-    × BlockSown a line lo hi (clearAt n boxes upright lines cross) labels₀ inks₀ queue₀ q labels inks queue end
+    × BlockSown a line lo hi (clearAt n boxes upright lines cross) labels₀ inks₀ labels inks
 
 abbrev μ-loop : tie.MeasureT-loop
-μ-loop labels₀ inks₀ queue₀ boxes n upright lines cross a b lo hi q end₀ line₀ labels inks queue end line = b - line
+μ-loop labels₀ inks₀ boxes n upright lines cross a b lo hi line₀ labels inks line = b - line
 
 -- back to the start, to the loop's turn, and to what was sown in it
 abbrev atStart : tie.At-loop Inv-loop μ-loop → tie.Start Inv-loop μ-loop
-atStart c = c .before .before .before .before .before .before .before
+atStart c = c .before .before .before .before .before .before
 
-abbrev atLoop : tie.After-sow-run-arg3 Inv-loop μ-loop → tie.At-loop Inv-loop μ-loop
-atLoop c = c .before .before .before .before
+abbrev atLoop : tie.After-sow-run-arg2 Inv-loop μ-loop → tie.At-loop Inv-loop μ-loop
+atLoop c = c .before .before .before
 
-abbrev atSow : tie.After-slice-known6 Inv-loop μ-loop → tie.After-sow-run Inv-loop μ-loop
-atSow c = c .before .before .before .before .before .before
+abbrev atSow : tie.After-slice-known4 Inv-loop μ-loop → tie.After-sow-run Inv-loop μ-loop
+atSow c = c .before .before .before .before
 
 loop-holds : tie.Need-loop-holds Inv-loop μ-loop
 loop-holds c =
-    let pre = c .before .before .before .before .before .before .pre .0 in
-    (omega arith, omega (arith, pre .3), refl, refl, refl, block-none)
+    let pre = c .before .before .before .before .before .pre .0 in
+    (omega arith, omega (arith, pre .3), refl, refl, block-none)
 
 sow-run-requires : tie.Need-sow-run-requires Inv-loop μ-loop
 sow-run-requires c κs =
     let at-loop = atLoop c in
     let start = atStart at-loop in
     let inv = at-loop .loop .inv in
-    let below = c .before .before .before .loop-test in (
+    let below = c .before .before .loop-test in (
       (start .pre .0 .0, omega (arith, start .pre .0 .1, below), start .pre .0 .2, start .pre .0 .4),
-      sowable-after (omega (arith, inv .1)) (omega arith) (omega (arith, below)) (omega arith) (start .pre .1) (inv .5),
+      sowable-after (omega (arith, inv .1)) (omega arith) (omega (arith, below)) (omega arith) (start .pre .1) (inv .4),
     )
 
 add-line : tie.Need-add-line Inv-loop μ-loop
@@ -56,8 +55,7 @@ loop-again c =
       omega (arith, inv .1),
       sow .kept .0 ∙ inv .2,
       sow .kept .1 .0 ∙ inv .3,
-      sow .kept .1 .1 .0 ∙ inv .4,
-      block-more _ (inv .0) (inv .5) (sow .ensures),
+      block-more _ (inv .0) (inv .4) (sow .ensures),
     )
 
 same-length : tie.Need-same-length Inv-loop μ-loop
@@ -66,15 +64,12 @@ same-length c = c .before .loop .inv .2
 same-length-2 : tie.Need-same-length-2 Inv-loop μ-loop
 same-length-2 c = c .before .loop .inv .3
 
-same-length-3 : tie.Need-same-length-3 Inv-loop μ-loop
-same-length-3 c = c .before .loop .inv .4
-
 returns : tie.Need-returns Inv-loop μ-loop
 returns c =
     let inv = c .before .loop .inv in
-    block-done (omega (arith, inv .1, c .loop-test)) refl (inv .5)
+    block-done (omega (arith, inv .1, c .loop-test)) refl (inv .4)
 
 pub sow-block-spec : {M : Type 1} → statement M
 sow-block-spec =
     tie.close (tie.spec Inv-loop μ-loop loop-holds sow-run-requires add-line loop-less loop-again same-length
-    same-length-2 same-length-3 returns)
+    same-length-2 returns)

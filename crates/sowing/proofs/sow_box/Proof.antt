@@ -1,6 +1,5 @@
 -- The lines and crossings in the box are a block, and the boxes near it are enough for them.
 use native.Mathlib.Omega.{arith}
-use mathlib.Core.Path.{_≡_, ap}
 use borrow.Author.Needs.{needs}
 use Rattle.sowing.proofs.Boxed.{block-ordered, box-sown}
 use Rattle.sowing.proofs.Near.{near-sown}
@@ -9,13 +8,13 @@ use Rattle.sowing.proofs.sow_box.Tie as tie
 
 -- back to the start, to the boxes that are near, and to the four ends of the block
 abbrev atStart : tie.After-boxes-near → tie.Start
-atStart c = c .before .before .before .before .before .before .before .before .before
+atStart c = c .before .before .before .before .before .before .before .before
 
 abbrev atNear : tie.After-extent-of → tie.After-boxes-near
 atNear c = c .before
 
-abbrev atHi : tie.After-sow-block-arg3 → tie.After-first-from4
-atHi c = c .before .before .before
+abbrev atHi : tie.After-sow-block-arg2 → tie.After-first-from4
+atHi c = c .before .before
 
 abbrev atAlong : tie.After-first-from4 → tie.After-extent-of2
 atAlong c = c .before .before
@@ -83,12 +82,9 @@ same-length c = search needs
 same-length-2 : tie.Need-same-length-2
 same-length-2 c = search needs
 
-same-length-3 : tie.Need-same-length-3
-same-length-3 c = search needs
-
 returns : tie.Need-returns
 returns c =
-    let sow = c .before .before .before .before .before .before in
+    let sow = c .before .before .before .before in
     let hi = atHi (sow .before) in
     let along = atAlong hi in
     let b = atB along in
@@ -102,4 +98,4 @@ pub sow-box-spec : {M : Type 1} → statement M
 sow-box-spec =
     tie.close (tie.spec entry-at-requires boxes-near-requires extent-of-requires first-from-requires
     first-from-requires-2 extent-of-requires-2 first-from-requires-3 first-from-requires-4 sow-block-requires
-    same-length same-length-2 same-length-3 returns)
+    same-length same-length-2 returns)

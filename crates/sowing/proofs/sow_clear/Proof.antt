@@ -1,5 +1,4 @@
 -- Nothing is sown where a box has the crossing.
-use native.Mathlib.Omega.{arith}
 use mathlib.Core.Path.{sym, _∙_}
 use borrow.Author.Needs.{needs}
 use Rattle.sowing.proofs.Boxed.{not-clear, is-clear}
@@ -9,7 +8,7 @@ use Rattle.sowing.proofs.sow_clear.Tie as tie
 
 -- back to the start
 abbrev atStart : tie.After-shared-slice-known5 → tie.Start
-atStart c = c .before .before .before .before .before .before .before .before
+atStart c = c .before .before .before .before .before .before .before
 
 mul-is-boxed : tie.Need-mul-is-boxed
 mul-is-boxed c = search needs
@@ -31,7 +30,7 @@ returns c =
     cell-blocked _ _ (not-clear _ _ _ _ _ _ _ (sym (c .if1 .taken) ∙ c .before .is-boxed .ensures))
 
 sow-requires : tie.Need-sow-requires
-sow-requires c κs = atStart (c .before .before .before .before .before) .pre .1
+sow-requires c κs = atStart (c .before .before .before .before) .pre .1
 
 same-length : tie.Need-same-length
 same-length c = search needs
@@ -39,17 +38,14 @@ same-length c = search needs
 same-length-2 : tie.Need-same-length-2
 same-length-2 c = search needs
 
-same-length-3 : tie.Need-same-length-3
-same-length-3 c = search needs
-
 returns-2 : tie.Need-returns-2
 returns-2 c =
-    let at-sow = c .before .before .before .before .before .before in
-    let at-else = at-sow .before .before .before .before in
+    let at-sow = c .before .before .before .before in
+    let at-else = at-sow .before .before .before in
     cell-clear _ _ (is-clear _ _ _ _ _ _ _ (sym (at-else .if1 .left) ∙ at-else .before .is-boxed .ensures))
     (at-sow .sow .ensures)
 
 pub sow-clear-spec : {M : Type 1} → statement M
 sow-clear-spec =
     tie.close (tie.spec mul-is-boxed shared-slice-read-is-boxed mul-is-boxed-2 shared-slice-read-is-boxed-2
-    is-boxed-requires returns sow-requires same-length same-length-2 same-length-3 returns-2)
+    is-boxed-requires returns sow-requires same-length same-length-2 returns-2)

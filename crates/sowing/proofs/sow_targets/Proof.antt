@@ -10,35 +10,35 @@ use Rattle.sowing.proofs.sow_targets.Statement.{statement}
 use Rattle.sowing.proofs.sow_targets.Tie as tie
 
 abbrev Inv-loop : tie.InvT-loop
-Inv-loop labels₀ inks₀ queue₀ boxes n targets k upright lines m cross c end₀ e₀ labels inks queue end e =
-    (e ≤ k) × (length labels ≡ length labels₀) × (length inks ≡ length inks₀) × (length queue ≡ length queue₀)
-    × Sown (aimedAt n boxes e targets upright lines cross) m c labels inks queue end
+Inv-loop labels₀ inks₀ boxes n targets k upright lines m cross c e₀ labels inks e =
+    (e ≤ k) × (length labels ≡ length labels₀) × (length inks ≡ length inks₀)
+    × Sown (aimedAt n boxes e targets upright lines cross) m c labels inks
 
 abbrev μ-loop : tie.MeasureT-loop
-μ-loop labels₀ inks₀ queue₀ boxes n targets k upright lines m cross c end₀ e₀ labels inks queue end e = k - e
+μ-loop labels₀ inks₀ boxes n targets k upright lines m cross c e₀ labels inks e = k - e
 
 -- back to the start, to the loop's turn, and to what was sown in it
 abbrev atStart : tie.At-loop Inv-loop μ-loop → tie.Start Inv-loop μ-loop
-atStart c = c .before .before .before .before .before .before .before .before
+atStart c = c .before .before .before .before .before .before .before
 
-abbrev atLoop : tie.After-sow-box-arg3 Inv-loop μ-loop → tie.At-loop Inv-loop μ-loop
-atLoop c = c .before .before .before .before
+abbrev atLoop : tie.After-sow-box-arg2 Inv-loop μ-loop → tie.At-loop Inv-loop μ-loop
+atLoop c = c .before .before .before
 
-abbrev atSow : tie.After-slice-known6 Inv-loop μ-loop → tie.After-sow-box Inv-loop μ-loop
-atSow c = c .before .before .before .before .before .before
+abbrev atSow : tie.After-slice-known4 Inv-loop μ-loop → tie.After-sow-box Inv-loop μ-loop
+atSow c = c .before .before .before .before
 
 loop-holds : tie.Need-loop-holds Inv-loop μ-loop
 loop-holds c =
-    let pre = c .before .before .before .before .before .before .before .pre in
-    (omega arith, refl, refl, refl, targets-none _ _ _ _ _ _ (pre .1 .2))
+    let pre = c .before .before .before .before .before .before .pre in
+    (omega arith, refl, refl, targets-none _ _ _ _ _ _ (pre .1 .2))
 
 sow-box-requires : tie.Need-sow-box-requires Inv-loop μ-loop
 sow-box-requires c κs =
     let start = atStart (atLoop c) in
     let boxes = start .pre .0 .1 .2 in
-    let below = c .before .before .before .loop-test in (
+    let below = c .before .before .loop-test in (
       (start .pre .0 .0, omega (arith, boxes .len, below), solid boxes _ (omega (arith, below))),
-      ((start .pre .1 .0, start .pre .1 .1), (_, atLoop c .loop .inv .4)),
+      ((start .pre .1 .0, start .pre .1 .1), (_, atLoop c .loop .inv .3)),
     )
 
 add-e : tie.Need-add-e Inv-loop μ-loop
@@ -54,8 +54,7 @@ loop-again c =
       omega (arith, inv .0),
       sow .kept .0 ∙ inv .1,
       sow .kept .1 .0 ∙ inv .2,
-      sow .kept .1 .1 .0 ∙ inv .3,
-      targets-more _ _ _ _ _ _ _ (inv .4) (sow .ensures),
+      targets-more _ _ _ _ _ _ _ (inv .3) (sow .ensures),
     )
 
 same-length : tie.Need-same-length Inv-loop μ-loop
@@ -64,15 +63,12 @@ same-length c = c .before .loop .inv .1
 same-length-2 : tie.Need-same-length-2 Inv-loop μ-loop
 same-length-2 c = c .before .loop .inv .2
 
-same-length-3 : tie.Need-same-length-3 Inv-loop μ-loop
-same-length-3 c = c .before .loop .inv .3
-
 returns : tie.Need-returns Inv-loop μ-loop
 returns c =
     let inv = c .before .loop .inv in
-    targets-done _ _ _ _ _ _ _ _ (omega (arith, inv .0, c .loop-test)) (inv .4)
+    targets-done _ _ _ _ _ _ _ _ (omega (arith, inv .0, c .loop-test)) (inv .3)
 
 pub sow-targets-spec : {M : Type 1} → statement M
 sow-targets-spec =
     tie.close (tie.spec Inv-loop μ-loop loop-holds sow-box-requires add-e loop-less loop-again same-length
-    same-length-2 same-length-3 returns)
+    same-length-2 returns)
