@@ -6,6 +6,7 @@
 // crossings, `labels` and `own` have the labels and inks of its own direction, and `other` and `inks` those of the
 // other one. Where both directions meet, `il` and `iu` are the level and the upright inks, `el` and `eu` the edges, and
 // `ml` and `mu` the marks: where, on each line, the labels of the round before are.
+use foil_spec::larger;
 use grid::STRIDE;
 use runs::ahead_of;
 use runs::behind_of;
@@ -19,7 +20,7 @@ use runs::next_stop;
 use runs::run_end;
 use runs::run_start;
 ghost use mathlib.Core.Path.{_≡_};
-ghost use Prim.Native.Nat.{ℕ, _+_, _*_, _≤_, _<_, max};
+ghost use Prim.Native.Nat.{ℕ, _+_, _*_, _≤_, _<_};
 ghost use lib.ListN.{length};
 ghost use Rattle.grid.specs.Size.{stride, area};
 ghost use Rattle.grid.specs.Lines.{Lines};
@@ -38,16 +39,6 @@ struct Run {
     lo: usize,
     hi: usize,
     new: usize,
-}
-
-// The larger number.
-fn larger(a: u16, b: u16) -> u16
-    ensures { λ r. ⌜ r ≡ max a b ⌝ }
-{
-    if a < b {
-        return b;
-    }
-    a
 }
 
 // Makes the marks of a line span a run, unless the run has no new label.
