@@ -5,4 +5,5 @@
     test_drawing    the samples as they are drawn; 128 entries
     test_pointer    the strip under the pointer; 4,096 strips
     test_clicks     tools: previews, refusals, undo, what is saved
+    test_orders     forms, names, ink, past orders; layers and colours
     test_dangers    other pages, names of orders, two tabs, a killed server, a killed library"""
