@@ -1,8 +1,8 @@
 /* One call by its name, `times` times, on foil 0 of a sheet, which is made first: calls NAME TIMES, and then a point
-   for a look up, a foil by its name for a lay, a join and a carry, how 40 nets are laid, or how many entries are legs,
-   for a look up of a point that is blocked, which is the check of the state. Where `full` stands before the name, the
-   other foils have 378 entries. The difference of the instructions of two runs, with one call and with two, is the cost
-   of a call: what is made first, and the first touch of the stack, is in both. */
+   for a look up, a foil by its name for a draw, a lay, a join and a carry, how 40 nets are laid, or how many entries
+   are legs, for a look up of a point that is blocked, which is the check of the state. Where `full` stands before the
+   name, the other foils have 378 entries. The difference of the instructions of two runs, with one call and with two,
+   is the cost of a call: what is made first, and the first touch of the stack, is in both. */
 #include <stdio.h>
 #include <stdlib.h>
 #include <string.h>
@@ -162,6 +162,23 @@ static struct foil_said led(int joins, const char *foil, int times)
     return said;
 }
 
+/* draws small patches, each at a place of its own, on a foil of patches or of bars, or the last point of the foil of
+   4,096 strips again and again */
+static struct foil_said drawn(const char *foil, int times)
+{
+    struct foil_said said = {0, 0, 0, 0, 0};
+    if (strcmp(foil, "scattered") == 0)
+        for (scattered(120); times > 0; times--)
+            said = foil_draw(LENT, called, 7, 7 + 9 * times, 12, 11 + 9 * times);
+    else if (strcmp(foil, "staggered") == 0)
+        for (staggered(124); times > 0; times--)
+            said = foil_draw(LENT, called, 0, 4000 + 9 * times, 2, 4001 + 9 * times);
+    else
+        for (finest(); times > 0; times--)
+            said = foil_draw(LENT, called, 126, 126, 127, 127);
+    return said;
+}
+
 /* 40 nets between free points of the foil of scattered patches */
 static void wished(struct foil_wish *wishes)
 {
@@ -187,8 +204,8 @@ static void wished(struct foil_wish *wishes)
     }
 }
 
-/* lays them, by one list or (`lays`) by a call each, each time on the foil as it was made; or (`none`) a list of no net,
-   which is what comes before the lays of a list */
+/* lays them, by one list or (`lays`) by a call each, each time on the foil as it was made; or (`none`) a list of no
+   net, which is what comes before the lays of a list */
 static struct foil_said forty(const char *how, int times)
 {
     static struct foil_entry made_table[FOIL_PLACES];
@@ -257,6 +274,7 @@ int main(int argc, char **argv)
 {
     const char *name = argc > 1 ? argv[1] : "";
     int times = argc > 2 ? atoi(argv[2]) : 0;
+    struct foil_entry last = {7, 126, 126, 127, 127};
     struct foil_said said = {0, 0, 0, 0, 0};
     unsigned x = argc > 3 ? atoi(argv[3]) : 0, y = argc > 4 ? atoi(argv[4]) : 0;
     size_t n;
@@ -279,6 +297,10 @@ int main(int argc, char **argv)
     } else if (strcmp(name, "slip") == 0) {
         for (points(128); times > 0; times--)
             said = foil_slip(LENT, bytes, sizeof bytes, called);
+    } else if (strcmp(name, "ohms") == 0) {
+        struct foil_ink ink = {1, 1, 1};
+        for (above_bars(64); times > 0; times--)
+            said.number = foil_ohms(LENT, called, 1, ink).number;
     } else if (strcmp(name, "lay") == 0 || strcmp(name, "join") == 0) {
         said = led(*name == 'j', argc > 3 ? argv[3] : "", times);
     } else if (strcmp(name, "forty") == 0) {
@@ -297,10 +319,17 @@ int main(int argc, char **argv)
             foil_draw(LENT, called, 1000 + 20 * k, 500 + 25 * k, 1011 + 20 * k, 507 + 25 * k);
         for (; times > 0; times--)
             said = foil_book(LENT, corners, n, called, 7);
-    } else if (strcmp(name, "leg") == 0 || strcmp(name, "draw") == 0) {
-        struct foil_entry leg = {7, 126, 126, 127, 127};
+    } else if (strcmp(name, "draw") == 0) {
+        said = drawn(argc > 3 ? argv[3] : "", times);
+    } else if (strcmp(name, "leg") == 0) {
         for (finest(); times > 0; times--)
-            said = *name == 'l' ? foil_put_leg(LENT, called, leg) : foil_draw(LENT, called, 126, 126, 127, 127);
+            said = foil_put_leg(LENT, called, last);
+    } else if (strcmp(name, "lift") == 0) {
+        /* one call less, since the net is there once */
+        finest();
+        said = foil_put_leg(LENT, called, last);
+        for (; times > 1; times--)
+            said = foil_lift(LENT, called, last.net);
     }
     printf("%u %zu %zu %zu %zu\n", said.number, said.corners, said.bends, said.place, said.bytes);
     return 0;
