@@ -138,7 +138,7 @@ static struct pair made(const char *foil)
 }
 
 /* lays net 8, or joins a point to net 7, so many times, each time on the foil as it was made; putting it back takes
-   33 thousand instructions, in both */
+   4 thousand instructions, in both */
 static struct foil_said led(int joins, const char *foil, int times)
 {
     static struct foil_entry made_table[FOIL_PLACES];
