@@ -17,22 +17,22 @@ use Rattle.labels.proofs.Pass.{visited-all, visited-full}
 use Rattle.labels.proofs.Part.{pass-parts, parts-below, parts-lean}
 
 -- One crossing in a pass.
-cell-keep : {other edge : List ℕ} {line n v k a b : ℕ} → Cell other edge line n v k a b → a ≢ 0 → b ≡ a
+cell-keep : {other link : List ℕ} {line n v k a b : ℕ} → Cell other link line n v k a b → a ≢ 0 → b ≡ a
 cell-keep (kept h) z = refl
 cell-keep (none h) z = refl
 cell-keep (new q l r e) z = absurd (z refl)
 
-cell-back : {other edge : List ℕ} {line n v k a b : ℕ} → Cell other edge line n v k a b → b ≡ v → a ≡ v
+cell-back : {other link : List ℕ} {line n v k a b : ℕ} → Cell other link line n v k a b → b ≡ v → a ≡ v
 cell-back (kept h) z = z
 cell-back (none h) z = z
 cell-back (new q l r e) z = absurd (omega arith)
 
-cell-one : {other edge : List ℕ} {line n v k a b : ℕ} → Cell other edge line n v k a b → 1 ≤ v → b ≡ 1 → a ≡ 1
+cell-one : {other link : List ℕ} {line n v k a b : ℕ} → Cell other link line n v k a b → 1 ≤ v → b ≡ 1 → a ≡ 1
 cell-one (kept h) p z = z
 cell-one (none h) p z = z
 cell-one (new q l r e) p z = absurd (omega arith)
 
-module _ {other edge : List ℕ} {m n v : ℕ} {l l′ : List ℕ} (P : Pass other edge m n v l l′) where
+module _ {other link : List ℕ} {m n v : ℕ} {l l′ : List ℕ} (P : Pass other link m n v l l′) where
   pub pass-below : Below m n l v → Below m n l′ (v + 1)
   pass-below B = parts-below (pass-parts P) B
 
@@ -57,14 +57,14 @@ module _ {other edge : List ℕ} {m n v : ℕ} {l l′ : List ℕ} (P : Pass oth
           let e = cell-keep (P .cell i li k lk) y in let b = B .le i li k lk in absurd (omega arith)
 
 -- The inks stay small.
-pub pass-lean : {other inks edge cross : List ℕ} {m n v : ℕ} {l l′ w w′ : List ℕ} → Lines cross n → 1 ≤ v →
-    Pass other edge m n v l l′ → Inked other inks edge cross m n v l l′ w w′ → Lean n m other inks → Lean m n l w →
+pub pass-lean : {other inks link cross : List ℕ} {m n v : ℕ} {l l′ w w′ : List ℕ} → Lines cross n → 1 ≤ v →
+    Pass other link m n v l l′ → Inked other inks link cross m n v l l′ w w′ → Lean n m other inks → Lean m n l w →
     Lean m n l′ w′
 pass-lean C pos P I O L = parts-lean C pos (pass-parts P) I O L
 
-module _ {el eu cols rows : List ℕ} {nc nr : ℕ} (C : Lines cols nc) (R : Lines rows nr) {l₀ u₀ wl₀ wu₀ : List ℕ}
+module _ {kl ku cols rows : List ℕ} {nc nr : ℕ} (C : Lines cols nc) (R : Lines rows nr) {l₀ u₀ wl₀ wu₀ : List ℕ}
     (bl : Lean nr nc l₀ wl₀) (bu : Lean nc nr u₀ wu₀) where
-  pub rounds-lean : {v : ℕ} {l u wl wu : List ℕ} → Rounds el eu cols rows nc nr l₀ u₀ wl₀ wu₀ v l u wl wu →
+  pub rounds-lean : {v : ℕ} {l u wl wu : List ℕ} → Rounds kl ku cols rows nc nr l₀ u₀ wl₀ wu₀ v l u wl wu →
       (1 ≤ v) × Lean nr nc l wl × Lean nc nr u wu
   rounds-lean start = (omega arith, bl, bu)
   rounds-lean (more r x a y b) =
@@ -74,10 +74,10 @@ module _ {el eu cols rows : List ℕ} {nc nr : ℕ} (C : Lines cols nc) (R : Lin
       (omega arith, k, pass-lean R p y b k (h .2))
 
 -- before the round that looks for v, with the marks ml and mu
-pub record Going (el eu cols rows : List ℕ) (nc nr : ℕ) (l₀ u₀ wl₀ wu₀ : List ℕ) (v : ℕ) (l u wl wu ml mu : List ℕ)
+pub record Going (kl ku cols rows : List ℕ) (nc nr : ℕ) (l₀ u₀ wl₀ wu₀ : List ℕ) (v : ℕ) (l u wl wu ml mu : List ℕ)
     : Type 0 where
   pub pos : 1 ≤ v
-  pub rounds : Rounds el eu cols rows nc nr l₀ u₀ wl₀ wu₀ v l u wl wu
+  pub rounds : Rounds kl ku cols rows nc nr l₀ u₀ wl₀ wu₀ v l u wl wu
   pub level-low : Below nr nc l v
   pub upright-low : Below nc nr u v
   pub level-lean : Lean nr nc l wl
@@ -85,18 +85,18 @@ pub record Going (el eu cols rows : List ℕ) (nc nr : ℕ) (l₀ u₀ wl₀ wu�
   pub level-marked : Marked ml nr nc l v
   pub upright-marked : Marked mu nc nr u v
   pub twin : Twin l u nc nr
-  pub level-full : Full el l nr nc (floor v)
-  pub upright-full : Full eu u nc nr (floor v)
+  pub level-full : Full kl l nr nc (floor v)
+  pub upright-full : Full ku u nc nr (floor v)
   pub top : v + (zeros l + zeros u) ≤ 2 * area + 1
 
-full-start : (edge : List ℕ) {lab : List ℕ} {m n : ℕ} → Below m n lab 1 → Full edge lab m n (floor 1)
-full-start edge B = record {
+full-start : (link : List ℕ) {lab : List ℕ} {m n : ℕ} → Below m n lab 1 → Full link lab m n (floor 1)
+full-start link B = record {
   joined = λ i li. record { on = λ k q lk lq r z. let b = B .le i li k lk in absurd (omega arith) };
 }
 
-pub going-start : (el eu cols rows : List ℕ) {nc nr : ℕ} {l u wl wu ml mu : List ℕ} → Begun l u wl wu nc nr →
-    Marked ml nr nc l 1 → Marked mu nc nr u 1 → Going el eu cols rows nc nr l u wl wu 1 l u wl wu ml mu
-going-start el eu cols rows {l = l} {u = u} B ML MU = record {
+pub going-start : (kl ku cols rows : List ℕ) {nc nr : ℕ} {l u wl wu ml mu : List ℕ} → Begun l u wl wu nc nr →
+    Marked ml nr nc l 1 → Marked mu nc nr u 1 → Going kl ku cols rows nc nr l u wl wu 1 l u wl wu ml mu
+going-start kl ku cols rows {l = l} {u = u} B ML MU = record {
   pos = omega arith;
   rounds = start;
   level-low = B .level-low;
@@ -106,16 +106,16 @@ going-start el eu cols rows {l = l} {u = u} B ML MU = record {
   level-marked = ML;
   upright-marked = MU;
   twin = B .twin;
-  level-full = full-start el (B .level-low);
-  upright-full = full-start eu (B .upright-low);
+  level-full = full-start kl (B .level-low);
+  upright-full = full-start ku (B .upright-low);
   top = omega (arith, zeros-le l, zeros-le u, B .level-few, B .upright-few);
 }
 
 -- A level pass, and an upright pass after it.
-module _ {el eu cols rows : List ℕ} {nc nr : ℕ} (C : Lines cols nc) (R : Lines rows nr) {l₀ u₀ wl₀ wu₀ : List ℕ}
-    {v : ℕ} {l u wl wu ml mu : List ℕ} (G : Going el eu cols rows nc nr l₀ u₀ wl₀ wu₀ v l u wl wu ml mu)
-    {l′ wl′ nl : List ℕ} {le : ℕ} (P : PassTo u wu el cols nr nc v (nc * stride) l l′ wl wl′ nl le) where
-  level-pass : Pass u el nr nc v l l′
+module _ {kl ku cols rows : List ℕ} {nc nr : ℕ} (C : Lines cols nc) (R : Lines rows nr) {l₀ u₀ wl₀ wu₀ : List ℕ}
+    {v : ℕ} {l u wl wu ml mu : List ℕ} (G : Going kl ku cols rows nc nr l₀ u₀ wl₀ wu₀ v l u wl wu ml mu)
+    {l′ wl′ nl : List ℕ} {le : ℕ} (P : PassTo u wu kl cols nr nc v (nc * stride) l l′ wl wl′ nl le) where
+  level-pass : Pass u kl nr nc v l l′
   level-pass = visited-all (R .few) (P .visited)
 
   -- the marks and the inks for the second pass
@@ -125,8 +125,8 @@ module _ {el eu cols rows : List ℕ} {nc nr : ℕ} (C : Lines cols nc) (R : Lin
   pub going-lean : Lean nr nc l′ wl′
   going-lean = pass-lean C (G .pos) level-pass (P .inked) (G .upright-lean) (G .level-lean)
 
-  module _ {u′ wu′ nu : List ℕ} {ue : ℕ} (S : PassTo l′ wl′ eu rows nc nr v (nr * stride) u u′ wu wu′ nu ue) where
-    upright-pass : Pass l′ eu nc nr v u u′
+  module _ {u′ wu′ nu : List ℕ} {ue : ℕ} (S : PassTo l′ wl′ ku rows nc nr v (nr * stride) u u′ wu wu′ nu ue) where
+    upright-pass : Pass l′ ku nc nr v u u′
     upright-pass = visited-all (C .few) (S .visited)
 
     -- both lists still have the label 1 at the same crossings
@@ -146,7 +146,7 @@ module _ {el eu cols rows : List ℕ} {nc nr : ℕ} (C : Lines cols nc) (R : Lin
     }
 
     -- there are new labels
-    pub going-next : le + ue ≢ 0 → Going el eu cols rows nc nr l₀ u₀ wl₀ wu₀ (v + 1) l′ u′ wl′ wu′ nl nu
+    pub going-next : le + ue ≢ 0 → Going kl ku cols rows nc nr l₀ u₀ wl₀ wu₀ (v + 1) l′ u′ wl′ wu′ nl nu
     going-next ne = record {
       pos = omega arith;
       rounds = more (G .rounds) level-pass (P .inked) upright-pass (S .inked);
@@ -164,7 +164,7 @@ module _ {el eu cols rows : List ℕ} {nc nr : ℕ} (C : Lines cols nc) (R : Lin
 
     -- there are none
     pub going-stuck : (i j : ℕ) → le + ue ≡ 0 → along l j i ≡ 0 → along u i j ≡ 0 →
-        Ended el eu cols rows nc nr i j l₀ u₀ wl₀ wu₀ l′ u′ wl′ wu′ false
+        Ended kl ku cols rows nc nr i j l₀ u₀ wl₀ wu₀ l′ u′ wl′ wu′ false
     going-stuck i j e x y =
         let sl : l′ ≡ l = P .visited .same (omega arith) in
         let su : u′ ≡ u = S .visited .same (omega arith) in

@@ -14,9 +14,9 @@ use Rattle.labels.proofs.Part.{alone-here, alone-some, alone-parts, alo
 use Rattle.labels.proofs.Going.{Going}
 
 -- lists of the same sizes
-pub sized-same : {l u wl wu l′ u′ wl′ wu′ el eu cols rows : List ℕ} {nc nr : ℕ} →
-    Sized l u wl wu el eu cols rows nc nr → length l′ ≡ length l → length u′ ≡ length u → length wl′ ≡ length wl →
-    length wu′ ≡ length wu → Sized l′ u′ wl′ wu′ el eu cols rows nc nr
+pub sized-same : {l u wl wu l′ u′ wl′ wu′ kl ku cols rows : List ℕ} {nc nr : ℕ} →
+    Sized l u wl wu kl ku cols rows nc nr → length l′ ≡ length l → length u′ ≡ length u → length wl′ ≡ length wl →
+    length wu′ ≡ length wu → Sized l′ u′ wl′ wu′ kl ku cols rows nc nr
 sized-same Z a b c d = record {
   column-lines = Z .column-lines;
   row-lines = Z .row-lines;
@@ -24,14 +24,14 @@ sized-same Z a b c d = record {
   upright = omega (arith, Z .upright);
   level-inks = omega (arith, Z .level-inks);
   upright-inks = omega (arith, Z .upright-inks);
-  level-edges = Z .level-edges;
-  upright-edges = Z .upright-edges;
+  level-links = Z .level-links;
+  upright-links = Z .upright-links;
 }
 
-module _ {el eu cols rows : List ℕ} {nc nr i j v : ℕ} {l u wl wu l′ u′ wl′ wu′ : List ℕ}
-    (Z : Sized l′ u′ wl′ wu′ el eu cols rows nc nr) (i-in : i < nc) (j-in : j < nr) where
-  last-of : {a b : Bool} → Alone u wu el cols j nc i v l l′ wl wl′ a → Alone l′ wl′ eu rows i nr j v u u′ wu wu′ b →
-      (along l′ j i ≢ 0) ⊎ (along u′ i j ≢ 0) → Last el eu cols rows nc nr i j v l u wl wu l′ u′ wl′ wu′
+module _ {kl ku cols rows : List ℕ} {nc nr i j v : ℕ} {l u wl wu l′ u′ wl′ wu′ : List ℕ}
+    (Z : Sized l′ u′ wl′ wu′ kl ku cols rows nc nr) (i-in : i < nc) (j-in : j < nr) where
+  last-of : {a b : Bool} → Alone u wu kl cols j nc i v l l′ wl wl′ a → Alone l′ wl′ ku rows i nr j v u u′ wu wu′ b →
+      (along l′ j i ≢ 0) ⊎ (along u′ i j ≢ 0) → Last kl ku cols rows nc nr i j v l u wl wu l′ u′ wl′ wu′
   last-of A B some =
       let few = Z .column-lines .few in
       let few′ = Z .row-lines .few in
@@ -46,16 +46,16 @@ module _ {el eu cols rows : List ℕ} {nc nr i j v : ℕ} {l u wl wu l′ u′ w
       }
 
   -- the level label is there
-  pub tried-level : {a b : Bool} → Alone u wu el cols j nc i v l l′ wl wl′ a →
-      Alone l′ wl′ eu rows i nr j v u u′ wu wu′ b → a ≡ true →
-      Tried el eu cols rows nc nr i j v l u wl wu l′ u′ wl′ wu′ true
+  pub tried-level : {a b : Bool} → Alone u wu kl cols j nc i v l l′ wl wl′ a →
+      Alone l′ wl′ ku rows i nr j v u u′ wu wu′ b → a ≡ true →
+      Tried kl ku cols rows nc nr i j v l u wl wu l′ u′ wl′ wu′ true
   tried-level A B e = reached (last-of A B (inl (alone-some A (omega (arith, Z .level)) e)))
 
 -- it is not: the upright one decides
-pub tried-upright : {el eu cols rows : List ℕ} {nc nr i j v : ℕ} {l u wl wu l′ u′ wl′ wu′ : List ℕ} →
-    Sized l′ u′ wl′ wu′ el eu cols rows nc nr → i < nc → j < nr → {a b : Bool} →
-    Alone u wu el cols j nc i v l l′ wl wl′ a → Alone l′ wl′ eu rows i nr j v u u′ wu wu′ b → a ≡ false →
-    Tried el eu cols rows nc nr i j v l u wl wu l′ u′ wl′ wu′ b
+pub tried-upright : {kl ku cols rows : List ℕ} {nc nr i j v : ℕ} {l u wl wu l′ u′ wl′ wu′ : List ℕ} →
+    Sized l′ u′ wl′ wu′ kl ku cols rows nc nr → i < nc → j < nr → {a b : Bool} →
+    Alone u wu kl cols j nc i v l l′ wl wl′ a → Alone l′ wl′ ku rows i nr j v u u′ wu wu′ b → a ≡ false →
+    Tried kl ku cols rows nc nr i j v l u wl wu l′ u′ wl′ wu′ b
 tried-upright Z i-in j-in (had x) B e = clash refl e
 tried-upright Z i-in j-in (gets s z L) B e = clash refl e
 tried-upright Z i-in j-in (misses z h) (misses z′ h′) e = missed z z′
@@ -66,21 +66,21 @@ tried-upright {u = u} {wu = wu} Z i-in j-in (misses z h) (gets s z′ L) e =
     (inr (alone-some {l = u} {w = wu} (gets s z′ L) (omega (arith, Z .upright)) refl)))
 
 -- it is the last round, or nothing has changed
-pub tried-last : {el eu cols rows : List ℕ} {nc nr i j v : ℕ} {l₀ u₀ wl₀ wu₀ l u wl wu l′ u′ wl′ wu′ : List ℕ}
-    {b : Bool} → Tried el eu cols rows nc nr i j v l u wl wu l′ u′ wl′ wu′ b → b ≡ true → v < labelTop →
-    Rounds el eu cols rows nc nr l₀ u₀ wl₀ wu₀ v l u wl wu →
-    Ended el eu cols rows nc nr i j l₀ u₀ wl₀ wu₀ l′ u′ wl′ wu′ true
+pub tried-last : {kl ku cols rows : List ℕ} {nc nr i j v : ℕ} {l₀ u₀ wl₀ wu₀ l u wl wu l′ u′ wl′ wu′ : List ℕ}
+    {b : Bool} → Tried kl ku cols rows nc nr i j v l u wl wu l′ u′ wl′ wu′ b → b ≡ true → v < labelTop →
+    Rounds kl ku cols rows nc nr l₀ u₀ wl₀ wu₀ v l u wl wu →
+    Ended kl ku cols rows nc nr i j l₀ u₀ wl₀ wu₀ l′ u′ wl′ wu′ true
 tried-last (reached E) e m r = found m r E
 tried-last (missed x y) e m r = clash e refl
 
-pub tried-on : {el eu cols rows : List ℕ} {nc nr i j v : ℕ} {l₀ u₀ wl₀ wu₀ l u wl wu l′ u′ wl′ wu′ ml mu : List ℕ}
-    {b : Bool} → Tried el eu cols rows nc nr i j v l u wl wu l′ u′ wl′ wu′ b → b ≡ false →
-    Going el eu cols rows nc nr l₀ u₀ wl₀ wu₀ v l u wl wu ml mu →
-    Going el eu cols rows nc nr l₀ u₀ wl₀ wu₀ v l′ u′ wl′ wu′ ml mu × (along l′ j i ≡ 0) × (along u′ i j ≡ 0)
+pub tried-on : {kl ku cols rows : List ℕ} {nc nr i j v : ℕ} {l₀ u₀ wl₀ wu₀ l u wl wu l′ u′ wl′ wu′ ml mu : List ℕ}
+    {b : Bool} → Tried kl ku cols rows nc nr i j v l u wl wu l′ u′ wl′ wu′ b → b ≡ false →
+    Going kl ku cols rows nc nr l₀ u₀ wl₀ wu₀ v l u wl wu ml mu →
+    Going kl ku cols rows nc nr l₀ u₀ wl₀ wu₀ v l′ u′ wl′ wu′ ml mu × (along l′ j i ≡ 0) × (along u′ i j ≡ 0)
 tried-on (reached E) e G = clash refl e
 tried-on (missed x y) e G = (G, x, y)
 
-pub tried-same : {el eu cols rows : List ℕ} {nc nr i j v : ℕ} {l u wl wu l′ u′ wl′ wu′ : List ℕ} {b : Bool} →
-    Tried el eu cols rows nc nr i j v l u wl wu l′ u′ wl′ wu′ b → b ≡ false → zeros l′ + zeros u′ ≡ zeros l + zeros u
+pub tried-same : {kl ku cols rows : List ℕ} {nc nr i j v : ℕ} {l u wl wu l′ u′ wl′ wu′ : List ℕ} {b : Bool} →
+    Tried kl ku cols rows nc nr i j v l u wl wu l′ u′ wl′ wu′ b → b ≡ false → zeros l′ + zeros u′ ≡ zeros l + zeros u
 tried-same (reached E) e = clash refl e
 tried-same (missed x y) e = refl

@@ -59,24 +59,24 @@ labelled-less r L = record { says = λ j lj i li. says-less r (L .says j lj i li
 
 -- A pass.
 module _ {f : ℕ → ℕ → Bool} {T : ℕ → ℕ → Type 0} (tf : TargetFree f T) {cross : List ℕ} {n : ℕ} {lines : List ℕ} {m : ℕ}
-    {edge : List ℕ} (F : Faithful f T cross n lines m edge) {other : List ℕ} {r : ℕ}
+    {link : List ℕ} (F : Faithful f T cross n lines m link) {other : List ℕ} {r : ℕ}
     (O : Labelled (flip f) (flip T) lines m cross n r other) where
   -- one segment to a crossing with a label k + 1
-  pub step-span : (i j q k : ℕ) → i < n → j < m → q < n → Linked edge j i q → across other j q ≡ k + 1 →
+  pub step-span : (i j q k : ℕ) → i < n → j < m → q < n → Linked link j i q → across other j q ≡ k + 1 →
       Span f (getD lines j 0) (getD cross i 0) (getD cross q 0)
   step-span i j q k li lj lq h e =
       let free = course-free k (flip f) (flip T) (λ a b t. tf b a t) _ _ (O .says q lq j lj .course k e) in
       span-sym f (getD lines j 0) (getD cross q 0) (getD cross i 0)
-      (F .joined j q i lj lq li free (linked-sym edge j i q h))
+      (F .joined j q i lj lq li free (linked-sym link j i q h))
 
-  pub step-course : (i j q k : ℕ) → i < n → j < m → q < n → Linked edge j i q → across other j q ≡ k + 1 →
+  pub step-course : (i j q k : ℕ) → i < n → j < m → q < n → Linked link j i q → across other j q ≡ k + 1 →
       Course (suc k) f T (getD cross i 0) (getD lines j 0)
   step-course i j q k li lj lq h e = (getD cross q 0, step-span i j q k li lj lq h e, O .says q lq j lj .course k e)
 
   -- what is joined with a point that no more than w segments leave, and is left by w segments itself, has the
   -- label w + 1
   pub exact : (i j q w : ℕ) → i < n → j < m → q < n → w ≤ r →
-      ((k : ℕ) → k ≤ w → Course k f T (getD cross i 0) (getD lines j 0) → ⊥) → Linked edge j i q →
+      ((k : ℕ) → k ≤ w → Course k f T (getD cross i 0) (getD lines j 0) → ⊥) → Linked link j i q →
       Course w (flip f) (flip T) (getD lines j 0) (getD cross q 0) → across other j q ≡ w + 1
   exact i j q w li lj lq lw low lk rq = go (across other j q) refl
     where
@@ -90,7 +90,7 @@ module _ {f : ℕ → ℕ → Bool} {T : ℕ → ℕ → Type 0} (tf : TargetFre
       go (suc k) e = sym (add-one k) ∙ pick k (decLt w k) (decLt k w) (e ∙ sym (add-one k))
 
   -- no crossing with the label r + 1, and fewer segments do not lead there: nor do r + 1
-  no-step : (i j : ℕ) → i < n → j < m → ((q : ℕ) → q < n → Linked edge j i q → across other j q ≢ r + 1) →
+  no-step : (i j : ℕ) → i < n → j < m → ((q : ℕ) → q < n → Linked link j i q → across other j q ≢ r + 1) →
       ((k : ℕ) → k ≤ r → Course k f T (getD cross i 0) (getD lines j 0) → ⊥) →
       Course (suc r) f T (getD cross i 0) (getD lines j 0) → ⊥
   no-step i j li lj h low t =
@@ -100,7 +100,7 @@ module _ {f : ℕ → ℕ → Bool} {T : ℕ → ℕ → Type 0} (tf : TargetFre
       (exact i j (w .0) r li lj (w .2) (omega arith) low (w .3)
       (within-course r (w .1) (flip f) (flip T) (getD lines j 0) (getD cross (w .0) 0) (w .4)))
 
-  pass-cell : (i j : ℕ) → i < n → j < m → (a b : ℕ) → Cell other edge j n (r + 1) i a b →
+  pass-cell : (i j : ℕ) → i < n → j < m → (a b : ℕ) → Cell other link j n (r + 1) i a b →
       Says f T r (getD cross i 0) (getD lines j 0) a → Says f T (r + 1) (getD cross i 0) (getD lines j 0) b
   pass-cell i j li lj a b (kept z) s =
       record { never = λ e k l t. absurd (z e); course = s .course; least = s .least }
@@ -124,19 +124,19 @@ module _ {f : ℕ → ℕ → Bool} {T : ℕ → ℕ → Type 0} (tf : TargetFre
     least = λ k z x l t. s .never refl x (omega arith) t;
   }
 
-  part-cell : (i j : ℕ) → i < n → j < m → (a b : ℕ) → Part other edge j n (r + 1) i a b →
+  part-cell : (i j : ℕ) → i < n → j < m → (a b : ℕ) → Part other link j n (r + 1) i a b →
       Says f T r (getD cross i 0) (getD lines j 0) a → Says f T r (getD cross i 0) (getD lines j 0) b
   part-cell i j li lj a b stood s = s
   part-cell i j li lj a b (got q lq lk e) s = says-less r (pass-cell i j li lj a b (new q lq lk e) s)
 
   -- a part of a pass leaves labels as right as they were
-  parts-labels : {l l′ : List ℕ} → Labelled f T cross n lines m r l → Parts other edge m n (r + 1) l l′ →
+  parts-labels : {l l′ : List ℕ} → Labelled f T cross n lines m r l → Parts other link m n (r + 1) l l′ →
       Labelled f T cross n lines m r l′
   parts-labels {l} {l′} L P = record {
     says = λ j lj i li. part-cell i j li lj (along l j i) (along l′ j i) (P .part j lj i li) (L .says j lj i li);
   }
 
-  pass-labels : {l l′ : List ℕ} → Labelled f T cross n lines m r l → Pass other edge m n (r + 1) l l′ →
+  pass-labels : {l l′ : List ℕ} → Labelled f T cross n lines m r l → Pass other link m n (r + 1) l l′ →
       Labelled f T cross n lines m (r + 1) l′
   pass-labels {l} {l′} L P = record {
     says = λ j lj i li. pass-cell i j li lj (along l j i) (along l′ j i) (P .cell j lj i li) (L .says j lj i li);
@@ -144,7 +144,7 @@ module _ {f : ℕ → ℕ → Bool} {T : ℕ → ℕ → Type 0} (tf : TargetFre
 
   -- the inks after a pass
   module _ {inks : List ℕ} (OM : Measured (flip f) (flip T) lines m cross n other inks) where
-    pub step-within : (i j q k : ℕ) → i < n → j < m → q < n → Linked edge j i q → across other j q ≡ k + 1 →
+    pub step-within : (i j q k : ℕ) → i < n → j < m → q < n → Linked link j i q → across other j q ≡ k + 1 →
         Within (suc k) (across inks j q + gap (getD cross i 0) (getD cross q 0)) f T (getD cross i 0) (getD lines j 0)
     step-within i j q k li lj lq h e = (
       getD cross q 0,
@@ -156,7 +156,7 @@ module _ {f : ℕ → ℕ → Bool} {T : ℕ → ℕ → Type 0} (tf : TargetFre
 
     new-ink : (i j s : ℕ) → i < n → j < m →
         ((k : ℕ) → k ≤ r → Course k f T (getD cross i 0) (getD lines j 0) → ⊥) →
-        LeastInk other inks edge cross j n (r + 1) i s →
+        LeastInk other inks link cross j n (r + 1) i s →
         Measures f T (getD cross i 0) (getD lines j 0) (r + 1 + 1) s
     new-ink i j s li lj low L = record {
       within = λ k e.
@@ -181,14 +181,14 @@ module _ {f : ℕ → ℕ → Bool} {T : ℕ → ℕ → Type 0} (tf : TargetFre
             ⊎-elim (λ z. let y = z .0 in omega arith) (λ z. omega arith) (w .5)
 
     parts-inks : {l l′ w w′ : List ℕ} → Labelled f T cross n lines m r l → Measured f T cross n lines m l w →
-        Parts other edge m n (r + 1) l l′ → Inked other inks edge cross m n (r + 1) l l′ w w′ →
+        Parts other link m n (r + 1) l l′ → Inked other inks link cross m n (r + 1) l l′ w w′ →
         Measured f T cross n lines m l′ w′
     parts-inks {l} {l′} {w} {w′} A M P I = record {
       says = λ j lj i li. pick j lj i li (along l j i) (along l′ j i) refl refl (P .part j lj i li);
     }
       where
         pick : (j : ℕ) → j < m → (i : ℕ) → i < n → (a b : ℕ) → along l j i ≡ a → along l′ j i ≡ b →
-            Part other edge j n (r + 1) i a b →
+            Part other link j n (r + 1) i a b →
             Measures f T (getD cross i 0) (getD lines j 0) (along l′ j i) (along w′ j i)
         pick j lj i li zero b ea eb stood = record {
           within = λ k e. absurd (omega arith);
@@ -201,8 +201,8 @@ module _ {f : ℕ → ℕ → Bool} {T : ℕ → ℕ → Type 0} (tf : TargetFre
             (new-ink i j (along w′ j i) li lj (A .says j lj i li .never ea)
             (I .fresh j lj i li ea (λ z. omega arith)))
 
-pub rounds-pos : {el eu cols rows : List ℕ} {nc nr : ℕ} {l₀ u₀ wl₀ wu₀ : List ℕ} {v : ℕ} {l u wl wu : List ℕ} →
-    Rounds el eu cols rows nc nr l₀ u₀ wl₀ wu₀ v l u wl wu → 1 ≤ v
+pub rounds-pos : {kl ku cols rows : List ℕ} {nc nr : ℕ} {l₀ u₀ wl₀ wu₀ : List ℕ} {v : ℕ} {l u wl wu : List ℕ} →
+    Rounds kl ku cols rows nc nr l₀ u₀ wl₀ wu₀ v l u wl wu → 1 ≤ v
 rounds-pos start = omega arith
 rounds-pos (more r x a y b) = omega arith
 
@@ -212,15 +212,15 @@ Both f T cols nc rows nr n l u = Labelled f T cols nc rows nr n l × Labelled (f
 
 -- The rounds.
 module _ {f : ℕ → ℕ → Bool} {T : ℕ → ℕ → Type 0} (tf : TargetFree f T) {cols : List ℕ} {nc : ℕ} {rows : List ℕ} {nr : ℕ}
-    {el eu : List ℕ} (L : Faithful f T cols nc rows nr el) (U : Faithful (flip f) (flip T) rows nr cols nc eu) where
-  both-more : (n v : ℕ) {l u l′ u′ : List ℕ} → v ≡ n + 1 → Both f T cols nc rows nr n l u → Pass u el nr nc v l l′ →
-      Pass l′ eu nc nr v u u′ → Both f T cols nc rows nr v l′ u′
+    {kl ku : List ℕ} (L : Faithful f T cols nc rows nr kl) (U : Faithful (flip f) (flip T) rows nr cols nc ku) where
+  both-more : (n v : ℕ) {l u l′ u′ : List ℕ} → v ≡ n + 1 → Both f T cols nc rows nr n l u → Pass u kl nr nc v l l′ →
+      Pass l′ ku nc nr v u u′ → Both f T cols nc rows nr v l′ u′
   both-more n v e B x y =
       let l2 = pass-labels tf L (B .1) (B .0) (rw e at x) in
       rw e (l2, pass-labels (λ a b t. tf b a t) U (labelled-less n l2) (B .1) (rw e at y))
 
   pub rounds-labels : {l₀ u₀ wl₀ wu₀ : List ℕ} → Both f T cols nc rows nr 0 l₀ u₀ → {v : ℕ} {l u wl wu : List ℕ} →
-      Rounds el eu cols rows nc nr l₀ u₀ wl₀ wu₀ v l u wl wu → Both f T cols nc rows nr (v - 1) l u
+      Rounds kl ku cols rows nc nr l₀ u₀ wl₀ wu₀ v l u wl wu → Both f T cols nc rows nr (v - 1) l u
   rounds-labels B start = B
   rounds-labels B (more {v = v} r x a y b) =
       let p = rounds-pos r in
@@ -229,7 +229,7 @@ module _ {f : ℕ → ℕ → Bool} {T : ℕ → ℕ → Type 0} (tf : TargetFre
 
   pub rounds-inks : {l₀ u₀ wl₀ wu₀ : List ℕ} → Both f T cols nc rows nr 0 l₀ u₀ →
       Measured f T cols nc rows nr l₀ wl₀ × Measured (flip f) (flip T) rows nr cols nc u₀ wu₀ →
-      {v : ℕ} {l u wl wu : List ℕ} → Rounds el eu cols rows nc nr l₀ u₀ wl₀ wu₀ v l u wl wu →
+      {v : ℕ} {l u wl wu : List ℕ} → Rounds kl ku cols rows nc nr l₀ u₀ wl₀ wu₀ v l u wl wu →
       Measured f T cols nc rows nr l wl × Measured (flip f) (flip T) rows nr cols nc u wu
   rounds-inks B M start = M
   rounds-inks B M (more {v = v} r x a y b) =
@@ -246,7 +246,7 @@ module _ {f : ℕ → ℕ → Bool} {T : ℕ → ℕ → Type 0} (tf : TargetFre
 
 -- A round that changes nothing: what has no label then leads to no target.
 module _ {f : ℕ → ℕ → Bool} {T : ℕ → ℕ → Type 0} (tf : TargetFree f T) {cross : List ℕ} {n : ℕ} {lines : List ℕ} {m : ℕ}
-    {edge : List ℕ} (F : Faithful f T cross n lines m edge) {r : ℕ} {l u : List ℕ}
+    {link : List ℕ} (F : Faithful f T cross n lines m link) {r : ℕ} {l u : List ℕ}
     (A : Labelled f T cross n lines m r l) (B : Labelled (flip f) (flip T) lines m cross n r u)
     (C : Below n m u r) where
   stuck-step : (k : ℕ) →
@@ -260,7 +260,7 @@ module _ {f : ℕ → ℕ → Bool} {T : ℕ → ℕ → Type 0} (tf : TargetFre
       go (w .0) (w .2) (w .3) (within-course k (w .1) (flip f) (flip T) (getD lines j 0) (getD cross (w .0) 0) (w .4))
       (along u (w .0) j) refl
     where
-      go : (q : ℕ) → q < n → Linked edge j i q → Course k (flip f) (flip T) (getD lines j 0) (getD cross q 0) →
+      go : (q : ℕ) → q < n → Linked link j i q → Course k (flip f) (flip T) (getD lines j 0) (getD cross q 0) →
           (a : ℕ) → along u q j ≡ a → ⊥
       go q lq lk rq zero e = ih q lq j lj e rq
       go q lq lk rq (suc a) e =
@@ -269,16 +269,16 @@ module _ {f : ℕ → ℕ → Bool} {T : ℕ → ℕ → Type 0} (tf : TargetFre
           (step-course tf F B i j q a li lj lq lk (e ∙ sym (add-one a)))
 
 -- Every label but the first rests on one of the other direction, and is at most as large as the rounds allow.
-grounded-own : {other inks edge cross : List ℕ} {m n v : ℕ} {l l′ w w′ : List ℕ} → Parts other edge m n v l l′ →
-    Inked other inks edge cross m n v l l′ w w′ → Grounded l other w inks edge cross m n →
-    Grounded l′ other w′ inks edge cross m n
-grounded-own {other} {inks} {edge} {cross} {m} {n} {v} {l} {l′} {w} {w′} P I G = record {
+grounded-own : {other inks link cross : List ℕ} {m n v : ℕ} {l l′ w w′ : List ℕ} → Parts other link m n v l l′ →
+    Inked other inks link cross m n v l l′ w w′ → Grounded l other w inks link cross m n →
+    Grounded l′ other w′ inks link cross m n
+grounded-own {other} {inks} {link} {cross} {m} {n} {v} {l} {l′} {w} {w′} P I G = record {
   next = λ i li k lk u p e. go i li k lk u p (along l i k) (along l′ i k) refl refl (P .part i li k lk) e;
 }
   where
     go : (i : ℕ) → i < m → (k : ℕ) → k < n → (u : ℕ) → 1 ≤ u → (x y : ℕ) → along l i k ≡ x → along l′ i k ≡ y →
-        Part other edge i n v k x y → along l′ i k ≡ u + 1 →
-        (q : ℕ) × (q < n) × Linked edge i k q
+        Part other link i n v k x y → along l′ i k ≡ u + 1 →
+        (q : ℕ) × (q < n) × Linked link i k q
         × (isStop other inks cross i (getD cross k 0) u (along w′ i k) q ≡ true)
     go i li k lk u p x y ex ey stood h =
         rw (I .kept i li k lk (λ f. omega arith)) (G .next i li k lk u p (ex ∙ sym ey ∙ h))
@@ -289,9 +289,9 @@ grounded-own {other} {inks} {edge} {cross} {m} {n} {v} {l} {l′} {w} {w′} P I
         (L .q, L .below, L .linked, to-stop _ _ _ _ _ _ _ _ (omega (arith, L .stop)) (omega arith))
 
 -- the labels of the other direction keep what is rested on
-grounded-other : {own wown other other′ inks inks′ edge edge′ cross lines : List ℕ} {m n v : ℕ} →
-    Parts own edge′ n m v other other′ → Inked own wown edge′ lines n m v other other′ inks inks′ →
-    {l w : List ℕ} → Grounded l other w inks edge cross m n → Grounded l other′ w inks′ edge cross m n
+grounded-other : {own wown other other′ inks inks′ link link′ cross lines : List ℕ} {m n v : ℕ} →
+    Parts own link′ n m v other other′ → Inked own wown link′ lines n m v other other′ inks inks′ →
+    {l w : List ℕ} → Grounded l other w inks link cross m n → Grounded l other′ w inks′ link cross m n
 grounded-other P I G = record {
   next = λ i li k lk u p e.
       let r = G .next i li k lk u p e in
@@ -302,18 +302,18 @@ grounded-other P I G = record {
 }
 
 -- a part of a round
-grounded-more : {el eu cols rows : List ℕ} {nc nr v : ℕ} {l u wl wu l′ u′ wl′ wu′ : List ℕ} →
-    Parts u el nr nc v l l′ → Inked u wu el cols nr nc v l l′ wl wl′ →
-    Parts l′ eu nc nr v u u′ → Inked l′ wl′ eu rows nc nr v u u′ wu wu′ →
-    Grounded l u wl wu el cols nr nc × Grounded u l wu wl eu rows nc nr →
-    Grounded l′ u′ wl′ wu′ el cols nr nc × Grounded u′ l′ wu′ wl′ eu rows nc nr
+grounded-more : {kl ku cols rows : List ℕ} {nc nr v : ℕ} {l u wl wu l′ u′ wl′ wu′ : List ℕ} →
+    Parts u kl nr nc v l l′ → Inked u wu kl cols nr nc v l l′ wl wl′ →
+    Parts l′ ku nc nr v u u′ → Inked l′ wl′ ku rows nc nr v u u′ wu wu′ →
+    Grounded l u wl wu kl cols nr nc × Grounded u l wu wl ku rows nc nr →
+    Grounded l′ u′ wl′ wu′ kl cols nr nc × Grounded u′ l′ wu′ wl′ ku rows nc nr
 grounded-more x a y b G =
     (grounded-other y b (grounded-own x a (G .0)), grounded-own y b (grounded-other x a (G .1)))
 
-module _ {el eu cols rows : List ℕ} {nc nr : ℕ} {l₀ u₀ wl₀ wu₀ : List ℕ} (bl : Below nr nc l₀ 1) (bu : Below nc nr u₀ 1)
+module _ {kl ku cols rows : List ℕ} {nc nr : ℕ} {l₀ u₀ wl₀ wu₀ : List ℕ} (bl : Below nr nc l₀ 1) (bu : Below nc nr u₀ 1)
   where
-    pub rounds-grounded : {v : ℕ} {l u wl wu : List ℕ} → Rounds el eu cols rows nc nr l₀ u₀ wl₀ wu₀ v l u wl wu →
-        Grounded l u wl wu el cols nr nc × Grounded u l wu wl eu rows nc nr
+    pub rounds-grounded : {v : ℕ} {l u wl wu : List ℕ} → Rounds kl ku cols rows nc nr l₀ u₀ wl₀ wu₀ v l u wl wu →
+        Grounded l u wl wu kl cols nr nc × Grounded u l wu wl ku rows nc nr
     rounds-grounded start = (
       record { next = λ j lj i li w p e. let b = bl .le j lj i li in absurd (omega arith) },
       record { next = λ i li j lj w p e. let b = bu .le i li j lj in absurd (omega arith) },
@@ -321,17 +321,17 @@ module _ {el eu cols rows : List ℕ} {nc nr : ℕ} {l₀ u₀ wl₀ wu₀ : Lis
     rounds-grounded (more r x a y b) =
         grounded-more (pass-parts x) a (pass-parts y) b (rounds-grounded r)
 
-    pub rounds-below : {v : ℕ} {l u wl wu : List ℕ} → Rounds el eu cols rows nc nr l₀ u₀ wl₀ wu₀ v l u wl wu →
+    pub rounds-below : {v : ℕ} {l u wl wu : List ℕ} → Rounds kl ku cols rows nc nr l₀ u₀ wl₀ wu₀ v l u wl wu →
         Below nr nc l v × Below nc nr u v
     rounds-below start = (bl, bu)
     rounds-below (more r x a y b) = let ih = rounds-below r in (pass-below x (ih .0), pass-below y (ih .1))
 
 module _ {f : ℕ → ℕ → Bool} {T : ℕ → ℕ → Type 0} (tf : TargetFree f T) {cols : List ℕ} {nc : ℕ} {rows : List ℕ} {nr : ℕ}
-    {el eu : List ℕ} (L : Faithful f T cols nc rows nr el) (U : Faithful (flip f) (flip T) rows nr cols nc eu)
+    {kl ku : List ℕ} (L : Faithful f T cols nc rows nr kl) (U : Faithful (flip f) (flip T) rows nr cols nc ku)
     {l₀ u₀ wl₀ wu₀ : List ℕ} (S : Both f T cols nc rows nr 0 l₀ u₀) (bl : Below nr nc l₀ 1) (bu : Below nc nr u₀ 1)
-    {v : ℕ} {l u wl wu : List ℕ} (R : Rounds el eu cols rows nc nr l₀ u₀ wl₀ wu₀ v l u wl wu)
-    (P : Pass u el nr nc v l l)
-    (Q : Pass l eu nc nr v u u) where
+    {v : ℕ} {l u wl wu : List ℕ} (R : Rounds kl ku cols rows nc nr l₀ u₀ wl₀ wu₀ v l u wl wu)
+    (P : Pass u kl nr nc v l l)
+    (Q : Pass l ku nc nr v u u) where
   still : Both f T cols nc rows nr v l u
   still = let p = rounds-pos R in both-more tf L U (v - 1) v (omega arith) (rounds-labels tf L U S R) P Q
 
@@ -352,8 +352,8 @@ module _ {f : ℕ → ℕ → Bool} {T : ℕ → ℕ → Type 0} (tf : TargetFre
 
 -- The last round, with labels that were right before: all of them are as right then, and those of the crossing that it
 -- is about are right after one round more.
-module _ {el eu cols rows : List ℕ} {nc nr i j v : ℕ} {l u wl wu l′ u′ wl′ wu′ : List ℕ} (p : 1 ≤ v)
-    (E : Last el eu cols rows nc nr i j v l u wl wu l′ u′ wl′ wu′) where
+module _ {kl ku cols rows : List ℕ} {nc nr i j v : ℕ} {l u wl wu l′ u′ wl′ wu′ : List ℕ} (p : 1 ≤ v)
+    (E : Last kl ku cols rows nc nr i j v l u wl wu l′ u′ wl′ wu′) where
   same-round : v ≡ v - 1 + 1
   same-round = omega arith
 
@@ -366,12 +366,12 @@ module _ {el eu cols rows : List ℕ} {nc nr i j v : ℕ} {l u wl wu l′ u′ w
       let k = parts-lean C p (E .level) (E .level-inks) (H .1) (H .0) in
       (k, parts-lean R p (E .upright) (E .upright-inks) k (H .1))
 
-  pub last-grounded : Grounded l u wl wu el cols nr nc × Grounded u l wu wl eu rows nc nr →
-      Grounded l′ u′ wl′ wu′ el cols nr nc × Grounded u′ l′ wu′ wl′ eu rows nc nr
+  pub last-grounded : Grounded l u wl wu kl cols nr nc × Grounded u l wu wl ku rows nc nr →
+      Grounded l′ u′ wl′ wu′ kl cols nr nc × Grounded u′ l′ wu′ wl′ ku rows nc nr
   last-grounded G = grounded-more (E .level) (E .level-inks) (E .upright) (E .upright-inks) G
 
-  module _ {f : ℕ → ℕ → Bool} {T : ℕ → ℕ → Type 0} (tf : TargetFree f T) (L : Faithful f T cols nc rows nr el)
-      (U : Faithful (flip f) (flip T) rows nr cols nc eu) (B : Both f T cols nc rows nr (v - 1) l u) where
+  module _ {f : ℕ → ℕ → Bool} {T : ℕ → ℕ → Type 0} (tf : TargetFree f T) (L : Faithful f T cols nc rows nr kl)
+      (U : Faithful (flip f) (flip T) rows nr cols nc ku) (B : Both f T cols nc rows nr (v - 1) l u) where
     pub last-labels : Both f T cols nc rows nr (v - 1) l′ u′
     last-labels =
         let l2 = parts-labels tf L (B .1) (B .0) (rw same-round at (E .level)) in

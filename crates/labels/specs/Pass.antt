@@ -16,33 +16,33 @@ zeros (zero ∷ l) = suc (zeros l)
 zeros (suc x ∷ l) = zeros l
 
 -- crossing k of a line before and after a pass
-pub data Cell (other edge : List ℕ) (line n v k : ℕ) : ℕ → ℕ → Type 0 where
-  kept : {a : ℕ} → a ≢ 0 → Cell other edge line n v k a a
-  none : ((q : ℕ) → q < n → Linked edge line k q → across other line q ≢ v) → Cell other edge line n v k 0 0
-  new : (q : ℕ) → q < n → Linked edge line k q → across other line q ≡ v → Cell other edge line n v k 0 (v + 1)
+pub data Cell (other link : List ℕ) (line n v k : ℕ) : ℕ → ℕ → Type 0 where
+  kept : {a : ℕ} → a ≢ 0 → Cell other link line n v k a a
+  none : ((q : ℕ) → q < n → Linked link line k q → across other line q ≢ v) → Cell other link line n v k 0 0
+  new : (q : ℕ) → q < n → Linked link line k q → across other line q ≡ v → Cell other link line n v k 0 (v + 1)
 
 -- the labels before and after a pass
-pub record Pass (other edge : List ℕ) (m n v : ℕ) (l₀ l : List ℕ) : Type 0 where
-  pub cell : (i : ℕ) → i < m → (k : ℕ) → k < n → Cell other edge i n v k (along l₀ i k) (along l i k)
+pub record Pass (other link : List ℕ) (m n v : ℕ) (l₀ l : List ℕ) : Type 0 where
+  pub cell : (i : ℕ) → i < m → (k : ℕ) → k < n → Cell other link i n v k (along l₀ i k) (along l i k)
 
 -- a crossing before and after a part of a pass
-pub data Part (other edge : List ℕ) (line n v k : ℕ) : ℕ → ℕ → Type 0 where
-  stood : {a : ℕ} → Part other edge line n v k a a
-  got : (q : ℕ) → q < n → Linked edge line k q → across other line q ≡ v → Part other edge line n v k 0 (v + 1)
+pub data Part (other link : List ℕ) (line n v k : ℕ) : ℕ → ℕ → Type 0 where
+  stood : {a : ℕ} → Part other link line n v k a a
+  got : (q : ℕ) → q < n → Linked link line k q → across other line q ≡ v → Part other link line n v k 0 (v + 1)
 
 -- the labels before and after a part of a pass
-pub record Parts (other edge : List ℕ) (m n v : ℕ) (l₀ l : List ℕ) : Type 0 where
-  pub part : (i : ℕ) → i < m → (k : ℕ) → k < n → Part other edge i n v k (along l₀ i k) (along l i k)
+pub record Parts (other link : List ℕ) (m n v : ℕ) (l₀ l : List ℕ) : Type 0 where
+  pub part : (i : ℕ) → i < m → (k : ℕ) → k < n → Part other link i n v k (along l₀ i k) (along l i k)
 
 -- crossing k of a line alone gets what a pass gives it: labels and inks before and after, and whether it has a label
-pub data Alone (other inks edge cross : List ℕ) (line n k v : ℕ)
+pub data Alone (other inks link cross : List ℕ) (line n k v : ℕ)
     : List ℕ → List ℕ → List ℕ → List ℕ → Bool → Type 0 where
-  had : {l w : List ℕ} → along l line k ≢ 0 → Alone other inks edge cross line n k v l l w w true
-  gets : {l w : List ℕ} (s : ℕ) → along l line k ≡ 0 → LeastInk other inks edge cross line n v k s →
-      Alone other inks edge cross line n k v l (set l (line * stride + k) (v + 1)) w (set w (line * stride + k) s) true
+  had : {l w : List ℕ} → along l line k ≢ 0 → Alone other inks link cross line n k v l l w w true
+  gets : {l w : List ℕ} (s : ℕ) → along l line k ≡ 0 → LeastInk other inks link cross line n v k s →
+      Alone other inks link cross line n k v l (set l (line * stride + k) (v + 1)) w (set w (line * stride + k) s) true
   misses : {l w : List ℕ} → along l line k ≡ 0 →
-      ((q : ℕ) → q < n → Linked edge line k q → across other line q ≢ v) →
-      Alone other inks edge cross line n k v l l w w false
+      ((q : ℕ) → q < n → Linked link line k q → across other line q ≢ v) →
+      Alone other inks link cross line n k v l l w w false
 
 -- every label is at most v
 pub record Below (m n : ℕ) (lab : List ℕ) (v : ℕ) : Type 0 where
@@ -53,12 +53,12 @@ abbrev pub floor : ℕ → ℕ
 floor v = 2 - v
 
 -- what is joined on a line with a label above b has a label
-pub record Joined (edge lab : List ℕ) (line n b : ℕ) : Type 0 where
-  pub on : (k q : ℕ) → k < n → q < n → Linked edge line k q → b < along lab line k → along lab line q ≢ 0
+pub record Joined (link lab : List ℕ) (line n b : ℕ) : Type 0 where
+  pub on : (k q : ℕ) → k < n → q < n → Linked link line k q → b < along lab line k → along lab line q ≢ 0
 
 -- and on m lines
-pub record Full (edge lab : List ℕ) (m n b : ℕ) : Type 0 where
-  pub joined : (i : ℕ) → i < m → Joined edge lab i n b
+pub record Full (link lab : List ℕ) (m n b : ℕ) : Type 0 where
+  pub joined : (i : ℕ) → i < m → Joined link lab i n b
 
 -- the marks of a line, two numbers, span its crossing k: the first is as much as `stride` is above the crossing where
 -- they begin, the second is the crossing where they end
@@ -117,28 +117,28 @@ pub record RunFilled (line lo k v : ℕ) (l₀ l : List ℕ) (c : ℕ) : Type 0 
 
 -- a visit of crossing k of a line: its run, lo to hi, gets inks and labels, c of which are new, or its label says that
 -- this was done, or it is left to the visit of a crossing before it
-pub data Visit (other inks edge cross : List ℕ) (line n k v : ℕ)
+pub data Visit (other inks link cross : List ℕ) (line n k v : ℕ)
     : List ℕ → List ℕ → List ℕ → List ℕ → ℕ → ℕ → ℕ → Type 0 where
-  passed : {l w : List ℕ} → floor v < along l line k → Visit other inks edge cross line n k v l l w w 0 0 0
-  left : {l w : List ℕ} → Left other edge line k v → Visit other inks edge cross line n k v l l w w 0 0 0
-  ran : {l₀ l w₀ w : List ℕ} {lo hi c : ℕ} → RunStart edge line k lo → RunEnd edge line n k hi →
+  passed : {l w : List ℕ} → floor v < along l line k → Visit other inks link cross line n k v l l w w 0 0 0
+  left : {l w : List ℕ} → Left other link line k v → Visit other inks link cross line n k v l l w w 0 0 0
+  ran : {l₀ l w₀ w : List ℕ} {lo hi c : ℕ} → RunStart link line k lo → RunEnd link line n k hi →
       RunInked other inks cross line v lo hi hi l₀ w₀ w → RunFilled line lo hi v l₀ l c →
-      Visit other inks edge cross line n k v l₀ l w₀ w lo hi c
+      Visit other inks link cross line n k v l₀ l w₀ w lo hi c
 
 -- all that is joined with crossing k of a line has a label, or that is left to the visit of a crossing before it
-pub data Done (other edge : List ℕ) (line n v : ℕ) (l : List ℕ) (k : ℕ) : Type 0 where
-  labelled : ((q : ℕ) → q < n → Linked edge line k q → along l line q ≢ 0) → Done other edge line n v l k
-  waits : Left other edge line k v → Done other edge line n v l k
+pub data Done (other link : List ℕ) (line n v : ℕ) (l : List ℕ) (k : ℕ) : Type 0 where
+  labelled : ((q : ℕ) → q < n → Linked link line k q → along l line q ≢ 0) → Done other link line n v l k
+  waits : Left other link line k v → Done other link line n v l k
 
 -- the crossings with the label v before place p of the other direction's labels are visited: what that did to the
 -- labels, c of which are new
-pub record Visited (other edge : List ℕ) (m n v p : ℕ) (l₀ l : List ℕ) (c : ℕ) : Type 0 where
+pub record Visited (other link : List ℕ) (m n v p : ℕ) (l₀ l : List ℕ) (c : ℕ) : Type 0 where
   pub size : length l ≡ length l₀
-  pub part : (i : ℕ) → i < m → (k : ℕ) → k < n → Part other edge i n v k (along l₀ i k) (along l i k)
-  pub did : (i : ℕ) → i < m → (k : ℕ) → k < n → k * stride + i < p → across other i k ≡ v → Done other edge i n v l k
+  pub part : (i : ℕ) → i < m → (k : ℕ) → k < n → Part other link i n v k (along l₀ i k) (along l i k)
+  pub did : (i : ℕ) → i < m → (k : ℕ) → k < n → k * stride + i < p → across other i k ≡ v → Done other link i n v l k
   pub count : zeros l + c ≡ zeros l₀
   pub same : c ≡ 0 → l ≡ l₀
-  pub full : Full edge l m n (floor v)
+  pub full : Full link l m n (floor v)
 
 -- the marks span the crossings that got labels
 pub record Spanned (marks : List ℕ) (m n : ℕ) (l₀ l : List ℕ) : Type 0 where
@@ -147,7 +147,7 @@ pub record Spanned (marks : List ℕ) (m n : ℕ) (l₀ l : List ℕ) : Type 0 w
 
 -- a pass up to place p of the other direction's labels: labels and inks before and after, the marks and the number of
 -- new labels then
-pub record PassTo (other inks edge cross : List ℕ) (m n v p : ℕ) (l₀ l w₀ w t : List ℕ) (c : ℕ) : Type 0 where
-  pub visited : Visited other edge m n v p l₀ l c
-  pub inked : Inked other inks edge cross m n v l₀ l w₀ w
+pub record PassTo (other inks link cross : List ℕ) (m n v p : ℕ) (l₀ l w₀ w t : List ℕ) (c : ℕ) : Type 0 where
+  pub visited : Visited other link m n v p l₀ l c
+  pub inked : Inked other inks link cross m n v l₀ l w₀ w
   pub spanned : Spanned t m n l₀ l

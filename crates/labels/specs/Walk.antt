@@ -10,20 +10,20 @@ use Rattle.runs.specs.Ink.{Lean}
 use Rattle.labels.specs.Pass.{Below}
 
 -- every label but the first rests on one of the other direction, a segment away, and its ink on the ink there
-pub record Grounded (own other wown wother edge cross : List ℕ) (m n : ℕ) : Type 0 where
+pub record Grounded (own other wown wother link cross : List ℕ) (m n : ℕ) : Type 0 where
   pub next : (i : ℕ) → i < m → (k : ℕ) → k < n → (v : ℕ) → 1 ≤ v → along own i k ≡ v + 1 →
-      (q : ℕ) × (q < n) × Linked edge i k q
+      (q : ℕ) × (q < n) × Linked link i k q
       × (isStop other wother cross i (getD cross k 0) v (along wown i k) q ≡ true)
 
 -- the crossings of a walk from crossing k of a line, which has the label v: each is the first stop on its line for one
 -- less, over which the ink leads
-pub data Trail : (own other wown wother edge edge′ cross lines : List ℕ) (m n line k v : ℕ) → List ℕ → Type 0 where
-  done : {own other wown wother edge edge′ cross lines : List ℕ} {m n line k : ℕ} →
-      Trail own other wown wother edge edge′ cross lines m n line k 1 []
-  step : {own other wown wother edge edge′ cross lines : List ℕ} {m n line k v q : ℕ} {qs : List ℕ} →
-      Stop other wother edge cross line n k v (along wown line k) q → q < n →
-      Trail other own wother wown edge′ edge lines cross n m q line v qs →
-      Trail own other wown wother edge edge′ cross lines m n line k (v + 1) (q ∷ qs)
+pub data Trail : (own other wown wother link link′ cross lines : List ℕ) (m n line k v : ℕ) → List ℕ → Type 0 where
+  done : {own other wown wother link link′ cross lines : List ℕ} {m n line k : ℕ} →
+      Trail own other wown wother link link′ cross lines m n line k 1 []
+  step : {own other wown wother link link′ cross lines : List ℕ} {m n line k v q : ℕ} {qs : List ℕ} →
+      Stop other wother link cross line n k v (along wown line k) q → q < n →
+      Trail other own wother wown link′ link lines cross n m q line v qs →
+      Trail own other wown wother link link′ cross lines m n line k (v + 1) (q ∷ qs)
 
 -- a corner list with corner `at` put
 abbrev pub put : List ℕ → ℕ → ℕ → ℕ → List ℕ
@@ -42,27 +42,27 @@ unfoldable mutual
       levelOut cols rows (put out at (getD cols i 0) (getD rows q 0)) (at + 1) i q qs
 
 -- what the walk is given
-pub record Walkable (l u wl wu el eu cols rows : List ℕ) (nc nr : ℕ) : Type 0 where
-  pub sized : Sized l u wl wu el eu cols rows nc nr
-  pub level : Grounded l u wl wu el cols nr nc
-  pub upright : Grounded u l wu wl eu rows nc nr
+pub record Walkable (l u wl wu kl ku cols rows : List ℕ) (nc nr : ℕ) : Type 0 where
+  pub sized : Sized l u wl wu kl ku cols rows nc nr
+  pub level : Grounded l u wl wu kl cols nr nc
+  pub upright : Grounded u l wu wl ku rows nc nr
   pub level-low : Below nr nc l labelTop
   pub upright-low : Below nc nr u labelTop
   pub level-lean : Lean nr nc l wl
   pub upright-lean : Lean nc nr u wu
 
 -- what a walk from column i and row j gives, the first segment level: the crossings, the corner list, and r corners
-pub record LevelWalk (l u wl wu el eu cols rows : List ℕ) (nc nr i j v at : ℕ) (out out′ : List ℕ) (r : ℕ)
+pub record LevelWalk (l u wl wu kl ku cols rows : List ℕ) (nc nr i j v at : ℕ) (out out′ : List ℕ) (r : ℕ)
     : Type 0 where
   pub crossings : List ℕ
-  pub trail : Trail l u wl wu el eu cols rows nr nc j i v crossings
+  pub trail : Trail l u wl wu kl ku cols rows nr nc j i v crossings
   pub wrote : out′ ≡ levelOut cols rows out at i j crossings
   pub count : r ≡ at + length crossings
 
 -- the same, the first segment upright
-pub record UprightWalk (l u wl wu el eu cols rows : List ℕ) (nc nr i j v at : ℕ) (out out′ : List ℕ) (r : ℕ)
+pub record UprightWalk (l u wl wu kl ku cols rows : List ℕ) (nc nr i j v at : ℕ) (out out′ : List ℕ) (r : ℕ)
     : Type 0 where
   pub crossings : List ℕ
-  pub trail : Trail u l wu wl eu el rows cols nc nr i j v crossings
+  pub trail : Trail u l wu wl ku kl rows cols nc nr i j v crossings
   pub wrote : out′ ≡ uprightOut cols rows out at i j crossings
   pub count : r ≡ at + length crossings

@@ -1,10 +1,10 @@
 // The labels of the escape grid's crossings, breadth first from the target, and the walk back along them.
 //
 // A label says how many segments, the first along the line, lead to the target, and one more; the ink beside it says
-// how many steps these take at least. Level labels, inks and edges stand row after row, upright ones column after
+// how many steps these take at least. Level labels, inks and links stand row after row, upright ones column after
 // column, so that one function serves both directions: a line is a row or a column, `cross` has the numbers of its
 // crossings, `labels` and `own` have the labels and inks of its own direction, and `other` and `inks` those of the
-// other one. Where both directions meet, `il` and `iu` are the level and the upright inks, `el` and `eu` the edges, and
+// other one. Where both directions meet, `il` and `iu` are the level and the upright inks, `kl` and `ku` the links, and
 // `ml` and `mu` the marks: where, on each line, the labels of the round before are.
 use foil_spec::larger;
 use grid::STRIDE;
@@ -176,7 +176,7 @@ fn visit(
     behind: &mut [u32],
     other: &[u32],
     inks: &[u32],
-    edge: &[u8],
+    link: &[u8],
     cross: &[u16],
     line: usize,
     n: usize,
@@ -185,14 +185,14 @@ fn visit(
     low: u32,
 ) -> Run
     requires { ⌜ (line < stride) × Lines (now cross) n × (k < n) × (v < labelTop)
-        × (line * stride + stride ≤ length (now edge)) ⌝ }
+        × (line * stride + stride ≤ length (now link)) ⌝ }
     requires { ⌜ (n * stride ≤ length (now other)) × (n * stride ≤ length (now inks))
         × (line * stride + stride ≤ length (now own)) ⌝ }
     requires { ⌜ Low (now other) (now inks) line n v × (across (now other) line k ≡ v) ⌝ }
     requires { ⌜ (line * stride + stride ≤ length (now labels)) × (stride ≤ length (now ahead))
         × (stride ≤ length (now behind)) ⌝ }
-    requires { ⌜ (low ≡ floor v) × Joined (now edge) (now labels) line n (floor v) ⌝ }
-    ensures { λ r. ⌜ Visit (now (other .entry)) (now (inks .entry)) (now (edge .entry)) (now (cross .entry)) line n k v
+    requires { ⌜ (low ≡ floor v) × Joined (now link) (now labels) line n (floor v) ⌝ }
+    ensures { λ r. ⌜ Visit (now (other .entry)) (now (inks .entry)) (now (link .entry)) (now (cross .entry)) line n k v
         (now (labels .entry)) (now (labels .exit)) (now (own .entry)) (now (own .exit)) (r .lo) (r .hi) (r .new) ⌝ }
 {
     if low < labels[line * STRIDE + k] {
@@ -202,15 +202,15 @@ fn visit(
             new: 0,
         };
     }
-    if is_left(other, edge, line, k, v) {
+    if is_left(other, link, line, k, v) {
         return Run {
             lo: 0,
             hi: 0,
             new: 0,
         };
     }
-    let lo = run_start(edge, line, k);
-    let hi = run_end(edge, line, n, k);
+    let lo = run_start(link, line, k);
+    let hi = run_end(link, line, n, k);
     ahead_of(ahead, other, inks, cross, line, n, lo, hi, k, v);
     behind_of(behind, other, inks, cross, line, n, lo, hi, k, v);
     if low != 0 {
@@ -259,7 +259,7 @@ fn label_pass(
     behind: &mut [u32],
     other: &[u32],
     inks: &[u32],
-    edge: &[u8],
+    link: &[u8],
     cross: &[u16],
     from: &[u16],
     m: usize,
@@ -269,11 +269,11 @@ fn label_pass(
     requires { ⌜ (m ≤ stride) × Lines (now cross) n × (1 ≤ v) × (v < labelTop) ⌝ }
     requires { ⌜ (n * stride ≤ length (now other)) × (n * stride ≤ length (now inks))
         × (m * stride ≤ length (now own)) × (m * stride ≤ length (now labels)) × (length (now labels) ≤ area) ⌝ }
-    requires { ⌜ (m * stride ≤ length (now edge)) × (2 * stride ≤ length (now from)) × (2 * stride ≤ length (now marks))
+    requires { ⌜ (m * stride ≤ length (now link)) × (2 * stride ≤ length (now from)) × (2 * stride ≤ length (now marks))
         × (stride ≤ length (now ahead)) × (stride ≤ length (now behind)) ⌝ }
     requires { ⌜ Lean n m (now other) (now inks) × Marked (now from) n m (now other) v × Marks (now marks) n
-        × Full (now edge) (now labels) m n (floor v) ⌝ }
-    ensures { λ r. ⌜ PassTo (now (other .entry)) (now (inks .entry)) (now (edge .entry)) (now (cross .entry))
+        × Full (now link) (now labels) m n (floor v) ⌝ }
+    ensures { λ r. ⌜ PassTo (now (other .entry)) (now (inks .entry)) (now (link .entry)) (now (cross .entry))
         m n v (n * stride) (now (labels .entry)) (now (labels .exit)) (now (own .entry)) (now (own .exit))
         (now (marks .exit)) r ⌝ }
 {
@@ -292,7 +292,7 @@ fn label_pass(
                 behind,
                 other,
                 inks,
-                edge,
+                link,
                 cross,
                 line,
                 n,
@@ -316,7 +316,7 @@ fn label_alone(
     own: &mut [u32],
     other: &[u32],
     inks: &[u32],
-    edge: &[u8],
+    link: &[u8],
     cross: &[u16],
     line: usize,
     n: usize,
@@ -324,18 +324,18 @@ fn label_alone(
     v: u32,
 ) -> bool
     requires { ⌜ (line < stride) × Lines (now cross) n × (k < n) × (v < labelTop)
-        × (line * stride + stride ≤ length (now edge)) ⌝ }
+        × (line * stride + stride ≤ length (now link)) ⌝ }
     requires { ⌜ (n * stride ≤ length (now other)) × (n * stride ≤ length (now inks))
         × Low (now other) (now inks) line n v ⌝ }
     requires { ⌜ (line * stride + stride ≤ length (now labels)) × (line * stride + stride ≤ length (now own)) ⌝ }
-    ensures { λ r. ⌜ Alone (now (other .entry)) (now (inks .entry)) (now (edge .entry)) (now (cross .entry)) line n k v
+    ensures { λ r. ⌜ Alone (now (other .entry)) (now (inks .entry)) (now (link .entry)) (now (cross .entry)) line n k v
         (now (labels .entry)) (now (labels .exit)) (now (own .entry)) (now (own .exit)) r ⌝ }
 {
     if labels[line * STRIDE + k] != 0 {
         return true;
     }
-    let lo = run_start(edge, line, k);
-    let hi = run_end(edge, line, n, k);
+    let lo = run_start(link, line, k);
+    let hi = run_end(link, line, n, k);
     let h = first_stop(other, line, lo, hi, v);
     if h == hi {
         return false;
@@ -352,8 +352,8 @@ fn last_round(
     upright: &mut [u32],
     il: &mut [u32],
     iu: &mut [u32],
-    el: &[u8],
-    eu: &[u8],
+    kl: &[u8],
+    ku: &[u8],
     cols: &[u16],
     rows: &[u16],
     nc: usize,
@@ -362,15 +362,15 @@ fn last_round(
     j: usize,
     v: u32,
 ) -> bool
-    requires { ⌜ Sized (now level) (now upright) (now il) (now iu) (now el) (now eu) (now cols) (now rows) nc nr
+    requires { ⌜ Sized (now level) (now upright) (now il) (now iu) (now kl) (now ku) (now cols) (now rows) nc nr
         × (i < nc) × (j < nr) × (1 ≤ v) × (v < labelTop) ⌝ }
     requires { ⌜ Lean nr nc (now level) (now il) × Lean nc nr (now upright) (now iu) ⌝ }
-    ensures { λ r. ⌜ Tried (now (el .entry)) (now (eu .entry)) (now (cols .entry)) (now (rows .entry)) nc nr i j v
+    ensures { λ r. ⌜ Tried (now (kl .entry)) (now (ku .entry)) (now (cols .entry)) (now (rows .entry)) nc nr i j v
         (now (level .entry)) (now (upright .entry)) (now (il .entry)) (now (iu .entry))
         (now (level .exit)) (now (upright .exit)) (now (il .exit)) (now (iu .exit)) r ⌝ }
 {
-    let along = label_alone(level, il, upright, iu, el, cols, j, nc, i, v);
-    let up = label_alone(upright, iu, level, il, eu, rows, i, nr, j, v);
+    let along = label_alone(level, il, upright, iu, kl, cols, j, nc, i, v);
+    let up = label_alone(upright, iu, level, il, ku, rows, i, nr, j, v);
     if along {
         return true;
     }
@@ -385,8 +385,8 @@ pub fn rounds(
     upright: &mut [u32],
     il: &mut [u32],
     iu: &mut [u32],
-    el: &[u8],
-    eu: &[u8],
+    kl: &[u8],
+    ku: &[u8],
     cols: &[u16],
     rows: &[u16],
     nc: usize,
@@ -394,10 +394,10 @@ pub fn rounds(
     i: usize,
     j: usize,
 ) -> bool
-    requires { ⌜ Sized (now level) (now upright) (now il) (now iu) (now el) (now eu) (now cols) (now rows) nc nr
+    requires { ⌜ Sized (now level) (now upright) (now il) (now iu) (now kl) (now ku) (now cols) (now rows) nc nr
         × (i < nc) × (j < nr) ⌝ }
     requires { ⌜ Begun (now level) (now upright) (now il) (now iu) nc nr ⌝ }
-    ensures { λ r. ⌜ Ended (now (el .entry)) (now (eu .entry)) (now (cols .entry)) (now (rows .entry)) nc nr i j
+    ensures { λ r. ⌜ Ended (now (kl .entry)) (now (ku .entry)) (now (cols .entry)) (now (rows .entry)) nc nr i j
         (now (level .entry)) (now (upright .entry)) (now (il .entry)) (now (iu .entry))
         (now (level .exit)) (now (upright .exit)) (now (il .exit)) (now (iu .exit)) r ⌝ }
 {
@@ -409,7 +409,7 @@ pub fn rounds(
     mark_targets(&mut mu, upright, nc, nr);
     let mut v = 1u32;
     loop {
-        if last_round(level, upright, il, iu, el, eu, cols, rows, nc, nr, i, j, v) {
+        if last_round(level, upright, il, iu, kl, ku, cols, rows, nc, nr, i, j, v) {
             return true;
         }
         let mut nl = [0u16; MARKS];
@@ -422,7 +422,7 @@ pub fn rounds(
             &mut behind,
             upright,
             iu,
-            el,
+            kl,
             cols,
             &mu,
             nr,
@@ -437,7 +437,7 @@ pub fn rounds(
             &mut behind,
             level,
             il,
-            eu,
+            ku,
             rows,
             &ml,
             nc,
@@ -471,8 +471,8 @@ pub fn level_step(
     upright: &[u32],
     il: &[u32],
     iu: &[u32],
-    el: &[u8],
-    eu: &[u8],
+    kl: &[u8],
+    ku: &[u8],
     cols: &[u16],
     rows: &[u16],
     nc: usize,
@@ -482,17 +482,17 @@ pub fn level_step(
     v: u32,
     at: usize,
 ) -> usize
-    requires { ⌜ Walkable (now level) (now upright) (now il) (now iu) (now el) (now eu) (now cols) (now rows) nc nr ⌝ }
+    requires { ⌜ Walkable (now level) (now upright) (now il) (now iu) (now kl) (now ku) (now cols) (now rows) nc nr ⌝ }
     requires { ⌜ (i < nc) × (j < nr) × (1 ≤ v) × (along (now level) j i ≡ v)
         × (2 * at + 2 * v ≤ length (now out) + 2) ⌝ }
     ensures { λ r. ⌜ LevelWalk (now (level .entry)) (now (upright .entry)) (now (il .entry)) (now (iu .entry))
-        (now (el .entry)) (now (eu .entry)) (now (cols .entry)) (now (rows .entry)) nc nr i j v at
+        (now (kl .entry)) (now (ku .entry)) (now (cols .entry)) (now (rows .entry)) nc nr i j v at
         (now (out .entry)) (now (out .exit)) r ⌝ }
 {
     if v == 1 {
         return at;
     }
-    let k = next_stop(upright, iu, el, cols, j, nc, i, v - 1, il[j * STRIDE + i]);
+    let k = next_stop(upright, iu, kl, cols, j, nc, i, v - 1, il[j * STRIDE + i]);
     put_corner(out, at, cols[k], rows[j]);
     upright_step(
         out,
@@ -500,8 +500,8 @@ pub fn level_step(
         upright,
         il,
         iu,
-        el,
-        eu,
+        kl,
+        ku,
         cols,
         rows,
         nc,
@@ -520,8 +520,8 @@ pub fn upright_step(
     upright: &[u32],
     il: &[u32],
     iu: &[u32],
-    el: &[u8],
-    eu: &[u8],
+    kl: &[u8],
+    ku: &[u8],
     cols: &[u16],
     rows: &[u16],
     nc: usize,
@@ -531,17 +531,17 @@ pub fn upright_step(
     v: u32,
     at: usize,
 ) -> usize
-    requires { ⌜ Walkable (now level) (now upright) (now il) (now iu) (now el) (now eu) (now cols) (now rows) nc nr ⌝ }
+    requires { ⌜ Walkable (now level) (now upright) (now il) (now iu) (now kl) (now ku) (now cols) (now rows) nc nr ⌝ }
     requires { ⌜ (i < nc) × (j < nr) × (1 ≤ v) × (along (now upright) i j ≡ v)
         × (2 * at + 2 * v ≤ length (now out) + 2) ⌝ }
     ensures { λ r. ⌜ UprightWalk (now (level .entry)) (now (upright .entry)) (now (il .entry)) (now (iu .entry))
-        (now (el .entry)) (now (eu .entry)) (now (cols .entry)) (now (rows .entry)) nc nr i j v at
+        (now (kl .entry)) (now (ku .entry)) (now (cols .entry)) (now (rows .entry)) nc nr i j v at
         (now (out .entry)) (now (out .exit)) r ⌝ }
 {
     if v == 1 {
         return at;
     }
-    let k = next_stop(level, il, eu, rows, i, nr, j, v - 1, iu[i * STRIDE + j]);
+    let k = next_stop(level, il, ku, rows, i, nr, j, v - 1, iu[i * STRIDE + j]);
     put_corner(out, at, cols[i], rows[k]);
     level_step(
         out,
@@ -549,8 +549,8 @@ pub fn upright_step(
         upright,
         il,
         iu,
-        el,
-        eu,
+        kl,
+        ku,
         cols,
         rows,
         nc,

@@ -64,21 +64,21 @@ pub record RunInked (other inks cross : List ℕ) (line v lo hi k : ℕ) (l₀ w
   pub high : (i : ℕ) → line * stride + k ≤ i → getD w i 0 ≡ getD w₀ i 0
 
 -- s is the least ink at crossing k over the stops that are joined with it
-pub record LeastInk (other inks edge cross : List ℕ) (line n v k s : ℕ) : Type 0 where
-  pub le : (q : ℕ) → q < n → Linked edge line k q → across other line q ≡ v →
+pub record LeastInk (other inks link cross : List ℕ) (line n v k s : ℕ) : Type 0 where
+  pub le : (q : ℕ) → q < n → Linked link line k q → across other line q ≡ v →
       s ≤ across inks line q + gap (getD cross k 0) (getD cross q 0)
   pub q : ℕ
   pub below : q < n
-  pub linked : Linked edge line k q
+  pub linked : Linked link line k q
   pub stop : across other line q ≡ v
   pub ge : across inks line q + gap (getD cross k 0) (getD cross q 0) ≤ s
 
 -- the inks w before and after a pass, or a part of one: each new label has the least, and the others stay
-pub record Inked (other inks edge cross : List ℕ) (m n v : ℕ) (l₀ l w₀ w : List ℕ) : Type 0 where
+pub record Inked (other inks link cross : List ℕ) (m n v : ℕ) (l₀ l w₀ w : List ℕ) : Type 0 where
   pub size : length w ≡ length w₀
   pub kept : (i : ℕ) → i < m → (k : ℕ) → k < n → along l₀ i k ≢ 0 → along w i k ≡ along w₀ i k
   pub fresh : (i : ℕ) → i < m → (k : ℕ) → k < n → along l₀ i k ≡ 0 → along l i k ≢ 0 →
-      LeastInk other inks edge cross i n v k (along w i k)
+      LeastInk other inks link cross i n v k (along w i k)
 
 -- every label has a small ink
 pub record Lean (m n : ℕ) (lab inks : List ℕ) : Type 0 where

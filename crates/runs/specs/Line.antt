@@ -1,4 +1,4 @@
--- One line of the escape grid, with its edges, and the labels of its crossings.
+-- One line of the escape grid, with its links, and the labels of its crossings.
 use Prim.Native.Nat.{ℕ, _+_, _-_, _*_, _≤_, _<_, min, max}
 use mathlib.Core.Path.{_≡_}
 use mathlib.Core.Logic.{_≢_}
@@ -19,26 +19,26 @@ across lab line k = along lab k line
 
 -- the line is free from crossing a to crossing b, either way round
 unfoldable pub Linked : List ℕ → ℕ → ℕ → ℕ → Type 0
-Linked edge line a b = (i : ℕ) → min a b ≤ i → i < max a b → getD edge (line * stride + i) 0 ≡ 1
+Linked link line a b = (i : ℕ) → min a b ≤ i → i < max a b → getD link (line * stride + i) 0 ≡ 1
 
 -- r is the first crossing that is joined with the crossing `at`
-pub record RunStart (edge : List ℕ) (line at r : ℕ) : Type 0 where
+pub record RunStart (link : List ℕ) (line at r : ℕ) : Type 0 where
   pub le : r ≤ at
-  pub linked : Linked edge line r at
-  pub stop : 0 < r → getD edge (line * stride + (r - 1)) 0 ≢ 1
+  pub linked : Linked link line r at
+  pub stop : 0 < r → getD link (line * stride + (r - 1)) 0 ≢ 1
 
 -- r is the first crossing after the crossing `at` that is not joined with it, or n
-pub record RunEnd (edge : List ℕ) (line n at r : ℕ) : Type 0 where
+pub record RunEnd (link : List ℕ) (line n at r : ℕ) : Type 0 where
   pub after : at < r
   pub le : r ≤ n
-  pub linked : Linked edge line at (r - 1)
-  pub stop : r < n → getD edge (line * stride + (r - 1)) 0 ≢ 1
+  pub linked : Linked link line at (r - 1)
+  pub stop : r < n → getD link (line * stride + (r - 1)) 0 ≢ 1
 
 -- a crossing before the crossing `at` is joined with it, and has the label v in the other direction
-pub record Left (other edge : List ℕ) (line at v : ℕ) : Type 0 where
+pub record Left (other link : List ℕ) (line at v : ℕ) : Type 0 where
   pub j : ℕ
   pub before : j < at
-  pub linked : Linked edge line at j
+  pub linked : Linked link line at j
   pub stop : across other line j ≡ v
 
 -- no label is larger: a round that is not the last one gives a label to a crossing, in one direction or the other
@@ -52,16 +52,16 @@ isStop other inks cross line x v s k =
     eqb (across other line k) v && eqb (across inks line k + gap x (getD cross k 0)) s
 
 -- r is the first such stop from the crossing lo on, and joined with it, or n
-pub record Scanned (other inks edge cross : List ℕ) (line n lo x v s r : ℕ) : Type 0 where
+pub record Scanned (other inks link cross : List ℕ) (line n lo x v s r : ℕ) : Type 0 where
   pub le : r ≤ n
-  pub before : (k : ℕ) → k < r → lo ≤ k → Linked edge line lo k → isStop other inks cross line x v s k ≡ false
-  pub found : r < n → (lo ≤ r) × Linked edge line lo r × (isStop other inks cross line x v s r ≡ true)
+  pub before : (k : ℕ) → k < r → lo ≤ k → Linked link line lo k → isStop other inks cross line x v s k ≡ false
+  pub found : r < n → (lo ≤ r) × Linked link line lo r × (isStop other inks cross line x v s r ≡ true)
 
 -- r is the first such stop joined with the crossing `at`, from there, or n
-pub record Stop (other inks edge cross : List ℕ) (line n at v s r : ℕ) : Type 0 where
+pub record Stop (other inks link cross : List ℕ) (line n at v s r : ℕ) : Type 0 where
   pub le : r ≤ n
-  pub before : (k : ℕ) → k < r → Linked edge line at k → isStop other inks cross line (getD cross at 0) v s k ≡ false
-  pub found : r < n → Linked edge line at r × (isStop other inks cross line (getD cross at 0) v s r ≡ true)
+  pub before : (k : ℕ) → k < r → Linked link line at k → isStop other inks cross line (getD cross at 0) v s k ≡ false
+  pub found : r < n → Linked link line at r × (isStop other inks cross line (getD cross at 0) v s r ≡ true)
 
 -- r is the first of the crossings lo to hi, hi excluded, of a line that has the label v in the other direction, or hi
 pub record FirstStop (other : List ℕ) (line v lo hi r : ℕ) : Type 0 where

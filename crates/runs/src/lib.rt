@@ -42,13 +42,13 @@ pub fn nearer(a: usize, b: usize) -> usize
 }
 
 // The first crossing of a line that is joined with the crossing `at`.
-fn back_from(edge: &[u8], line: usize, at: usize) -> usize
-    requires { ⌜ (line < stride) × (at ≤ stride) × (line * stride + stride ≤ length (now edge)) ⌝ }
-    ensures { λ r. ⌜ RunStart (now (edge .entry)) line at r ⌝ }
+fn back_from(link: &[u8], line: usize, at: usize) -> usize
+    requires { ⌜ (line < stride) × (at ≤ stride) × (line * stride + stride ≤ length (now link)) ⌝ }
+    ensures { λ r. ⌜ RunStart (now (link .entry)) line at r ⌝ }
 {
     let mut lo = at;
     while 0 < lo {
-        if edge[line * STRIDE + (lo - 1)] != 1 {
+        if link[line * STRIDE + (lo - 1)] != 1 {
             return lo;
         }
         lo -= 1;
@@ -58,21 +58,21 @@ fn back_from(edge: &[u8], line: usize, at: usize) -> usize
 
 // The same. It is no more than `at`: with that said once more, the compiler does not carry a place of every list along
 // the scan.
-pub fn run_start(edge: &[u8], line: usize, at: usize) -> usize
-    requires { ⌜ (line < stride) × (at ≤ stride) × (line * stride + stride ≤ length (now edge)) ⌝ }
-    ensures { λ r. ⌜ RunStart (now (edge .entry)) line at r ⌝ }
+pub fn run_start(link: &[u8], line: usize, at: usize) -> usize
+    requires { ⌜ (line < stride) × (at ≤ stride) × (line * stride + stride ≤ length (now link)) ⌝ }
+    ensures { λ r. ⌜ RunStart (now (link .entry)) line at r ⌝ }
 {
-    nearer(back_from(edge, line, at), at)
+    nearer(back_from(link, line, at), at)
 }
 
 // The first crossing after the crossing `at`, of n on a line, that is not joined with it.
-pub fn run_end(edge: &[u8], line: usize, n: usize, at: usize) -> usize
-    requires { ⌜ (line < stride) × (n ≤ stride) × (at < n) × (line * stride + stride ≤ length (now edge)) ⌝ }
-    ensures { λ r. ⌜ RunEnd (now (edge .entry)) line n at r ⌝ }
+pub fn run_end(link: &[u8], line: usize, n: usize, at: usize) -> usize
+    requires { ⌜ (line < stride) × (n ≤ stride) × (at < n) × (line * stride + stride ≤ length (now link)) ⌝ }
+    ensures { λ r. ⌜ RunEnd (now (link .entry)) line n at r ⌝ }
 {
     let mut hi = at + 1;
     while hi < n {
-        if edge[line * STRIDE + (hi - 1)] != 1 {
+        if link[line * STRIDE + (hi - 1)] != 1 {
             return hi;
         }
         hi += 1;
@@ -82,17 +82,17 @@ pub fn run_end(edge: &[u8], line: usize, n: usize, at: usize) -> usize
 
 // Whether the visit of crossing `at` can be left to one before it: in the first round, where a crossing before it that
 // is joined with it has the label v in the other direction as well. So the run of many targets is visited once.
-pub fn is_left(other: &[u32], edge: &[u8], line: usize, at: usize, v: u32) -> bool
+pub fn is_left(other: &[u32], link: &[u8], line: usize, at: usize, v: u32) -> bool
     requires { ⌜ (line < stride) × (at ≤ stride) × (at * stride ≤ length (now other))
-        × (line * stride + stride ≤ length (now edge)) ⌝ }
-    ensures { λ r. ⌜ (r ≡ true → Left (now (other .entry)) (now (edge .entry)) line at v) ⌝ }
+        × (line * stride + stride ≤ length (now link)) ⌝ }
+    ensures { λ r. ⌜ (r ≡ true → Left (now (other .entry)) (now (link .entry)) line at v) ⌝ }
 {
     if v != 1 {
         return false;
     }
     let mut j = at;
     while 0 < j {
-        if edge[line * STRIDE + (j - 1)] != 1 {
+        if link[line * STRIDE + (j - 1)] != 1 {
             return false;
         }
         j -= 1;
@@ -132,7 +132,7 @@ fn is_stop(
 fn scan(
     other: &[u32],
     inks: &[u32],
-    edge: &[u8],
+    link: &[u8],
     cross: &[u16],
     line: usize,
     n: usize,
@@ -142,10 +142,10 @@ fn scan(
     s: u32,
 ) -> usize
     requires { ⌜ (line < stride) × Lines (now cross) n × (lo ≤ n) × (v < labelTop)
-        × (line * stride + stride ≤ length (now edge)) ⌝ }
+        × (line * stride + stride ≤ length (now link)) ⌝ }
     requires { ⌜ (n * stride ≤ length (now other)) × (n * stride ≤ length (now inks))
         × Low (now other) (now inks) line n v ⌝ }
-    ensures { λ r. ⌜ Scanned (now (other .entry)) (now (inks .entry)) (now (edge .entry)) (now (cross .entry))
+    ensures { λ r. ⌜ Scanned (now (other .entry)) (now (inks .entry)) (now (link .entry)) (now (cross .entry))
         line n lo x v s r ⌝ }
 {
     let mut k = lo;
@@ -153,7 +153,7 @@ fn scan(
         if is_stop(other, inks, cross, line, k, x, v, s) {
             return k;
         }
-        if edge[line * STRIDE + k] != 1 {
+        if link[line * STRIDE + k] != 1 {
             return n;
         }
         k += 1;
@@ -165,7 +165,7 @@ fn scan(
 pub fn next_stop(
     other: &[u32],
     inks: &[u32],
-    edge: &[u8],
+    link: &[u8],
     cross: &[u16],
     line: usize,
     n: usize,
@@ -174,20 +174,20 @@ pub fn next_stop(
     s: u32,
 ) -> usize
     requires { ⌜ (line < stride) × Lines (now cross) n × (at < n) × (v < labelTop)
-        × (line * stride + stride ≤ length (now edge)) ⌝ }
+        × (line * stride + stride ≤ length (now link)) ⌝ }
     requires { ⌜ (n * stride ≤ length (now other)) × (n * stride ≤ length (now inks))
         × Low (now other) (now inks) line n v ⌝ }
-    ensures { λ r. ⌜ Stop (now (other .entry)) (now (inks .entry)) (now (edge .entry)) (now (cross .entry))
+    ensures { λ r. ⌜ Stop (now (other .entry)) (now (inks .entry)) (now (link .entry)) (now (cross .entry))
         line n at v s r ⌝ }
 {
     scan(
         other,
         inks,
-        edge,
+        link,
         cross,
         line,
         n,
-        run_start(edge, line, at),
+        run_start(link, line, at),
         cross[at],
         v,
         s,

@@ -286,8 +286,8 @@ module _ {z : List ℕ} {n : ℕ} {t : List ℕ} {k w h : ℕ} {S : Point} (P : 
                   upright = lu;
                   level-inks = li;
                   upright-inks = ui;
-                  level-edges = le;
-                  upright-edges = ue;
+                  level-links = le;
+                  upright-links = ue;
                 };
                 level = grounded P G B r E .0;
                 upright = grounded P G B r E .1;

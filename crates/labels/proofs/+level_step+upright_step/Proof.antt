@@ -109,7 +109,7 @@ module _ (t : ℕ) where
           sized .column-lines,
           pre .1 .0,
           omega (arith, low, pre .1 .3),
-          omega (arith, pre .1 .1, sized .level-edges),
+          omega (arith, pre .1 .1, sized .level-links),
         ),
         (
           sized .upright,
@@ -235,7 +235,7 @@ module _ (t : ℕ) where
           sized .row-lines,
           pre .1 .1,
           omega (arith, low, pre .1 .3),
-          omega (arith, pre .1 .0, sized .upright-edges),
+          omega (arith, pre .1 .0, sized .upright-links),
         ),
         (sized .level, sized .level-inks, lean-low _ _ (pre .0 .level-lean) (pre .1 .0) (omega (arith, pre .1 .2))),
       )

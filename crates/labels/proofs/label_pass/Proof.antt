@@ -15,25 +15,25 @@ use Rattle.labels.proofs.label_pass.Statement.{statement}
 use Rattle.labels.proofs.label_pass.Tie as tie
 
 abbrev Inv-loop : tie.InvT-loop
-Inv-loop labels₀ own₀ marks₀ ahead₀ behind₀ other inks edge cross from m n v low new₀ k₀
+Inv-loop labels₀ own₀ marks₀ ahead₀ behind₀ other inks link cross from m n v low new₀ k₀
     labels own marks ahead behind new k =
     (k ≤ n) × (length marks ≡ length marks₀) × (length ahead ≡ length ahead₀) × (length behind ≡ length behind₀)
-    × PassTo other inks edge cross m n v (k * stride) labels₀ labels own₀ own marks new
+    × PassTo other inks link cross m n v (k * stride) labels₀ labels own₀ own marks new
 
 abbrev μ-loop : tie.MeasureT-loop
-μ-loop labels₀ own₀ marks₀ ahead₀ behind₀ other inks edge cross from m n v low new₀ k₀
+μ-loop labels₀ own₀ marks₀ ahead₀ behind₀ other inks link cross from m n v low new₀ k₀
     labels own marks ahead behind new k = n - k
 
 abbrev Inv-loop2 : tie.InvT-loop2
-Inv-loop2 labels₀ own₀ marks₀ ahead₀ behind₀ other inks edge cross from m n v low new₀ k first end line₀
+Inv-loop2 labels₀ own₀ marks₀ ahead₀ behind₀ other inks link cross from m n v low new₀ k first end line₀
     labels own marks ahead behind new line =
     (line ≤ end) × (line < end → along other k line ≡ v) × (length marks ≡ length marks₀)
     × (length ahead ≡ length ahead₀) × (length behind ≡ length behind₀)
-    × PassOn other inks edge cross m n v (k * stride + line₀) (k * stride + line) labels₀ labels own₀ own marks₀ marks
+    × PassOn other inks link cross m n v (k * stride + line₀) (k * stride + line) labels₀ labels own₀ own marks₀ marks
     new₀ new
 
 abbrev μ-loop2 : tie.MeasureT-loop2
-μ-loop2 labels₀ own₀ marks₀ ahead₀ behind₀ other inks edge cross from m n v low new₀ k first end line₀
+μ-loop2 labels₀ own₀ marks₀ ahead₀ behind₀ other inks link cross from m n v low new₀ k first end line₀
     labels own marks ahead behind new line = end - line
 
 -- back to the start, to the turn of the outer loop, to that of the inner one, to the visit in it, and to the marks

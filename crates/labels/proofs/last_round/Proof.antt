@@ -26,7 +26,7 @@ label-alone-requires c κs =
         sized .column-lines,
         pre .0 .1,
         pre .0 .4,
-        omega (arith, sized .level-edges),
+        omega (arith, sized .level-links),
       ),
       (
         (sized .upright, sized .upright-inks, lean-low _ _ (pre .1 .1) (pre .0 .2) (pre .0 .3)),
@@ -47,7 +47,7 @@ label-alone-requires-2 c κs =
         sized .row-lines,
         pre .0 .2,
         pre .0 .4,
-        omega (arith, sized .upright-edges),
+        omega (arith, sized .upright-links),
       ),
       (
         (

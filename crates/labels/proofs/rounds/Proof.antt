@@ -13,15 +13,15 @@ use Rattle.labels.proofs.rounds.Statement.{statement}
 use Rattle.labels.proofs.rounds.Tie as tie
 
 abbrev Inv-loop : tie.InvT-loop
-Inv-loop level₀ upright₀ il₀ iu₀ el eu cols rows nc nr i j ahead₀ behind₀ ml₀ mu₀ v₀
+Inv-loop level₀ upright₀ il₀ iu₀ kl ku cols rows nc nr i j ahead₀ behind₀ ml₀ mu₀ v₀
     level upright il iu ahead behind ml mu v =
     (length level ≡ length level₀) × (length upright ≡ length upright₀) × (length il ≡ length il₀)
     × (length iu ≡ length iu₀) × (length ml ≡ 2 * stride) × (length mu ≡ 2 * stride) × (length ahead ≡ stride)
     × (length behind ≡ stride)
-    × Going el eu cols rows nc nr level₀ upright₀ il₀ iu₀ v level upright il iu ml mu
+    × Going kl ku cols rows nc nr level₀ upright₀ il₀ iu₀ v level upright il iu ml mu
 
 abbrev μ-loop : tie.MeasureT-loop
-μ-loop level₀ upright₀ il₀ iu₀ el eu cols rows nc nr i j ahead₀ behind₀ ml₀ mu₀ v₀
+μ-loop level₀ upright₀ il₀ iu₀ kl ku cols rows nc nr i j ahead₀ behind₀ ml₀ mu₀ v₀
     level upright il iu ahead behind ml mu v =
     zeros level + zeros upright
 
@@ -160,7 +160,7 @@ label-pass-requires c κs =
         ),
         (
           (
-            sized .level-edges,
+            sized .level-links,
             omega (arith, inv .5),
             omega arith,
             omega (arith, inv .6),
@@ -208,7 +208,7 @@ label-pass-requires-2 c κs =
         ),
         (
           (
-            sized .upright-edges,
+            sized .upright-links,
             omega (arith, inv .4),
             omega arith,
             omega (arith, inv .6, kept .0),

@@ -7,10 +7,10 @@ use Rattle.runs.proofs.back_from.Statement.{statement}
 use Rattle.runs.proofs.back_from.Tie as tie
 
 abbrev Inv-loop : tie.InvT-loop
-Inv-loop edge line at lo₀ lo = (lo ≤ at) × Linked edge line lo at
+Inv-loop link line at lo₀ lo = (lo ≤ at) × Linked link line lo at
 
 abbrev μ-loop : tie.MeasureT-loop
-μ-loop edge line at lo₀ lo = lo
+μ-loop link line at lo₀ lo = lo
 
 -- back to the loop's head
 abbrev atLoop : tie.After-shared-slice-known Inv-loop μ-loop → tie.At-loop Inv-loop μ-loop

@@ -9,10 +9,10 @@ use Rattle.runs.proofs.is_left.Statement.{statement}
 use Rattle.runs.proofs.is_left.Tie as tie
 
 abbrev Inv-loop : tie.InvT-loop
-Inv-loop other edge line at v j₀ j = (j ≤ at) × Linked edge line j at
+Inv-loop other link line at v j₀ j = (j ≤ at) × Linked link line j at
 
 abbrev μ-loop : tie.MeasureT-loop
-μ-loop other edge line at v j₀ j = j
+μ-loop other link line at v j₀ j = j
 
 -- back to the loop's head
 abbrev atLoop : tie.Else2 Inv-loop μ-loop → tie.At-loop Inv-loop μ-loop

@@ -7,10 +7,10 @@ use Rattle.runs.proofs.run_end.Statement.{statement}
 use Rattle.runs.proofs.run_end.Tie as tie
 
 abbrev Inv-loop : tie.InvT-loop
-Inv-loop edge line n at hi₀ hi = (at < hi) × (hi ≤ n) × Linked edge line at (hi - 1)
+Inv-loop link line n at hi₀ hi = (at < hi) × (hi ≤ n) × Linked link line at (hi - 1)
 
 abbrev μ-loop : tie.MeasureT-loop
-μ-loop edge line n at hi₀ hi = n - hi
+μ-loop link line n at hi₀ hi = n - hi
 
 -- back to the loop's head
 abbrev atLoop : tie.After-shared-slice-known Inv-loop μ-loop → tie.At-loop Inv-loop μ-loop

@@ -10,12 +10,12 @@ use Rattle.runs.proofs.scan.Statement.{statement}
 use Rattle.runs.proofs.scan.Tie as tie
 
 abbrev Inv-loop : tie.InvT-loop
-Inv-loop other inks edge cross line n lo x v s k₀ k =
-    (lo ≤ k) × (k ≤ n) × Linked edge line lo k
+Inv-loop other inks link cross line n lo x v s k₀ k =
+    (lo ≤ k) × (k ≤ n) × Linked link line lo k
     × ((j : ℕ) → j < k → lo ≤ j → isStop other inks cross line x v s j ≡ false)
 
 abbrev μ-loop : tie.MeasureT-loop
-μ-loop other inks edge cross line n lo x v s k₀ k = n - k
+μ-loop other inks link cross line n lo x v s k₀ k = n - k
 
 -- back to the start, the loop's head and is_stop
 abbrev atStart : tie.In-loop Inv-loop μ-loop → tie.Start Inv-loop μ-loop

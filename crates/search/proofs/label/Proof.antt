@@ -78,8 +78,8 @@ rounds-requires c κs =
           upright = omega (arith, room .upright, upright .kept .0);
           level-inks = omega (arith, room .level-inks, level .kept .1 .0);
           upright-inks = omega (arith, room .upright-inks, upright .kept .1 .0);
-          level-edges = pre .0 .0;
-          upright-edges = pre .0 .1;
+          level-links = pre .0 .0;
+          upright-links = pre .0 .1;
         },
         at-j .before .index-of .ensures .below,
         at-j .index-of2 .ensures .below,
