@@ -18,7 +18,8 @@ use Rattle.path_laws.specs.First.{IsFirst}
 use Rattle.path_laws.proofs.Laws.{to-first, gives-first, gives-none, first-is, none-is}
 use Rattle.course_laws.specs.Best.{PathD, inkD, Best, corners, On}
 use Rattle.course_laws.proofs.Best.{Fewest}
-use Rattle.course_laws.proofs.Corners.{corners-length, corners-ink, heading, path-leads, either-path, lexd-before}
+use Rattle.course_laws.proofs.Corners.{corners-length, corners-ink, heading, path-leads, either-path}
+use Rattle.course_laws.proofs.Corners.{lexd-before}
 
 module _ (f : ℕ → ℕ → Bool) (W H : ℕ) (inside : (x y : ℕ) → f x y ≡ true → (x < W) × (y < H)) (S : Point)
     (T : Point → Bool) where

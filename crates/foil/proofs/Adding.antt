@@ -9,8 +9,8 @@ use lib.Seq.{paste, sets}
 use borrow.Author.Tests.{lt-ltb, le-ltb, not-true, not-false}
 use Rattle.foil_spec.specs.Lists.{range, all}
 use Rattle.foil_spec.specs.Limits.{maxEntries, tableSize}
-use Rattle.foil_spec.specs.Foil.{Entry, entry, entryNumbers, Layout, netOk, boxOk, entryOk, overLeg, underPatch, penRule}
-use Rattle.foil_spec.specs.Foil.{patchMargin}
+use Rattle.foil_spec.specs.Foil.{Entry, entry, entryNumbers, Layout, netOk, boxOk, entryOk, overLeg, underPatch}
+use Rattle.foil_spec.specs.Foil.{penRule, patchMargin}
 use Rattle.foil_spec.specs.Ledger.{Room, tooLong, Step, draw, putLeg, next, says, first, refusals, After, settle}
 use Rattle.foil_spec.specs.Ledger.{Answer as Outcome}
 use Rattle.foil_spec.specs.Lent.{Lent, lent, store, entryAt, layoutOf, penIn, held, sound}
@@ -55,7 +55,8 @@ module _ (b : Board) (t s : List ℕ) (g : sound (lent b t s) ≡ true) (limit :
         q
 
     module _ (few : b .entries < limit) (ok : entryOk (b .width) (b .height) e ≡ true) (rows : List ℕ) (old : List ℕ)
-        (copied : old ≡ paste (replicate tableSize 0) 0 t tableSize) (put : rows ≡ sets old (b .entries * 5) (entryNumbers e)) where
+        (copied : old ≡ paste (replicate tableSize 0) 0 t tableSize)
+        (put : rows ≡ sets old (b .entries * 5) (entryNumbers e)) where
       added-rows : rows ≡ rowsOf (held m .entries ++ e ∷ [])
       unfolding held layoutOf
       added-rows =

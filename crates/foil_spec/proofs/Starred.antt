@@ -56,8 +56,8 @@ unfolding outcomeFrom cases jobBytes crossingBytes legJob savedBytes jobSlip pen
     jobRoom number fieldCount mapByte has fieldsAt recordEnd field stepAt stepsAt steps isEnd recordChecks
     endsJob andThen actAll actRecord tooLarge wholeRefusals ohmsReply reply ledgerCall xor
     wishAt wishes tooMany listRefusals overFront outputAfter numbersOut roomLeft pointNumbers inFront actEach actList
-    legsOf legSteps stepsOf netLength netBends whole resistanceOk widthOk bendOk inkOk formula ohmsRefusals ohmsOf half bits
-    ofInt ofBits add mul div lt le eq
+    legsOf legSteps stepsOf netLength netBends whole resistanceOk widthOk bendOk inkOk formula ohmsRefusals ohmsOf half
+    bits ofInt ofBits add mul div lt le eq
 starred = refl
 
 -- the corners that a list of nets writes stand one after the other, and what is behind them stays

@@ -44,7 +44,8 @@ module _ (a b : Entry) (net : a .net ≡ b .net) (x0 : a .x0 ≡ b .x0) (y0 : a 
 
 -- ---- one place more
 
-pub load-more : (es : List Entry) (k : ℕ) → sets (loadTo es k) (k * 5) (entryNumbers (getD es k noEntry)) ≡ loadTo es (k + 1)
+pub load-more : (es : List Entry) (k : ℕ)
+    → sets (loadTo es k) (k * 5) (entryNumbers (getD es k noEntry)) ≡ loadTo es (k + 1)
 unfolding loadTo
 load-more es k = let e : k + 1 ≡ suc k = omega arith in rw e refl
 

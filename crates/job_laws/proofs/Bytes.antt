@@ -190,7 +190,8 @@ module _ (n : ℕ) (none-has : (net : ℕ) → any possible (withNumber net n) �
       (not-any possible (f n) (withNumber net n) (none-has net) i)
 
   -- only a strip's line ends in n
-  only-strip : (l : PrintedLine) → possible l ≡ true → (v : List ℕ) → textOf l ≡ v ++ item n → (s : Strip) × (l ≡ strip s)
+  only-strip : (l : PrintedLine) → possible l ≡ true → (v : List ℕ) → textOf l ≡ v ++ item n
+      → (s : Strip) × (l ≡ strip s)
   unfolding textOf withNumber possible
   only-strip (board k) h v e = absurd (other-number 0 board (inl refl) (ascii "board") v k h e)
   only-strip (patch k) h v e = absurd (other-number 0 patch (inr (inl refl)) (ascii "patch") v k h e)

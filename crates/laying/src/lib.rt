@@ -1,5 +1,5 @@
-// The body of the call lay (`lay_in`): finds the first path of fewest bends as `finding` does, and books it as `booking`
-// does.
+// The body of the call lay (`lay_in`): finds the first path of fewest bends as `finding` does, and books it as
+// `booking` does.
 use booking::PATH_SIZE;
 use booking::book_found;
 use finding::path_between;

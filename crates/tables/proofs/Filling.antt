@@ -75,7 +75,8 @@ module _ (e : Entry) where
   appended n rows rows′ l long is =
       record {
         rows = λ es c r-is.
-            is ∙ ap (λ (x : List ℕ). sets x (n * 5) (entryNumbers e)) r-is ∙ grown es (n * 5) (omega arith) (omega arith);
+            is ∙ ap (λ (x : List ℕ). sets x (n * 5) (entryNumbers e)) r-is
+            ∙ grown es (n * 5) (omega arith) (omega arith);
         long = long ∙ sym (ap length is ∙ length-sets rows (n * 5) (entryNumbers e));
       }
 

@@ -12,7 +12,8 @@ use borrow.Author.Tests.{le-leb, lt-ltb, lt-leb, le-ltb}
 use lib.ListN.{length}
 use lib.Seq.{sets}
 use Rattle.foil_spec.specs.Lists.{range}
-use Rattle.foil_spec.specs.Foil.{Entry, entry, entryNumbers, Pen, Rule, within, blocks, penRule, margin, nearEdge, freeBy, free}
+use Rattle.foil_spec.specs.Foil.{Entry, entry, entryNumbers, Pen, Rule, within, blocks, penRule, margin, nearEdge}
+use Rattle.foil_spec.specs.Foil.{freeBy, free}
 use Rattle.foil_spec.specs.Strips.{strips}
 use Rattle.foil_spec.specs.Ledger.{stripsOf}
 use Rattle.foil_spec.specs.Lent.{entryAt, layoutOf}

@@ -76,7 +76,8 @@ loop-again c =
     let p = c .before .before .put-entry in
     zoning-more _ _ _ _ _ _ _ _ _ _ (l .loop-test .taken) (p .kept .0) (l .before .loop .inv) (zone-is (atZone c))
     (box-put _ _ _ _
-    (omega (arith, l .loop-test .taken, atStart l .pre .0 .few, atStart l .pre .1, l .before .loop .inv .same)) (p .ensures))
+    (omega (arith, l .loop-test .taken, atStart l .pre .0 .few, atStart l .pre .1, l .before .loop .inv .same))
+    (p .ensures))
 
 same-length : tie.Need-same-length Inv-loop μ-loop
 same-length c = c .before .loop .inv .same

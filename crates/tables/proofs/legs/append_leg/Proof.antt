@@ -77,7 +77,8 @@ returns c =
     let start = atStart k in
     leg-appended _ _ _ _ _ _ _ _ _ _ _ _ (k .before .corner-at .ensures) (k .corner-at2 .ensures)
     (atRight c .before .before .smaller .ensures) (atRight c .before .smaller2 .ensures) (atRight c .larger .ensures)
-    (atBottom c .larger2 .ensures) (appended _ _ _ _ (start .pre .0 .0) (start .pre .0 .1) (c .before .before .put-entry .ensures))
+    (atBottom c .larger2 .ensures)
+    (appended _ _ _ _ (start .pre .0 .0) (start .pre .0 .1) (c .before .before .put-entry .ensures))
 
 pub append-leg-spec : {M : Type 1} → statement M
 append-leg-spec =
