@@ -5,7 +5,10 @@ use native.Mathlib.Omega.{arith}
 use native.Mathlib.Decide.{decLe, decLt, ℕ-discrete}
 use mathlib.Core.Path.{_≡_, refl, sym, subst, _∙_}
 use mathlib.Core.Logic.{_≢_}
+use mathlib.Core.Bool.{true}
 use mathlib.Core.List.{List}
+use lib.Dec.{eqb}
+use borrow.Author.Tests.{eqb-true}
 use lib.ListN.{getD, length}
 use Rattle.grid.specs.Size.{stride}
 use Rattle.runs.specs.Line.{along, across, Linked, RunStart, RunEnd}
@@ -22,16 +25,18 @@ pub visit-passed : {other inks link cross l w : List ℕ} {line n k v low : ℕ}
 visit-passed {l = l} {line = line} {k = k} {v = v} e x = let z : floor v < along l line k = omega arith in passed z
 
 -- a run none of whose labels is above 0 so far, since that of crossing k is not
-pub blank-run : {link lab : List ℕ} {line n k lo hi b : ℕ} → b ≡ 0 → along lab line k ≤ b → k < n →
-    Joined link lab line n b → RunStart link line k lo → RunEnd link line n k hi → Blank lab line lo hi
-blank-run {link} {lab} {line} {n} {k} {lo} {hi} {b} z low lk J s e = record {
+pub blank-run : {link lab : List ℕ} {line n k lo hi low b : ℕ} → low ≡ b → along lab line k ≤ low → k < n →
+    Joined link lab line n b → RunStart link line k lo → RunEnd link line n k hi → eqb low 0 ≡ true →
+    Blank lab line lo hi
+blank-run {link} {lab} {line} {n} {k} {lo} {hi} {low} {b} same few lk J s e none-yet = record {
   none = λ j l h. pick j l h (ℕ-discrete (along lab line j) 0);
 }
   where
     pick : (j : ℕ) → lo ≤ j → j < hi → Dec (along lab line j ≡ 0) → along lab line j ≡ 0
     pick j l h (yes x) = x
     pick j l h (no x) =
-        let few = e .le in
+        let z = eqb-true low 0 none-yet in
+        let le = e .le in
         absurd (J .on j k (omega arith) lk (run-joined s e j l h k (s .le) (e .after)) (omega arith) (omega arith))
 
 fill-on : {v a b : ℕ} → Fill v a b → b ≢ 0

@@ -1,5 +1,5 @@
 -- Laws of the walk, step by step.
-use Prim.Native.Nat.{ℕ, _+_, _-_, _≤_, _<_}
+use Prim.Native.Nat.{ℕ, _+_, _-_, _*_, _≤_, _<_}
 use native.Mathlib.Omega.{arith}
 use native.Mathlib.Decide.{decLt}
 use mathlib.Core.Path.{_≡_, refl, sym, ap, subst, _∙_}
@@ -7,9 +7,12 @@ use mathlib.Core.Logic.{_≢_}
 use mathlib.Core.Bool.{true}
 use mathlib.Core.List.{List, [], _∷_}
 use lib.ListN.{getD}
+use lib.Seq.{sets}
+use Rattle.foil_spec.specs.Foil.{point}
+use Rattle.foil_spec.specs.Corners.{pointNumbers}
 use Rattle.list_laws.proofs.Tests.{clash}
 use Rattle.runs.specs.Line.{along, across, Linked, isStop, Stop}
-use Rattle.labels.specs.Walk.{Grounded, Trail, done, step, put, levelOut, uprightOut, LevelWalk, UprightWalk}
+use Rattle.labels.specs.Walk.{Grounded, Trail, done, step, levelOut, uprightOut, LevelWalk, UprightWalk}
 use Rattle.runs.proofs.Line.{of-stop}
 
 -- from a label above 1 there is a next crossing
@@ -48,7 +51,7 @@ module _ {l u wl wu kl ku cols rows : List ℕ} {nc nr i j v at : ℕ} {out : Li
   -- one segment, and the walk from its end
   pub level-more : {q : ℕ} {mid out′ : List ℕ} {r : ℕ} → 1 ≤ v → Stop u wu kl cols j nc i (v - 1) (along wl j i) q →
       q < nc →
-      mid ≡ put out at (getD cols q 0) (getD rows j 0) →
+      mid ≡ sets out (at * 2) (pointNumbers (point (getD cols q 0) (getD rows j 0))) →
       UprightWalk l u wl wu kl ku cols rows nc nr q j (v - 1) (at + 1) mid out′ r →
       LevelWalk l u wl wu kl ku cols rows nc nr i j v at out out′ r
   unfolding levelOut
@@ -61,7 +64,7 @@ module _ {l u wl wu kl ku cols rows : List ℕ} {nc nr i j v at : ℕ} {out : Li
 
   pub upright-more : {q : ℕ} {mid out′ : List ℕ} {r : ℕ} → 1 ≤ v → Stop l wl ku rows i nr j (v - 1) (along wu i j) q →
       q < nr →
-      mid ≡ put out at (getD cols i 0) (getD rows q 0) →
+      mid ≡ sets out (at * 2) (pointNumbers (point (getD cols i 0) (getD rows q 0))) →
       LevelWalk l u wl wu kl ku cols rows nc nr i q (v - 1) (at + 1) mid out′ r →
       UprightWalk l u wl wu kl ku cols rows nc nr i j v at out out′ r
   unfolding uprightOut

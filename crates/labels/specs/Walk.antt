@@ -3,7 +3,10 @@ use Prim.Native.Nat.{ℕ, _+_, _*_, _≤_, _<_}
 use mathlib.Core.Path.{_≡_}
 use mathlib.Core.List.{List, [], _∷_}
 use mathlib.Core.Bool.{true}
-use lib.ListN.{getD, set, length}
+use lib.ListN.{getD, length}
+use lib.Seq.{sets}
+use Rattle.foil_spec.specs.Foil.{point}
+use Rattle.foil_spec.specs.Corners.{pointNumbers}
 use Rattle.labels.specs.Rounds.{Sized}
 use Rattle.runs.specs.Line.{along, Linked, isStop, Stop, labelTop}
 use Rattle.runs.specs.Ink.{Lean}
@@ -25,21 +28,17 @@ pub data Trail : (own other wown wother link link′ cross lines : List ℕ) (m 
       Trail other own wother wown link′ link lines cross n m q line v qs →
       Trail own other wown wother link link′ cross lines m n line k (v + 1) (q ∷ qs)
 
--- a corner list with corner `at` put
-abbrev pub put : List ℕ → ℕ → ℕ → ℕ → List ℕ
-put out at x y = set (set out (2 * at) x) (2 * at + 1) y
-
 -- the corner list after a walk from column i and row j over the crossings, whose first segment is level or upright
 unfoldable mutual
   pub levelOut : List ℕ → List ℕ → List ℕ → ℕ → ℕ → ℕ → List ℕ → List ℕ
   levelOut cols rows out at i j [] = out
   levelOut cols rows out at i j (q ∷ qs) =
-      uprightOut cols rows (put out at (getD cols q 0) (getD rows j 0)) (at + 1) q j qs
+      uprightOut cols rows (sets out (at * 2) (pointNumbers (point (getD cols q 0) (getD rows j 0)))) (at + 1) q j qs
 
   pub uprightOut : List ℕ → List ℕ → List ℕ → ℕ → ℕ → ℕ → List ℕ → List ℕ
   uprightOut cols rows out at i j [] = out
   uprightOut cols rows out at i j (q ∷ qs) =
-      levelOut cols rows (put out at (getD cols i 0) (getD rows q 0)) (at + 1) i q qs
+      levelOut cols rows (sets out (at * 2) (pointNumbers (point (getD cols i 0) (getD rows q 0)))) (at + 1) i q qs
 
 -- what the walk is given
 pub record Walkable (l u wl wu kl ku cols rows : List ℕ) (nc nr : ℕ) : Type 0 where

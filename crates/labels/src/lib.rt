@@ -6,13 +6,15 @@
 // crossings, `labels` and `own` have the labels and inks of its own direction, and `other` and `inks` those of the
 // other one. Where both directions meet, `il` and `iu` are the level and the upright inks, `kl` and `ku` the links, and
 // `ml` and `mu` the marks: where, on each line, the labels of the round before are.
+use foil_spec::Point;
 use foil_spec::larger;
+use foil_spec::put_corner;
 use grid::STRIDE;
 use runs::ahead_of;
 use runs::behind_of;
 use runs::first_stop;
+use runs::has_label;
 use runs::ink_at;
-use runs::ink_blank;
 use runs::ink_run;
 use runs::is_left;
 use runs::nearer;
@@ -20,6 +22,7 @@ use runs::next_stop;
 use runs::run_end;
 use runs::run_start;
 ghost use mathlib.Core.Path.{_≡_};
+ghost use mathlib.Core.Bool.{true};
 ghost use Prim.Native.Nat.{ℕ, _+_, _*_, _≤_, _<_};
 ghost use lib.ListN.{length};
 ghost use Rattle.grid.specs.Size.{stride, area};
@@ -29,7 +32,7 @@ ghost use Rattle.runs.specs.Ink.{Low, Lean, Blank};
 ghost use Rattle.labels.specs.Pass.{Below, floor, Joined, Full, Marks, Marked, Widened, NextNew, Summed};
 ghost use Rattle.labels.specs.Pass.{CellFilled, RunFilled, Visit, PassTo, Alone};
 ghost use Rattle.labels.specs.Rounds.{Sized, Begun, Tried, Ended};
-ghost use Rattle.labels.specs.Walk.{put, Walkable, LevelWalk, UprightWalk};
+ghost use Rattle.labels.specs.Walk.{Walkable, LevelWalk, UprightWalk};
 
 // The marks of the lines of a direction have two numbers for each.
 const MARKS: usize = 538;
@@ -117,44 +120,32 @@ fn mark_targets(marks: &mut [u16], labels: &[u32], m: usize, n: usize)
 }
 
 // Gives crossing k of a line the label v + 1, if it has none. Returns how many labels are new.
-fn fill_cell(labels: &mut [u32], line: usize, k: usize, v: u32) -> usize
+fn fill_cell(labels: &mut [u32], line: usize, k: usize, v: u32, blank: bool) -> usize
     requires { ⌜ (line < stride) × (k < stride) × (v < labelTop) × (line * stride + stride ≤ length (now labels)) ⌝ }
+    requires { ⌜ (blank ≡ true → along (now labels) line k ≡ 0) ⌝ }
     ensures { λ r. ⌜ CellFilled line k v (now (labels .entry)) (now (labels .exit)) r ⌝ }
 {
-    if labels[line * STRIDE + k] != 0 {
+    if has_label(labels, line, k, blank) {
         return 0;
     }
     labels[line * STRIDE + k] = v + 1;
     1
 }
 
-// The same for the crossings lo to hi, hi excluded.
-fn fill_run(labels: &mut [u32], line: usize, lo: usize, hi: usize, v: u32) -> usize
+// The same for the crossings lo to hi, hi excluded. Where they are known to be blank, they are not looked at.
+fn fill_run(labels: &mut [u32], line: usize, lo: usize, hi: usize, v: u32, blank: bool) -> usize
     requires { ⌜ (line < stride) × (hi ≤ stride) × (lo ≤ hi) × (v < labelTop)
         × (line * stride + stride ≤ length (now labels)) ⌝ }
+    requires { ⌜ (blank ≡ true → Blank (now labels) line lo hi) ⌝ }
     ensures { λ r. ⌜ RunFilled line lo hi v (now (labels .entry)) (now (labels .exit)) r ⌝ }
 {
     let mut new = 0;
     let mut k = lo;
     while k < hi {
-        new += fill_cell(labels, line, k, v);
+        new += fill_cell(labels, line, k, v, blank);
         k += 1;
     }
     new
-}
-
-// The same where none of them has a label.
-fn fill_blank(labels: &mut [u32], line: usize, lo: usize, hi: usize, v: u32) -> usize
-    requires { ⌜ (line < stride) × (hi ≤ stride) × (lo ≤ hi) × (v < labelTop)
-        × (line * stride + stride ≤ length (now labels)) × Blank (now labels) line lo hi ⌝ }
-    ensures { λ r. ⌜ RunFilled line lo hi v (now (labels .entry)) (now (labels .exit)) r ⌝ }
-{
-    let mut k = lo;
-    while k < hi {
-        labels[line * STRIDE + k] = v + 1;
-        k += 1;
-    }
-    hi - lo
 }
 
 // Up to which label a crossing may have no run yet in the round that looks for v: 1, the target's, in the first.
@@ -213,25 +204,8 @@ fn visit(
     let hi = run_end(link, line, n, k);
     ahead_of(ahead, other, inks, cross, line, n, lo, hi, k, v);
     behind_of(behind, other, inks, cross, line, n, lo, hi, k, v);
-    if low != 0 {
-        ink_run(
-            own,
-            ahead,
-            behind,
-            labels,
-            other,
-            inks,
-            cross,
-            line,
-            n,
-            lo,
-            hi,
-            v,
-        );
-        let new = fill_run(labels, line, lo, hi, v);
-        return Run { lo, hi, new };
-    }
-    ink_blank(
+    let blank = low == 0;
+    ink_run(
         own,
         ahead,
         behind,
@@ -244,8 +218,9 @@ fn visit(
         lo,
         hi,
         v,
+        blank,
     );
-    let new = fill_blank(labels, line, lo, hi, v);
+    let new = fill_run(labels, line, lo, hi, v, blank);
     Run { lo, hi, new }
 }
 
@@ -453,15 +428,6 @@ pub fn rounds(
     }
 }
 
-// Puts corner `at` into a corner list.
-pub fn put_corner(out: &mut [u16], at: usize, x: u16, y: u16)
-    requires { ⌜ 2 * at + 2 ≤ length (now out) ⌝ }
-    ensures { λ _. ⌜ now (out .exit) ≡ put (now (out .entry)) at x y ⌝ }
-{
-    out[2 * at] = x;
-    out[2 * at + 1] = y;
-}
-
 // Puts the corners after the crossing of column i and row j, whose level label is v, from corner `at` on: a level
 // segment to the first stop for one less over which its ink leads, and on from there. Returns the number of corners
 // then.
@@ -493,7 +459,9 @@ pub fn level_step(
         return at;
     }
     let k = next_stop(upright, iu, kl, cols, j, nc, i, v - 1, il[j * STRIDE + i]);
-    put_corner(out, at, cols[k], rows[j]);
+    let x = cols[k];
+    let y = rows[j];
+    put_corner(out, at, Point { x, y });
     upright_step(
         out,
         level,
@@ -542,7 +510,9 @@ pub fn upright_step(
         return at;
     }
     let k = next_stop(level, il, ku, rows, i, nr, j, v - 1, iu[i * STRIDE + j]);
-    put_corner(out, at, cols[i], rows[k]);
+    let x = cols[i];
+    let y = rows[k];
+    put_corner(out, at, Point { x, y });
     level_step(
         out,
         level,

@@ -3,12 +3,13 @@
 use grid::STRIDE;
 ghost use Prim.Native.Nat.{_+_, _-_, _*_, _≤_, _<_, min};
 ghost use mathlib.Core.Path.{_≡_};
-ghost use mathlib.Core.Bool.{true};
+ghost use mathlib.Core.Bool.{true, false};
+ghost use mathlib.Core.Logic.{_≢_};
 ghost use lib.ListN.{getD, length};
 ghost use Rattle.foil_spec.specs.Paths.{gap};
 ghost use Rattle.grid.specs.Size.{stride};
 ghost use Rattle.grid.specs.Lines.{Lines};
-ghost use Rattle.runs.specs.Line.{across, RunStart, RunEnd, Left, isStop, Scanned, Stop, FirstStop, labelTop};
+ghost use Rattle.runs.specs.Line.{along, across, RunStart, RunEnd, Left, isStop, Scanned, Stop, FirstStop, labelTop};
 ghost use Rattle.runs.specs.Ink.{Low, Carried, Least, Ahead, Behind, InkPut, Blank, RunInked};
 
 // How many steps two numbers are apart.
@@ -21,7 +22,7 @@ pub fn steps(a: u16, b: u16) -> u32
     (a - b) as u32
 }
 
-// The smaller number.
+// The smaller number: `smaller` of foil_spec at 32 bits, as `nearer` is for places, since a function has one width.
 fn lesser(a: u32, b: u32) -> u32
     ensures { λ r. ⌜ r ≡ min a b ⌝ }
 {
@@ -31,7 +32,7 @@ fn lesser(a: u32, b: u32) -> u32
     b
 }
 
-// The smaller number.
+// The smaller place.
 pub fn nearer(a: usize, b: usize) -> usize
     ensures { λ r. ⌜ r ≡ min a b ⌝ }
 {
@@ -321,19 +322,37 @@ fn ink_of(ahead: u32, behind: u32, x: u16) -> u32
     lesser(up, down)
 }
 
+// Whether crossing k of a line has a label. Where it is known to be blank, it is not looked at.
+pub fn has_label(labels: &[u32], line: usize, k: usize, blank: bool) -> bool
+    requires { ⌜ (line < stride) × (k < stride) × (line * stride + stride ≤ length (now labels)) ⌝ }
+    requires { ⌜ (blank ≡ true → along (now labels) line k ≡ 0) ⌝ }
+    ensures { λ r. ⌜ (r ≡ true → along (now (labels .entry)) line k ≢ 0)
+        × (r ≡ false → along (now (labels .entry)) line k ≡ 0) ⌝ }
+{
+    if blank {
+        return false;
+    }
+    if labels[line * STRIDE + k] != 0 {
+        return true;
+    }
+    false
+}
+
 // Gives crossing k of a line the ink s, if it has no label.
-fn put_ink(own: &mut [u32], labels: &[u32], line: usize, k: usize, s: u32)
+fn put_ink(own: &mut [u32], labels: &[u32], line: usize, k: usize, s: u32, blank: bool)
     requires { ⌜ (line < stride) × (k < stride) × (line * stride + stride ≤ length (now own))
         × (line * stride + stride ≤ length (now labels)) ⌝ }
+    requires { ⌜ (blank ≡ true → along (now labels) line k ≡ 0) ⌝ }
     ensures { λ _. ⌜ InkPut line k s (now (labels .entry)) (now (own .entry)) (now (own .exit)) ⌝ }
 {
-    if labels[line * STRIDE + k] != 0 {
+    if has_label(labels, line, k, blank) {
         return;
     }
     own[line * STRIDE + k] = s;
 }
 
-// Gives each of the crossings lo to hi of a run that has no label its ink, the least over all stops of the run.
+// Gives each of the crossings lo to hi of a run that has no label its ink, the least over all stops of the run. A
+// run that is known to be blank is not looked at.
 pub fn ink_run(
     own: &mut [u32],
     ahead: &[u32],
@@ -347,11 +366,12 @@ pub fn ink_run(
     lo: usize,
     hi: usize,
     v: u32,
+    blank: bool,
 )
     requires { ⌜ (line < stride) × Lines (now cross) n × (hi ≤ n) × (lo ≤ hi) ⌝ }
     requires { ⌜ (stride ≤ length (now ahead)) × (stride ≤ length (now behind)) ⌝ }
-    requires { ⌜ (line * stride + stride ≤ length (now own))
-        × (line * stride + stride ≤ length (now labels)) ⌝ }
+    requires { ⌜ (line * stride + stride ≤ length (now own)) × (line * stride + stride ≤ length (now labels))
+        × (blank ≡ true → Blank (now labels) line lo hi) ⌝ }
     requires { ⌜ Ahead (now other) (now inks) (now cross) line v lo hi lo (now ahead)
         × Behind (now other) (now inks) (now cross) line v lo hi hi (now behind) ⌝ }
     ensures { λ _. ⌜ RunInked (now (other .entry)) (now (inks .entry)) (now (cross .entry)) line v lo hi hi
@@ -359,37 +379,14 @@ pub fn ink_run(
 {
     let mut k = lo;
     while k < hi {
-        put_ink(own, labels, line, k, ink_of(ahead[k], behind[k], cross[k]));
-        k += 1;
-    }
-}
-
-// The same where none of them has a label.
-pub fn ink_blank(
-    own: &mut [u32],
-    ahead: &[u32],
-    behind: &[u32],
-    labels: &[u32],
-    other: &[u32],
-    inks: &[u32],
-    cross: &[u16],
-    line: usize,
-    n: usize,
-    lo: usize,
-    hi: usize,
-    v: u32,
-)
-    requires { ⌜ (line < stride) × Lines (now cross) n × (hi ≤ n) × (lo ≤ hi) ⌝ }
-    requires { ⌜ (stride ≤ length (now ahead)) × (stride ≤ length (now behind)) ⌝ }
-    requires { ⌜ (line * stride + stride ≤ length (now own)) × Blank (now labels) line lo hi ⌝ }
-    requires { ⌜ Ahead (now other) (now inks) (now cross) line v lo hi lo (now ahead)
-        × Behind (now other) (now inks) (now cross) line v lo hi hi (now behind) ⌝ }
-    ensures { λ _. ⌜ RunInked (now (other .entry)) (now (inks .entry)) (now (cross .entry)) line v lo hi hi
-        (now (labels .entry)) (now (own .entry)) (now (own .exit)) ⌝ }
-{
-    let mut k = lo;
-    while k < hi {
-        own[line * STRIDE + k] = ink_of(ahead[k], behind[k], cross[k]);
+        put_ink(
+            own,
+            labels,
+            line,
+            k,
+            ink_of(ahead[k], behind[k], cross[k]),
+            blank,
+        );
         k += 1;
     }
 }

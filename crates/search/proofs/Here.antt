@@ -6,12 +6,13 @@ use mathlib.Core.Bool.{Bool, true, false}
 use mathlib.Core.List.{List, [], _∷_}
 use mathlib.Core.Option.{some}
 use lib.ListN.{length}
+use lib.Seq.{sets}
 use Rattle.foil_spec.specs.Foil.{Point, point}
+use Rattle.foil_spec.specs.Corners.{pointNumbers}
 use Rattle.foil_spec.specs.Paths.{goings, shortest, firstFrom, firstPathTo}
 use Rattle.list_laws.proofs.Tests.{and-i}
 use Rattle.zones.specs.Boxes.{boxFree}
 use Rattle.grid.specs.Targets.{inBoxes, target}
-use Rattle.labels.specs.Walk.{put}
 use Rattle.sowing.specs.Seeds.{boxed}
 use Rattle.search.specs.Grid.{Aimed}
 use Rattle.search.specs.Search.{PathFound}
@@ -27,7 +28,7 @@ stay-unfit p out few =
       untouched = λ many. refl;
     }
 
-pub stay-put : (x y : ℕ) (out out′ : List ℕ) → 2 ≤ length out → out′ ≡ put out 0 x y
+pub stay-put : (x y : ℕ) (out out′ : List ℕ) → 2 ≤ length out → out′ ≡ sets out 0 (pointNumbers (point x y))
     → PathFound (some (point x y ∷ [])) out out′ 1
 stay-put x y out out′ fit e =
     record {

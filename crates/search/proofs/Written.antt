@@ -11,7 +11,7 @@ use Rattle.foil_spec.specs.Lists.{each}
 use Rattle.foil_spec.specs.Foil.{Point, point}
 use Rattle.foil_spec.specs.Corners.{pointNumbers}
 use Rattle.runs.specs.Line.{along}
-use Rattle.labels.specs.Walk.{put, levelOut, uprightOut, LevelWalk, UprightWalk}
+use Rattle.labels.specs.Walk.{levelOut, uprightOut, LevelWalk, UprightWalk}
 use Rattle.labels.proofs.First.{trail-length}
 use Rattle.search.specs.Choice.{labelAt}
 use Rattle.search.specs.Search.{Trails, turns, Ready, Written}
@@ -28,12 +28,10 @@ numbers-length (p ∷ cs) = let e = numbers-length cs in omega arith
 
 -- one corner, and then the others
 put-more : (out : List ℕ) (at x y : ℕ) (cs : List Point)
-    → sets (put out at x y) (2 * (at + 1)) (numbers cs) ≡ sets out (2 * at) (numbers (point x y ∷ cs))
+    → sets (sets out (at * 2) (pointNumbers (point x y))) ((at + 1) * 2) (numbers cs)
+    ≡ sets out (at * 2) (numbers (point x y ∷ cs))
 unfolding pointNumbers
-put-more out at x y cs =
-    let e : 2 * at + 1 ≡ suc (2 * at) = omega arith in
-    let d : 2 * (at + 1) ≡ suc (suc (2 * at)) = omega arith in
-    rw (e, d) refl
+put-more out at x y cs = let d : (at + 1) * 2 ≡ suc (suc (at * 2)) = omega arith in rw d refl
 
 module _ (cols rows : List ℕ) where
   -- what the steps of a walk put
@@ -41,17 +39,17 @@ module _ (cols rows : List ℕ) where
     unfolding levelOut uprightOut turns
 
     level-puts : (qs out : List ℕ) (at i j : ℕ)
-        → levelOut cols rows out at i j qs ≡ sets out (2 * at) (numbers (turns false cols rows i j qs))
+        → levelOut cols rows out at i j qs ≡ sets out (at * 2) (numbers (turns false cols rows i j qs))
     level-puts [] out at i j = refl
     level-puts (q ∷ qs) out at i j =
-        upright-puts qs (put out at (getD cols q 0) (getD rows j 0)) (at + 1) q j
+        upright-puts qs (sets out (at * 2) (pointNumbers (point (getD cols q 0) (getD rows j 0)))) (at + 1) q j
         ∙ put-more out at (getD cols q 0) (getD rows j 0) (turns true cols rows q j qs)
 
     upright-puts : (qs out : List ℕ) (at i j : ℕ)
-        → uprightOut cols rows out at i j qs ≡ sets out (2 * at) (numbers (turns true cols rows i j qs))
+        → uprightOut cols rows out at i j qs ≡ sets out (at * 2) (numbers (turns true cols rows i j qs))
     upright-puts [] out at i j = refl
     upright-puts (q ∷ qs) out at i j =
-        level-puts qs (put out at (getD cols i 0) (getD rows q 0)) (at + 1) i q
+        level-puts qs (sets out (at * 2) (pointNumbers (point (getD cols i 0) (getD rows q 0)))) (at + 1) i q
         ∙ put-more out at (getD cols i 0) (getD rows q 0) (turns false cols rows i q qs)
 
 written : (cs : List Point) (out : List ℕ) → 2 * length cs ≤ length out → Written cs out (sets out 0 (numbers cs))
@@ -61,7 +59,8 @@ written cs out l =
     ∙ ap (λ (n : ℕ). numbers cs ++ drop n out) (zero-add (length (numbers cs)))
 
 -- one corner
-pub corner-written : (x y : ℕ) (out : List ℕ) → 2 ≤ length out → Written (point x y ∷ []) out (put out 0 x y)
+pub corner-written : (x y : ℕ) (out : List ℕ) → 2 ≤ length out
+    → Written (point x y ∷ []) out (sets out 0 (pointNumbers (point x y)))
 corner-written x y out l = put-more out 0 x y [] ∙ written (point x y ∷ []) out l
 
 turns-length : (up : Bool) (cols rows : List ℕ) (i j : ℕ) (qs : List ℕ) → length (turns up cols rows i j qs) ≡ length qs
@@ -89,7 +88,7 @@ module _ (cs : List Point) (cols rows kl ku l u wl wu : List ℕ) (s : Start) (R
   -- the first corner, and then those of the walk
   taken : (up : Bool) (qs : List ℕ) → s .upright ≡ up → s .corners ≡ length qs + 1
       → Trails up l u wl wu kl ku cols rows (s .columns) (s .rows) (s .i) (s .j) (s .corners) qs
-      → out′ ≡ sets (put out 0 (getD cols (s .i) 0) (getD rows (s .j) 0)) 2
+      → out′ ≡ sets (sets out 0 (pointNumbers (point (getD cols (s .i) 0) (getD rows (s .j) 0)))) 2
       (numbers (turns up cols rows (s .i) (s .j) qs))
       → Written cs out out′
   taken up qs e n t w =
@@ -112,7 +111,7 @@ module _ (cs : List Point) (cols rows kl ku l u wl wu : List ℕ) (s : Start) (R
           e (R .takes qs)
 
   pub level-written : {v r : ℕ} {mid : List ℕ} → s .upright ≡ false → v ≡ s .corners
-      → mid ≡ put out 0 (getD cols (s .i) 0) (getD rows (s .j) 0)
+      → mid ≡ sets out 0 (pointNumbers (point (getD cols (s .i) 0) (getD rows (s .j) 0)))
       → LevelWalk l u wl wu kl ku cols rows (s .columns) (s .rows) (s .i) (s .j) v 1 mid out′ r → Written cs out out′
   unfolding Trails
   level-written {mid = mid} e ev em k =
@@ -123,7 +122,7 @@ module _ (cs : List Point) (cols rows kl ku l u wl wu : List ℕ) (s : Start) (R
       ∙ ap (λ (o : List ℕ). sets o 2 (numbers (turns false cols rows (s .i) (s .j) (k .crossings)))) em)
 
   pub upright-written : {v r : ℕ} {mid : List ℕ} → s .upright ≡ true → v ≡ s .corners
-      → mid ≡ put out 0 (getD cols (s .i) 0) (getD rows (s .j) 0)
+      → mid ≡ sets out 0 (pointNumbers (point (getD cols (s .i) 0) (getD rows (s .j) 0)))
       → UprightWalk l u wl wu kl ku cols rows (s .columns) (s .rows) (s .i) (s .j) v 1 mid out′ r → Written cs out out′
   unfolding Trails
   upright-written {mid = mid} e ev em k =

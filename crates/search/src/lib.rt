@@ -5,13 +5,14 @@
 // directions, `il` and `iu` for their inks, `kl` and `ku` for the level and the upright links between crossings (STRIDE
 // places for each line that there may be), `cols` and `rows` for the lines of the grid (STRIDE places), and `mark` for
 // marks on an axis (4,096 places).
+use foil_spec::Point;
+use foil_spec::put_corner;
 use grid::AREA;
 use grid::STRIDE;
 use grid::collect;
 use grid::links;
 use grid::mark_lines;
 use labels::level_step;
-use labels::put_corner;
 use labels::rounds;
 use labels::upright_step;
 use runs::next_stop;
@@ -365,7 +366,9 @@ fn walk(
     let nr = s.rows;
     let i = s.i;
     let j = s.j;
-    put_corner(out, 0, cols[i], rows[j]);
+    let x = cols[i];
+    let y = rows[j];
+    put_corner(out, 0, Point { x, y });
     if s.upright {
         upright_step(
             out,
@@ -566,7 +569,7 @@ fn stay(out: &mut [u16], x: u16, y: u16) -> usize
     if out.len() < 2 {
         return 1;
     }
-    put_corner(out, 0, x, y);
+    put_corner(out, 0, Point { x, y });
     1
 }
 

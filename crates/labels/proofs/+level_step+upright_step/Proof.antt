@@ -13,7 +13,7 @@ use Rattle.labels.proofs.upright_step.Reads as upright-step
 use Rattle.labels.proofs.upright_step.Kinds as upright-step-kinds
 use Rattle.labels.proofs.+level_step+upright_step.Lts-upright_step as upright-lts
 use Rattle.runs.proofs.next_stop.Reads as next-stop-reads
-use Rattle.labels.proofs.put_corner.Reads as put-corner-reads
+use Rattle.foil_spec.proofs.put_corner.Reads as put-corner-reads
 use Rattle.labels.proofs.+level_step+upright_step.{statement}
 use Rattle.labels.proofs.+level_step+upright_step.Tie.{close}
 
@@ -65,7 +65,7 @@ module _ (t : ℕ) where
 
   abbrev levelAtIf1 : level-lts.After-shared-slice-known10 (level-calls t) (level-step-at t) level-step.Post
       → level-lts.Else1 (level-calls t) (level-step-at t) level-step.Post
-  levelAtIf1 c = c .before .before .before .before
+  levelAtIf1 c = c .before .before .before
 
   abbrev levelAtStop : level-lts.After-upright-step-arg (level-calls t) (level-step-at t) level-step.Post
       → level-lts.After-next-stop (level-calls t) (level-step-at t) level-step.Post
@@ -118,24 +118,24 @@ module _ (t : ℕ) where
         ),
       )
 
-  level-step-mul-put-corner : level-lts.Need-mul-put-corner (level-calls t) (level-step-at t) level-step.Post
-  level-step-mul-put-corner c = omega arith
+  level-step-mul-x : level-lts.Need-mul-x (level-calls t) (level-step-at t) level-step.Post
+  level-step-mul-x c = omega arith
 
-  level-step-shared-slice-read-put-corner :
-      level-lts.Need-shared-slice-read-put-corner (level-calls t) (level-step-at t) level-step.Post
-  level-step-shared-slice-read-put-corner c =
+  level-step-shared-slice-read-x :
+      level-lts.Need-shared-slice-read-x (level-calls t) (level-step-at t) level-step.Post
+  level-step-shared-slice-read-x c =
       let pre = levelAtStart (levelAtIf1 c) .pre .1 in
-      let stop = c .before .before .next-stop .ensures in
+      let stop = c .before .next-stop .ensures in
       let above = levelAtIf1 c .if1 .left in
       let next = grounded-next _ _ _ _ (pre .0 .level) (pre .1 .1) (pre .1 .0) (pre .1 .2) above (pre .1 .3) stop in
       omega (arith, pre .0 .sized .column-lines .fit)
 
-  level-step-mul-put-corner-2 : level-lts.Need-mul-put-corner-2 (level-calls t) (level-step-at t) level-step.Post
-  level-step-mul-put-corner-2 c = omega arith
+  level-step-mul-y : level-lts.Need-mul-y (level-calls t) (level-step-at t) level-step.Post
+  level-step-mul-y c = omega arith
 
-  level-step-shared-slice-read-put-corner-2 :
-      level-lts.Need-shared-slice-read-put-corner-2 (level-calls t) (level-step-at t) level-step.Post
-  level-step-shared-slice-read-put-corner-2 c =
+  level-step-shared-slice-read-y :
+      level-lts.Need-shared-slice-read-y (level-calls t) (level-step-at t) level-step.Post
+  level-step-shared-slice-read-y c =
       let at-start = levelAtStart (levelAtIf1 (c .before)) in
       omega (arith, at-start .pre .1 .1, at-start .pre .1 .0 .sized .row-lines .fit)
 
@@ -191,7 +191,7 @@ module _ (t : ℕ) where
   abbrev uprightAtStop : upright-lts.After-shared-slice-known10 (upright-calls t)
       (upright-step-at t) upright-step.Post
       → upright-lts.After-next-stop (upright-calls t) (upright-step-at t) upright-step.Post
-  uprightAtStop c = c .before .before
+  uprightAtStop c = c .before
 
   abbrev uprightAtPut : upright-lts.After-level-step-arg (upright-calls t)
       (upright-step-at t) upright-step.Post
@@ -240,23 +240,23 @@ module _ (t : ℕ) where
         (sized .level, sized .level-inks, lean-low _ _ (pre .0 .level-lean) (pre .1 .0) (omega (arith, pre .1 .2))),
       )
 
-  upright-step-mul-put-corner :
-      upright-lts.Need-mul-put-corner (upright-calls t) (upright-step-at t) upright-step.Post
-  upright-step-mul-put-corner c = omega arith
+  upright-step-mul-x :
+      upright-lts.Need-mul-x (upright-calls t) (upright-step-at t) upright-step.Post
+  upright-step-mul-x c = omega arith
 
-  upright-step-shared-slice-read-put-corner :
-      upright-lts.Need-shared-slice-read-put-corner (upright-calls t) (upright-step-at t) upright-step.Post
-  upright-step-shared-slice-read-put-corner c =
+  upright-step-shared-slice-read-x :
+      upright-lts.Need-shared-slice-read-x (upright-calls t) (upright-step-at t) upright-step.Post
+  upright-step-shared-slice-read-x c =
       let at-start = uprightAtStart (uprightAtStop c .before .before) in
       omega (arith, at-start .pre .1 .1, at-start .pre .1 .0 .sized .column-lines .fit)
 
-  upright-step-mul-put-corner-2 :
-      upright-lts.Need-mul-put-corner-2 (upright-calls t) (upright-step-at t) upright-step.Post
-  upright-step-mul-put-corner-2 c = omega arith
+  upright-step-mul-y :
+      upright-lts.Need-mul-y (upright-calls t) (upright-step-at t) upright-step.Post
+  upright-step-mul-y c = omega arith
 
-  upright-step-shared-slice-read-put-corner-2 :
-      upright-lts.Need-shared-slice-read-put-corner-2 (upright-calls t) (upright-step-at t) upright-step.Post
-  upright-step-shared-slice-read-put-corner-2 c =
+  upright-step-shared-slice-read-y :
+      upright-lts.Need-shared-slice-read-y (upright-calls t) (upright-step-at t) upright-step.Post
+  upright-step-shared-slice-read-y c =
       let at-stop = uprightAtStop (c .before) in
       let pre = uprightAtStart (at-stop .before .before) .pre .1 in
       let stop = at-stop .next-stop .ensures in
@@ -281,7 +281,7 @@ module _ (t : ℕ) where
   upright-step-level-step-requires c κs =
       let at-start = uprightAtStart (uprightAtIf1 c) in
       let pre = at-start .pre .1 in
-      let stop = uprightAtStop (uprightAtPut c .before .before) .next-stop .ensures in
+      let stop = uprightAtStop (uprightAtPut c .before .before .before) .next-stop .ensures in
       let above = uprightAtIf1 c .if1 .left in
       let next = grounded-next _ _ _ _ (pre .0 .upright) (pre .1 .0) (pre .1 .1) (pre .1 .2) above (pre .1 .3) stop in (
         omega (arith, at-start .pre .0),
@@ -297,7 +297,7 @@ module _ (t : ℕ) where
 
   upright-step-returns-2 : upright-lts.Need-returns-2 (upright-calls t) (upright-step-at t) upright-step.Post
   upright-step-returns-2 c =
-      let at-stop = uprightAtStop (uprightAtPut (uprightAtStep c .before) .before .before) in
+      let at-stop = uprightAtStop (uprightAtPut (uprightAtStep c .before) .before .before .before) in
       let pre = uprightAtStart (at-stop .before .before) .pre .1 in
       let stop = at-stop .next-stop .ensures in
       let above = at-stop .before .before .if1 .left in
@@ -309,13 +309,13 @@ pub +level-step+upright-step-spec : {M : Type 1} → statement M
 +level-step+upright-step-spec = close μ-level-step μ-upright-step (λ t. level-lts.spec (level-calls t)
     (level-step-at t) level-step.Post (level-step-returns t) (level-step-sub-next-stop t) (level-step-mul-next-stop t)
     (level-step-add-next-stop t) (level-step-mul-next-stop-2 t) (level-step-shared-slice-read-next-stop t)
-    (level-step-next-stop-requires t) (level-step-mul-put-corner t) (level-step-shared-slice-read-put-corner t)
-    (level-step-mul-put-corner-2 t) (level-step-shared-slice-read-put-corner-2 t) (level-step-put-corner-requires t)
+    (level-step-next-stop-requires t) (level-step-mul-x t) (level-step-shared-slice-read-x t)
+    (level-step-mul-y t) (level-step-shared-slice-read-y t) (level-step-put-corner-requires t)
     (level-step-sub-upright-step t) (level-step-add-upright-step t) (level-step-upright-step-requires t)
     (level-step-same-length t) (level-step-returns-2 t)) λ t. upright-lts.spec (upright-calls t) (upright-step-at t)
     upright-step.Post (upright-step-returns t) (upright-step-sub-next-stop t) (upright-step-mul-next-stop t)
     (upright-step-add-next-stop t) (upright-step-mul-next-stop-2 t) (upright-step-shared-slice-read-next-stop t)
-    (upright-step-next-stop-requires t) (upright-step-mul-put-corner t) (upright-step-shared-slice-read-put-corner t)
-    (upright-step-mul-put-corner-2 t) (upright-step-shared-slice-read-put-corner-2 t)
+    (upright-step-next-stop-requires t) (upright-step-mul-x t) (upright-step-shared-slice-read-x t)
+    (upright-step-mul-y t) (upright-step-shared-slice-read-y t)
     (upright-step-put-corner-requires t) (upright-step-sub-level-step t) (upright-step-add-level-step t)
     (upright-step-level-step-requires t) (upright-step-same-length t) (upright-step-returns-2 t)

@@ -6,8 +6,7 @@ use Rattle.labels.proofs.Pass.{visit-passed, blank-run}
 use Rattle.labels.proofs.visit.Statement.{statement}
 use Rattle.labels.proofs.visit.Tie as tie
 
--- back to the start, to the first test, to the run's end, to the two sweeps, and in each branch to the inks and to the
--- labels
+-- back to the start, to the first test, to the run's end, to the two sweeps, to the inks and to the labels
 abbrev atStart : tie.After-slice-known5 → tie.Start
 atStart c = c .before .before .before .before .before .before .before .before .before
 
@@ -23,26 +22,14 @@ atEnd c = c .before .before .before .before .before
 abbrev atAhead : tie.After-behind-of-arg → tie.After-ahead-of
 atAhead c = c .before .before .before
 
-abbrev runSwept : tie.After-ink-run-arg4 → tie.After-behind-of
-runSwept c = c .before .before .before .before .before .before .before
+abbrev atBehind : tie.After-ink-run-arg4 → tie.After-behind-of
+atBehind c = c .before .before .before .before .before .before
 
-abbrev blankSwept : tie.After-ink-blank-arg4 → tie.After-behind-of
-blankSwept c = c .before .before .before .before .before .before .before
+abbrev atInked : tie.After-fill-run-arg → tie.After-ink-run
+atInked c = c .before .before .before
 
-abbrev runInked : tie.After-fill-run-arg → tie.After-ink-run
-runInked c = c .before .before .before
-
-abbrev runFilled : tie.After-slice-known9 → tie.After-fill-run
-runFilled c = c .before .before
-
-abbrev atLow : tie.After-ink-blank-arg4 → tie.Else3
-atLow c = c .before .before .before .before
-
-abbrev blankInked : tie.After-fill-blank-arg → tie.After-ink-blank
-blankInked c = c .before .before .before
-
-abbrev blankFilled : tie.After-slice-known11 → tie.After-fill-blank
-blankFilled c = c .before .before
+abbrev atFilled : tie.After-slice-known9 → tie.After-fill-run
+atFilled c = c .before .before
 
 mul-if1 : tie.Need-mul-if1
 mul-if1 c = omega arith
@@ -95,30 +82,46 @@ behind-of-requires c κs =
 
 ink-run-requires : tie.Need-ink-run-requires
 ink-run-requires c κs =
-    let at-ahead = atAhead (runSwept c .before) in
+    let at-ahead = atAhead (atBehind c .before) in
     let at-end = at-ahead .before .before in
+    let at-start = at-end .before in
     let pre = atStart (atTest at-end) .pre in
+    let start = at-start .run-start .ensures in
     let end = at-end .run-end .ensures in (
-      (pre .0 .0, pre .0 .1, end .le, omega (arith, at-end .before .run-start .ensures .le, end .after)),
+      (pre .0 .0, pre .0 .1, end .le, omega (arith, start .le, end .after)),
       (
         (
           omega (arith, at-ahead .ahead-of .kept .0, pre .1 .1 .1 .0 .1),
-          omega (arith, runSwept c .behind-of .kept .0, pre .1 .1 .1 .0 .2),
+          omega (arith, atBehind c .behind-of .kept .0, pre .1 .1 .1 .0 .2),
         ),
-        ((pre .1 .0 .2, pre .1 .1 .1 .0 .0), (at-ahead .ahead-of .ensures, runSwept c .behind-of .ensures)),
+        (
+          (
+            pre .1 .0 .2,
+            pre .1 .1 .1 .0 .0,
+            blank-run (pre .1 .1 .1 .1 .0) (at-start .before .before .before .if1 .left) (pre .0 .2)
+                (pre .1 .1 .1 .1 .1) start end,
+          ),
+          (at-ahead .ahead-of .ensures, atBehind c .behind-of .ensures),
+        ),
       ),
     )
 
 fill-run-requires : tie.Need-fill-run-requires
 fill-run-requires c κs =
-    let at-end = atEnd (runSwept (runInked c .before) .before) in
+    let at-end = atEnd (atBehind (atInked c .before) .before) in
+    let at-start = at-end .before in
     let pre = atStart (atTest at-end) .pre in
+    let start = at-start .run-start .ensures in
     let end = at-end .run-end .ensures in (
-      pre .0 .0,
-      omega (arith, end .le, pre .0 .1 .few),
-      omega (arith, end .after, at-end .before .run-start .ensures .le),
-      pre .0 .3,
-      pre .1 .1 .1 .0 .0,
+      (
+        pre .0 .0,
+        omega (arith, end .le, pre .0 .1 .few),
+        omega (arith, end .after, start .le),
+        pre .0 .3,
+        pre .1 .1 .1 .0 .0,
+      ),
+      blank-run (pre .1 .1 .1 .1 .0) (at-start .before .before .before .if1 .left) (pre .0 .2) (pre .1 .1 .1 .1 .1)
+          start end,
     )
 
 same-length : tie.Need-same-length
@@ -135,74 +138,13 @@ same-length-4 c = search needs
 
 returns-3 : tie.Need-returns-3
 returns-3 c =
-    let at-end = atEnd (runSwept (runInked (runFilled c .before) .before) .before) in
-    Visit.ran (at-end .before .run-start .ensures) (at-end .run-end .ensures)
-    (runInked (runFilled c .before) .ink-run .ensures) (runFilled c .fill-run .ensures)
-
-ink-blank-requires : tie.Need-ink-blank-requires
-ink-blank-requires c κs =
-    let at-ahead = atAhead (blankSwept c .before) in
-    let at-end = at-ahead .before .before in
-    let at-start = at-end .before in
-    let pre = atStart (atTest at-end) .pre in
-    let start = at-start .run-start .ensures in
-    let end = at-end .run-end .ensures in (
-      (pre .0 .0, pre .0 .1, end .le, omega (arith, start .le, end .after)),
-      (
-        (
-          omega (arith, at-ahead .ahead-of .kept .0, pre .1 .1 .1 .0 .1),
-          omega (arith, blankSwept c .behind-of .kept .0, pre .1 .1 .1 .0 .2),
-        ),
-        (
-          (
-            pre .1 .0 .2,
-            blank-run (omega (arith, atLow c .if3 .left, pre .1 .1 .1 .1 .0))
-                (omega (arith, at-start .before .before .before .if1 .left, pre .1 .1 .1 .1 .0)) (pre .0 .2)
-                (pre .1 .1 .1 .1 .1) start end,
-          ),
-          (at-ahead .ahead-of .ensures, blankSwept c .behind-of .ensures),
-        ),
-      ),
-    )
-
-fill-blank-requires : tie.Need-fill-blank-requires
-fill-blank-requires c κs =
-    let at-end = atEnd (blankSwept (blankInked c .before) .before) in
-    let at-start = at-end .before in
-    let pre = atStart (atTest at-end) .pre in
-    let start = at-start .run-start .ensures in
-    let end = at-end .run-end .ensures in (
-      pre .0 .0,
-      omega (arith, end .le, pre .0 .1 .few),
-      omega (arith, end .after, start .le),
-      pre .0 .3,
-      pre .1 .1 .1 .0 .0,
-      blank-run (omega (arith, atLow (blankInked c .before) .if3 .left, pre .1 .1 .1 .1 .0))
-          (omega (arith, at-start .before .before .before .if1 .left, pre .1 .1 .1 .1 .0)) (pre .0 .2)
-          (pre .1 .1 .1 .1 .1) start end,
-    )
-
-same-length-5 : tie.Need-same-length-5
-same-length-5 c = search needs
-
-same-length-6 : tie.Need-same-length-6
-same-length-6 c = search needs
-
-same-length-7 : tie.Need-same-length-7
-same-length-7 c = search needs
-
-same-length-8 : tie.Need-same-length-8
-same-length-8 c = search needs
-
-returns-4 : tie.Need-returns-4
-returns-4 c =
-    let at-end = atEnd (blankSwept (blankInked (blankFilled c .before) .before) .before) in
-    Visit.ran (at-end .before .run-start .ensures) (at-end .run-end .ensures)
-    (blankInked (blankFilled c .before) .ink-blank .ensures) (blankFilled c .fill-blank .ensures)
+    let at-inked = atInked (atFilled c .before) in
+    let at-end = atEnd (atBehind (at-inked .before) .before) in
+    Visit.ran (at-end .before .run-start .ensures) (at-end .run-end .ensures) (at-inked .ink-run .ensures)
+    (atFilled c .fill-run .ensures)
 
 pub visit-spec : {M : Type 1} → statement M
 visit-spec =
     tie.close (tie.spec mul-if1 add-if1 mul-if1-2 slice-read-if1 returns is-left-requires returns-2 run-start-requires
     run-end-requires ahead-of-requires behind-of-requires ink-run-requires fill-run-requires same-length same-length-2
-    same-length-3 same-length-4 returns-3 ink-blank-requires fill-blank-requires same-length-5 same-length-6
-    same-length-7 same-length-8 returns-4)
+    same-length-3 same-length-4 returns-3)

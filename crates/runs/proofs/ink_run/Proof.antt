@@ -7,11 +7,11 @@ use Rattle.runs.proofs.ink_run.Statement.{statement}
 use Rattle.runs.proofs.ink_run.Tie as tie
 
 abbrev Inv-loop : tie.InvT-loop
-Inv-loop own₀ ahead behind labels other inks cross line n lo hi v k₀ own k =
+Inv-loop own₀ ahead behind labels other inks cross line n lo hi v blank k₀ own k =
     (lo ≤ k) × (k ≤ hi) × RunInked other inks cross line v lo hi k labels own₀ own
 
 abbrev μ-loop : tie.MeasureT-loop
-μ-loop own₀ ahead behind labels other inks cross line n lo hi v k₀ own k = hi - k
+μ-loop own₀ ahead behind labels other inks cross line n lo hi v blank k₀ own k = hi - k
 
 -- back to the start, the loop's head and ink_of
 abbrev atStart : tie.After-shared-slice-known9 Inv-loop μ-loop → tie.Start Inv-loop μ-loop
@@ -55,8 +55,10 @@ ink-of-requires c κs =
 put-ink-requires : tie.Need-put-ink-requires Inv-loop μ-loop
 put-ink-requires c κs =
     let pre = atStart (c .before) .pre in
-    let size = atLoop (c .before) .loop .inv .2 .size in
-    (pre .0 .0, omega (arith, pre .0 .1 .few), omega (arith, size, pre .1 .1 .0 .0), pre .1 .1 .0 .1)
+    let inv = atLoop (c .before) .loop .inv in (
+      (pre .0 .0, omega (arith, pre .0 .1 .few), omega (arith, inv .2 .size, pre .1 .1 .0 .0), pre .1 .1 .0 .1),
+      λ e. pre .1 .1 .0 .2 e .none (atLoop (c .before) .loop .k) (inv .0) (omega arith),
+    )
 
 add-k : tie.Need-add-k Inv-loop μ-loop
 add-k c = omega arith

@@ -22,17 +22,17 @@ goesUpright c = c .before .before .before .before .before
 abbrev goesLevel : tie.After-slice-known4 → tie.Else1
 goesLevel c = c .before .before .before .before .before
 
-mul-put-corner : tie.Need-mul-put-corner
-mul-put-corner c = search needs
+mul-x : tie.Need-mul-x
+mul-x c = search needs
 
-shared-slice-read-put-corner : tie.Need-shared-slice-read-put-corner
-shared-slice-read-put-corner c = search needs
+shared-slice-read-x : tie.Need-shared-slice-read-x
+shared-slice-read-x c = search needs
 
-mul-put-corner-2 : tie.Need-mul-put-corner-2
-mul-put-corner-2 c = search needs
+mul-y : tie.Need-mul-y
+mul-y c = search needs
 
-shared-slice-read-put-corner-2 : tie.Need-shared-slice-read-put-corner-2
-shared-slice-read-put-corner-2 c = search needs
+shared-slice-read-y : tie.Need-shared-slice-read-y
+shared-slice-read-y c = search needs
 
 put-corner-requires : tie.Need-put-corner-requires
 put-corner-requires c κs = search needs
@@ -119,7 +119,7 @@ returns-2 c =
 
 pub walk-spec : {M : Type 1} → statement M
 walk-spec =
-    tie.close (tie.spec mul-put-corner shared-slice-read-put-corner mul-put-corner-2 shared-slice-read-put-corner-2
+    tie.close (tie.spec mul-x shared-slice-read-x mul-y shared-slice-read-y
     put-corner-requires mul-upright-step add-upright-step mul-upright-step-2 shared-slice-read-upright-step
     upright-step-requires same-length returns mul-level-step add-level-step mul-level-step-2
     shared-slice-read-level-step level-step-requires same-length-2 returns-2)
