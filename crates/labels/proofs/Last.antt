@@ -8,10 +8,35 @@ use mathlib.Core.List.{List}
 use lib.ListN.{length}
 use Rattle.list_laws.proofs.Tests.{clash}
 use Rattle.runs.specs.Line.{along, labelTop}
-use Rattle.labels.specs.Pass.{zeros, Alone, had, gets, misses}
+use Rattle.labels.specs.Pass.{zeros, OneWay, Alone, had, gets, misses}
 use Rattle.labels.specs.Rounds.{Sized, Rounds, Last, Tried, reached, missed, Ended, found}
 use Rattle.labels.proofs.Part.{alone-here, alone-some, alone-parts, alone-inked}
 use Rattle.labels.proofs.Going.{Going}
+
+-- the lists of each direction
+pub level-way : {l u wl wu kl ku cols rows : List ℕ} {nc nr : ℕ} → Sized l u wl wu kl ku cols rows nc nr →
+    OneWay l wl u wu kl cols nr nc
+level-way Z = record {
+  few = Z .row-lines .few;
+  crossings = Z .column-lines;
+  labels = Z .level;
+  own-inks = Z .level-inks;
+  others = Z .upright;
+  other-inks = Z .upright-inks;
+  links = Z .level-links;
+}
+
+pub upright-way : {l u wl wu kl ku cols rows : List ℕ} {nc nr : ℕ} → Sized l u wl wu kl ku cols rows nc nr →
+    OneWay u wu l wl ku rows nc nr
+upright-way Z = record {
+  few = Z .column-lines .few;
+  crossings = Z .row-lines;
+  labels = Z .upright;
+  own-inks = Z .upright-inks;
+  others = Z .level;
+  other-inks = Z .level-inks;
+  links = Z .upright-links;
+}
 
 -- lists of the same sizes
 pub sized-same : {l u wl wu l′ u′ wl′ wu′ kl ku cols rows : List ℕ} {nc nr : ℕ} →

@@ -11,33 +11,61 @@ use lib.Dec.{eqb}
 use borrow.Author.Tests.{eqb-true}
 use lib.ListN.{getD, length}
 use Rattle.grid.specs.Size.{stride}
-use Rattle.runs.specs.Line.{along, across, Linked, RunStart, RunEnd}
-use Rattle.runs.specs.Ink.{Blank, RunInked, LeastInk, Inked}
+use Rattle.runs.specs.Line.{along, across, Linked, RunStart, RunEnd, labelTop}
+use Rattle.runs.specs.Ink.{OnLine, StopIn, Blank, RunInked, LeastInk, Inked, Lean}
 use Rattle.labels.specs.Pass.{zeros, Cell, kept, none, new, Pass, floor, Joined, Full, Spans, Marks, Marked}
 use Rattle.labels.specs.Pass.{Widened, NextNew, Fill, held, fresh, RunFilled, Visit, passed, left, ran}
+use Rattle.labels.specs.Pass.{OneWay, LineLists, Visiting}
 use Rattle.labels.specs.Pass.{Part, stood, got, Done, labelled, waits, Visited, Spanned, PassTo}
 use Rattle.labels.proofs.Runs.{zeros-le}
+use Rattle.runs.proofs.Inks.{lean-low}
 use Rattle.runs.proofs.Line.{linked-sym, linked-trans, in-run, run-joined}
+
+-- One line of a direction.
+module _ {lab own other inks link cross : List ℕ} {m n : ℕ} (W : OneWay lab own other inks link cross m n) {line : ℕ}
+    (l : line < m) where
+  pub on-line : {v : ℕ} → 1 ≤ v → v < labelTop → Lean n m other inks → OnLine other inks cross line n v
+  on-line pos top lean = record {
+    line-in = omega (arith, W .few);
+    crossings = W .crossings;
+    top = top;
+    others = W .others;
+    other-inks = W .other-inks;
+    low = lean-low _ _ lean l pos;
+  }
+
+  pub line-lists : {lab′ own′ : List ℕ} → length lab′ ≡ length lab → length own′ ≡ length own →
+      LineLists lab′ own′ link line
+  line-lists e f = record {
+    labels = omega (arith, W .labels);
+    own-inks = omega (arith, W .own-inks);
+    links = omega (arith, W .links);
+  }
 
 -- a visit of a crossing whose run has labels
 pub visit-passed : {other inks link cross l w : List ℕ} {line n k v low : ℕ} → low ≡ floor v →
     low < along l line k → Visit other inks link cross line n k v l l w w 0 0 0
 visit-passed {l = l} {line = line} {k = k} {v = v} e x = let z : floor v < along l line k = omega arith in passed z
 
--- a run none of whose labels is above 0 so far, since that of crossing k is not
-pub blank-run : {link lab : List ℕ} {line n k lo hi low b : ℕ} → low ≡ b → along lab line k ≤ low → k < n →
-    Joined link lab line n b → RunStart link line k lo → RunEnd link line n k hi → eqb low 0 ≡ true →
-    Blank lab line lo hi
-blank-run {link} {lab} {line} {n} {k} {lo} {hi} {low} {b} same few lk J s e none-yet = record {
-  none = λ j l h. pick j l h (ℕ-discrete (along lab line j) 0);
-}
-  where
-    pick : (j : ℕ) → lo ≤ j → j < hi → Dec (along lab line j ≡ 0) → along lab line j ≡ 0
-    pick j l h (yes x) = x
-    pick j l h (no x) =
-        let z = eqb-true low 0 none-yet in
-        let le = e .le in
-        absurd (J .on j k (omega arith) lk (run-joined s e j l h k (s .le) (e .after)) (omega arith) (omega arith))
+-- The run of a crossing that is visited.
+module _ {lab other link ahead behind : List ℕ} {line n k v low lo hi : ℕ}
+    (G : Visiting lab other link ahead behind line n k v low) where
+  pub stop-in : RunStart link line k lo → RunEnd link line n k hi → StopIn other line n v lo hi k
+  stop-in s e = record { hi-in = e .le; from = s .le; to = e .after; stop = G .stop }
+
+  -- none of its labels is above 0 so far, since that of crossing k is not
+  pub blank-run : along lab line k ≤ low → RunStart link line k lo → RunEnd link line n k hi → eqb low 0 ≡ true →
+      Blank lab line lo hi
+  blank-run few s e none-yet = record { none = λ j l h. pick j l h (ℕ-discrete (along lab line j) 0) }
+    where
+      pick : (j : ℕ) → lo ≤ j → j < hi → Dec (along lab line j ≡ 0) → along lab line j ≡ 0
+      pick j l h (yes x) = x
+      pick j l h (no x) =
+          let z = eqb-true low 0 none-yet in
+          let le = e .le in
+          let same = G .low-is in
+          absurd (G .joined .on j k (omega arith) (G .k-in) (run-joined s e j l h k (s .le) (e .after)) (omega arith)
+          (omega arith))
 
 fill-on : {v a b : ℕ} → Fill v a b → b ≢ 0
 fill-on (held h) = h

@@ -12,7 +12,8 @@ use Rattle.foil_spec.specs.Foil.{point}
 use Rattle.foil_spec.specs.Corners.{pointNumbers}
 use Rattle.list_laws.proofs.Tests.{clash}
 use Rattle.runs.specs.Line.{along, across, Linked, isStop, Stop}
-use Rattle.labels.specs.Walk.{Grounded, Trail, done, step, levelOut, uprightOut, LevelWalk, UprightWalk}
+use Rattle.labels.specs.Walk.{Grounded, Trail, done, step, levelOut, uprightOut}
+use Rattle.labels.specs.Walk.{Walkable, WalkFrom, LevelWalk, UprightWalk}
 use Rattle.runs.proofs.Line.{of-stop}
 
 -- from a label above 1 there is a next crossing
@@ -29,6 +30,17 @@ grounded-next {other = other} {wown = wown} {wother = wother} {link = link} {cro
         isStop other wother cross line (getD cross k 0) (v - 1) (along wown line k) r ≡ true → Dec (q < n) → q < n
     below r lr h f (yes y) = y
     below r lr h f (no y) = clash f (s .before r (omega arith) h)
+
+-- and so at each step of a walk
+module _ {l u wl wu kl ku cols rows : List ℕ} {nc nr i j v at q : ℕ} {out : List ℕ}
+    (W : Walkable l u wl wu kl ku cols rows nc nr) where
+  pub level-goes : WalkFrom (along l j i) nc nr i j v at out → v ≢ 1 →
+      Stop u wu kl cols j nc i (v - 1) (along wl j i) q → (q < nc) × (along u q j ≡ v - 1)
+  level-goes F above s = grounded-next _ _ _ _ (W .level) (F .j-in) (F .i-in) (F .pos) above (F .is) s
+
+  pub upright-goes : WalkFrom (along u i j) nc nr i j v at out → v ≢ 1 →
+      Stop l wl ku rows i nr j (v - 1) (along wu i j) q → (q < nr) × (along l q i ≡ v - 1)
+  upright-goes F above s = grounded-next _ _ _ _ (W .upright) (F .i-in) (F .j-in) (F .pos) above (F .is) s
 
 trail-step : {own other wown wother link link′ cross lines : List ℕ} {m n line k : ℕ} (v : ℕ) {q : ℕ} {qs : List ℕ} →
     1 ≤ v → Stop other wother link cross line n k (v - 1) (along wown line k) q → q < n →

@@ -5,9 +5,10 @@ use mathlib.Core.Logic.{_≢_}
 use mathlib.Core.Bool.{Bool, true, false}
 use mathlib.Core.List.{List, [], _∷_}
 use lib.ListN.{getD, set, length}
-use Rattle.grid.specs.Size.{stride}
-use Rattle.runs.specs.Line.{along, across, Linked, RunStart, RunEnd, Left}
-use Rattle.runs.specs.Ink.{RunInked, LeastInk, Inked}
+use Rattle.grid.specs.Size.{stride, area}
+use Rattle.grid.specs.Lines.{Lines}
+use Rattle.runs.specs.Line.{along, across, HasLine, Linked, RunStart, RunEnd, Left, labelTop}
+use Rattle.runs.specs.Ink.{RunInked, LeastInk, Inked, Lean}
 
 -- how many places have no label
 unfoldable pub zeros : List ℕ → ℕ
@@ -114,6 +115,48 @@ pub record RunFilled (line lo k v : ℕ) (l₀ l : List ℕ) (c : ℕ) : Type 0 
   pub high : (i : ℕ) → line * stride + k ≤ i → getD l i 0 ≡ getD l₀ i 0
   pub count : zeros l + c ≡ zeros l₀
   pub same : c ≡ 0 → l ≡ l₀
+
+-- the lists of m lines with n crossings each: their labels, inks and links, and the other direction's labels and inks
+pub record OneWay (lab own other inks link cross : List ℕ) (m n : ℕ) : Type 0 where
+  pub few : m ≤ stride
+  pub crossings : Lines cross n
+  pub labels : m * stride ≤ length lab
+  pub own-inks : m * stride ≤ length own
+  pub others : n * stride ≤ length other
+  pub other-inks : n * stride ≤ length inks
+  pub links : m * stride ≤ length link
+
+-- and those of one line
+pub record LineLists (lab own link : List ℕ) (line : ℕ) : Type 0 where
+  pub labels : HasLine lab line
+  pub own-inks : HasLine own line
+  pub links : HasLine link line
+
+-- a visit of crossing k, a stop for the label v; a label above `low` says that its run is done
+pub record Visiting (lab other link ahead behind : List ℕ) (line n k v low : ℕ) : Type 0 where
+  pub k-in : k < n
+  pub stop : across other line k ≡ v
+  pub ahead-room : stride ≤ length ahead
+  pub behind-room : stride ≤ length behind
+  pub low-is : low ≡ floor v
+  pub joined : Joined link lab line n (floor v)
+
+-- a pass that looks for the label v, by the marks `from`
+pub record Seeking (lab other inks link from : List ℕ) (m n v : ℕ) : Type 0 where
+  pub pos : 1 ≤ v
+  pub top : v < labelTop
+  pub few : length lab ≤ area
+  pub lean : Lean n m other inks
+  pub marked : Marked from n m other v
+  pub full : Full link lab m n (floor v)
+
+-- the lists that it works with: those marks, the marks that it makes, and what the two sweeps leave
+pub record PassRoom (from marks ahead behind : List ℕ) (n : ℕ) : Type 0 where
+  pub from-room : 2 * stride ≤ length from
+  pub marks-room : 2 * stride ≤ length marks
+  pub marks-fit : Marks marks n
+  pub ahead-room : stride ≤ length ahead
+  pub behind-room : stride ≤ length behind
 
 -- a visit of crossing k of a line: its run, lo to hi, gets inks and labels, c of which are new, or its label says that
 -- this was done, or it is left to the visit of a crossing before it

@@ -47,6 +47,15 @@ pub data Rounds (kl ku cols rows : List ℕ) (nc nr : ℕ) (l₀ u₀ wl₀ wu�
       Pass l′ ku nc nr v u u′ → Inked l′ wl′ ku rows nc nr v u u′ wu wu′ →
       Rounds kl ku cols rows nc nr l₀ u₀ wl₀ wu₀ (v + 1) l′ u′ wl′ wu′
 
+-- what is known before the last round is tried for the crossing of column i and row j
+pub record Trying (l u wl wu : List ℕ) (nc nr i j v : ℕ) : Type 0 where
+  pub i-in : i < nc
+  pub j-in : j < nr
+  pub pos : 1 ≤ v
+  pub top : v < labelTop
+  pub level-lean : Lean nr nc l wl
+  pub upright-lean : Lean nc nr u wu
+
 -- the last round, which looks for the label v: the crossing of column i and row j gets what a round gives it, and any
 -- other that or nothing
 pub record Last (kl ku cols rows : List ℕ) (nc nr i j v : ℕ) (l₀ u₀ wl₀ wu₀ l u wl wu : List ℕ) : Type 0 where

@@ -50,6 +50,14 @@ pub record Walkable (l u wl wu kl ku cols rows : List ℕ) (nc nr : ℕ) : Type 
   pub level-lean : Lean nr nc l wl
   pub upright-lean : Lean nc nr u wu
 
+-- and from where it goes: the crossing of column i and row j has the label v, and its corners fit from corner `at` on
+pub record WalkFrom (label : ℕ) (nc nr i j v at : ℕ) (out : List ℕ) : Type 0 where
+  pub i-in : i < nc
+  pub j-in : j < nr
+  pub pos : 1 ≤ v
+  pub is : label ≡ v
+  pub room : 2 * at + 2 * v ≤ length out + 2
+
 -- what a walk from column i and row j gives, the first segment level: the crossings, the corner list, and r corners
 pub record LevelWalk (l u wl wu kl ku cols rows : List ℕ) (nc nr i j v at : ℕ) (out out′ : List ℕ) (r : ℕ)
     : Type 0 where

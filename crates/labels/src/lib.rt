@@ -25,14 +25,14 @@ ghost use mathlib.Core.Path.{_≡_};
 ghost use mathlib.Core.Bool.{true};
 ghost use Prim.Native.Nat.{ℕ, _+_, _*_, _≤_, _<_};
 ghost use lib.ListN.{length};
-ghost use Rattle.grid.specs.Size.{stride, area};
-ghost use Rattle.grid.specs.Lines.{Lines};
-ghost use Rattle.runs.specs.Line.{along, across, labelTop};
-ghost use Rattle.runs.specs.Ink.{Low, Lean, Blank};
-ghost use Rattle.labels.specs.Pass.{Below, floor, Joined, Full, Marks, Marked, Widened, NextNew, Summed};
+ghost use Rattle.grid.specs.Size.{stride};
+ghost use Rattle.runs.specs.Line.{along, HasLine, labelTop};
+ghost use Rattle.runs.specs.Ink.{OnLine, Blank};
+ghost use Rattle.labels.specs.Pass.{Below, floor, Marks, Marked, Widened, NextNew, Summed};
+ghost use Rattle.labels.specs.Pass.{OneWay, LineLists, Visiting, Seeking, PassRoom};
 ghost use Rattle.labels.specs.Pass.{CellFilled, RunFilled, Visit, PassTo, Alone};
-ghost use Rattle.labels.specs.Rounds.{Sized, Begun, Tried, Ended};
-ghost use Rattle.labels.specs.Walk.{Walkable, LevelWalk, UprightWalk};
+ghost use Rattle.labels.specs.Rounds.{Sized, Begun, Trying, Tried, Ended};
+ghost use Rattle.labels.specs.Walk.{Walkable, WalkFrom, LevelWalk, UprightWalk};
 
 // The marks of the lines of a direction have two numbers for each.
 const MARKS: usize = 538;
@@ -60,7 +60,7 @@ fn widen(marks: &mut [u16], line: usize, run: Run)
 
 // The first crossing of a line with the label v from the crossing `at` on, or `end`.
 fn scan_new(labels: &[u32], line: usize, at: usize, end: usize, v: u32) -> usize
-    requires { ⌜ (line < stride) × (end ≤ stride) × (line * stride + stride ≤ length (now labels)) ⌝ }
+    requires { ⌜ (line < stride) × (end ≤ stride) × HasLine (now labels) line ⌝ }
     ensures { λ r. ⌜ NextNew (now (labels .entry)) line at end v r ⌝ }
 {
     let mut k = at;
@@ -75,7 +75,7 @@ fn scan_new(labels: &[u32], line: usize, at: usize, end: usize, v: u32) -> usize
 
 // The same. It is no more than `end`, as `run_start` is no more than its crossing.
 fn next_new(labels: &[u32], line: usize, at: usize, end: usize, v: u32) -> usize
-    requires { ⌜ (line < stride) × (end ≤ stride) × (line * stride + stride ≤ length (now labels)) ⌝ }
+    requires { ⌜ (line < stride) × (end ≤ stride) × HasLine (now labels) line ⌝ }
     ensures { λ r. ⌜ NextNew (now (labels .entry)) line at end v r ⌝ }
 {
     nearer(scan_new(labels, line, at, end, v), end)
@@ -83,7 +83,7 @@ fn next_new(labels: &[u32], line: usize, at: usize, end: usize, v: u32) -> usize
 
 // The sum of the labels of a line with n crossings, each of which is 1 at most.
 fn sum_of(labels: &[u32], line: usize, n: usize) -> u32
-    requires { ⌜ (line < stride) × (n ≤ stride) × (line * stride + stride ≤ length (now labels))
+    requires { ⌜ (line < stride) × (n ≤ stride) × HasLine (now labels) line
         × ((k : ℕ) → k < n → along (now labels) line k ≤ 1) ⌝ }
     ensures { λ r. ⌜ Summed (now (labels .entry)) line n r ⌝ }
 {
@@ -121,7 +121,7 @@ fn mark_targets(marks: &mut [u16], labels: &[u32], m: usize, n: usize)
 
 // Gives crossing k of a line the label v + 1, if it has none. Returns how many labels are new.
 fn fill_cell(labels: &mut [u32], line: usize, k: usize, v: u32, blank: bool) -> usize
-    requires { ⌜ (line < stride) × (k < stride) × (v < labelTop) × (line * stride + stride ≤ length (now labels)) ⌝ }
+    requires { ⌜ (line < stride) × (k < stride) × (v < labelTop) × HasLine (now labels) line ⌝ }
     requires { ⌜ (blank ≡ true → along (now labels) line k ≡ 0) ⌝ }
     ensures { λ r. ⌜ CellFilled line k v (now (labels .entry)) (now (labels .exit)) r ⌝ }
 {
@@ -134,8 +134,7 @@ fn fill_cell(labels: &mut [u32], line: usize, k: usize, v: u32, blank: bool) -> 
 
 // The same for the crossings lo to hi, hi excluded. Where they are known to be blank, they are not looked at.
 fn fill_run(labels: &mut [u32], line: usize, lo: usize, hi: usize, v: u32, blank: bool) -> usize
-    requires { ⌜ (line < stride) × (hi ≤ stride) × (lo ≤ hi) × (v < labelTop)
-        × (line * stride + stride ≤ length (now labels)) ⌝ }
+    requires { ⌜ (line < stride) × (hi ≤ stride) × (lo ≤ hi) × (v < labelTop) × HasLine (now labels) line ⌝ }
     requires { ⌜ (blank ≡ true → Blank (now labels) line lo hi) ⌝ }
     ensures { λ r. ⌜ RunFilled line lo hi v (now (labels .entry)) (now (labels .exit)) r ⌝ }
 {
@@ -175,14 +174,8 @@ fn visit(
     v: u32,
     low: u32,
 ) -> Run
-    requires { ⌜ (line < stride) × Lines (now cross) n × (k < n) × (v < labelTop)
-        × (line * stride + stride ≤ length (now link)) ⌝ }
-    requires { ⌜ (n * stride ≤ length (now other)) × (n * stride ≤ length (now inks))
-        × (line * stride + stride ≤ length (now own)) ⌝ }
-    requires { ⌜ Low (now other) (now inks) line n v × (across (now other) line k ≡ v) ⌝ }
-    requires { ⌜ (line * stride + stride ≤ length (now labels)) × (stride ≤ length (now ahead))
-        × (stride ≤ length (now behind)) ⌝ }
-    requires { ⌜ (low ≡ floor v) × Joined (now link) (now labels) line n (floor v) ⌝ }
+    requires { ⌜ OnLine (now other) (now inks) (now cross) line n v × LineLists (now labels) (now own) (now link) line
+        × Visiting (now labels) (now other) (now link) (now ahead) (now behind) line n k v low ⌝ }
     ensures { λ r. ⌜ Visit (now (other .entry)) (now (inks .entry)) (now (link .entry)) (now (cross .entry)) line n k v
         (now (labels .entry)) (now (labels .exit)) (now (own .entry)) (now (own .exit)) (r .lo) (r .hi) (r .new) ⌝ }
 {
@@ -241,13 +234,9 @@ fn label_pass(
     n: usize,
     v: u32,
 ) -> usize
-    requires { ⌜ (m ≤ stride) × Lines (now cross) n × (1 ≤ v) × (v < labelTop) ⌝ }
-    requires { ⌜ (n * stride ≤ length (now other)) × (n * stride ≤ length (now inks))
-        × (m * stride ≤ length (now own)) × (m * stride ≤ length (now labels)) × (length (now labels) ≤ area) ⌝ }
-    requires { ⌜ (m * stride ≤ length (now link)) × (2 * stride ≤ length (now from)) × (2 * stride ≤ length (now marks))
-        × (stride ≤ length (now ahead)) × (stride ≤ length (now behind)) ⌝ }
-    requires { ⌜ Lean n m (now other) (now inks) × Marked (now from) n m (now other) v × Marks (now marks) n
-        × Full (now link) (now labels) m n (floor v) ⌝ }
+    requires { ⌜ OneWay (now labels) (now own) (now other) (now inks) (now link) (now cross) m n
+        × Seeking (now labels) (now other) (now inks) (now link) (now from) m n v
+        × PassRoom (now from) (now marks) (now ahead) (now behind) n ⌝ }
     ensures { λ r. ⌜ PassTo (now (other .entry)) (now (inks .entry)) (now (link .entry)) (now (cross .entry))
         m n v (n * stride) (now (labels .entry)) (now (labels .exit)) (now (own .entry)) (now (own .exit))
         (now (marks .exit)) r ⌝ }
@@ -298,11 +287,8 @@ fn label_alone(
     k: usize,
     v: u32,
 ) -> bool
-    requires { ⌜ (line < stride) × Lines (now cross) n × (k < n) × (v < labelTop)
-        × (line * stride + stride ≤ length (now link)) ⌝ }
-    requires { ⌜ (n * stride ≤ length (now other)) × (n * stride ≤ length (now inks))
-        × Low (now other) (now inks) line n v ⌝ }
-    requires { ⌜ (line * stride + stride ≤ length (now labels)) × (line * stride + stride ≤ length (now own)) ⌝ }
+    requires { ⌜ OnLine (now other) (now inks) (now cross) line n v × LineLists (now labels) (now own) (now link) line
+        × (k < n) ⌝ }
     ensures { λ r. ⌜ Alone (now (other .entry)) (now (inks .entry)) (now (link .entry)) (now (cross .entry)) line n k v
         (now (labels .entry)) (now (labels .exit)) (now (own .entry)) (now (own .exit)) r ⌝ }
 {
@@ -338,8 +324,7 @@ fn last_round(
     v: u32,
 ) -> bool
     requires { ⌜ Sized (now level) (now upright) (now il) (now iu) (now kl) (now ku) (now cols) (now rows) nc nr
-        × (i < nc) × (j < nr) × (1 ≤ v) × (v < labelTop) ⌝ }
-    requires { ⌜ Lean nr nc (now level) (now il) × Lean nc nr (now upright) (now iu) ⌝ }
+        × Trying (now level) (now upright) (now il) (now iu) nc nr i j v ⌝ }
     ensures { λ r. ⌜ Tried (now (kl .entry)) (now (ku .entry)) (now (cols .entry)) (now (rows .entry)) nc nr i j v
         (now (level .entry)) (now (upright .entry)) (now (il .entry)) (now (iu .entry))
         (now (level .exit)) (now (upright .exit)) (now (il .exit)) (now (iu .exit)) r ⌝ }
@@ -449,8 +434,7 @@ pub fn level_step(
     at: usize,
 ) -> usize
     requires { ⌜ Walkable (now level) (now upright) (now il) (now iu) (now kl) (now ku) (now cols) (now rows) nc nr ⌝ }
-    requires { ⌜ (i < nc) × (j < nr) × (1 ≤ v) × (along (now level) j i ≡ v)
-        × (2 * at + 2 * v ≤ length (now out) + 2) ⌝ }
+    requires { ⌜ WalkFrom (along (now level) j i) nc nr i j v at (now out) ⌝ }
     ensures { λ r. ⌜ LevelWalk (now (level .entry)) (now (upright .entry)) (now (il .entry)) (now (iu .entry))
         (now (kl .entry)) (now (ku .entry)) (now (cols .entry)) (now (rows .entry)) nc nr i j v at
         (now (out .entry)) (now (out .exit)) r ⌝ }
@@ -500,8 +484,7 @@ pub fn upright_step(
     at: usize,
 ) -> usize
     requires { ⌜ Walkable (now level) (now upright) (now il) (now iu) (now kl) (now ku) (now cols) (now rows) nc nr ⌝ }
-    requires { ⌜ (i < nc) × (j < nr) × (1 ≤ v) × (along (now upright) i j ≡ v)
-        × (2 * at + 2 * v ≤ length (now out) + 2) ⌝ }
+    requires { ⌜ WalkFrom (along (now upright) i j) nc nr i j v at (now out) ⌝ }
     ensures { λ r. ⌜ UprightWalk (now (level .entry)) (now (upright .entry)) (now (il .entry)) (now (iu .entry))
         (now (kl .entry)) (now (ku .entry)) (now (cols .entry)) (now (rows .entry)) nc nr i j v at
         (now (out .entry)) (now (out .exit)) r ⌝ }

@@ -12,7 +12,8 @@ use Rattle.foil_spec.specs.Paths.{gap}
 use Rattle.grid.specs.Size.{stride}
 use Rattle.grid.specs.Lines.{Lines}
 use Rattle.runs.specs.Line.{along, across}
-use Rattle.runs.specs.Ink.{Low, Carried, Least, Over, Ahead, Behind, InkPut, stays, puts, RunInked, Lean}
+use Rattle.runs.specs.Ink.{Low, OnLine, AtCrossing, Carried, Least, Over, Ahead, Behind}
+use Rattle.runs.specs.Ink.{InkPut, stays, puts, RunInked, Lean}
 
 -- the numbers of crossings a to b of a line do not fall
 pub rises : {cross : List ℕ} {n : ℕ} → Lines cross n → (a b : ℕ) → a ≤ b → b < n → getD cross a 0 ≤ getD cross b 0
@@ -26,6 +27,18 @@ rises {cross} L a b l lb = pick (decLt a b)
 pub lean-low : {other inks : List ℕ} {m n : ℕ} (line v : ℕ) → Lean n m other inks → line < m → 1 ≤ v →
     Low other inks line n v
 lean-low line v L ll p = record { le = λ q lq e. omega (arith, L .le q lq line ll (omega arith)) }
+
+-- a crossing of a line
+pub at-crossing : {other inks cross : List ℕ} {line n v : ℕ} → OnLine other inks cross line n v → (k : ℕ) → k < n →
+    AtCrossing other inks line v k
+at-crossing O k lk = record {
+  line-in = O .line-in;
+  k-in = omega (arith, O .crossings .few);
+  top = O .top;
+  others = omega (arith, O .others);
+  other-inks = omega (arith, O .other-inks);
+  low = O .low .le k lk;
+}
 
 -- what is carried on from a stop
 pub carried-stop : {other inks : List ℕ} {line v k x best r : ℕ} → across other line k ≡ v →

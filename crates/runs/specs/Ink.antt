@@ -6,11 +6,38 @@ use mathlib.Core.List.{List}
 use lib.ListN.{getD, set, length}
 use Rattle.foil_spec.specs.Paths.{gap}
 use Rattle.grid.specs.Size.{stride}
-use Rattle.runs.specs.Line.{along, across, Linked}
+use Rattle.grid.specs.Lines.{Lines}
+use Rattle.runs.specs.Line.{along, across, HasLine, Linked, labelTop}
 
 -- the stops of a line for the label v have small inks
 pub record Low (other inks : List ℕ) (line n v : ℕ) : Type 0 where
   pub le : (q : ℕ) → q < n → across other line q ≡ v → across inks line q ≤ 4095 * v
+
+-- a line with n crossings, whose numbers are cross, the labels and inks of the other direction, and the label v that is
+-- looked for in these
+pub record OnLine (other inks cross : List ℕ) (line n v : ℕ) : Type 0 where
+  pub line-in : line < stride
+  pub crossings : Lines cross n
+  pub top : v < labelTop
+  pub others : n * stride ≤ length other
+  pub other-inks : n * stride ≤ length inks
+  pub low : Low other inks line n v
+
+-- its crossing k
+pub record AtCrossing (other inks : List ℕ) (line v k : ℕ) : Type 0 where
+  pub line-in : line < stride
+  pub k-in : k < stride
+  pub top : v < labelTop
+  pub others : HasLine other k
+  pub other-inks : HasLine inks k
+  pub low : across other line k ≡ v → across inks line k ≤ 4095 * v
+
+-- its crossings lo to hi, hi excluded, one of which, h, is a stop
+pub record StopIn (other : List ℕ) (line n v lo hi h : ℕ) : Type 0 where
+  pub hi-in : hi ≤ n
+  pub from : lo ≤ h
+  pub to : h < hi
+  pub stop : across other line h ≡ v
 
 -- r is the least of `best` and, where crossing k is a stop for the label v, its ink and x more
 pub record Carried (other inks : List ℕ) (line v k x best r : ℕ) : Type 0 where
@@ -43,6 +70,17 @@ pub record Ahead (other inks cross : List ℕ) (line v lo hi k : ℕ) (ahead : L
 pub record Behind (other inks cross : List ℕ) (line v lo hi k : ℕ) (behind : List ℕ) : Type 0 where
   pub at : (j : ℕ) → j < k → lo ≤ j →
       Over other inks cross line v lo hi lo (j + 1) j (4096 - getD cross j 0) (getD behind j 0)
+
+-- both sweeps have come over the crossings lo to hi, hi excluded, of a line with n
+pub record Swept (other inks cross : List ℕ) (line n v lo hi : ℕ) (ahead behind : List ℕ) : Type 0 where
+  pub line-in : line < stride
+  pub crossings : Lines cross n
+  pub from : lo ≤ hi
+  pub hi-in : hi ≤ n
+  pub ahead-room : stride ≤ length ahead
+  pub behind-room : stride ≤ length behind
+  pub down : Ahead other inks cross line v lo hi lo ahead
+  pub up : Behind other inks cross line v lo hi hi behind
 
 -- no crossing of a line from lo to hi, hi excluded, has a label
 pub record Blank (lab : List ℕ) (line lo hi : ℕ) : Type 0 where

@@ -5,7 +5,7 @@ use mathlib.Core.Logic.{_≢_}
 use mathlib.Core.Bool.{Bool, true, false, _&&_}
 use lib.Dec.{eqb}
 use mathlib.Core.List.{List}
-use lib.ListN.{getD}
+use lib.ListN.{getD, length}
 use Rattle.foil_spec.specs.Paths.{gap}
 use Rattle.grid.specs.Size.{stride}
 
@@ -16,6 +16,10 @@ along lab line k = getD lab (line * stride + k) 0
 -- and in the list of the other direction, where line and crossing change places
 abbrev pub across : List ℕ → ℕ → ℕ → ℕ
 across lab line k = along lab k line
+
+-- a list has a place for each crossing of a line
+abbrev pub HasLine : List ℕ → ℕ → Type 0
+HasLine l line = line * stride + stride ≤ length l
 
 -- the line is free from crossing a to crossing b, either way round
 unfoldable pub Linked : List ℕ → ℕ → ℕ → ℕ → Type 0

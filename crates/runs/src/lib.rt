@@ -8,9 +8,9 @@ ghost use mathlib.Core.Logic.{_≢_};
 ghost use lib.ListN.{getD, length};
 ghost use Rattle.foil_spec.specs.Paths.{gap};
 ghost use Rattle.grid.specs.Size.{stride};
-ghost use Rattle.grid.specs.Lines.{Lines};
-ghost use Rattle.runs.specs.Line.{along, across, RunStart, RunEnd, Left, isStop, Scanned, Stop, FirstStop, labelTop};
-ghost use Rattle.runs.specs.Ink.{Low, Carried, Least, Ahead, Behind, InkPut, Blank, RunInked};
+ghost use Rattle.runs.specs.Line.{along, HasLine, RunStart, RunEnd, Left, isStop, Scanned, Stop, FirstStop};
+ghost use Rattle.runs.specs.Ink.{OnLine, AtCrossing, StopIn, Swept, Carried, Least, Ahead, Behind, InkPut};
+ghost use Rattle.runs.specs.Ink.{Blank, RunInked};
 
 // How many steps two numbers are apart.
 pub fn steps(a: u16, b: u16) -> u32
@@ -44,7 +44,7 @@ pub fn nearer(a: usize, b: usize) -> usize
 
 // The first crossing of a line that is joined with the crossing `at`.
 fn back_from(link: &[u8], line: usize, at: usize) -> usize
-    requires { ⌜ (line < stride) × (at ≤ stride) × (line * stride + stride ≤ length (now link)) ⌝ }
+    requires { ⌜ (line < stride) × (at ≤ stride) × HasLine (now link) line ⌝ }
     ensures { λ r. ⌜ RunStart (now (link .entry)) line at r ⌝ }
 {
     let mut lo = at;
@@ -60,7 +60,7 @@ fn back_from(link: &[u8], line: usize, at: usize) -> usize
 // The same. It is no more than `at`: with that said once more, the compiler does not carry a place of every list along
 // the scan.
 pub fn run_start(link: &[u8], line: usize, at: usize) -> usize
-    requires { ⌜ (line < stride) × (at ≤ stride) × (line * stride + stride ≤ length (now link)) ⌝ }
+    requires { ⌜ (line < stride) × (at ≤ stride) × HasLine (now link) line ⌝ }
     ensures { λ r. ⌜ RunStart (now (link .entry)) line at r ⌝ }
 {
     nearer(back_from(link, line, at), at)
@@ -68,7 +68,7 @@ pub fn run_start(link: &[u8], line: usize, at: usize) -> usize
 
 // The first crossing after the crossing `at`, of n on a line, that is not joined with it.
 pub fn run_end(link: &[u8], line: usize, n: usize, at: usize) -> usize
-    requires { ⌜ (line < stride) × (n ≤ stride) × (at < n) × (line * stride + stride ≤ length (now link)) ⌝ }
+    requires { ⌜ (line < stride) × (n ≤ stride) × (at < n) × HasLine (now link) line ⌝ }
     ensures { λ r. ⌜ RunEnd (now (link .entry)) line n at r ⌝ }
 {
     let mut hi = at + 1;
@@ -84,8 +84,7 @@ pub fn run_end(link: &[u8], line: usize, n: usize, at: usize) -> usize
 // Whether the visit of crossing `at` can be left to one before it: in the first round, where a crossing before it that
 // is joined with it has the label v in the other direction as well. So the run of many targets is visited once.
 pub fn is_left(other: &[u32], link: &[u8], line: usize, at: usize, v: u32) -> bool
-    requires { ⌜ (line < stride) × (at ≤ stride) × (at * stride ≤ length (now other))
-        × (line * stride + stride ≤ length (now link)) ⌝ }
+    requires { ⌜ (line < stride) × (at ≤ stride) × (at * stride ≤ length (now other)) × HasLine (now link) line ⌝ }
     ensures { λ r. ⌜ (r ≡ true → Left (now (other .entry)) (now (link .entry)) line at v) ⌝ }
 {
     if v != 1 {
@@ -115,9 +114,7 @@ fn is_stop(
     v: u32,
     s: u32,
 ) -> bool
-    requires { ⌜ (line < stride) × (k < stride) × (k < length (now cross)) × (v < labelTop) ⌝ }
-    requires { ⌜ (k * stride + stride ≤ length (now other)) × (k * stride + stride ≤ length (now inks)) ⌝ }
-    requires { ⌜ (across (now other) line k ≡ v → across (now inks) line k ≤ 4095 * v) ⌝ }
+    requires { ⌜ AtCrossing (now other) (now inks) line v k × (k < length (now cross)) ⌝ }
     ensures { λ r. ⌜ r ≡ isStop (now (other .entry)) (now (inks .entry)) (now (cross .entry)) line x v s k ⌝ }
 {
     if other[k * STRIDE + line] != v {
@@ -142,10 +139,7 @@ fn scan(
     v: u32,
     s: u32,
 ) -> usize
-    requires { ⌜ (line < stride) × Lines (now cross) n × (lo ≤ n) × (v < labelTop)
-        × (line * stride + stride ≤ length (now link)) ⌝ }
-    requires { ⌜ (n * stride ≤ length (now other)) × (n * stride ≤ length (now inks))
-        × Low (now other) (now inks) line n v ⌝ }
+    requires { ⌜ OnLine (now other) (now inks) (now cross) line n v × HasLine (now link) line × (lo ≤ n) ⌝ }
     ensures { λ r. ⌜ Scanned (now (other .entry)) (now (inks .entry)) (now (link .entry)) (now (cross .entry))
         line n lo x v s r ⌝ }
 {
@@ -174,10 +168,7 @@ pub fn next_stop(
     v: u32,
     s: u32,
 ) -> usize
-    requires { ⌜ (line < stride) × Lines (now cross) n × (at < n) × (v < labelTop)
-        × (line * stride + stride ≤ length (now link)) ⌝ }
-    requires { ⌜ (n * stride ≤ length (now other)) × (n * stride ≤ length (now inks))
-        × Low (now other) (now inks) line n v ⌝ }
+    requires { ⌜ OnLine (now other) (now inks) (now cross) line n v × HasLine (now link) line × (at < n) ⌝ }
     ensures { λ r. ⌜ Stop (now (other .entry)) (now (inks .entry)) (now (link .entry)) (now (cross .entry))
         line n at v s r ⌝ }
 {
@@ -197,9 +188,7 @@ pub fn next_stop(
 
 // The least of `best` and, where crossing k of a line is a stop for the label v, its ink and x more.
 fn carry(other: &[u32], inks: &[u32], line: usize, k: usize, v: u32, x: u32, best: u32) -> u32
-    requires { ⌜ (line < stride) × (k < stride) × (v < labelTop) × (x ≤ 4096) ⌝ }
-    requires { ⌜ (k * stride + stride ≤ length (now other)) × (k * stride + stride ≤ length (now inks)) ⌝ }
-    requires { ⌜ (across (now other) line k ≡ v → across (now inks) line k ≤ 4095 * v) ⌝ }
+    requires { ⌜ AtCrossing (now other) (now inks) line v k × (x ≤ 4096) ⌝ }
     ensures { λ r. ⌜ Carried (now (other .entry)) (now (inks .entry)) line v k x best r ⌝ }
 {
     if other[k * STRIDE + line] != v {
@@ -235,9 +224,7 @@ pub fn ink_at(
     at: usize,
     v: u32,
 ) -> u32
-    requires { ⌜ (line < stride) × Lines (now cross) n × (hi ≤ n) × (h < hi) × (at < n) × (v < labelTop) ⌝ }
-    requires { ⌜ (n * stride ≤ length (now other)) × (n * stride ≤ length (now inks)) ⌝ }
-    requires { ⌜ Low (now other) (now inks) line n v × (across (now other) line h ≡ v) ⌝ }
+    requires { ⌜ OnLine (now other) (now inks) (now cross) line n v × StopIn (now other) line n v h hi h × (at < n) ⌝ }
     ensures { λ r. ⌜ Least (now (other .entry)) (now (inks .entry)) (now (cross .entry)) line v h hi h hi
         (getD (now (cross .entry)) at 0) r ⌝ }
 {
@@ -265,10 +252,8 @@ pub fn ahead_of(
     h: usize,
     v: u32,
 )
-    requires { ⌜ (line < stride) × Lines (now cross) n × (hi ≤ n) × (lo ≤ h) × (h < hi) × (v < labelTop) ⌝ }
-    requires { ⌜ (n * stride ≤ length (now other)) × (n * stride ≤ length (now inks))
+    requires { ⌜ OnLine (now other) (now inks) (now cross) line n v × StopIn (now other) line n v lo hi h
         × (stride ≤ length (now ahead)) ⌝ }
-    requires { ⌜ Low (now other) (now inks) line n v × (across (now other) line h ≡ v) ⌝ }
     ensures { λ _. ⌜ Ahead (now (other .entry)) (now (inks .entry)) (now (cross .entry)) line v lo hi lo
         (now (ahead .exit)) ⌝ }
 {
@@ -295,10 +280,8 @@ pub fn behind_of(
     h: usize,
     v: u32,
 )
-    requires { ⌜ (line < stride) × Lines (now cross) n × (hi ≤ n) × (lo ≤ h) × (h < hi) × (v < labelTop) ⌝ }
-    requires { ⌜ (n * stride ≤ length (now other)) × (n * stride ≤ length (now inks))
+    requires { ⌜ OnLine (now other) (now inks) (now cross) line n v × StopIn (now other) line n v lo hi h
         × (stride ≤ length (now behind)) ⌝ }
-    requires { ⌜ Low (now other) (now inks) line n v × (across (now other) line h ≡ v) ⌝ }
     ensures { λ _. ⌜ Behind (now (other .entry)) (now (inks .entry)) (now (cross .entry)) line v lo hi hi
         (now (behind .exit)) ⌝ }
 {
@@ -324,7 +307,7 @@ fn ink_of(ahead: u32, behind: u32, x: u16) -> u32
 
 // Whether crossing k of a line has a label. Where it is known to be blank, it is not looked at.
 pub fn has_label(labels: &[u32], line: usize, k: usize, blank: bool) -> bool
-    requires { ⌜ (line < stride) × (k < stride) × (line * stride + stride ≤ length (now labels)) ⌝ }
+    requires { ⌜ (line < stride) × (k < stride) × HasLine (now labels) line ⌝ }
     requires { ⌜ (blank ≡ true → along (now labels) line k ≡ 0) ⌝ }
     ensures { λ r. ⌜ (r ≡ true → along (now (labels .entry)) line k ≢ 0)
         × (r ≡ false → along (now (labels .entry)) line k ≡ 0) ⌝ }
@@ -340,8 +323,7 @@ pub fn has_label(labels: &[u32], line: usize, k: usize, blank: bool) -> bool
 
 // Gives crossing k of a line the ink s, if it has no label.
 fn put_ink(own: &mut [u32], labels: &[u32], line: usize, k: usize, s: u32, blank: bool)
-    requires { ⌜ (line < stride) × (k < stride) × (line * stride + stride ≤ length (now own))
-        × (line * stride + stride ≤ length (now labels)) ⌝ }
+    requires { ⌜ (line < stride) × (k < stride) × HasLine (now own) line × HasLine (now labels) line ⌝ }
     requires { ⌜ (blank ≡ true → along (now labels) line k ≡ 0) ⌝ }
     ensures { λ _. ⌜ InkPut line k s (now (labels .entry)) (now (own .entry)) (now (own .exit)) ⌝ }
 {
@@ -368,12 +350,8 @@ pub fn ink_run(
     v: u32,
     blank: bool,
 )
-    requires { ⌜ (line < stride) × Lines (now cross) n × (hi ≤ n) × (lo ≤ hi) ⌝ }
-    requires { ⌜ (stride ≤ length (now ahead)) × (stride ≤ length (now behind)) ⌝ }
-    requires { ⌜ (line * stride + stride ≤ length (now own)) × (line * stride + stride ≤ length (now labels))
-        × (blank ≡ true → Blank (now labels) line lo hi) ⌝ }
-    requires { ⌜ Ahead (now other) (now inks) (now cross) line v lo hi lo (now ahead)
-        × Behind (now other) (now inks) (now cross) line v lo hi hi (now behind) ⌝ }
+    requires { ⌜ Swept (now other) (now inks) (now cross) line n v lo hi (now ahead) (now behind) ⌝ }
+    requires { ⌜ HasLine (now own) line × HasLine (now labels) line × (blank ≡ true → Blank (now labels) line lo hi) ⌝ }
     ensures { λ _. ⌜ RunInked (now (other .entry)) (now (inks .entry)) (now (cross .entry)) line v lo hi hi
         (now (labels .entry)) (now (own .entry)) (now (own .exit)) ⌝ }
 {

@@ -1,8 +1,9 @@
 -- The two steps of the walk call each other by turns; the label falls by one at each call.
 use native.Mathlib.Omega.{arith}
 use mathlib.Core.Path.{_∙_}
-use Rattle.runs.proofs.Inks.{lean-low}
-use Rattle.labels.proofs.Walk.{grounded-next, level-done, level-more, upright-done, upright-more}
+use Rattle.labels.proofs.Pass.{on-line}
+use Rattle.labels.proofs.Last.{level-way, upright-way}
+use Rattle.labels.proofs.Walk.{level-goes, level-done, level-more, upright-goes, upright-done, upright-more}
 use Prim.Native.Nat.{ℕ, _<_}
 use borrow.Fn.Kinds.{In}
 use borrow.Fn.PlainCycle.{Measures, is, falls, and}
@@ -57,28 +58,51 @@ upright-calls t = (
   level-step.Post,
 )
 
--- the step on a level segment, where the label is t: back to the start, to the test, and to what the calls answered
+-- on a level segment, where the label is t: back to the start from past the test, and to what the calls answered
+abbrev levelAtStart : (t : ℕ) → level-lts.Else1 (level-calls t) (level-step-at t) level-step.Post
+    → level-lts.Start (level-calls t) (level-step-at t) level-step.Post
+levelAtStart t c = c .before .before .before .before .before .before .before .before .before .before
+
+abbrev levelPast : (t : ℕ) → level-lts.After-next-stop (level-calls t) (level-step-at t) level-step.Post
+    → level-lts.Else1 (level-calls t) (level-step-at t) level-step.Post
+levelPast t c = c .before .before
+
+abbrev levelAtStop : (t : ℕ) → level-lts.After-upright-step-arg (level-calls t) (level-step-at t) level-step.Post
+    → level-lts.After-next-stop (level-calls t) (level-step-at t) level-step.Post
+levelAtStop t c = c .before .before .before .before .before .before .before
+
+abbrev levelAtPut : (t : ℕ) → level-lts.After-upright-step-arg (level-calls t) (level-step-at t) level-step.Post
+    → level-lts.After-put-corner (level-calls t) (level-step-at t) level-step.Post
+levelAtPut t c = c .before .before .before
+
+abbrev levelAtStep : (t : ℕ) → level-lts.After-slice-known3 (level-calls t) (level-step-at t) level-step.Post
+    → level-lts.After-upright-step (level-calls t) (level-step-at t) level-step.Post
+levelAtStep t c = c .before .before
+
+-- and on an upright one
+abbrev uprightAtStart : (t : ℕ) → upright-lts.Else1 (upright-calls t) (upright-step-at t) upright-step.Post
+    → upright-lts.Start (upright-calls t) (upright-step-at t) upright-step.Post
+uprightAtStart t c = c .before .before .before .before .before .before .before .before .before .before
+
+abbrev uprightPast : (t : ℕ) → upright-lts.After-next-stop (upright-calls t) (upright-step-at t) upright-step.Post
+    → upright-lts.Else1 (upright-calls t) (upright-step-at t) upright-step.Post
+uprightPast t c = c .before .before
+
+abbrev uprightAtStop : (t : ℕ)
+    → upright-lts.After-level-step-arg (upright-calls t) (upright-step-at t) upright-step.Post
+    → upright-lts.After-next-stop (upright-calls t) (upright-step-at t) upright-step.Post
+uprightAtStop t c = c .before .before .before .before .before .before .before
+
+abbrev uprightAtPut : (t : ℕ) → upright-lts.After-level-step-arg (upright-calls t) (upright-step-at t) upright-step.Post
+    → upright-lts.After-put-corner (upright-calls t) (upright-step-at t) upright-step.Post
+uprightAtPut t c = c .before .before .before
+
+abbrev uprightAtStep : (t : ℕ) → upright-lts.After-slice-known3 (upright-calls t) (upright-step-at t) upright-step.Post
+    → upright-lts.After-level-step (upright-calls t) (upright-step-at t) upright-step.Post
+uprightAtStep t c = c .before .before
+
+-- the step on a level segment
 module _ (t : ℕ) where
-  abbrev levelAtStart : level-lts.Else1 (level-calls t) (level-step-at t) level-step.Post
-      → level-lts.Start (level-calls t) (level-step-at t) level-step.Post
-  levelAtStart c = c .before .before .before .before .before .before .before .before .before .before
-
-  abbrev levelAtIf1 : level-lts.After-shared-slice-known10 (level-calls t) (level-step-at t) level-step.Post
-      → level-lts.Else1 (level-calls t) (level-step-at t) level-step.Post
-  levelAtIf1 c = c .before .before .before
-
-  abbrev levelAtStop : level-lts.After-upright-step-arg (level-calls t) (level-step-at t) level-step.Post
-      → level-lts.After-next-stop (level-calls t) (level-step-at t) level-step.Post
-  levelAtStop c = c .before .before .before .before .before .before .before
-
-  abbrev levelAtPut : level-lts.After-upright-step-arg (level-calls t) (level-step-at t) level-step.Post
-      → level-lts.After-put-corner (level-calls t) (level-step-at t) level-step.Post
-  levelAtPut c = c .before .before .before
-
-  abbrev levelAtStep : level-lts.After-slice-known3 (level-calls t) (level-step-at t) level-step.Post
-      → level-lts.After-upright-step (level-calls t) (level-step-at t) level-step.Post
-  levelAtStep c = c .before .before
-
   level-step-returns : level-lts.Need-returns (level-calls t) (level-step-at t) level-step.Post
   level-step-returns c = level-done (c .if1 .taken)
 
@@ -86,36 +110,28 @@ module _ (t : ℕ) where
   level-step-sub-next-stop c = omega arith
 
   level-step-mul-next-stop : level-lts.Need-mul-next-stop (level-calls t) (level-step-at t) level-step.Post
-  level-step-mul-next-stop c = omega (arith, levelAtStart c .pre .1 .0 .sized)
+  level-step-mul-next-stop c = omega (arith, levelAtStart t c .pre .1 .0 .sized)
 
   level-step-add-next-stop : level-lts.Need-add-next-stop (level-calls t) (level-step-at t) level-step.Post
-  level-step-add-next-stop c = omega (arith, levelAtStart c .pre .1 .0 .sized)
+  level-step-add-next-stop c = omega (arith, levelAtStart t c .pre .1 .0 .sized)
 
   level-step-mul-next-stop-2 : level-lts.Need-mul-next-stop-2 (level-calls t) (level-step-at t) level-step.Post
-  level-step-mul-next-stop-2 c = omega (arith, levelAtStart c .pre .1 .0 .sized)
+  level-step-mul-next-stop-2 c = omega (arith, levelAtStart t c .pre .1 .0 .sized)
 
   level-step-shared-slice-read-next-stop :
       level-lts.Need-shared-slice-read-next-stop (level-calls t) (level-step-at t) level-step.Post
-  level-step-shared-slice-read-next-stop c = omega (arith, levelAtStart (c .before) .pre .1 .0 .sized)
+  level-step-shared-slice-read-next-stop c = omega (arith, levelAtStart t (c .before) .pre .1 .0 .sized)
 
   level-step-next-stop-requires : level-lts.Need-next-stop-requires (level-calls t) (level-step-at t) level-step.Post
   level-step-next-stop-requires c κs =
-      let at-start = levelAtStart (c .before) in
+      let at-start = levelAtStart t (c .before) in
       let pre = at-start .pre .1 in
       let sized = pre .0 .sized in
-      let low = pre .0 .level-low .le (at-start .args .j) (pre .1 .1) (at-start .args .i) (pre .1 .0) in (
-        (
-          omega (arith, pre .1 .1, sized .row-lines .few),
-          sized .column-lines,
-          pre .1 .0,
-          omega (arith, low, pre .1 .3),
-          omega (arith, pre .1 .1, sized .level-links),
-        ),
-        (
-          sized .upright,
-          sized .upright-inks,
-          lean-low _ _ (pre .0 .upright-lean) (pre .1 .1) (omega (arith, pre .1 .2)),
-        ),
+      let low = pre .0 .level-low .le (at-start .args .j) (pre .1 .j-in) (at-start .args .i) (pre .1 .i-in) in (
+        on-line (level-way sized) (pre .1 .j-in) (omega (arith, pre .1 .pos)) (omega (arith, low, pre .1 .is))
+            (pre .0 .upright-lean),
+        omega (arith, pre .1 .j-in, sized .level-links),
+        pre .1 .i-in,
       )
 
   level-step-mul-x : level-lts.Need-mul-x (level-calls t) (level-step-at t) level-step.Post
@@ -124,10 +140,11 @@ module _ (t : ℕ) where
   level-step-shared-slice-read-x :
       level-lts.Need-shared-slice-read-x (level-calls t) (level-step-at t) level-step.Post
   level-step-shared-slice-read-x c =
-      let pre = levelAtStart (levelAtIf1 c) .pre .1 in
+      let past = levelPast t (c .before) in
+      let pre = levelAtStart t past .pre .1 in
       let stop = c .before .next-stop .ensures in
-      let above = levelAtIf1 c .if1 .left in
-      let next = grounded-next _ _ _ _ (pre .0 .level) (pre .1 .1) (pre .1 .0) (pre .1 .2) above (pre .1 .3) stop in
+      let above = past .if1 .left in
+      let next = level-goes (pre .0) (pre .1) above stop in
       omega (arith, pre .0 .sized .column-lines .fit)
 
   level-step-mul-y : level-lts.Need-mul-y (level-calls t) (level-step-at t) level-step.Post
@@ -136,7 +153,7 @@ module _ (t : ℕ) where
   level-step-shared-slice-read-y :
       level-lts.Need-shared-slice-read-y (level-calls t) (level-step-at t) level-step.Post
   level-step-shared-slice-read-y c =
-      let at-start = levelAtStart (levelAtIf1 (c .before)) in
+      let at-start = levelAtStart t (levelPast t (c .before .before)) in
       omega (arith, at-start .pre .1 .1, at-start .pre .1 .0 .sized .row-lines .fit)
 
   level-step-put-corner-requires :
@@ -152,57 +169,42 @@ module _ (t : ℕ) where
   level-step-upright-step-requires :
       level-lts.Need-upright-step-requires (level-calls t) (level-step-at t) level-step.Post
   level-step-upright-step-requires c κs =
-      let at-start = levelAtStart (levelAtStop c .before .before) in
+      let past = levelPast t (levelAtStop t c) in
+      let at-start = levelAtStart t past in
       let pre = at-start .pre .1 in
-      let stop = levelAtStop c .next-stop .ensures in
-      let above = levelAtStop c .before .before .if1 .left in
-      let next = grounded-next _ _ _ _ (pre .0 .level) (pre .1 .1) (pre .1 .0) (pre .1 .2) above (pre .1 .3) stop in (
+      let stop = levelAtStop t c .next-stop .ensures in
+      let above = past .if1 .left in
+      let next = level-goes (pre .0) (pre .1) above stop in (
         omega (arith, at-start .pre .0),
         (
           pre .0,
-          (next .0, pre .1 .1, omega arith, next .1, omega (arith, pre .1 .4, levelAtPut c .put-corner .kept .0)),
+          record {
+            i-in = next .0;
+            j-in = pre .1 .j-in;
+            pos = omega arith;
+            is = next .1;
+            room = omega (arith, pre .1 .room, levelAtPut t c .put-corner .kept .0);
+          },
         ),
       )
 
   level-step-same-length : level-lts.Need-same-length (level-calls t) (level-step-at t) level-step.Post
   level-step-same-length c =
-      levelAtStep c .upright-step .kept .0 ∙ levelAtPut (levelAtStep c .before) .put-corner .kept .0
+      levelAtStep t c .upright-step .kept .0 ∙ levelAtPut t (levelAtStep t c .before) .put-corner .kept .0
 
   level-step-returns-2 : level-lts.Need-returns-2 (level-calls t) (level-step-at t) level-step.Post
   level-step-returns-2 c =
-      let at-stop = levelAtStop (levelAtStep c .before) in
-      let pre = levelAtStart (at-stop .before .before) .pre .1 in
+      let at-stop = levelAtStop t (levelAtStep t c .before) in
+      let past = levelPast t at-stop in
+      let pre = levelAtStart t past .pre .1 in
       let stop = at-stop .next-stop .ensures in
-      let above = at-stop .before .before .if1 .left in
-      let next = grounded-next _ _ _ _ (pre .0 .level) (pre .1 .1) (pre .1 .0) (pre .1 .2) above (pre .1 .3) stop in
-      level-more (pre .1 .2) stop (next .0) (levelAtPut (levelAtStep c .before) .put-corner .ensures)
-      (levelAtStep c .upright-step .ensures)
+      let above = past .if1 .left in
+      let next = level-goes (pre .0) (pre .1) above stop in
+      level-more (pre .1 .pos) stop (next .0) (levelAtPut t (levelAtStep t c .before) .put-corner .ensures)
+      (levelAtStep t c .upright-step .ensures)
 
 -- and on an upright one
 module _ (t : ℕ) where
-  abbrev uprightAtStart : upright-lts.Else1 (upright-calls t) (upright-step-at t) upright-step.Post
-      → upright-lts.Start (upright-calls t) (upright-step-at t) upright-step.Post
-  uprightAtStart c = c .before .before .before .before .before .before .before .before .before .before
-
-  abbrev uprightAtIf1 : upright-lts.After-level-step-arg (upright-calls t)
-      (upright-step-at t) upright-step.Post → upright-lts.Else1 (upright-calls t) (upright-step-at t) upright-step.Post
-  uprightAtIf1 c = c .before .before .before .before .before .before .before .before .before
-
-  abbrev uprightAtStop : upright-lts.After-shared-slice-known10 (upright-calls t)
-      (upright-step-at t) upright-step.Post
-      → upright-lts.After-next-stop (upright-calls t) (upright-step-at t) upright-step.Post
-  uprightAtStop c = c .before
-
-  abbrev uprightAtPut : upright-lts.After-level-step-arg (upright-calls t)
-      (upright-step-at t) upright-step.Post
-      → upright-lts.After-put-corner (upright-calls t) (upright-step-at t) upright-step.Post
-  uprightAtPut c = c .before .before .before
-
-  abbrev uprightAtStep : upright-lts.After-slice-known3 (upright-calls t)
-      (upright-step-at t) upright-step.Post
-      → upright-lts.After-level-step (upright-calls t) (upright-step-at t) upright-step.Post
-  uprightAtStep c = c .before .before
-
   upright-step-returns : upright-lts.Need-returns (upright-calls t) (upright-step-at t) upright-step.Post
   upright-step-returns c = upright-done (c .if1 .taken)
 
@@ -210,34 +212,30 @@ module _ (t : ℕ) where
   upright-step-sub-next-stop c = omega arith
 
   upright-step-mul-next-stop : upright-lts.Need-mul-next-stop (upright-calls t) (upright-step-at t) upright-step.Post
-  upright-step-mul-next-stop c = omega (arith, uprightAtStart c .pre .1 .0 .sized)
+  upright-step-mul-next-stop c = omega (arith, uprightAtStart t c .pre .1 .0 .sized)
 
   upright-step-add-next-stop : upright-lts.Need-add-next-stop (upright-calls t) (upright-step-at t) upright-step.Post
-  upright-step-add-next-stop c = omega (arith, uprightAtStart c .pre .1 .0 .sized)
+  upright-step-add-next-stop c = omega (arith, uprightAtStart t c .pre .1 .0 .sized)
 
   upright-step-mul-next-stop-2 :
       upright-lts.Need-mul-next-stop-2 (upright-calls t) (upright-step-at t) upright-step.Post
-  upright-step-mul-next-stop-2 c = omega (arith, uprightAtStart c .pre .1 .0 .sized)
+  upright-step-mul-next-stop-2 c = omega (arith, uprightAtStart t c .pre .1 .0 .sized)
 
   upright-step-shared-slice-read-next-stop :
       upright-lts.Need-shared-slice-read-next-stop (upright-calls t) (upright-step-at t) upright-step.Post
-  upright-step-shared-slice-read-next-stop c = omega (arith, uprightAtStart (c .before) .pre .1 .0 .sized)
+  upright-step-shared-slice-read-next-stop c = omega (arith, uprightAtStart t (c .before) .pre .1 .0 .sized)
 
   upright-step-next-stop-requires :
       upright-lts.Need-next-stop-requires (upright-calls t) (upright-step-at t) upright-step.Post
   upright-step-next-stop-requires c κs =
-      let at-start = uprightAtStart (c .before) in
+      let at-start = uprightAtStart t (c .before) in
       let pre = at-start .pre .1 in
       let sized = pre .0 .sized in
-      let low = pre .0 .upright-low .le (at-start .args .i) (pre .1 .0) (at-start .args .j) (pre .1 .1) in (
-        (
-          omega (arith, pre .1 .0, sized .column-lines .few),
-          sized .row-lines,
-          pre .1 .1,
-          omega (arith, low, pre .1 .3),
-          omega (arith, pre .1 .0, sized .upright-links),
-        ),
-        (sized .level, sized .level-inks, lean-low _ _ (pre .0 .level-lean) (pre .1 .0) (omega (arith, pre .1 .2))),
+      let low = pre .0 .upright-low .le (at-start .args .i) (pre .1 .i-in) (at-start .args .j) (pre .1 .j-in) in (
+        on-line (upright-way sized) (pre .1 .i-in) (omega (arith, pre .1 .pos)) (omega (arith, low, pre .1 .is))
+            (pre .0 .level-lean),
+        omega (arith, pre .1 .i-in, sized .upright-links),
+        pre .1 .j-in,
       )
 
   upright-step-mul-x :
@@ -247,7 +245,7 @@ module _ (t : ℕ) where
   upright-step-shared-slice-read-x :
       upright-lts.Need-shared-slice-read-x (upright-calls t) (upright-step-at t) upright-step.Post
   upright-step-shared-slice-read-x c =
-      let at-start = uprightAtStart (uprightAtStop c .before .before) in
+      let at-start = uprightAtStart t (uprightPast t (c .before)) in
       omega (arith, at-start .pre .1 .1, at-start .pre .1 .0 .sized .column-lines .fit)
 
   upright-step-mul-y :
@@ -257,11 +255,12 @@ module _ (t : ℕ) where
   upright-step-shared-slice-read-y :
       upright-lts.Need-shared-slice-read-y (upright-calls t) (upright-step-at t) upright-step.Post
   upright-step-shared-slice-read-y c =
-      let at-stop = uprightAtStop (c .before) in
-      let pre = uprightAtStart (at-stop .before .before) .pre .1 in
+      let at-stop = c .before .before in
+      let past = uprightPast t at-stop in
+      let pre = uprightAtStart t past .pre .1 in
       let stop = at-stop .next-stop .ensures in
-      let above = at-stop .before .before .if1 .left in
-      let next = grounded-next _ _ _ _ (pre .0 .upright) (pre .1 .0) (pre .1 .1) (pre .1 .2) above (pre .1 .3) stop in
+      let above = past .if1 .left in
+      let next = upright-goes (pre .0) (pre .1) above stop in
       omega (arith, pre .0 .sized .row-lines .fit)
 
   upright-step-put-corner-requires :
@@ -279,31 +278,39 @@ module _ (t : ℕ) where
   upright-step-level-step-requires :
       upright-lts.Need-level-step-requires (upright-calls t) (upright-step-at t) upright-step.Post
   upright-step-level-step-requires c κs =
-      let at-start = uprightAtStart (uprightAtIf1 c) in
+      let past = uprightPast t (uprightAtStop t c) in
+      let at-start = uprightAtStart t past in
       let pre = at-start .pre .1 in
-      let stop = uprightAtStop (uprightAtPut c .before .before .before) .next-stop .ensures in
-      let above = uprightAtIf1 c .if1 .left in
-      let next = grounded-next _ _ _ _ (pre .0 .upright) (pre .1 .0) (pre .1 .1) (pre .1 .2) above (pre .1 .3) stop in (
+      let stop = uprightAtStop t c .next-stop .ensures in
+      let above = past .if1 .left in
+      let next = upright-goes (pre .0) (pre .1) above stop in (
         omega (arith, at-start .pre .0),
         (
           pre .0,
-          (pre .1 .0, next .0, omega arith, next .1, omega (arith, pre .1 .4, uprightAtPut c .put-corner .kept .0)),
+          record {
+            i-in = pre .1 .i-in;
+            j-in = next .0;
+            pos = omega arith;
+            is = next .1;
+            room = omega (arith, pre .1 .room, uprightAtPut t c .put-corner .kept .0);
+          },
         ),
       )
 
   upright-step-same-length : upright-lts.Need-same-length (upright-calls t) (upright-step-at t) upright-step.Post
   upright-step-same-length c =
-      uprightAtStep c .level-step .kept .0 ∙ uprightAtPut (uprightAtStep c .before) .put-corner .kept .0
+      uprightAtStep t c .level-step .kept .0 ∙ uprightAtPut t (uprightAtStep t c .before) .put-corner .kept .0
 
   upright-step-returns-2 : upright-lts.Need-returns-2 (upright-calls t) (upright-step-at t) upright-step.Post
   upright-step-returns-2 c =
-      let at-stop = uprightAtStop (uprightAtPut (uprightAtStep c .before) .before .before .before) in
-      let pre = uprightAtStart (at-stop .before .before) .pre .1 in
+      let at-stop = uprightAtStop t (uprightAtStep t c .before) in
+      let past = uprightPast t at-stop in
+      let pre = uprightAtStart t past .pre .1 in
       let stop = at-stop .next-stop .ensures in
-      let above = at-stop .before .before .if1 .left in
-      let next = grounded-next _ _ _ _ (pre .0 .upright) (pre .1 .0) (pre .1 .1) (pre .1 .2) above (pre .1 .3) stop in
-      upright-more (pre .1 .2) stop (next .0) (uprightAtPut (uprightAtStep c .before) .put-corner .ensures)
-      (uprightAtStep c .level-step .ensures)
+      let above = past .if1 .left in
+      let next = upright-goes (pre .0) (pre .1) above stop in
+      upright-more (pre .1 .pos) stop (next .0) (uprightAtPut t (uprightAtStep t c .before) .put-corner .ensures)
+      (uprightAtStep t c .level-step .ensures)
 
 pub +level-step+upright-step-spec : {M : Type 1} → statement M
 +level-step+upright-step-spec = close μ-level-step μ-upright-step (λ t. level-lts.spec (level-calls t)

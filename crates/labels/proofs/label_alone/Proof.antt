@@ -45,7 +45,7 @@ returns-2 c =
     let stop = c .before in
     let pre = atStart (unlabelled stop .before) .pre in
     misses (unlabelled stop .if1 .left)
-    (run-misses (pre .0 .2) (atEnd stop .before .run-start .ensures) (atEnd stop .run-end .ensures)
+    (run-misses (pre .2) (atEnd stop .before .run-start .ensures) (atEnd stop .run-end .ensures)
     (stop .first-stop .ensures) (c .if2 .taken))
 
 add-labels : tie.Need-add-labels
@@ -69,15 +69,14 @@ ink-at-requires c κs =
     let pre = atStart (unlabelled stop .before) .pre in
     let first = stop .first-stop .ensures in
     let apart = c .if2 .left in (
-      (
-        pre .0 .0,
-        pre .0 .1,
-        atEnd stop .run-end .ensures .le,
-        omega (arith, first .le, apart),
-        pre .0 .2,
-        pre .0 .3,
-      ),
-      ((pre .1 .0 .0, pre .1 .0 .1), (pre .1 .0 .2, first .stop (omega (arith, first .le, apart)))),
+      pre .0,
+      record {
+        hi-in = atEnd stop .run-end .ensures .le;
+        from = omega arith;
+        to = omega (arith, first .le, apart);
+        stop = first .stop (omega (arith, first .le, apart));
+      },
+      pre .2,
     )
 
 mul-own : tie.Need-mul-own
@@ -103,7 +102,7 @@ returns-3 c =
     let stop = c .before .before in
     let pre = atStart (unlabelled stop .before) .pre in
     gets _ (unlabelled stop .if1 .left)
-    (run-least (pre .0 .2) (atEnd stop .before .run-start .ensures) (atEnd stop .run-end .ensures)
+    (run-least (pre .2) (atEnd stop .before .run-start .ensures) (atEnd stop .run-end .ensures)
     (stop .first-stop .ensures) (c .ink-at .ensures))
 
 pub label-alone-spec : {M : Type 1} → statement M

@@ -6,9 +6,9 @@ use lib.ListN.{length}
 use borrow.Author.Needs.{needs}
 use Rattle.grid.specs.Size.{stride}
 use Rattle.runs.specs.Line.{along}
-use Rattle.runs.proofs.Inks.{lean-low}
 use Rattle.labels.specs.Pass.{PassTo}
 use Rattle.labels.proofs.Marks.{next-less}
+use Rattle.labels.proofs.Pass.{on-line, line-lists}
 use Rattle.labels.proofs.Pass.{passing-none, passing-at, passing-first, passing-next, passing-line, passing-more}
 use Rattle.labels.proofs.Pass.{passing-few, visit-count, visit-in, PassOn}
 use Rattle.labels.proofs.label_pass.Statement.{statement}
@@ -38,8 +38,11 @@ abbrev μ-loop2 : tie.MeasureT-loop2
 
 -- back to the start, to the turn of the outer loop, to that of the inner one, to the visit in it, and to the marks
 -- after it
+abbrev beforeLoop : tie.After-floor-of Inv-loop2 μ-loop2 Inv-loop μ-loop → tie.Start Inv-loop2 μ-loop2 Inv-loop μ-loop
+beforeLoop c = c .before .before .before .before .before .before .before .before .before .before .before
+
 abbrev atStart : tie.At-loop Inv-loop2 μ-loop2 Inv-loop μ-loop → tie.Start Inv-loop2 μ-loop2 Inv-loop μ-loop
-atStart c = c .before .before .before .before .before .before .before .before .before .before .before .before
+atStart c = beforeLoop (c .before)
 
 abbrev inLoop : tie.After-next-new Inv-loop2 μ-loop2 Inv-loop μ-loop → tie.In-loop Inv-loop2 μ-loop2 Inv-loop μ-loop
 inLoop c = c .before .before .before
@@ -60,39 +63,39 @@ floor-of-requires c κs = search needs
 
 loop-holds : tie.Need-loop-holds Inv-loop2 μ-loop2 Inv-loop μ-loop
 loop-holds c =
-    let pre = c .before .before .before .before .before .before .before .before .before .before .before .pre in
-    (omega arith, refl, refl, refl, passing-none _ _ _ _ _ _ _ _ _ (pre .1 .1 .1 .2) (pre .1 .1 .1 .3))
+    let pre = beforeLoop c .pre in
+    (omega arith, refl, refl, refl, passing-none _ _ _ _ _ _ _ _ _ (pre .2 .marks-fit) (pre .1 .full))
 
 mul-first : tie.Need-mul-first Inv-loop2 μ-loop2 Inv-loop μ-loop
-mul-first c = omega (arith, c .loop-test, atStart (c .before) .pre .0 .1 .few)
+mul-first c = omega (arith, c .loop-test, atStart (c .before) .pre .0 .crossings .few)
 
 mul-first-2 : tie.Need-mul-first-2 Inv-loop2 μ-loop2 Inv-loop μ-loop
-mul-first-2 c = omega (arith, c .loop-test, atStart (c .before) .pre .0 .1 .few)
+mul-first-2 c = omega (arith, c .loop-test, atStart (c .before) .pre .0 .crossings .few)
 
 shared-slice-read-first : tie.Need-shared-slice-read-first Inv-loop2 μ-loop2 Inv-loop μ-loop
 shared-slice-read-first c =
     let pre = atStart (c .before .before) .pre in
-    omega (arith, c .before .loop-test, pre .0 .1 .few, pre .1 .1 .0 .1)
+    omega (arith, c .before .loop-test, pre .0 .crossings .few, pre .2 .from-room)
 
 cast-first : tie.Need-cast-first Inv-loop2 μ-loop2 Inv-loop μ-loop
 cast-first c = omega (arith, c .shared-slice-known6 .given (2 * c .before .before .loop .k))
 
 sub-first : tie.Need-sub-first Inv-loop2 μ-loop2 Inv-loop μ-loop
-sub-first c = omega (arith, atStart (c .before .before) .pre .1 .1 .1 .1 .fit .from (c .before .before .loop .k))
+sub-first c = omega (arith, atStart (c .before .before) .pre .1 .marked .fit .from (c .before .before .loop .k))
 
 mul-end : tie.Need-mul-end Inv-loop2 μ-loop2 Inv-loop μ-loop
-mul-end c = omega (arith, c .before .loop-test, atStart (c .before .before) .pre .0 .1 .few)
+mul-end c = omega (arith, c .before .loop-test, atStart (c .before .before) .pre .0 .crossings .few)
 
 add-end : tie.Need-add-end Inv-loop2 μ-loop2 Inv-loop μ-loop
-add-end c = omega (arith, c .before .loop-test, atStart (c .before .before) .pre .0 .1 .few)
+add-end c = omega (arith, c .before .loop-test, atStart (c .before .before) .pre .0 .crossings .few)
 
 mul-end-2 : tie.Need-mul-end-2 Inv-loop2 μ-loop2 Inv-loop μ-loop
-mul-end-2 c = omega (arith, c .before .loop-test, atStart (c .before .before) .pre .0 .1 .few)
+mul-end-2 c = omega (arith, c .before .loop-test, atStart (c .before .before) .pre .0 .crossings .few)
 
 shared-slice-read-end : tie.Need-shared-slice-read-end Inv-loop2 μ-loop2 Inv-loop μ-loop
 shared-slice-read-end c =
     let pre = atStart (c .before .before .before) .pre in
-    omega (arith, c .before .before .loop-test, pre .0 .1 .few, pre .1 .1 .0 .1)
+    omega (arith, c .before .before .loop-test, pre .0 .crossings .few, pre .2 .from-room)
 
 cast-end : tie.Need-cast-end Inv-loop2 μ-loop2 Inv-loop μ-loop
 cast-end c = omega (arith, c .shared-slice-known7 .given (2 * c .before .before .before .loop .k + 1))
@@ -101,10 +104,10 @@ next-new-requires : tie.Need-next-new-requires Inv-loop2 μ-loop2 Inv-loop μ-lo
 next-new-requires c κs =
     let turn = c .before .before in
     let pre = atStart (turn .before) .pre in
-    let to = pre .1 .1 .1 .1 .fit .to (turn .before .loop .k) in (
-      omega (arith, turn .loop-test, pre .0 .1 .few),
-      omega (arith, to, pre .0 .0),
-      omega (arith, turn .loop-test, pre .1 .0 .0),
+    let to = pre .1 .marked .fit .to (turn .before .loop .k) in (
+      omega (arith, turn .loop-test, pre .0 .crossings .few),
+      omega (arith, to, pre .0 .few),
+      omega (arith, turn .loop-test, pre .0 .others),
     )
 
 loop2-holds : tie.Need-loop2-holds Inv-loop2 μ-loop2 Inv-loop μ-loop
@@ -120,35 +123,24 @@ visit-requires c κs =
     let pre = atStart (turn .before) .pre in
     let inv = turn .before .loop .inv in
     let line-inv = at-line .loop2 .inv in
-    let marked = pre .1 .1 .1 .1 in
+    let marked = pre .1 .marked in
     let from = marked .fit .from (turn .before .loop .k) in
     let to = marked .fit .to (turn .before .loop .k) in
     let test = inLine c .loop2-test in
     let P =
     line-inv .5 .on _ _
-    (passing-first (pre .0 .0) (omega (arith, turn .loop-test)) (omega (arith, from)) to marked
+    (passing-first (pre .0 .few) (omega (arith, turn .loop-test)) (omega (arith, from)) to marked
     (first .next-new .ensures) (inv .4)) in (
-      (
-        omega (arith, test, to, pre .0 .0),
-        pre .0 .1,
-        omega (arith, turn .loop-test),
-        pre .0 .3,
-        omega (arith, test, to, pre .1 .1 .0 .0),
-      ),
-      (
-        (pre .1 .0 .0, pre .1 .0 .1, omega (arith, test, to, pre .1 .0 .2, P .inked .size)),
-        (
-          (lean-low _ _ (pre .1 .1 .1 .0) (omega (arith, test, to)) (pre .0 .2), line-inv .1 (omega (arith, test))),
-          (
-            (
-              omega (arith, test, to, pre .1 .0 .3, P .visited .size),
-              omega (arith, pre .1 .1 .0 .3, inv .2, line-inv .3),
-              omega (arith, pre .1 .1 .0 .4, inv .3, line-inv .4),
-            ),
-            (turn .before .before .floor-of .ensures, P .visited .full .joined _ (omega (arith, test, to))),
-          ),
-        ),
-      ),
+      on-line (pre .0) (omega (arith, test, to)) (pre .1 .pos) (pre .1 .top) (pre .1 .lean),
+      line-lists (pre .0) (omega (arith, test, to)) (P .visited .size) (P .inked .size),
+      record {
+        k-in = omega (arith, turn .loop-test);
+        stop = line-inv .1 (omega (arith, test));
+        ahead-room = omega (arith, pre .2 .ahead-room, inv .2, line-inv .3);
+        behind-room = omega (arith, pre .2 .behind-room, inv .3, line-inv .4);
+        low-is = turn .before .before .floor-of .ensures;
+        joined = P .visited .full .joined _ (omega (arith, test, to));
+      },
     )
 
 add-new : tie.Need-add-new Inv-loop2 μ-loop2 Inv-loop μ-loop
@@ -157,14 +149,14 @@ add-new c =
     let first = at-line .before in
     let turn = inLoop first in
     let pre = atStart (turn .before) .pre in
-    let marked = pre .1 .1 .1 .1 in
+    let marked = pre .1 .marked in
     let from = marked .fit .from (turn .before .loop .k) in
     let to = marked .fit .to (turn .before .loop .k) in
     let P =
     at-line .loop2 .inv .5 .on _ _
-    (passing-first (pre .0 .0) (omega (arith, turn .loop-test)) (omega (arith, from)) to marked
+    (passing-first (pre .0 .few) (omega (arith, turn .loop-test)) (omega (arith, from)) to marked
     (first .next-new .ensures) (turn .before .loop .inv .4)) in
-    omega (arith, passing-few P, visit-count (atVisit c .visit .ensures), pre .1 .0 .4)
+    omega (arith, passing-few P, visit-count (atVisit c .visit .ensures), pre .1 .few)
 
 widen-requires : tie.Need-widen-requires Inv-loop2 μ-loop2 Inv-loop μ-loop
 widen-requires c κs =
@@ -172,12 +164,12 @@ widen-requires c κs =
     let at-line = inLine (visited .before) .before in
     let turn = inLoop (at-line .before) in
     let pre = atStart (turn .before) .pre in
-    let to = pre .1 .1 .1 .1 .fit .to (turn .before .loop .k) in
+    let to = pre .1 .marked .fit .to (turn .before .loop .k) in
     let run = visit-in (omega (arith, turn .loop-test)) (visited .visit .ensures) in (
-      omega (arith, inLine (visited .before) .loop2-test, to, pre .0 .0),
-      omega (arith, pre .1 .1 .0 .2, turn .before .loop .inv .1, at-line .loop2 .inv .2),
-      omega (arith, run .0, pre .0 .1 .few),
-      omega (arith, run .1, pre .0 .1 .few),
+      omega (arith, inLine (visited .before) .loop2-test, to, pre .0 .few),
+      omega (arith, pre .2 .marks-room, turn .before .loop .inv .1, at-line .loop2 .inv .2),
+      omega (arith, run .0, pre .0 .crossings .few),
+      omega (arith, run .1, pre .0 .crossings .few),
     )
 
 add-next-new : tie.Need-add-next-new Inv-loop2 μ-loop2 Inv-loop μ-loop
@@ -185,16 +177,16 @@ add-next-new c =
     let in-line = inLine (atVisit (atWiden c .before .before) .before) in
     let turn = inLoop (in-line .before .before) in
     let pre = atStart (turn .before) .pre in
-    omega (arith, in-line .loop2-test, pre .1 .1 .1 .1 .fit .to (turn .before .loop .k), pre .0 .0)
+    omega (arith, in-line .loop2-test, pre .1 .marked .fit .to (turn .before .loop .k), pre .0 .few)
 
 next-new-requires-2 : tie.Need-next-new-requires-2 Inv-loop2 μ-loop2 Inv-loop μ-loop
 next-new-requires-2 c κs =
     let turn = inLoop (inLine (atVisit (atWiden c .before .before) .before) .before .before) in
     let pre = atStart (turn .before) .pre in
-    let to = pre .1 .1 .1 .1 .fit .to (turn .before .loop .k) in (
-      omega (arith, turn .loop-test, pre .0 .1 .few),
-      omega (arith, to, pre .0 .0),
-      omega (arith, turn .loop-test, pre .1 .0 .0),
+    let to = pre .1 .marked .fit .to (turn .before .loop .k) in (
+      omega (arith, turn .loop-test, pre .0 .crossings .few),
+      omega (arith, to, pre .0 .few),
+      omega (arith, turn .loop-test, pre .0 .others),
     )
 
 loop2-less : tie.Need-loop2-less Inv-loop2 μ-loop2 Inv-loop μ-loop
@@ -210,7 +202,7 @@ loop2-again c =
     let inv = in-line .before .loop2 .inv in
     let turn = inLoop (in-line .before .before) in
     let pre = atStart (turn .before) .pre in
-    let to = pre .1 .1 .1 .1 .fit .to (turn .before .loop .k) in
+    let to = pre .1 .marked .fit .to (turn .before .loop .k) in
     let next = c .next-new2 .ensures in
     let test = in-line .loop2-test in
     let kept = visited .visit .kept .1 .1 in (
@@ -221,16 +213,17 @@ loop2-again c =
       kept .1 .0 ∙ inv .4,
       record {
         on = λ l₀ w₀ G.
-            passing-next (pre .0 .0) next to
-            (passing-more (pre .0 .1 .few) (pre .0 .0) (omega (arith, test, to)) (omega (arith, turn .loop-test))
-            (inv .1 (omega (arith, test))) (inv .5 .on l₀ w₀ G) (visited .visit .ensures) (widened .widen .ensures));
+            passing-next (pre .0 .few) next to
+            (passing-more (pre .0 .crossings .few) (pre .0 .few) (omega (arith, test, to))
+            (omega (arith, turn .loop-test)) (inv .1 (omega (arith, test))) (inv .5 .on l₀ w₀ G)
+            (visited .visit .ensures) (widened .widen .ensures));
       },
     )
 
 add-k : tie.Need-add-k Inv-loop2 μ-loop2 Inv-loop μ-loop
 add-k c =
     let turn = inLoop (c .before .before) in
-    omega (arith, turn .loop-test, atStart (turn .before) .pre .0 .1 .few)
+    omega (arith, turn .loop-test, atStart (turn .before) .pre .0 .crossings .few)
 
 loop-less : tie.Need-loop-less Inv-loop2 μ-loop2 Inv-loop μ-loop
 loop-less c = omega (arith, inLoop (c .before .before) .loop-test)
@@ -243,18 +236,18 @@ loop-again c =
     let pre = atStart (turn .before) .pre in
     let inv = turn .before .loop .inv in
     let line-inv = at-line .loop2 .inv in
-    let marked = pre .1 .1 .1 .1 in
+    let marked = pre .1 .marked in
     let from = marked .fit .from (turn .before .loop .k) in
     let to = marked .fit .to (turn .before .loop .k) in
     let P =
     line-inv .5 .on _ _
-    (passing-first (pre .0 .0) (omega (arith, turn .loop-test)) (omega (arith, from)) to marked
+    (passing-first (pre .0 .few) (omega (arith, turn .loop-test)) (omega (arith, from)) to marked
     (first .next-new .ensures) (inv .4)) in (
       omega (arith, turn .loop-test),
       line-inv .2 ∙ inv .1,
       line-inv .3 ∙ inv .2,
       line-inv .4 ∙ inv .3,
-      passing-line (pre .0 .0) (omega (arith, turn .loop-test)) (omega (arith, c .loop2-test)) marked P,
+      passing-line (pre .0 .few) (omega (arith, turn .loop-test)) (omega (arith, c .loop2-test)) marked P,
     )
 
 same-length : tie.Need-same-length Inv-loop2 μ-loop2 Inv-loop μ-loop

@@ -1,9 +1,11 @@
 -- The level label of the crossing, then its upright one.
 use native.Mathlib.Omega.{arith}
+use mathlib.Core.Path.{refl}
 use borrow.Author.Needs.{needs}
 use Rattle.runs.proofs.Inks.{lean-low}
+use Rattle.labels.proofs.Pass.{on-line, line-lists}
 use Rattle.labels.proofs.Part.{alone-lean}
-use Rattle.labels.proofs.Last.{sized-same, tried-level, tried-upright}
+use Rattle.labels.proofs.Last.{level-way, upright-way, sized-same, tried-level, tried-upright}
 use Rattle.labels.proofs.last_round.Statement.{statement}
 use Rattle.labels.proofs.last_round.Tie as tie
 
@@ -20,43 +22,29 @@ atUpright c = c .before .before .before .before
 label-alone-requires : tie.Need-label-alone-requires
 label-alone-requires c κs =
     let pre = atStart c .pre in
-    let sized = pre .0 .0 in (
-      (
-        omega (arith, sized .row-lines .few),
-        sized .column-lines,
-        pre .0 .1,
-        pre .0 .4,
-        omega (arith, sized .level-links),
-      ),
-      (
-        (sized .upright, sized .upright-inks, lean-low _ _ (pre .1 .1) (pre .0 .2) (pre .0 .3)),
-        (omega (arith, sized .level), omega (arith, sized .level-inks)),
-      ),
-    )
+    let way = level-way (pre .0) in
+    let try = pre .1 in
+    (on-line way (try .j-in) (try .pos) (try .top) (try .upright-lean), line-lists way (try .j-in) refl refl, try .i-in)
 
 label-alone-requires-2 : tie.Need-label-alone-requires-2
 label-alone-requires-2 c κs =
     let level = atLevel c .label-alone in
     let pre = atStart (atLevel c .before) .pre in
-    let sized = pre .0 .0 in
-    let lean = alone-lean (pre .0 .1) (sized .column-lines .few) (sized .column-lines) (pre .0 .3) (level .ensures)
-    (omega (arith, sized .level, level .kept .0)) (omega (arith, sized .level-inks, level .kept .1 .0)) (pre .1 .1)
-    (pre .1 .0) in (
-      (
-        omega (arith, sized .column-lines .few),
-        sized .row-lines,
-        pre .0 .2,
-        pre .0 .4,
-        omega (arith, sized .upright-links),
-      ),
-      (
-        (
-          omega (arith, sized .level, level .kept .0),
-          omega (arith, sized .level-inks, level .kept .1 .0),
-          lean-low _ _ lean (pre .0 .1) (pre .0 .3),
-        ),
-        (omega (arith, sized .upright), omega (arith, sized .upright-inks)),
-      ),
+    let sized = pre .0 in
+    let try = pre .1 in
+    let lean = alone-lean (try .i-in) (sized .column-lines .few) (sized .column-lines) (try .pos) (level .ensures)
+    (omega (arith, sized .level, level .kept .0)) (omega (arith, sized .level-inks, level .kept .1 .0))
+    (try .upright-lean) (try .level-lean) in (
+      record {
+        line-in = omega (arith, sized .column-lines .few);
+        crossings = sized .row-lines;
+        top = try .top;
+        others = omega (arith, sized .level, level .kept .0);
+        other-inks = omega (arith, sized .level-inks, level .kept .1 .0);
+        low = lean-low _ _ lean (try .i-in) (try .pos);
+      },
+      line-lists (upright-way sized) (try .i-in) refl refl,
+      try .j-in,
     )
 
 same-length : tie.Need-same-length
@@ -77,9 +65,9 @@ returns c =
     let level = atLevel (upright .before) in
     let pre = atStart (level .before) .pre in
     tried-level
-    (sized-same (pre .0 .0) (level .label-alone .kept .0) (upright .label-alone2 .kept .0)
+    (sized-same (pre .0) (level .label-alone .kept .0) (upright .label-alone2 .kept .0)
     (level .label-alone .kept .1 .0) (upright .label-alone2 .kept .1 .0))
-    (pre .0 .1) (pre .0 .2) (level .label-alone .ensures) (upright .label-alone2 .ensures) (c .if1 .taken)
+    (pre .1 .i-in) (pre .1 .j-in) (level .label-alone .ensures) (upright .label-alone2 .ensures) (c .if1 .taken)
 
 same-length-5 : tie.Need-same-length-5
 same-length-5 c = search needs
@@ -99,9 +87,9 @@ returns-2 c =
     let level = atLevel (upright .before) in
     let pre = atStart (level .before) .pre in
     tried-upright
-    (sized-same (pre .0 .0) (level .label-alone .kept .0) (upright .label-alone2 .kept .0)
+    (sized-same (pre .0) (level .label-alone .kept .0) (upright .label-alone2 .kept .0)
     (level .label-alone .kept .1 .0) (upright .label-alone2 .kept .1 .0))
-    (pre .0 .1) (pre .0 .2) (level .label-alone .ensures) (upright .label-alone2 .ensures) (c .if1 .left)
+    (pre .1 .i-in) (pre .1 .j-in) (level .label-alone .ensures) (upright .label-alone2 .ensures) (c .if1 .left)
 
 pub last-round-spec : {M : Type 1} → statement M
 last-round-spec =

@@ -8,7 +8,7 @@ use Rattle.grid.specs.Size.{stride}
 use Rattle.labels.specs.Pass.{zeros}
 use Rattle.labels.proofs.Marks.{no-marks}
 use Rattle.labels.proofs.Going.{Going, going-start, going-second, going-lean, going-next, going-stuck}
-use Rattle.labels.proofs.Last.{sized-same, tried-last, tried-on, tried-same}
+use Rattle.labels.proofs.Last.{level-way, upright-way, sized-same, tried-last, tried-on, tried-same}
 use Rattle.labels.proofs.rounds.Statement.{statement}
 use Rattle.labels.proofs.rounds.Tie as tie
 
@@ -99,14 +99,15 @@ last-round-requires c κs =
     let pre = begun (atLoop c) .pre in
     let inv = atLoop c .loop .inv in
     let going = inv .8 in (
-      (
-        sized-same (pre .0 .0) (inv .0) (inv .1) (inv .2) (inv .3),
-        pre .0 .1,
-        pre .0 .2,
-        going .pos,
-        omega (arith, going .top),
-      ),
-      (going .level-lean, going .upright-lean),
+      sized-same (pre .0 .0) (inv .0) (inv .1) (inv .2) (inv .3),
+      record {
+        i-in = pre .0 .1;
+        j-in = pre .0 .2;
+        pos = going .pos;
+        top = omega (arith, going .top);
+        level-lean = going .level-lean;
+        upright-lean = going .upright-lean;
+      },
     )
 
 same-length : tie.Need-same-length Inv-loop μ-loop
@@ -145,30 +146,26 @@ label-pass-requires : tie.Need-label-pass-requires Inv-loop μ-loop
 label-pass-requires c κs =
     let last = atLast (notLast c .before) in
     let pre = begun (atLoop (last .before)) .pre in
-    let sized = pre .0 .0 in
     let inv = atLoop (last .before) .loop .inv in
     let size = last .last-round .kept in
     let going = tried-on (last .last-round .ensures) (notLast c .if1 .left) (inv .8) .0 in (
-      (sized .row-lines .few, sized .column-lines, going .pos, omega (arith, going .top)),
-      (
-        (
-          omega (arith, sized .upright, inv .1, size .1 .0),
-          omega (arith, sized .upright-inks, inv .3, size .1 .1 .1 .0),
-          omega (arith, sized .level-inks, inv .2, size .1 .1 .0),
-          omega (arith, sized .level, inv .0, size .0),
-          omega (arith, pre .1 .level-few, inv .0, size .0),
-        ),
-        (
-          (
-            sized .level-links,
-            omega (arith, inv .5),
-            omega arith,
-            omega (arith, inv .6),
-            omega (arith, inv .7),
-          ),
-          (going .upright-lean, going .upright-marked, no-marks 538 _, going .level-full),
-        ),
-      ),
+      level-way (sized-same (pre .0 .0) (size .0 ∙ inv .0) (size .1 .0 ∙ inv .1) (size .1 .1 .0 ∙ inv .2)
+          (size .1 .1 .1 .0 ∙ inv .3)),
+      record {
+        pos = going .pos;
+        top = omega (arith, going .top);
+        few = omega (arith, pre .1 .level-few, inv .0, size .0);
+        lean = going .upright-lean;
+        marked = going .upright-marked;
+        full = going .level-full;
+      },
+      record {
+        from-room = omega (arith, inv .5);
+        marks-room = omega arith;
+        marks-fit = no-marks 538 _;
+        ahead-room = omega (arith, inv .6);
+        behind-room = omega (arith, inv .7);
+      },
     )
 
 slice-aggregate-label-pass-5 : tie.Need-slice-aggregate-label-pass-5 Inv-loop μ-loop
@@ -189,34 +186,30 @@ label-pass-requires-2 c κs =
     let not-last = notLast (atFirst c .before) in
     let last = atLast (not-last .before) in
     let pre = begun (atLoop (last .before)) .pre in
-    let sized = pre .0 .0 in
     let inv = atLoop (last .before) .loop .inv in
     let size = last .last-round .kept in
     let going = tried-on (last .last-round .ensures) (not-last .if1 .left) (inv .8) .0 in
-    let C = sized .column-lines in
-    let R = sized .row-lines in
+    let C = pre .0 .0 .column-lines in
+    let R = pre .0 .0 .row-lines in
     let first = atFirst c .label-pass .ensures in
     let kept = atFirst c .label-pass .kept .1 .1 .1 in (
-      (C .few, R, going .pos, omega (arith, going .top)),
-      (
-        (
-          omega (arith, sized .level, inv .0, size .0, first .visited .size),
-          omega (arith, sized .level-inks, inv .2, size .1 .1 .0, first .inked .size),
-          omega (arith, sized .upright-inks, inv .3, size .1 .1 .1 .0),
-          omega (arith, sized .upright, inv .1, size .1 .0),
-          omega (arith, pre .1 .upright-few, inv .1, size .1 .0),
-        ),
-        (
-          (
-            sized .upright-links,
-            omega (arith, inv .4),
-            omega arith,
-            omega (arith, inv .6, kept .0),
-            omega (arith, inv .7, kept .1 .0),
-          ),
-          (going-lean C R going first, going-second C R going first, no-marks 538 _, going .upright-full),
-        ),
-      ),
+      upright-way (sized-same (pre .0 .0) (first .visited .size ∙ (size .0 ∙ inv .0)) (size .1 .0 ∙ inv .1)
+          (first .inked .size ∙ (size .1 .1 .0 ∙ inv .2)) (size .1 .1 .1 .0 ∙ inv .3)),
+      record {
+        pos = going .pos;
+        top = omega (arith, going .top);
+        few = omega (arith, pre .1 .upright-few, inv .1, size .1 .0);
+        lean = going-lean C R going first;
+        marked = going-second C R going first;
+        full = going .upright-full;
+      },
+      record {
+        from-room = omega (arith, inv .4);
+        marks-room = omega arith;
+        marks-fit = no-marks 538 _;
+        ahead-room = omega (arith, inv .6, kept .0);
+        behind-room = omega (arith, inv .7, kept .1 .0);
+      },
     )
 
 add-if2 : tie.Need-add-if2 Inv-loop μ-loop

@@ -2,11 +2,11 @@
 use native.Mathlib.Omega.{arith}
 use borrow.Author.Needs.{needs}
 use Rattle.labels.specs.Pass.{Visit}
-use Rattle.labels.proofs.Pass.{visit-passed, blank-run}
+use Rattle.labels.proofs.Pass.{visit-passed, stop-in, blank-run}
 use Rattle.labels.proofs.visit.Statement.{statement}
 use Rattle.labels.proofs.visit.Tie as tie
 
--- back to the start, to the first test, to the run's end, to the two sweeps, to the inks and to the labels
+-- back to the start, to the first test and past it, to the run's end, to the two sweeps, to the inks and to the labels
 abbrev atStart : tie.After-slice-known5 → tie.Start
 atStart c = c .before .before .before .before .before .before .before .before .before
 
@@ -15,6 +15,9 @@ atTried c = c .before .before
 
 abbrev atTest : tie.After-run-end → tie.After-slice-known5
 atTest c = atTried (c .before .before .before)
+
+abbrev atElse : tie.After-run-start → tie.Else1
+atElse c = c .before .before .before
 
 abbrev atEnd : tie.After-behind-of-arg → tie.After-run-end
 atEnd c = c .before .before .before .before .before
@@ -44,12 +47,13 @@ slice-read-if1 : tie.Need-slice-read-if1
 slice-read-if1 c = omega arith
 
 returns : tie.Need-returns
-returns c = visit-passed (atStart (c .before) .pre .1 .1 .1 .1 .0) (c .if1 .taken)
+returns c = visit-passed (atStart (c .before) .pre .2 .low-is) (c .if1 .taken)
 
 is-left-requires : tie.Need-is-left-requires
 is-left-requires c κs =
     let pre = atStart (c .before) .pre in
-    (pre .0 .0, omega (arith, pre .0 .2, pre .0 .1 .few), omega (arith, pre .0 .2, pre .1 .0 .0), pre .0 .4)
+    let k-in = pre .2 .k-in in
+    (pre .0 .line-in, omega (arith, pre .0 .crossings .few), omega (arith, pre .0 .others), pre .1 .links)
 
 returns-2 : tie.Need-returns-2
 returns-2 c = Visit.left (c .before .is-left .ensures (c .if2 .taken))
@@ -57,28 +61,22 @@ returns-2 c = Visit.left (c .before .is-left .ensures (c .if2 .taken))
 run-start-requires : tie.Need-run-start-requires
 run-start-requires c κs =
     let pre = atStart (atTried (c .before)) .pre in
-    (pre .0 .0, omega (arith, pre .0 .2, pre .0 .1 .few), pre .0 .4)
+    (pre .0 .line-in, omega (arith, pre .2 .k-in, pre .0 .crossings .few), pre .1 .links)
 
 run-end-requires : tie.Need-run-end-requires
 run-end-requires c κs =
     let pre = atStart (atTried (c .before .before)) .pre in
-    (pre .0 .0, pre .0 .1 .few, pre .0 .2, pre .0 .4)
+    (pre .0 .line-in, pre .0 .crossings .few, pre .2 .k-in, pre .1 .links)
 
 ahead-of-requires : tie.Need-ahead-of-requires
 ahead-of-requires c κs =
     let pre = atStart (atTest (c .before)) .pre in
-    let end = c .before .run-end .ensures in (
-      (pre .0 .0, pre .0 .1, end .le, c .before .before .run-start .ensures .le, end .after, pre .0 .3),
-      ((pre .1 .0 .0, pre .1 .0 .1, pre .1 .1 .1 .0 .1), (pre .1 .1 .0 .0, pre .1 .1 .0 .1)),
-    )
+    (pre .0, stop-in (pre .2) (c .before .before .run-start .ensures) (c .before .run-end .ensures), pre .2 .ahead-room)
 
 behind-of-requires : tie.Need-behind-of-requires
 behind-of-requires c κs =
     let pre = atStart (atTest (atEnd c)) .pre in
-    let end = atEnd c .run-end .ensures in (
-      (pre .0 .0, pre .0 .1, end .le, atEnd c .before .run-start .ensures .le, end .after, pre .0 .3),
-      ((pre .1 .0 .0, pre .1 .0 .1, pre .1 .1 .1 .0 .2), (pre .1 .1 .0 .0, pre .1 .1 .0 .1)),
-    )
+    (pre .0, stop-in (pre .2) (atEnd c .before .run-start .ensures) (atEnd c .run-end .ensures), pre .2 .behind-room)
 
 ink-run-requires : tie.Need-ink-run-requires
 ink-run-requires c κs =
@@ -88,22 +86,17 @@ ink-run-requires c κs =
     let pre = atStart (atTest at-end) .pre in
     let start = at-start .run-start .ensures in
     let end = at-end .run-end .ensures in (
-      (pre .0 .0, pre .0 .1, end .le, omega (arith, start .le, end .after)),
-      (
-        (
-          omega (arith, at-ahead .ahead-of .kept .0, pre .1 .1 .1 .0 .1),
-          omega (arith, atBehind c .behind-of .kept .0, pre .1 .1 .1 .0 .2),
-        ),
-        (
-          (
-            pre .1 .0 .2,
-            pre .1 .1 .1 .0 .0,
-            blank-run (pre .1 .1 .1 .1 .0) (at-start .before .before .before .if1 .left) (pre .0 .2)
-                (pre .1 .1 .1 .1 .1) start end,
-          ),
-          (at-ahead .ahead-of .ensures, atBehind c .behind-of .ensures),
-        ),
-      ),
+      record {
+        line-in = pre .0 .line-in;
+        crossings = pre .0 .crossings;
+        from = omega (arith, start .le, end .after);
+        hi-in = end .le;
+        ahead-room = omega (arith, at-ahead .ahead-of .kept .0, pre .2 .ahead-room);
+        behind-room = omega (arith, atBehind c .behind-of .kept .0, pre .2 .behind-room);
+        down = at-ahead .ahead-of .ensures;
+        up = atBehind c .behind-of .ensures;
+      },
+      (pre .1 .own-inks, pre .1 .labels, blank-run (pre .2) (atElse at-start .if1 .left) start end),
     )
 
 fill-run-requires : tie.Need-fill-run-requires
@@ -114,14 +107,13 @@ fill-run-requires c κs =
     let start = at-start .run-start .ensures in
     let end = at-end .run-end .ensures in (
       (
-        pre .0 .0,
-        omega (arith, end .le, pre .0 .1 .few),
+        pre .0 .line-in,
+        omega (arith, end .le, pre .0 .crossings .few),
         omega (arith, end .after, start .le),
-        pre .0 .3,
-        pre .1 .1 .1 .0 .0,
+        pre .0 .top,
+        pre .1 .labels,
       ),
-      blank-run (pre .1 .1 .1 .1 .0) (at-start .before .before .before .if1 .left) (pre .0 .2) (pre .1 .1 .1 .1 .1)
-          start end,
+      blank-run (pre .2) (atElse at-start .if1 .left) start end,
     )
 
 same-length : tie.Need-same-length

@@ -3,7 +3,7 @@ use Prim.Native.Nat.{_-_}
 use native.Mathlib.Omega.{arith}
 use mathlib.Core.Path.{_≡_, refl, _∙_}
 use lib.ListN.{length, length-set}
-use Rattle.runs.proofs.Inks.{rises, Down, down-start, down-more, down-done}
+use Rattle.runs.proofs.Inks.{at-crossing, rises, Down, down-start, down-more, down-done}
 use Rattle.runs.proofs.ahead_of.Statement.{statement}
 use Rattle.runs.proofs.ahead_of.Tie as tie
 
@@ -34,7 +34,7 @@ shared-slice-read-top : tie.Need-shared-slice-read-top Inv-loop μ-loop
 shared-slice-read-top c = omega arith
 
 cast-top : tie.Need-cast-top Inv-loop μ-loop
-cast-top c = omega (arith, atStart c .pre .0 .1 .below (atStart c .args .hi - 1) (omega arith))
+cast-top c = omega (arith, atStart c .pre .0 .crossings .below (atStart c .args .hi - 1) (omega arith))
 
 mul-best : tie.Need-mul-best Inv-loop μ-loop
 mul-best c = omega arith
@@ -57,32 +57,32 @@ shared-slice-read-best-2 c = omega arith
 cast-best : tie.Need-cast-best Inv-loop μ-loop
 cast-best c =
     let start = atStart (c .before .before) in
-    omega (arith, start .pre .0 .1 .below (start .args .h) (omega arith))
+    omega (arith, start .pre .0 .crossings .below (start .args .h) (omega arith))
 
 sub-best : tie.Need-sub-best Inv-loop μ-loop
 sub-best c =
     let start = atStart (c .before .before) in
-    omega (arith, rises (start .pre .0 .1) (start .args .h) (start .args .hi - 1) (omega arith) (omega arith))
+    omega (arith, rises (start .pre .0 .crossings) (start .args .h) (start .args .hi - 1) (omega arith) (omega arith))
 
 add-best-2 : tie.Need-add-best-2 Inv-loop μ-loop
 add-best-2 c =
     let start = atStart (c .before .before) in
-    let low = start .pre .1 .1 .0 .le (start .args .h) (omega arith) (start .pre .1 .1 .1) in
-    omega (arith, low, start .pre .0 .1 .below (start .args .hi - 1) (omega arith))
+    let low = start .pre .0 .low .le (start .args .h) (omega arith) (start .pre .1 .stop) in
+    omega (arith, low, start .pre .0 .crossings .below (start .args .hi - 1) (omega arith))
 
 add-best-3 : tie.Need-add-best-3 Inv-loop μ-loop
 add-best-3 c =
     let start = atStart (c .before .before) in
-    let low = start .pre .1 .1 .0 .le (start .args .h) (omega arith) (start .pre .1 .1 .1) in
-    omega (arith, low, start .pre .0 .1 .below (start .args .hi - 1) (omega arith))
+    let low = start .pre .0 .low .le (start .args .h) (omega arith) (start .pre .1 .stop) in
+    omega (arith, low, start .pre .0 .crossings .below (start .args .hi - 1) (omega arith))
 
 loop-holds : tie.Need-loop-holds Inv-loop μ-loop
 loop-holds c =
     let start = atStart (c .before .before) in
     let pre = start .pre in (
       refl,
-      down-start (pre .0 .1) (pre .0 .2) (start .args .h) (pre .0 .3) (pre .0 .4) (pre .1 .1 .0)
-          (pre .1 .1 .1) _,
+      down-start (pre .0 .crossings) (pre .1 .hi-in) (start .args .h) (pre .1 .from) (pre .1 .to) (pre .0 .low)
+          (pre .1 .stop) _,
     )
 
 sub-k : tie.Need-sub-k Inv-loop μ-loop
@@ -95,16 +95,14 @@ shared-slice-read-carry : tie.Need-shared-slice-read-carry Inv-loop μ-loop
 shared-slice-read-carry c = omega arith
 
 cast-carry : tie.Need-cast-carry Inv-loop μ-loop
-cast-carry c = omega (arith, atStart (beforeLoop c) .pre .0 .1 .below (c .before .before .loop .k - 1) (omega arith))
+cast-carry c =
+    omega (arith, atStart (beforeLoop c) .pre .0 .crossings .below (c .before .before .loop .k - 1) (omega arith))
 
 carry-requires : tie.Need-carry-requires Inv-loop μ-loop
 carry-requires c κs =
-    let pre = atStart (beforeLoop c) .pre in
-    let lines = pre .0 .1 in
-    let k = c .before .before .loop .k - 1 in (
-      (pre .0 .0, omega (arith, lines .few), pre .0 .5, omega (arith, lines .below k (omega arith))),
-      ((omega (arith, pre .1 .0 .0), omega (arith, pre .1 .0 .1)), pre .1 .1 .0 .le k (omega arith)),
-    )
+    let on = atStart (beforeLoop c) .pre .0 in
+    let k = c .before .before .loop .k - 1 in
+    (at-crossing on k (omega arith), omega (arith, on .crossings .below k (omega arith)))
 
 mul-ahead : tie.Need-mul-ahead Inv-loop μ-loop
 mul-ahead c = omega arith
@@ -121,7 +119,8 @@ loop-again c =
     let pre = atStart (beforeLoop (c .before)) .pre in
     let inv = at-test .before .loop .inv in (
       length-set (at-test .before .loop .ahead) (at-test .before .loop .k - 1) (c .carry .result) ∙ inv .0,
-      down-more (pre .0 .1) (pre .0 .2) (at-test .loop-test .taken) (omega arith) (inv .1) (c .carry .ensures),
+      down-more (pre .0 .crossings) (pre .1 .hi-in) (at-test .loop-test .taken) (omega arith) (inv .1)
+          (c .carry .ensures),
     )
 
 same-length : tie.Need-same-length Inv-loop μ-loop

@@ -3,7 +3,7 @@ use Prim.Native.Nat.{_-_}
 use native.Mathlib.Omega.{arith}
 use mathlib.Core.Path.{_≡_, refl, _∙_}
 use lib.ListN.{length, length-set}
-use Rattle.runs.proofs.Inks.{rises, Up, up-start, up-more, up-done}
+use Rattle.runs.proofs.Inks.{at-crossing, rises, Up, up-start, up-more, up-done}
 use Rattle.runs.proofs.behind_of.Statement.{statement}
 use Rattle.runs.proofs.behind_of.Tie as tie
 
@@ -31,10 +31,10 @@ shared-slice-read-top : tie.Need-shared-slice-read-top Inv-loop μ-loop
 shared-slice-read-top c = omega arith
 
 cast-top : tie.Need-cast-top Inv-loop μ-loop
-cast-top c = omega (arith, atStartFromLoop c .pre .0 .1 .below (atStartFromLoop c .args .lo) (omega arith))
+cast-top c = omega (arith, atStartFromLoop c .pre .0 .crossings .below (atStartFromLoop c .args .lo) (omega arith))
 
 sub-top : tie.Need-sub-top Inv-loop μ-loop
-sub-top c = omega (arith, atStartFromLoop c .pre .0 .1 .below (atStartFromLoop c .args .lo) (omega arith))
+sub-top c = omega (arith, atStartFromLoop c .pre .0 .crossings .below (atStartFromLoop c .args .lo) (omega arith))
 
 mul-best : tie.Need-mul-best Inv-loop μ-loop
 mul-best c = omega arith
@@ -55,27 +55,28 @@ shared-slice-read-best-2 : tie.Need-shared-slice-read-best-2 Inv-loop μ-loop
 shared-slice-read-best-2 c = omega arith
 
 cast-best : tie.Need-cast-best Inv-loop μ-loop
-cast-best c = omega (arith, atStart c .pre .0 .1 .below (atStart c .args .h) (omega arith))
+cast-best c = omega (arith, atStart c .pre .0 .crossings .below (atStart c .args .h) (omega arith))
 
 sub-best : tie.Need-sub-best Inv-loop μ-loop
-sub-best c = omega (arith, atStart c .pre .0 .1 .below (atStart c .args .h) (omega arith))
+sub-best c = omega (arith, atStart c .pre .0 .crossings .below (atStart c .args .h) (omega arith))
 
 sub-best-2 : tie.Need-sub-best-2 Inv-loop μ-loop
 sub-best-2 c =
-    omega (arith, rises (atStart c .pre .0 .1) (atStart c .args .lo) (atStart c .args .h) (omega arith) (omega arith))
+    let start = atStart c in
+    omega (arith, rises (start .pre .0 .crossings) (start .args .lo) (start .args .h) (omega arith) (omega arith))
 
 add-best-2 : tie.Need-add-best-2 Inv-loop μ-loop
-add-best-2 c = omega (arith, atStart c .pre .1 .1 .0 .le (atStart c .args .h) (omega arith) (atStart c .pre .1 .1 .1))
+add-best-2 c = omega (arith, atStart c .pre .0 .low .le (atStart c .args .h) (omega arith) (atStart c .pre .1 .stop))
 
 add-best-3 : tie.Need-add-best-3 Inv-loop μ-loop
-add-best-3 c = omega (arith, atStart c .pre .1 .1 .0 .le (atStart c .args .h) (omega arith) (atStart c .pre .1 .1 .1))
+add-best-3 c = omega (arith, atStart c .pre .0 .low .le (atStart c .args .h) (omega arith) (atStart c .pre .1 .stop))
 
 loop-holds : tie.Need-loop-holds Inv-loop μ-loop
 loop-holds c =
     let pre = atStart c .pre in (
       refl,
-      up-start (pre .0 .1) (pre .0 .2) (atStart c .args .h) (pre .0 .3) (pre .0 .4) (pre .1 .1 .0)
-          (pre .1 .1 .1) _,
+      up-start (pre .0 .crossings) (pre .1 .hi-in) (atStart c .args .h) (pre .1 .from) (pre .1 .to) (pre .0 .low)
+          (pre .1 .stop) _,
     )
 
 mul-carry : tie.Need-mul-carry Inv-loop μ-loop
@@ -85,20 +86,14 @@ shared-slice-read-carry : tie.Need-shared-slice-read-carry Inv-loop μ-loop
 shared-slice-read-carry c = omega arith
 
 cast-carry : tie.Need-cast-carry Inv-loop μ-loop
-cast-carry c = omega (arith, atStart (atLoop c .before) .pre .0 .1 .below (atLoop c .loop .k) (omega arith))
+cast-carry c = omega (arith, atStart (atLoop c .before) .pre .0 .crossings .below (atLoop c .loop .k) (omega arith))
 
 sub-carry : tie.Need-sub-carry Inv-loop μ-loop
-sub-carry c = omega (arith, atStart (atLoop c .before) .pre .0 .1 .below (atLoop c .loop .k) (omega arith))
+sub-carry c = omega (arith, atStart (atLoop c .before) .pre .0 .crossings .below (atLoop c .loop .k) (omega arith))
 
 carry-requires : tie.Need-carry-requires Inv-loop μ-loop
 carry-requires c κs =
-    let pre = atStart (atLoop c .before) .pre in (
-      (pre .0 .0, omega (arith, pre .0 .1 .few), pre .0 .5, omega arith),
-      (
-        (omega (arith, pre .1 .0 .0), omega (arith, pre .1 .0 .1)),
-        pre .1 .1 .0 .le (atLoop c .loop .k) (omega arith),
-      ),
-    )
+    (at-crossing (atStart (atLoop c .before) .pre .0) (atLoop c .loop .k) (omega arith), omega arith)
 
 mul-behind : tie.Need-mul-behind Inv-loop μ-loop
 mul-behind c = omega arith
@@ -119,7 +114,8 @@ loop-again c =
     let pre = atStart (at-loop .before) .pre in
     let inv = at-loop .loop .inv in (
       length-set (at-loop .loop .behind) (at-loop .loop .k) (c .carry .result) ∙ inv .0,
-      up-more (pre .0 .1) (pre .0 .2) (at-test .loop-test .taken) (omega arith) (inv .1) (c .carry .ensures),
+      up-more (pre .0 .crossings) (pre .1 .hi-in) (at-test .loop-test .taken) (omega arith) (inv .1)
+          (c .carry .ensures),
     )
 
 same-length : tie.Need-same-length Inv-loop μ-loop

@@ -39,7 +39,7 @@ shared-slice-read-lesser : tie.Need-shared-slice-read-lesser
 shared-slice-read-lesser c = omega arith
 
 add-lesser-2 : tie.Need-add-lesser-2
-add-lesser-2 c = omega (arith, atStart c .pre .1 .1 (c .before .if1 .left))
+add-lesser-2 c = omega (arith, atStart c .pre .0 .low (c .before .if1 .left))
 
 lesser-requires : tie.Need-lesser-requires
 lesser-requires c κs = search needs

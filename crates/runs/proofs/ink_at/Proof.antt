@@ -4,7 +4,7 @@ use native.Mathlib.Omega.{arith}
 use lib.ListN.{getD}
 use borrow.Author.Needs.{needs}
 use Rattle.runs.specs.Ink.{Least}
-use Rattle.runs.proofs.Inks.{least-one, least-more, least-done}
+use Rattle.runs.proofs.Inks.{at-crossing, least-one, least-more, least-done}
 use Rattle.runs.proofs.ink_at.Statement.{statement}
 use Rattle.runs.proofs.ink_at.Tie as tie
 
@@ -52,7 +52,7 @@ steps-requires c κs = search needs
 add-best-2 : tie.Need-add-best-2 Inv-loop μ-loop
 add-best-2 c =
     let start = atStart c in
-    let low = start .pre .1 .1 .0 .le (start .args .h) (omega arith) (start .pre .1 .1 .1) in
+    let low = start .pre .0 .low .le (start .args .h) (omega arith) (start .pre .1 .stop) in
     omega (arith, low, c .steps .ensures .1)
 
 add-k : tie.Need-add-k Inv-loop μ-loop
@@ -60,9 +60,8 @@ add-k c = omega arith
 
 loop-holds : tie.Need-loop-holds Inv-loop μ-loop
 loop-holds c =
-    let start = atStart c in
     let e = c .steps .ensures .0 in
-    (omega arith, omega arith, least-one (omega arith) (start .pre .1 .1 .1) (omega arith))
+    (omega arith, omega arith, least-one (omega arith) (atStart c .pre .1 .stop) (omega arith))
 
 mul-steps-2 : tie.Need-mul-steps-2 Inv-loop μ-loop
 mul-steps-2 c = omega arith
@@ -76,17 +75,11 @@ steps-requires-2 c κs = search needs
 carry-requires : tie.Need-carry-requires Inv-loop μ-loop
 carry-requires c κs =
     let start = atStart (atLoop c .before) in
-    let pre = start .pre in
-    let lines = pre .0 .1 in
+    let lines = start .pre .0 .crossings in
     let k = atLoop c .loop .k in
-    let near = lines .below (start .args .at) (pre .0 .4) in (
-      (
-        pre .0 .0,
-        omega (arith, lines .few),
-        pre .0 .5,
-        omega (arith, c .steps2 .ensures .0, near, lines .below k (omega arith)),
-      ),
-      ((omega (arith, pre .1 .0 .0), omega (arith, pre .1 .0 .1)), pre .1 .1 .0 .le k (omega arith)),
+    let near = lines .below (start .args .at) (start .pre .2) in (
+      at-crossing (start .pre .0) k (omega arith),
+      omega (arith, c .steps2 .ensures .0, near, lines .below k (omega arith)),
     )
 
 add-k-2 : tie.Need-add-k-2 Inv-loop μ-loop

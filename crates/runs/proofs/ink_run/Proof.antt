@@ -43,21 +43,20 @@ shared-slice-read-ink-of-3 c = omega arith
 
 ink-of-requires : tie.Need-ink-of-requires Inv-loop μ-loop
 ink-of-requires c κs =
-    let pre = atStart c .pre in
+    let swept = atStart c .pre .0 in
     let k = atLoop c .loop .k in
-    let inv = atLoop c .loop .inv in
-    let sweeps = pre .1 .1 .1 in (
-      omega (arith, pre .0 .1 .below k (omega arith)),
-      sweeps .0 .at k (inv .0) (omega arith) .above,
-      sweeps .1 .at k (omega arith) (inv .0) .above,
+    let inv = atLoop c .loop .inv in (
+      omega (arith, swept .crossings .below k (omega arith)),
+      swept .down .at k (inv .0) (omega arith) .above,
+      swept .up .at k (omega arith) (inv .0) .above,
     )
 
 put-ink-requires : tie.Need-put-ink-requires Inv-loop μ-loop
 put-ink-requires c κs =
     let pre = atStart (c .before) .pre in
     let inv = atLoop (c .before) .loop .inv in (
-      (pre .0 .0, omega (arith, pre .0 .1 .few), omega (arith, inv .2 .size, pre .1 .1 .0 .0), pre .1 .1 .0 .1),
-      λ e. pre .1 .1 .0 .2 e .none (atLoop (c .before) .loop .k) (inv .0) (omega arith),
+      (pre .0 .line-in, omega (arith, pre .0 .crossings .few), omega (arith, inv .2 .size, pre .1 .0), pre .1 .1),
+      λ e. pre .1 .2 e .none (atLoop (c .before) .loop .k) (inv .0) (omega arith),
     )
 
 add-k : tie.Need-add-k Inv-loop μ-loop
@@ -71,13 +70,13 @@ loop-again c =
     let at-put = c .before .before in
     let at-loop = atLoop (at-put .before .before) in
     let pre = atStart (at-put .before .before) .pre in
+    let swept = pre .0 in
     let k = at-loop .loop .k in
-    let inv = at-loop .loop .inv in
-    let sweeps = pre .1 .1 .1 in (
+    let inv = at-loop .loop .inv in (
       omega arith,
       omega arith,
-      inked-next (inv .0) (omega (arith, pre .1 .1 .0 .0, pre .0 .1 .few)) (inv .2)
-          (sweeps .1 .at k (omega arith) (inv .0) .least) (sweeps .0 .at k (inv .0) (omega arith) .least)
+      inked-next (inv .0) (omega (arith, pre .1 .0, swept .crossings .few)) (inv .2)
+          (swept .up .at k (omega arith) (inv .0) .least) (swept .down .at k (inv .0) (omega arith) .least)
           (at-put .before .ink-of .ensures) (at-put .put-ink .ensures),
     )
 

@@ -49,7 +49,7 @@ steps-requires : tie.Need-steps-requires
 steps-requires c κs = omega arith
 
 add-if2-2 : tie.Need-add-if2-2
-add-if2-2 c = omega (arith, c .steps .ensures .1, atStart c .pre .1 .1 (inElse1 c .if1 .left))
+add-if2-2 c = omega (arith, c .steps .ensures .1, atStart c .pre .0 .low (inElse1 c .if1 .left))
 
 returns-2 : tie.Need-returns-2
 returns-2 c = sym (other-ink _ _ _ _ _ _ _ _ (λ e. c .if2 .taken (omega (arith, c .before .steps .ensures .0))))

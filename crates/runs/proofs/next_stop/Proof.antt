@@ -21,8 +21,7 @@ shared-slice-read-scan c = omega arith
 scan-requires : tie.Need-scan-requires
 scan-requires c κs =
     let pre = atStart c .pre in
-    let start = c .before .run-start .ensures in
-    ((pre .0 .0, pre .0 .1, omega (arith, start .le, pre .0 .2), pre .0 .3, pre .0 .4), pre .1)
+    (pre .0, pre .1, omega (arith, c .before .run-start .ensures .le, pre .2))
 
 returns : tie.Need-returns
 returns c = stop-of (c .before .before .run-start .ensures) (c .scan .ensures)

@@ -5,6 +5,7 @@ use mathlib.Core.Path.{_≡_, sym, _∙_}
 use mathlib.Core.Bool.{false}
 use borrow.Author.Count.{below-more}
 use Rattle.runs.specs.Line.{Linked, isStop}
+use Rattle.runs.proofs.Inks.{at-crossing}
 use Rattle.runs.proofs.Line.{linked-refl, linked-up, blocked}
 use Rattle.runs.proofs.scan.Statement.{statement}
 use Rattle.runs.proofs.scan.Tie as tie
@@ -32,13 +33,7 @@ loop-holds c = (omega arith, omega arith, linked-refl _ _ _, λ j q p. absurd (o
 
 is-stop-requires : tie.Need-is-stop-requires Inv-loop μ-loop
 is-stop-requires c κs =
-    let pre = atStart c .pre in (
-      (pre .0 .0, omega arith, omega arith, pre .0 .3),
-      (
-        (omega (arith, pre .1 .0), omega (arith, pre .1 .1)),
-        pre .1 .2 .le (c .before .loop .k) (c .loop-test .taken),
-      ),
-    )
+    (at-crossing (atStart c .pre .0) (c .before .loop .k) (c .loop-test .taken), omega arith)
 
 returns : tie.Need-returns Inv-loop μ-loop
 returns c =

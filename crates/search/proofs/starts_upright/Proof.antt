@@ -104,8 +104,16 @@ next-stop-requires : tie.Need-next-stop-requires
 next-stop-requires c κs =
     let pre = atStart (bothHave c .before .before) .pre in
     let choosing = pre .1 .1 in (
-      (pre .0 .1, pre .0 .0, pre .0 .2, omega (arith, choosing .top), pre .1 .0 .3),
-      (pre .0 .3, pre .1 .0 .1, choosing .low _ (omega (arith, bothHave c .before .if1 .left, c .if7 .left))),
+      record {
+        line-in = pre .0 .1;
+        crossings = pre .0 .0;
+        top = omega (arith, choosing .top);
+        others = pre .0 .3;
+        other-inks = pre .1 .0 .1;
+        low = choosing .low _ (omega (arith, bothHave c .before .if1 .left, c .if7 .left));
+      },
+      pre .1 .0 .3,
+      pre .0 .2,
     )
 
 returns-8 : tie.Need-returns-8

@@ -55,13 +55,13 @@ upright-step-requires c κs =
     let ready = start .pre .0 .1 in
     let label = upright-label ready (c .before .before .if1 .taken) in (
       ready .walkable,
-      (
-        ready .i-in,
-        ready .j-in,
-        omega (arith, label, ready .some),
-        refl,
-        omega (arith, label, start .pre .1, atFirst (c .before .before) .put-corner .kept .0),
-      ),
+      record {
+        i-in = ready .i-in;
+        j-in = ready .j-in;
+        pos = omega (arith, label, ready .some);
+        is = refl;
+        room = omega (arith, label, start .pre .1, atFirst (c .before .before) .put-corner .kept .0);
+      },
     )
 
 same-length : tie.Need-same-length
@@ -95,13 +95,13 @@ level-step-requires c κs =
     let ready = start .pre .0 .1 in
     let label = level-label ready (c .before .before .if1 .left) in (
       ready .walkable,
-      (
-        ready .i-in,
-        ready .j-in,
-        omega (arith, label, ready .some),
-        refl,
-        omega (arith, label, start .pre .1, firstWritten (c .before .before) .before .put-corner .kept .0),
-      ),
+      record {
+        i-in = ready .i-in;
+        j-in = ready .j-in;
+        pos = omega (arith, label, ready .some);
+        is = refl;
+        room = omega (arith, label, start .pre .1, firstWritten (c .before .before) .before .put-corner .kept .0);
+      },
     )
 
 same-length-2 : tie.Need-same-length-2
