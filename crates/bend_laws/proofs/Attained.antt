@@ -8,7 +8,7 @@ use Rattle.foil_spec.specs.Strips.{stopIn, stop, scan, scanAt, starts, isRun, i
 use Rattle.foil_spec.specs.Paths.{after, between, levelFree, uprightFree, segment, bends, points, goings}
 use Rattle.foil_spec.specs.Paths.{stepsFrom, shortest, firstFrom, firstPathTo}
 use Rattle.foil_spec.specs.Ledger.{stripsOf, pathOf, cornersOf}
-use Rattle.bend_laws.specs.Bound.{bendBound}
+use Rattle.box_laws.specs.Bound.{bendBound}
 
 -- a foil and two points on it
 record Case : Type 0 where

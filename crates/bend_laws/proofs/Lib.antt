@@ -1,6 +1,5 @@
--- The bound on bends: Bound has the theorems, Attained foils that meet it, Trails what it is proved with; Room has what
--- follows for the corner places that are lent.
-pub mod Trails
+-- The bound on bends: Bound has the theorems, Attained foils that meet it; Room has what follows for the corner places
+-- that are lent.
 pub mod Bound
 pub mod Attained
 pub mod Room

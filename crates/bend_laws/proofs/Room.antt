@@ -52,7 +52,7 @@ use Rattle.ledger_laws.proofs.Numbers.{lent-passes, own-passes}
 use Rattle.sheet_laws.specs.Alone.{foilOf}
 use Rattle.sheet_laws.proofs.Alone.{foils-alone}
 use Rattle.slip_laws.proofs.Pages.{slip-small}
-use Rattle.bend_laws.specs.Bound.{bendBound}
+use Rattle.box_laws.specs.Bound.{bendBound}
 use Rattle.bend_laws.specs.Room.{TrackCorners, EnoughCorners, asksFew, placesFor, fewWishes, lentEnough}
 use Rattle.bend_laws.specs.Room.{NeverShort, SheetNeverShort}
 use Rattle.bend_laws.proofs.Bound.{track-bends, join-bound}

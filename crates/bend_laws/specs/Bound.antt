@@ -1,31 +1,15 @@
 -- How bent a track can get, by the number of strips before it is booked, as it is stated (document 02, P13).
-use Prim.Native.Nat.{ℕ, _-_, _*_, _≤_, _<_}
+use Prim.Native.Nat.{ℕ, _≤_}
 use mathlib.Core.Path.{_≡_}
-use mathlib.Core.Bool.{Bool, true, cond}
+use mathlib.Core.Bool.{true}
 use mathlib.Core.List.{List}
 use mathlib.Core.Option.{some}
-use lib.Dec.{eqb}
 use lib.ListN.{length}
 use Rattle.foil_spec.specs.Foil.{Point, Layout, free}
-use Rattle.foil_spec.specs.Strips.{strips}
 use Rattle.foil_spec.specs.Paths.{isPath, bends}
 use Rattle.foil_spec.specs.Ledger.{stripsOf, pathOf, without, joinOf, Room, lay, find, laid}
 use Rattle.foil_spec.specs.Lent.{Lent, stepOn}
-
--- on a foil with K strips: one bend at most if K is 1, else 2K − 2
-unfoldable pub bendBound : ℕ → ℕ
-bendBound K = cond (eqb K 1) 1 (2 * K - 2)
-
--- the test f of free points passes on the foil of width W and height H only
-abbrev pub OnFoil : (ℕ → ℕ → Bool) → ℕ → ℕ → Type 0
-OnFoil f W H = (x y : ℕ) → f x y ≡ true → (x < W) × (y < H)
-
--- any path of fewest bends, whatever the order among those
-abbrev pub FewestBends : Type 0
-FewestBends =
-    (f : ℕ → ℕ → Bool) (W H : ℕ) → OnFoil f W H → (S T : Point) (cs : List Point) → isPath f S T cs ≡ true
-    → ((ds : List Point) → isPath f S T ds ≡ true → bends cs ≤ bends ds)
-    → bends cs ≤ bendBound (length (strips f W H))
+use Rattle.box_laws.specs.Bound.{bendBound}
 
 -- the track found on a foil
 abbrev pub TrackBends : Type 0

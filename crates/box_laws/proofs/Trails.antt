@@ -1,4 +1,4 @@
--- Trails from strip to strip that meet no strip twice. Every path gives one: its level segments stay in their strip,
+-- Trails from strip to strip that meet no strip twice. Every course gives one: its level segments stay in their strip,
 -- its upright ones cross to another, and what lies between two visits of a strip is left out. A trail over n strips
 -- takes a level segment in each of them and an upright one between each two; over one strip, two segments.
 use Prim.Native.Nat.{ℕ, zero, suc, _≤_, _<_}
@@ -11,17 +11,14 @@ use lib.ListN.{length}
 use Rattle.foil_spec.specs.Lists.{any}
 use Rattle.foil_spec.specs.Foil.{Point, point}
 use Rattle.foil_spec.specs.Strips.{Strip, strips, holds}
-use Rattle.foil_spec.specs.Paths.{at}
 use Rattle.list_laws.proofs.Tests.{both, clash, or-cases, or-il, or-ir}
 use Rattle.list_laws.proofs.Members.{In}
 use Rattle.list_laws.proofs.Counting.{count, count-lt, count-length}
-use Rattle.path_laws.proofs.Segments.{same-eq, same-self}
-use Rattle.strip_laws.proofs.Laws.{in-a-strip, in-one-only, only-free}
+use Rattle.strip_laws.proofs.Laws.{in-a-strip, in-one-only}
 use Rattle.strip_laws.proofs.Rectangle.{free-between, same-strip}
 use Rattle.course_laws.specs.Course.{flip, Span, Course}
-use Rattle.course_laws.specs.Best.{PathD, On}
 use Rattle.course_laws.proofs.Course.{span-sym, span-trans, span-end, course-merge}
-use Rattle.bend_laws.specs.Bound.{OnFoil}
+use Rattle.box_laws.specs.Bound.{OnFoil}
 
 -- ---- spans in a strip
 
@@ -44,7 +41,7 @@ module _ (f : ℕ → ℕ → Bool) (W H : ℕ) (s : Strip) (listed : In s (stri
 -- ---- trails
 
 -- the strip holds one of the points
-abbrev meets : List Point → Strip → Bool
+abbrev pub meets : List Point → Strip → Bool
 meets ps s = any (λ (p : Point). holds p s) ps
 
 -- the segments that are enough for a trail of n points after its first
@@ -53,7 +50,12 @@ segmentsFor zero = 2
 segmentsFor (suc zero) = 3
 segmentsFor (suc (suc n)) = suc (suc (segmentsFor (suc n)))
 
-module _ (f : ℕ → ℕ → Bool) (W H : ℕ) (T : Point) where
+-- from (x, y) to a target by n segments, the first level or, if up, upright
+abbrev pub CourseD : (ℕ → ℕ → Bool) → (ℕ → ℕ → Type 0) → Bool → ℕ → ℕ → ℕ → Type 0
+CourseD f T false n x y = Course n f T x y
+CourseD f T true n x y = Course n (flip f) (flip T) y x
+
+module _ (f : ℕ → ℕ → Bool) (W H : ℕ) (T : ℕ → ℕ → Type 0) where
   -- s is a strip that holds p
   abbrev Home : Point → Strip → Type 0
   Home p s = In s (strips f W H) × (holds p s ≡ true)
@@ -62,9 +64,14 @@ module _ (f : ℕ → ℕ → Bool) (W H : ℕ) (T : Point) where
   abbrev Crossing : Strip → Point → Type 0
   Crossing s q = (y : ℕ) × (holds (point (q .x) y) s ≡ true) × Span (flip f) (q .x) y (q .y)
 
-  -- each point is crossed to from the strip of the one before, which holds none that follow; the last one's holds T
+  -- the strip holds a target
+  abbrev Met : Strip → Type 0
+  Met s = (e : Point) × (holds e s ≡ true) × T (e .x) (e .y)
+
+  -- each point is crossed to from the strip of the one before, which holds none that follow; the last one's holds a
+  -- target
   abbrev pub Trail : Point → List Point → Type 0
-  Trail p [] = (s : Strip) × Home p s × (holds T s ≡ true)
+  Trail p [] = (s : Strip) × Home p s × Met s
   Trail p (q ∷ qs) = (s : Strip) × Home p s × Crossing s q × (meets (q ∷ qs) s ≡ false) × Trail q qs
 
   -- ---- the number of its strips
@@ -90,17 +97,12 @@ module _ (f : ℕ → ℕ → Bool) (W H : ℕ) (T : Point) where
 
   -- ---- the segments that it takes
 
-  -- T is free
-  pub target-free : (p : Point) (qs : List Point) → Trail p qs → f (T .x) (T .y) ≡ true
-  target-free p [] (s, (i, h), k) = only-free f W H T s i k .2
-  target-free p (q ∷ qs) (s, a, c, apart, t) = target-free q qs t
-
   -- within the last strip, the first segment upright
-  upright-end : (p : Point) → Trail p [] → Course 2 (flip f) (flip (On (at T))) (p .y) (p .x)
-  upright-end p (s, (i, h), k) = (
-    T .y,
-    span-sym (flip f) (p .x) (T .y) (p .y) (along-column f W H s i T p k h),
-    (T .x, span-sym f (T .y) (T .x) (p .x) (along-row f W H s i T p k h), same-self T),
+  upright-end : (p : Point) → Trail p [] → Course 2 (flip f) (flip T) (p .y) (p .x)
+  upright-end p (s, (i, h), (e, k, t)) = (
+    e .y,
+    span-sym (flip f) (p .x) (e .y) (p .y) (along-column f W H s i e p k h),
+    (e .x, span-sym f (e .y) (e .x) (p .x) (along-row f W H s i e p k h), t),
   )
 
   -- from p along its row to the column of q, and along that to q
@@ -113,17 +115,17 @@ module _ (f : ℕ → ℕ → Bool) (W H : ℕ) (T : Point) where
 
   -- the segments of a trail
   pub trail-course : (p : Point) (qs : List Point)
-      → Trail p qs → Course (segmentsFor (length qs)) f (On (at T)) (p .x) (p .y)
-  trail-course p [] (s, (i, h), k) =
-      (T .x, along-row f W H s i p T h k, (T .y, along-column f W H s i p T h k, same-self T))
+      → Trail p qs → Course (segmentsFor (length qs)) f T (p .x) (p .y)
+  trail-course p [] (s, (i, h), (e, k, t)) =
+      (e .x, along-row f W H s i p e h k, (e .y, along-column f W H s i p e h k, t))
   trail-course p (q ∷ []) (s, a, c, apart, t) =
       let (along, up) = over-column p q s a c in
-      (q .x, along, course-merge 1 (flip f) (flip (On (at T))) (p .y) (q .x) (q .y) up (upright-end q t))
+      (q .x, along, course-merge 1 (flip f) (flip T) (p .y) (q .x) (q .y) up (upright-end q t))
   trail-course p (q ∷ r ∷ rs) (s, a, c, apart, t) =
       let (along, up) = over-column p q s a c in
       (q .x, along, (q .y, up, trail-course q (r ∷ rs) t))
 
-  -- ---- a trail of every path
+  -- ---- a trail of every course
 
   -- another point of the same strip
   home-too : (p q : Point) (s t : Strip) → Home p s → holds q s ≡ true → Home q t → Home p t
@@ -163,23 +165,21 @@ module _ (f : ℕ → ℕ → Bool) (W H : ℕ) (T : Point) where
         let a = in-a-strip f W H (point x y) (i .0) (i .1) h in
         (a .0, (a .1, a .2))
 
-    -- the trail at T itself
-    at-end : (x y : ℕ) → f x y ≡ true → On (at T) x y → Trail (point x y) []
-    at-end x y h e =
-        let a = home x y h in
-        (a .0, a .1, subst (λ (q : Point). holds q (a .0) ≡ true) (same-eq (point x y) T e) (a .1 .1))
+    -- the trail at a target itself
+    at-end : (x y : ℕ) → f x y ≡ true → T x y → Trail (point x y) []
+    at-end x y h t = let a = home x y h in (a .0, a .1, (point x y, a .1 .1, t))
 
-    -- the trail of a path that is given by its coordinates, the first segment level or, if up, upright
-    pub path-trail : (up : Bool) (cs : List ℕ) (x y : ℕ) → f x y ≡ true → PathD up cs f (On (at T)) x y
+    -- the trail of a course
+    pub course-trail : (up : Bool) (n x y : ℕ) → f x y ≡ true → CourseD f T up n x y
         → (qs : List Point) × Trail (point x y) qs
-    path-trail false [] x y h t = ([], at-end x y h t)
-    path-trail true [] x y h t = ([], at-end x y h t)
-    path-trail false (c ∷ cs) x y h p =
-        let t = path-trail true cs c y (span-end f y x c (p .1)) (p .2) in
+    course-trail false zero x y h t = ([], at-end x y h t)
+    course-trail true zero x y h t = ([], at-end x y h t)
+    course-trail false (suc n) x y h (c, span, r) =
+        let t = course-trail true n c y (span-end f y x c span) r in
         let a = home x y h in
-        let k = stays f W H (a .0) (a .1 .0) inside x y c (a .1 .1) (p .1) in
+        let k = stays f W H (a .0) (a .1 .0) inside x y c (a .1 .1) span in
         (t .0, restart (point x y) (point c y) (t .0) (a .0) (a .1) k (t .1))
-    path-trail true (c ∷ cs) x y h p =
-        let t = path-trail false cs x c (span-end (flip f) x y c (p .1)) (p .2) in
+    course-trail true (suc n) x y h (c, span, r) =
+        let t = course-trail false n x c (span-end (flip f) x y c span) r in
         let a = home x y h in
-        extend (point x y) (point x c) (t .0) (a .0) (a .1) (y, a .1 .1, p .1) (t .1)
+        extend (point x y) (point x c) (t .0) (a .0) (a .1) (y, a .1 .1, span) (t .1)
