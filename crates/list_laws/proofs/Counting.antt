@@ -1,4 +1,4 @@
--- How many elements of a list pass a test, and how many numbers some elements have.
+-- How many elements of a list pass a test or one of several, and how many numbers some elements have.
 use Prim.Native.Nat.{ℕ, zero, suc, _+_, _≤_, _<_}
 use native.Mathlib.Omega.{arith}
 use native.Mathlib.Decide.{ℕ-discrete}
@@ -69,6 +69,10 @@ module _ {A : Type 0} where
   keep-none p [] h = refl
   keep-none p (x ∷ xs) h = rw (h x (inl refl)) (keep-none p xs (λ y k. h y (inr k)))
 
+  keep-all : (p : A → Bool) (xs : List A) → ((x : A) → In x xs → p x ≡ true) → keep p xs ≡ xs
+  keep-all p [] h = refl
+  keep-all p (x ∷ xs) h = rw (h x (inl refl)) (ap (λ (ys : List A). x ∷ ys) (keep-all p xs (λ y k. h y (inr k))))
+
   keep-both : (a b : Bool) (x : A) (us vs ws : List A) → length us ≤ length vs + length ws
       → length (consIf (a || b) x us) ≤ length (consIf a x vs) + length (consIf b x ws)
   keep-both true true x us vs ws l = omega arith
@@ -81,6 +85,18 @@ module _ {A : Type 0} where
       → length (keep (λ (x : A). p x || q x) xs) ≤ length (keep p xs) + length (keep q xs)
   keep-either p q [] = omega arith
   keep-either p q (x ∷ xs) = keep-both (p x) (q x) x _ (keep p xs) (keep q xs) (keep-either p q xs)
+
+-- tests each of which keeps one element at most
+module _ {A B : Type 0} (t : B → A → Bool) (xs : List A) (once : (b : B) → length (keep (t b) xs) ≤ 1) where
+  -- keep no more elements than they are many
+  few-kept : (bs : List B) → length (keep (λ (x : A). any (λ (b : B). t b x) bs) xs) ≤ length bs
+  few-kept [] = rw (keep-none (λ (x : A). false) xs (λ x h. refl)) (omega arith)
+  few-kept (b ∷ bs) =
+      omega (arith, keep-either (t b) (λ (x : A). any (λ (c : B). t c x) bs) xs, once b, few-kept bs)
+
+  -- so where each element passes one of them, there are no more elements than tests
+  pub few-elements : (bs : List B) → ((x : A) → In x xs → any (λ (b : B). t b x) bs ≡ true) → length xs ≤ length bs
+  few-elements bs h = rw (keep-all (λ (x : A). any (λ (b : B). t b x) bs) xs h) at (few-kept bs)
 
 -- a number stands at most once among those from a on
 once : (k a n : ℕ) → length (keep (eqb k) (range a n)) ≤ 1
@@ -96,11 +112,4 @@ once k a (suc n) =
 -- elements have no more numbers than they are many
 pub few-numbers : {A : Type 0} (f : A → ℕ) (xs : List A) (a n : ℕ)
     → length (keep (λ (i : ℕ). any (λ (x : A). eqb (f x) i) xs) (range a n)) ≤ length xs
-few-numbers f [] a n = rw (keep-none (λ (i : ℕ). false) (range a n) (λ i h. refl)) (omega arith)
-few-numbers {A} f (x ∷ xs) a n =
-    omega (
-      arith,
-      keep-either (eqb (f x)) (λ (i : ℕ). any (λ (y : A). eqb (f y) i) xs) (range a n),
-      once (f x) a n,
-      few-numbers f xs a n,
-    )
+few-numbers {A} f xs a n = few-kept (λ (x : A). eqb (f x)) (range a n) (λ x. once (f x) a n) xs
