@@ -24,7 +24,7 @@ use Rattle.zones.proofs.Free.{inside-yes, of-inside, covers-yes, box-free-at, c
 use Rattle.strip_laws.specs.Rules.{columns, IsRun, IsStrip}
 use Rattle.strip_laws.proofs.Strips.{to-holds}
 use Rattle.strip_laws.proofs.Laws.{listed-strip, partition}
-use Rattle.box_laws.specs.Bound.{BoxStrips}
+use Rattle.box_laws.specs.Boxed.{BoxStrips}
 use Rattle.box_laws.proofs.Trails.{meets}
 
 -- ---- the pins

@@ -1,5 +1,5 @@
--- How bent a path of fewest bends can get, by the number of strips (document 02, P13), and how many strips boxes leave.
-use Prim.Native.Nat.{ℕ, _+_, _-_, _*_, _≤_, _<_}
+-- How bent a path of fewest bends can get, by the number of strips, as it is stated (document 02, P13).
+use Prim.Native.Nat.{ℕ, _-_, _*_, _≤_, _<_}
 use mathlib.Core.Path.{_≡_}
 use mathlib.Core.Bool.{Bool, true, cond}
 use mathlib.Core.List.{List}
@@ -8,7 +8,6 @@ use lib.ListN.{length}
 use Rattle.foil_spec.specs.Foil.{Point}
 use Rattle.foil_spec.specs.Strips.{strips}
 use Rattle.foil_spec.specs.Paths.{isPathTo, bends}
-use Rattle.zones.specs.Boxes.{boxFree}
 
 -- on a foil with K strips: one bend at most if K is 1, else 2K − 2
 unfoldable pub bendBound : ℕ → ℕ
@@ -24,7 +23,3 @@ FewestBends =
     (f : ℕ → ℕ → Bool) (W H : ℕ) → OnFoil f W H → (S : Point) (T : Point → Bool) (cs : List Point)
     → isPathTo f S T cs ≡ true → ((ds : List Point) → isPathTo f S T ds ≡ true → bends cs ≤ bends ds)
     → bends cs ≤ bendBound (length (strips f W H))
-
--- n boxes, wherever they lie, leave so many strips at most
-abbrev pub BoxStrips : Type 0
-BoxStrips = (z : List ℕ) (n w h : ℕ) → length (strips (boxFree w h n z) w h) ≤ (n + 1) * (n + 1)

@@ -1,2 +1,3 @@
--- How bent a path can get, by the number of strips, and how many strips boxes leave.
+-- How bent a path can get: by the number of strips, and by that of boxes.
 pub mod Bound
+pub mod Boxed
