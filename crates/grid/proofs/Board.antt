@@ -9,6 +9,7 @@ use mathlib.Core.List.{List, map}
 use lib.ListN.{getD, length}
 use borrow.Author.Tests.{eqb-false, eq-eqb}
 use Rattle.foil_spec.specs.Lists.{range, any}
+use Rattle.foil_spec.specs.Limits.{maxSide}
 use Rattle.foil_spec.specs.Foil.{Entry, point}
 use Rattle.foil_spec.specs.Lent.{entryAt}
 use Rattle.list_laws.proofs.Members.{any-place, of-any, of-map, of-range}
@@ -210,7 +211,7 @@ module _ (W H : ℕ) {n : ℕ} {z : List ℕ} (upright : Bool) {lines : List ℕ
 
 -- at most as many lines as marks
 pub lines-of : {n : ℕ} {z : List ℕ} {k : ℕ} {t : List ℕ} {upright : Bool} {size p : ℕ} {m lines : List ℕ} {l : ℕ} →
-    n + k ≤ maxBoxes + 1 → size ≤ 4096 → stride ≤ length lines → Marked n z k t upright size p m →
+    n + k ≤ maxBoxes + 1 → size ≤ maxSide → stride ≤ length lines → Marked n z k t upright size p m →
     Collected m size lines l → Lines lines l
 lines-of l s r M C = record {
   fit = omega (arith, M .few, C .count);

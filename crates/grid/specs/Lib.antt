@@ -2,5 +2,6 @@
 pub mod Size
 pub mod Extent
 pub mod Lines
+pub mod Axis
 pub mod Links
 pub mod Targets

@@ -19,7 +19,8 @@ use Rattle.grid.specs.Targets.{inBoxes, target}
 use Rattle.grid.proofs.Board.{grid-marks, grid-steady, grid-links}
 use Rattle.labels.proofs.Faithful.{Faithful, faithful}
 use Rattle.sowing.specs.Seeds.{boxed, clearAt, aimedAt}
-use Rattle.search.specs.Grid.{mostLines, Aimed, Has, Axis, Grid}
+use Rattle.grid.specs.Axis.{Axis}
+use Rattle.search.specs.Grid.{mostLines, Aimed, Has, Grid}
 use Rattle.search.specs.Search.{LabelRoom}
 
 -- an axis has few lines

@@ -1,13 +1,13 @@
 -- The question that the search is asked, the escape grid that is made for it, and where points stand on its lines.
 use Prim.Native.Nat.{ℕ, _+_, _*_, _≤_, _<_}
 use mathlib.Core.Path.{_≡_}
-use mathlib.Core.Bool.{Bool, true, false}
+use mathlib.Core.Bool.{true, false}
 use mathlib.Core.List.{List}
 use lib.ListN.{getD, length}
 use Rattle.foil_spec.specs.Foil.{Point}
 use Rattle.zones.specs.Boxes.{boxFree, maxBoxes, Boxes}
 use Rattle.grid.specs.Size.{stride}
-use Rattle.grid.specs.Lines.{Marked, Collected, Lines}
+use Rattle.grid.specs.Axis.{Axis}
 use Rattle.grid.specs.Links.{Painted}
 
 -- the first n boxes of a table on a foil of w by h, and two points that they leave free
@@ -29,12 +29,11 @@ abbrev pub mostLines : ℕ → ℕ
 mostLines n = 2 * n + 3
 
 -- the lists for the grid of n boxes and target boxes have room
-pub record GridRoom (n : ℕ) (cols rows kl ku mark : List ℕ) : Type 0 where
+pub record GridRoom (n : ℕ) (cols rows kl ku : List ℕ) : Type 0 where
   pub column-lines : stride ≤ length cols
   pub row-lines : stride ≤ length rows
   pub level-links : mostLines n * stride ≤ length kl
   pub upright-links : mostLines n * stride ≤ length ku
-  pub marks : 4096 ≤ length mark
 
 -- x is among the first n lines
 abbrev pub Has : List ℕ → ℕ → ℕ → Type 0
@@ -44,14 +43,6 @@ Has lines n x = (k : ℕ) × (k < n) × (getD lines k 0 ≡ x)
 pub record Placed (lines : List ℕ) (n x r : ℕ) : Type 0 where
   pub below : r < n
   pub at : getD lines r 0 ≡ x
-
--- the first m numbers of a list are the lines of the grid that cross an axis, with a line at p
-pub record Axis (z : List ℕ) (n : ℕ) (t : List ℕ) (k : ℕ) (upright : Bool) (size p : ℕ) (lines : List ℕ) (m : ℕ)
-    : Type 0 where
-  pub marks : List ℕ
-  pub marked : Marked n z k t upright size p marks
-  pub collected : Collected marks size lines m
-  pub fits : Lines lines m
 
 -- the grid: its nc columns and nr rows, with lines through S, and the links of both
 pub record Grid (z : List ℕ) (n : ℕ) (t : List ℕ) (k w h : ℕ) (S : Point) (cols rows kl ku : List ℕ) (nc nr : ℕ)

@@ -3,15 +3,13 @@
 //
 // The work lists of `labels` and `walk` are `level` and `upright` for the labels of the grid's crossings in the two
 // directions, `il` and `iu` for their inks, `kl` and `ku` for the level and the upright links between crossings (STRIDE
-// places for each line that there may be), `cols` and `rows` for the lines of the grid (STRIDE places), and `mark` for
-// marks on an axis (4,096 places).
+// places for each line that there may be), and `cols` and `rows` for the lines of the grid (STRIDE places).
 use foil_spec::Point;
 use foil_spec::put_corner;
 use grid::AREA;
 use grid::STRIDE;
-use grid::collect;
+use grid::axis;
 use grid::links;
-use grid::mark_lines;
 use labels::level_step;
 use labels::rounds;
 use labels::upright_step;
@@ -26,11 +24,11 @@ ghost use Prim.Native.Nat.{ℕ, _+_, _*_, _≤_, _<_};
 ghost use lib.ListN.{length};
 ghost use Rattle.foil_spec.specs.Foil.{Point, point};
 ghost use Rattle.foil_spec.specs.Paths.{firstPath, firstPathTo};
-ghost use Rattle.zones.specs.Boxes.{boxFree, maxBoxes, Boxes};
+ghost use Rattle.zones.specs.Boxes.{boxFree, Boxes};
 ghost use Rattle.grid.specs.Size.{stride};
 ghost use Rattle.grid.specs.Lines.{Lines};
 ghost use Rattle.grid.specs.Targets.{target};
-ghost use Rattle.search.specs.Grid.{mostLines, Posed, Aimed, GridRoom, Has, Placed, Axis, Grid};
+ghost use Rattle.search.specs.Grid.{mostLines, Posed, Aimed, GridRoom, Has, Placed, Grid};
 ghost use Rattle.search.specs.Choice.{Choosing, Choice};
 ghost use Rattle.search.specs.Search.{LabelRoom, Labelling, Starts, Ready, Searched, Walked, PathFound};
 
@@ -57,26 +55,6 @@ struct Start {
     corners: usize,
 }
 
-// Collects the lines of the grid that cross one axis, with a line at p, and returns how many there are.
-fn axis(
-    lines: &mut [u16],
-    mark: &mut [u8],
-    boxes: &[u16],
-    n: usize,
-    targets: &[u16],
-    k: usize,
-    upright: bool,
-    size: usize,
-    p: usize,
-) -> usize
-    requires { ⌜ (n * 5 ≤ length (now boxes)) × (k * 5 ≤ length (now targets)) × (n + k ≤ maxBoxes + 1) × (p < size) ⌝ }
-    requires { ⌜ (size ≤ 4096) × (4096 ≤ length (now mark)) × (stride ≤ length (now lines)) ⌝ }
-    ensures { λ r. ⌜ Axis (now (boxes .entry)) n (now (targets .entry)) k upright size p (now (lines .exit)) r ⌝ }
-{
-    mark_lines(mark, boxes, n, targets, k, upright, size, p);
-    collect(lines, mark, size)
-}
-
 // Makes the escape grid of a foil, with lines through S and at the ends of the target boxes: its columns, its rows, and
 // the links of both.
 fn build(
@@ -84,7 +62,6 @@ fn build(
     rows: &mut [u16],
     kl: &mut [u8],
     ku: &mut [u8],
-    mark: &mut [u8],
     boxes: &[u16],
     n: usize,
     targets: &[u16],
@@ -95,32 +72,12 @@ fn build(
     sy: u16,
 ) -> Size
     requires { ⌜ Aimed (now boxes) n (now targets) k w h (point sx sy) ⌝ }
-    requires { ⌜ GridRoom (n + k) (now cols) (now rows) (now kl) (now ku) (now mark) ⌝ }
+    requires { ⌜ GridRoom (n + k) (now cols) (now rows) (now kl) (now ku) ⌝ }
     ensures { λ r. ⌜ Grid (now (boxes .entry)) n (now (targets .entry)) k w h (point sx sy)
         (now (cols .exit)) (now (rows .exit)) (now (kl .exit)) (now (ku .exit)) (r .columns) (r .rows) ⌝ }
 {
-    let nc = axis(
-        cols,
-        mark,
-        boxes,
-        n,
-        targets,
-        k,
-        false,
-        w as usize,
-        sx as usize,
-    );
-    let nr = axis(
-        rows,
-        mark,
-        boxes,
-        n,
-        targets,
-        k,
-        true,
-        h as usize,
-        sy as usize,
-    );
+    let nc = axis(cols, boxes, n, targets, k, false, w as usize, sx as usize);
+    let nr = axis(rows, boxes, n, targets, k, true, h as usize, sy as usize);
     links(kl, boxes, n, false, rows, nr, cols, nc);
     links(ku, boxes, n, true, cols, nc, rows, nr);
     Size {
@@ -300,7 +257,6 @@ fn labels(
     rows: &mut [u16],
     kl: &mut [u8],
     ku: &mut [u8],
-    mark: &mut [u8],
     boxes: &[u16],
     n: usize,
     targets: &[u16],
@@ -311,14 +267,14 @@ fn labels(
     sy: u16,
 ) -> Start
     requires { ⌜ Aimed (now boxes) n (now targets) k w h (point sx sy) ⌝ }
-    requires { ⌜ GridRoom (n + k) (now cols) (now rows) (now kl) (now ku) (now mark) ⌝ }
+    requires { ⌜ GridRoom (n + k) (now cols) (now rows) (now kl) (now ku) ⌝ }
     requires { ⌜ LabelRoom (mostLines (n + k)) (mostLines (n + k)) (now level) (now upright) (now il) (now iu) ⌝ }
     ensures { λ r. ⌜ Searched (firstPathTo (boxFree w h n (now (boxes .entry))) w h (point sx sy)
         (target w h n (now (boxes .entry)) k (now (targets .entry))))
         (now (cols .exit)) (now (rows .exit)) (now (kl .exit)) (now (ku .exit))
         (now (level .exit)) (now (upright .exit)) (now (il .exit)) (now (iu .exit)) r ⌝ }
 {
-    let size = build(cols, rows, kl, ku, mark, boxes, n, targets, k, w, h, sx, sy);
+    let size = build(cols, rows, kl, ku, boxes, n, targets, k, w, h, sx, sy);
     let nc = size.columns;
     let nr = size.rows;
     let s = label(
@@ -419,7 +375,6 @@ fn path_in(
     rows: &mut [u16],
     kl: &mut [u8],
     ku: &mut [u8],
-    mark: &mut [u8],
     boxes: &[u16],
     n: usize,
     targets: &[u16],
@@ -430,7 +385,7 @@ fn path_in(
     sy: u16,
 ) -> usize
     requires { ⌜ Aimed (now boxes) n (now targets) k w h (point sx sy) ⌝ }
-    requires { ⌜ GridRoom (n + k) (now cols) (now rows) (now kl) (now ku) (now mark) ⌝ }
+    requires { ⌜ GridRoom (n + k) (now cols) (now rows) (now kl) (now ku) ⌝ }
     requires { ⌜ LabelRoom (mostLines (n + k)) (mostLines (n + k)) (now level) (now upright) (now il) (now iu) ⌝ }
     ensures { λ r. ⌜ PathFound (firstPathTo (boxFree w h n (now (boxes .entry))) w h (point sx sy)
         (target w h n (now (boxes .entry)) k (now (targets .entry))))
@@ -445,7 +400,6 @@ fn path_in(
         rows,
         kl,
         ku,
-        mark,
         boxes,
         n,
         targets,
@@ -491,7 +445,6 @@ fn path_among_few(
     let mut rows = [0u16; STRIDE];
     let mut kl = [0u8; FEW_AREA];
     let mut ku = [0u8; FEW_AREA];
-    let mut mark = [0u8; 4096];
     path_in(
         out,
         &mut level,
@@ -502,7 +455,6 @@ fn path_among_few(
         &mut rows,
         &mut kl,
         &mut ku,
-        &mut mark,
         boxes,
         n,
         targets,
@@ -539,7 +491,6 @@ fn path_among_many(
     let mut rows = [0u16; STRIDE];
     let mut kl = [0u8; AREA];
     let mut ku = [0u8; AREA];
-    let mut mark = [0u8; 4096];
     path_in(
         out,
         &mut level,
@@ -550,7 +501,6 @@ fn path_among_many(
         &mut rows,
         &mut kl,
         &mut ku,
-        &mut mark,
         boxes,
         n,
         targets,

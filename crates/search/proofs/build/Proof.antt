@@ -6,32 +6,42 @@ use Rattle.search.proofs.build.Statement.{statement}
 use Rattle.search.proofs.build.Tie as tie
 
 -- back to the start, to the columns, and to the rows
-abbrev atStart : tie.After-axis-arg2 → tie.Start
-atStart c = c .before .before .before .before .before .before .before .before .before
+abbrev atStart : tie.After-axis-arg → tie.Start
+atStart c = c .before .before .before .before .before .before .before
 
-abbrev atColumns : tie.After-axis-arg4 → tie.After-axis
-atColumns c = c .before .before .before .before .before .before
+abbrev atColumns : tie.After-axis-arg2 → tie.After-axis
+atColumns c = c .before .before .before
 
 abbrev atRows : tie.After-links-arg3 → tie.After-axis2
-atRows c = c .before .before .before .before .before .before .before
+atRows c = c .before .before .before .before .before
 
 abbrev afterRows : tie.After-links-arg6 → tie.After-rows
-afterRows c = c .before .before .before .before .before .before .before .before .before .before .before .before
+afterRows c = c .before .before .before .before .before .before .before .before .before .before
 
 axis-requires : tie.Need-axis-requires
 axis-requires c κs =
-    let asked = atStart c .pre .0 in (
-      (asked .boxes .len, asked .targets .len, asked .few, aimed-on asked .0),
-      (asked .boxes .width, atStart c .pre .1 .marks, atStart c .pre .1 .column-lines),
-    )
+    let asked = atStart c .pre .0 in
+    record {
+      boxes = asked .boxes .len;
+      targets = asked .targets .len;
+      few = asked .few;
+      on = aimed-on asked .0;
+      short = asked .boxes .width;
+      room = atStart c .pre .1 .column-lines;
+    }
 
 axis-requires-2 : tie.Need-axis-requires-2
 axis-requires-2 c κs =
     let start = atStart (atColumns c .before) in
-    let asked = start .pre .0 in (
-      (asked .boxes .len, asked .targets .len, asked .few, aimed-on asked .1),
-      (asked .boxes .height, omega (arith, atColumns c .axis .kept .1 .0), start .pre .1 .row-lines),
-    )
+    let asked = start .pre .0 in
+    record {
+      boxes = asked .boxes .len;
+      targets = asked .targets .len;
+      few = asked .few;
+      on = aimed-on asked .1;
+      short = asked .boxes .height;
+      room = start .pre .1 .row-lines;
+    }
 
 links-requires : tie.Need-links-requires
 links-requires c κs =
@@ -70,13 +80,10 @@ same-length-3 c = search needs
 same-length-4 : tie.Need-same-length-4
 same-length-4 c = search needs
 
-same-length-5 : tie.Need-same-length-5
-same-length-5 c = search needs
-
 returns : tie.Need-returns
 returns c = search needs
 
 pub build-spec : {M : Type 1} → statement M
 build-spec =
     tie.close (tie.spec axis-requires axis-requires-2 links-requires links-requires-2 same-length same-length-2
-    same-length-3 same-length-4 same-length-5 returns)
+    same-length-3 same-length-4 returns)

@@ -9,15 +9,15 @@ use Rattle.search.proofs.labels.Tie as tie
 -- back to the start, to the grid, and to the labels
 abbrev afterCols : tie.After-label-arg8 → tie.After-cols
 afterCols c = c .before .before .before .before .before .before .before .before .before .before .before .before
-    .before .before .before .before .before
+    .before .before .before
 
 abbrev atLabel : tie.After-start-at-arg6 → tie.After-label
 atLabel c = c .before .before .before .before .before .before .before .before .before .before .before .before .before
     .before
 
 abbrev atStart : tie.After-label-arg8 → tie.Start
-atStart c = afterCols c .before .before .before .before .before .before .before .before .before .before
-    .before .before .before .before .before .before .before .before
+atStart c = afterCols c .before .before .before .before .before .before .before .before .before .before .before
+    .before .before .before .before .before
 
 abbrev atBuild : tie.After-start-at → tie.After-build
 atBuild c = afterCols (atLabel (c .before) .before) .before
@@ -95,9 +95,6 @@ same-length-7 c = atBuild c .build .kept .1 .1 .0
 same-length-8 : tie.Need-same-length-8
 same-length-8 c = atBuild c .build .kept .1 .1 .1 .0
 
-same-length-9 : tie.Need-same-length-9
-same-length-9 c = atBuild c .build .kept .1 .1 .1 .1 .0
-
 returns : tie.Need-returns
 returns c =
     let start = atStart (atLabel (c .before) .before) in
@@ -116,4 +113,4 @@ returns c =
 pub labels-spec : {M : Type 1} → statement M
 labels-spec =
     tie.close (tie.spec build-requires label-requires start-at-requires same-length same-length-2 same-length-3
-    same-length-4 same-length-5 same-length-6 same-length-7 same-length-8 same-length-9 returns)
+    same-length-4 same-length-5 same-length-6 same-length-7 same-length-8 returns)

@@ -7,8 +7,8 @@ use Rattle.search.proofs.path_among_many.Statement.{statement}
 use Rattle.search.proofs.path_among_many.Tie as tie
 
 -- back to the start
-abbrev atStart : tie.After-mark → tie.Start
-atStart c = c .before .before .before .before .before .before .before .before .before .before .before .before .before
+abbrev atStart : tie.After-ku → tie.Start
+atStart c = c .before .before .before .before .before .before .before .before .before .before .before .before
 
 slice-aggregate-path-in : tie.Need-slice-aggregate-path-in
 slice-aggregate-path-in c = search needs
@@ -34,9 +34,6 @@ slice-aggregate-path-in-7 c = search needs
 slice-aggregate-path-in-8 : tie.Need-slice-aggregate-path-in-8
 slice-aggregate-path-in-8 c = search needs
 
-slice-aggregate-path-in-9 : tie.Need-slice-aggregate-path-in-9
-slice-aggregate-path-in-9 c = search needs
-
 path-in-requires : tie.Need-path-in-requires
 path-in-requires c κs =
     let start = atStart c in
@@ -48,7 +45,6 @@ path-in-requires c κs =
           row-lines = omega arith;
           level-links = omega (arith, few);
           upright-links = omega (arith, few);
-          marks = omega arith;
         },
         record {
           level = omega (arith, few);
@@ -73,4 +69,4 @@ pub path-among-many-spec : {M : Type 1} → statement M
 path-among-many-spec =
     tie.close (tie.spec slice-aggregate-path-in slice-aggregate-path-in-2 slice-aggregate-path-in-3
     slice-aggregate-path-in-4 slice-aggregate-path-in-5 slice-aggregate-path-in-6 slice-aggregate-path-in-7
-    slice-aggregate-path-in-8 slice-aggregate-path-in-9 path-in-requires same-length returns)
+    slice-aggregate-path-in-8 path-in-requires same-length returns)
