@@ -8,7 +8,7 @@ use mathlib.Core.Option.{Option}
 use Rattle.foil_spec.specs.Lists.{range, all, keep}
 use Rattle.foil_spec.specs.Foil.{Point, point, Entry, Pen, Rule, Layout, entryOk, penRule, freeBy, free}
 use Rattle.foil_spec.specs.Nets.{ofNet, legsOf}
-use Rattle.foil_spec.specs.Paths.{leads, isWay, firstPathTo}
+use Rattle.foil_spec.specs.Paths.{leads, isWay}
 use Rattle.foil_spec.specs.Corners.{cornerAt, cornersIn, drawn}
 use Rattle.path_laws.proofs.Ways.{way-is}
 use Rattle.foil_spec.specs.Ledger.{without, freeFor, joinOf}
@@ -24,9 +24,9 @@ use Rattle.zones.proofs.Zoning.{zoned-free}
 use Rattle.tables.specs.Rows.{otherNets, Kept}
 use Rattle.tables.proofs.Filling.{read-rows}
 use Rattle.foil.proofs.Making.{rows-layout, rows-table}
-use Rattle.grid.specs.Targets.{target}
-use Rattle.search.specs.Grid.{Aimed}
+use Rattle.search.specs.Grid.{pathTo, Aimed}
 use Rattle.search.specs.Search.{PathFound}
+use Rattle.search.specs.declared.Aim.{Aim}
 use Rattle.joining.specs.Sought.{Own, Known, Asked, Sought}
 use Rattle.joining.proofs.Own.{both-count}
 use Rattle.joining.proofs.Seeking.{join-is}
@@ -82,22 +82,25 @@ module _ {t : List ℕ} {n : ℕ} {p : Pen} {w h : ℕ} (P : Known t n p w h) {n
             legs = read-rows legs (legsOf net (map (entryAt t) (range 0 n))) k (sym (O .counted)) (O .is);
           }
 
-      pub net-aimed : {S : Point} → freeFor net l (S .x) (S .y) ≡ true → Aimed z c legs k w h S
+      -- the search from (x, y) to the legs
+      abbrev aim : ℕ → ℕ → Aim
+      aim x y = record { n = c; k = k; w = w; h = h; sx = x; sy = y }
+
+      pub net-aimed : {x y : ℕ} → freeFor net l x y ≡ true → Aimed z legs (aim x y)
       unfolding layoutOf
-      net-aimed {S} free =
+      net-aimed {x} {y} free =
           record {
             boxes = Z .boxes;
             targets = table-boxes legs-table;
             few = omega (arith, few, both-count K O, P .table .few);
-            s-free = ap (λ (f : ℕ → ℕ → Bool). f (S .x) (S .y)) (sought .zones .same) ∙ free;
+            s-free = ap (λ (f : ℕ → ℕ → Bool). f x y) (sought .zones .same) ∙ free;
           }
 
-      pub net-found : (S : Point) {out out′ : List ℕ} {i : ℕ}
-          → PathFound (firstPathTo (boxFree w h c z) w h S (target w h c z k legs)) out out′ i
-          → PathFound (joinOf net l S) out out′ i
+      pub net-found : (x y : ℕ) {out out′ : List ℕ} {i : ℕ} → PathFound (pathTo z legs (aim x y)) out out′ i
+          → PathFound (joinOf net l (point x y)) out out′ i
       unfolding layoutOf
-      net-found S {out} {out′} {i} F =
-          subst (λ (o : Option (List Point)). PathFound o out out′ i) (join-is sought S) F
+      net-found x y {out} {out′} {i} F =
+          subst (λ (o : Option (List Point)). PathFound o out out′ i) (join-is sought (point x y)) F
 
 -- a foil that keeps the rules, and a point that is free for the net
 pub known : (b : Board) (t s : List ℕ) → sound (lent b t s) ≡ true

@@ -9,6 +9,7 @@ use foil_spec::Board;
 use foil_spec::TABLE_SIZE;
 use foil_spec::entry_at;
 use foil_spec::put_entry;
+use search::Aim;
 use search::first_path_to;
 use state::net_ok;
 use tables::in_use;
@@ -118,7 +119,15 @@ pub fn path_to_net(
     let mut boxes = [0u16; BOXES_SIZE];
     let rule = pen_rule(board.half, board.gap);
     let n = zones(&mut boxes, &others, j, rule, board.width, board.height);
-    first_path_to(out, &boxes, n, &legs, k, board.width, board.height, sx, sy)
+    let aim = Aim {
+        n,
+        k,
+        w: board.width,
+        h: board.height,
+        sx,
+        sy,
+    };
+    first_path_to(out, &boxes, &legs, aim)
 }
 
 // Whether the point is free for the net: neither the edge nor an entry of another net blocks it.

@@ -11,9 +11,6 @@ use Rattle.search.specs.declared.Start.{Start}
 
 module _ {o : Option (List Point)} {cols rows kl ku l u wl wu : List ℕ} {s : Start}
     (k : Searched o cols rows kl ku l u wl wu s) where
-  pub walk-ready : (s .corners ≡ 0 → ⊥) → (cs : List Point) × Ready cs cols rows kl ku l u wl wu s
-  walk-ready some = (pathCorners o, k .ready (omega arith))
-
   pub found-none : (out : List ℕ) → s .corners ≡ 0 → PathFound o out out 0
   found-none out e =
       record {

@@ -11,11 +11,11 @@ use Rattle.foil_spec.specs.Foil.{Point, point}
 use Rattle.foil_spec.specs.Corners.{pointNumbers}
 use Rattle.foil_spec.specs.Paths.{goings, shortest, firstFrom, firstPathTo}
 use Rattle.list_laws.proofs.Tests.{and-i}
-use Rattle.zones.specs.Boxes.{boxFree}
 use Rattle.grid.specs.Targets.{inBoxes, target}
 use Rattle.sowing.specs.Seeds.{boxed}
-use Rattle.search.specs.Grid.{Aimed}
+use Rattle.search.specs.Grid.{freeOf, targetOf, startOf, pathTo, Aimed}
 use Rattle.search.specs.Search.{PathFound}
+use Rattle.search.specs.declared.Aim.{Aim}
 use Rattle.search.proofs.Written.{corner-written}
 
 -- where the corner does not fit, and where it does
@@ -44,10 +44,10 @@ target-first : (f : ℕ → ℕ → Bool) (W H : ℕ) (S : Point) (T : Point →
 unfolding firstPathTo firstFrom goings shortest
 target-first f W H S T e t = rw e (rw (t, firstFrom) refl)
 
-pub found-here : {z : List ℕ} {n : ℕ} {t : List ℕ} {k w h x y : ℕ} → Aimed z n t k w h (point x y)
-    → boxed k t false x y ≡ true → {out out′ : List ℕ} {r : ℕ} → PathFound (some (point x y ∷ [])) out out′ r
-    → PathFound (firstPathTo (boxFree w h n z) w h (point x y) (target w h n z k t)) out out′ r
+pub found-here : {z t : List ℕ} {a : Aim} → Aimed z t a → boxed (a .k) t false (a .sx) (a .sy) ≡ true
+    → {out out′ : List ℕ} {r : ℕ} → PathFound (some (startOf a ∷ [])) out out′ r
+    → PathFound (pathTo z t a) out out′ r
 unfolding target inBoxes boxed
-found-here {z} {n} {t} {k} {w} {h} {x} {y} A b F =
-    rw (target-first (boxFree w h n z) w h (point x y) (target w h n z k t) (A .s-free)
-    (and-i {a = inBoxes k t x y} b (A .s-free))) F
+found-here {z} {t} {a} A b F =
+    rw (target-first (freeOf z a) (a .w) (a .h) (startOf a) (targetOf z t a) (A .s-free)
+    (and-i {a = inBoxes (a .k) t (a .sx) (a .sy)} b (A .s-free))) F

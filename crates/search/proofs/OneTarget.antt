@@ -16,7 +16,7 @@ use Rattle.path_laws.proofs.Segments.{same-eq}
 use Rattle.zones.specs.Boxes.{inside, covers, boxFree, Boxes}
 use Rattle.zones.proofs.Free.{inside-yes, of-inside, not-covered}
 use Rattle.grid.specs.Targets.{inBoxes, target}
-use Rattle.search.specs.Grid.{Posed, Aimed}
+use Rattle.search.specs.Grid.{Posed, pathTo, Aimed}
 use Rattle.search.specs.Search.{PathFound}
 
 -- the table of the one box with the point (x, y)
@@ -45,7 +45,7 @@ module _ {z : List ℕ} {n w h sx sy tx ty : ℕ} (P : Posed z n w h (point sx s
         y-end = at-0 (λ e. e .y1 ≤ h) (omega (arith, on .1));
       }
 
-  pub one-aimed : Aimed z n (pointBox tx ty) 1 w h (point sx sy)
+  pub one-aimed : Aimed z (pointBox tx ty) (record { n = n; k = 1; w = w; h = h; sx = sx; sy = sy })
   one-aimed =
       record {
         boxes = P .boxes;
@@ -82,7 +82,7 @@ module _ {z : List ℕ} {n w h sx sy tx ty : ℕ} (P : Posed z n w h (point sx s
           free
 
   pub one-found : {out out′ : List ℕ} {k : ℕ}
-      → PathFound (firstPathTo (boxFree w h n z) w h (point sx sy) (target w h n z 1 (pointBox tx ty))) out out′ k
+      → PathFound (pathTo z (pointBox tx ty) (record { n = n; k = 1; w = w; h = h; sx = sx; sy = sy })) out out′ k
       → PathFound (firstPath (boxFree w h n z) w h (point sx sy) (point tx ty)) out out′ k
   one-found {out} {out′} {k} F =
       subst (λ (o : Option (List Point)). PathFound o out out′ k)

@@ -1,5 +1,5 @@
 -- The labels say how many corners the first path of fewest bends has, and a walk takes them; or there is no path.
-use Prim.Native.Nat.{ℕ, _+_, _-_, _*_, _≤_, _<_}
+use Prim.Native.Nat.{ℕ, _+_, _-_, _≤_, _<_}
 use native.Mathlib.Omega.{arith}
 use mathlib.Core.Path.{_≡_, refl, sym, ap, _∙_, subst}
 use mathlib.Core.Bool.{Bool, true, false}
@@ -8,36 +8,35 @@ use mathlib.Core.Option.{Option, none, some}
 use lib.ListN.{getD, length}
 use Rattle.foil_spec.specs.Foil.{Point, point}
 use Rattle.foil_spec.specs.Paths.{firstPathTo}
-use Rattle.zones.specs.Boxes.{boxFree}
 use Rattle.zones.proofs.Free.{not-covered}
-use Rattle.list_laws.proofs.Tests.{clash, and-r}
+use Rattle.list_laws.proofs.Tests.{clash}
 use Rattle.course_laws.specs.Course.{Course, flip, TargetFree}
 use Rattle.course_laws.specs.Best.{PathD, Best, corners, On}
 use Rattle.course_laws.proofs.Greedy.{path-course}
 use Rattle.course_laws.proofs.Best.{Fewest}
 use Rattle.course_laws.proofs.FirstPath.{best-first, none-first, fewest-first}
-use Rattle.grid.specs.Size.{stride}
 use Rattle.grid.specs.Lines.{Lines}
-use Rattle.grid.specs.Targets.{inBoxes, target}
 use Rattle.runs.specs.Line.{along, labelTop}
 use Rattle.runs.specs.Ink.{Lean}
 use Rattle.labels.specs.Pass.{Pass, Below}
-use Rattle.labels.specs.Rounds.{Rounds, Last, Ended, found, stuck}
+use Rattle.labels.specs.Rounds.{Sized, Rounds, Last, Ended, found, stuck}
 use Rattle.labels.specs.Walk.{Grounded}
 use Rattle.runs.proofs.Inks.{lean-low}
 use Rattle.labels.proofs.Going.{rounds-lean}
 use Rattle.labels.proofs.Faithful.{Faithful}
-use Rattle.labels.proofs.Meaning.{Says, Labelled, Measured, rounds-pos, rounds-labels, rounds-inks, rounds-below}
+use Rattle.labels.proofs.Meaning.{Says, Both, Measured, rounds-pos, rounds-labels, rounds-inks, rounds-below}
 use Rattle.labels.proofs.Meaning.{rounds-grounded, rounds-stuck, last-labels, last-level, last-upright, last-inks}
 use Rattle.labels.proofs.Meaning.{last-below, last-lean, last-grounded}
 use Rattle.labels.proofs.First.{coords}
-use Rattle.search.specs.Grid.{Aimed, Grid}
+use Rattle.search.specs.Grid.{freeOf, targetOf, startOf, pathTo, Aimed, Grid}
 use Rattle.sowing.specs.Seeds.{Sown}
 use Rattle.search.specs.Choice.{Choosing, Choice, labelAt}
 use Rattle.search.specs.Search.{Labelling, Starts, nowhere, goes, Trails, turns, pathCorners, Searched}
+use Rattle.search.specs.declared.Aim.{Aim}
 use Rattle.search.specs.declared.Start.{Start}
-use Rattle.search.proofs.Grid.{level-faithful, upright-faithful, level-aimed, upright-aimed}
-use Rattle.sowing.proofs.Seeds.{sown-same, sown-labels, sown-inks, sown-below, sown-lean}
+use Rattle.search.proofs.Grid.{target-free, level-faithful, upright-faithful, level-targets, upright-targets}
+use Rattle.search.proofs.Grid.{seeds}
+use Rattle.sowing.proofs.Seeds.{sown-inks, sown-below, sown-lean}
 use Rattle.search.proofs.Choice.{choice-some, fewest-level, fewest-upright, walk-level, walk-upright}
 
 -- the coordinates of a walk's crossings
@@ -55,41 +54,40 @@ turns-are false cols rows i j (q ∷ qs) =
 turns-are true cols rows i j (q ∷ qs) =
     ap (λ (ps : List Point). point (getD cols i 0) (getD rows q 0) ∷ ps) (turns-are false cols rows i q qs)
 
-module _ {z : List ℕ} {n : ℕ} {t : List ℕ} {k w h : ℕ} {S : Point} (P : Aimed z n t k w h S) {cols rows kl ku : List ℕ}
-    {nc nr : ℕ} (G : Grid z n t k w h S cols rows kl ku nc nr) {i j : ℕ} {b : Bool} {l u wl wu : List ℕ}
-    (B : Labelling cols rows kl ku nc nr z n t k S i j b l u wl wu) where
+module _ {z t : List ℕ} {a : Aim} (P : Aimed z t a) {cols rows kl ku : List ℕ} {nc nr : ℕ}
+    (G : Grid z t a cols rows kl ku nc nr) {i j : ℕ} {b : Bool} {l u wl wu : List ℕ}
+    (B : Labelling z t a cols rows kl ku nc nr i j b l u wl wu) where
   abbrev f : ℕ → ℕ → Bool
-  f = boxFree w h n z
+  f = freeOf z a
 
-  inside : (x y : ℕ) → f x y ≡ true → (x < w) × (y < h)
-  inside x y e = let r = not-covered w h n z x y e in (r .0, r .1)
+  inside : (x y : ℕ) → f x y ≡ true → (x < a .w) × (y < a .h)
+  inside x y e = let r = not-covered (a .w) (a .h) (a .n) z x y e in (r .0, r .1)
 
   -- the targets
   abbrev T : Point → Bool
-  T = target w h n z k t
+  T = targetOf z t a
 
-  target-free : TargetFree f (On T)
-  unfolding target
-  target-free x y e = and-r (inBoxes k t x y) (f x y) e
+  free-targets : TargetFree f (On T)
+  free-targets = target-free z t a
 
-  -- the start's crossing is S
+  -- the start's crossing is the start
   abbrev start : Point
   start = point (getD cols i 0) (getD rows j 0)
 
-  start-is : start ≡ S
+  start-is : start ≡ startOf a
   start-is k = point (B .i-at k) (B .j-at k)
 
   start-free : f (start .x) (start .y) ≡ true
   start-free = rw (B .i-at, B .j-at) (P .s-free)
 
-  -- the first path from S to a target
+  -- the first path from the start to a target
   abbrev path : Option (List Point)
-  path = firstPathTo f w h S T
+  path = pathTo z t a
 
-  path-is : (o : Option (List Point)) → firstPathTo f w h start T ≡ o → path ≡ o
-  path-is o e = subst (λ (p : Point). firstPathTo f w h p T ≡ o) start-is e
+  path-is : (o : Option (List Point)) → firstPathTo f (a .w) (a .h) start T ≡ o → path ≡ o
+  path-is o e = subst (λ (p : Point). firstPathTo f (a .w) (a .h) p T ≡ o) start-is e
 
-  corners-are : (cs : List Point) → firstPathTo f w h start T ≡ some cs → pathCorners path ≡ cs
+  corners-are : (cs : List Point) → firstPathTo f (a .w) (a .h) start T ≡ some cs → pathCorners path ≡ cs
   corners-are cs e = ap pathCorners (path-is (some cs) e)
 
   -- the lines of both axes, and the grid's faithfulness in both directions
@@ -107,16 +105,13 @@ module _ {z : List ℕ} {n : ℕ} {t : List ℕ} {k w h : ℕ} {S : Point} (P : 
 
   -- the labels before the first round
   level-sown : Sown (λ j i. T (point (getD cols i 0) (getD rows j 0))) nr nc (B .l₀) (B .wl₀)
-  level-sown = sown-same (λ j lj i li. sym (level-aimed G j lj i li)) (B .level-sown)
+  level-sown = level-targets G (B .level-sown)
 
   upright-sown : Sown (λ i j. T (point (getD cols i 0) (getD rows j 0))) nc nr (B .u₀) (B .wu₀)
-  upright-sown = sown-same (λ i li j lj. sym (upright-aimed G i li j lj)) (B .upright-sown)
+  upright-sown = upright-targets G (B .upright-sown)
 
-  seeds : Labelled f (On T) cols nc rows nr 0 (B .l₀) × Labelled (flip f) (flip (On T)) rows nr cols nc 0 (B .u₀)
-  seeds = (
-    sown-labels (λ j lj i li e. e) (λ j lj i li e. e) level-sown,
-    sown-labels (λ i li j lj e. e) (λ i li j lj e. e) upright-sown,
-  )
+  right : Both f (On T) cols nc rows nr 0 (B .l₀) (B .u₀)
+  right = seeds G (B .level-sown) (B .upright-sown)
 
   seed-inks : Measured f (On T) cols nc rows nr (B .l₀) (B .wl₀)
       × Measured (flip f) (flip (On T)) rows nr cols nc (B .u₀) (B .wu₀)
@@ -137,7 +132,7 @@ module _ {z : List ℕ} {n : ℕ} {t : List ℕ} {k w h : ℕ} {S : Point} (P : 
       → Pass u kl nr nc v l l → Pass l ku nc nr v u u
       → (e : Bool) (ks : List ℕ) → PathD e ks f (On T) (start .x) (start .y) → ⊥
   no-path r zl zu p q e ks on =
-      go e on (rounds-stuck target-free L U seeds level-low upright-low r p q (length ks))
+      go e on (rounds-stuck free-targets L U right level-low upright-low r p q (length ks))
     where
       go : (e : Bool) → PathD e ks f (On T) (start .x) (start .y)
           → ((b : ℕ) → b < nr → (a : ℕ) → a < nc → along l b a ≡ 0
@@ -153,20 +148,20 @@ module _ {z : List ℕ} {n : ℕ} {t : List ℕ} {k w h : ℕ} {S : Point} (P : 
   module _ {v : ℕ} {l₁ u₁ wl₁ wu₁ : List ℕ}
       (r : Rounds kl ku cols rows nc nr (B .l₀) (B .u₀) (B .wl₀) (B .wu₀) v l₁ u₁ wl₁ wu₁)
       (E : Last kl ku cols rows nc nr i j v l₁ u₁ wl₁ wu₁ l u wl wu) where
-    before : Labelled f (On T) cols nc rows nr (v - 1) l₁ × Labelled (flip f) (flip (On T)) rows nr cols nc (v - 1) u₁
-    before = rounds-labels target-free L U seeds r
+    before : Both f (On T) cols nc rows nr (v - 1) l₁ u₁
+    before = rounds-labels free-targets L U right r
 
-    labelled : Labelled f (On T) cols nc rows nr (v - 1) l × Labelled (flip f) (flip (On T)) rows nr cols nc (v - 1) u
-    labelled = last-labels (rounds-pos r) E target-free L U before
+    labelled : Both f (On T) cols nc rows nr (v - 1) l u
+    labelled = last-labels (rounds-pos r) E free-targets L U before
 
     level-says : Says f (On T) (v - 1 + 1) (start .x) (start .y) (along l j i)
-    level-says = last-level (rounds-pos r) E target-free L U before (B .i-in) (B .j-in)
+    level-says = last-level (rounds-pos r) E free-targets L U before (B .i-in) (B .j-in)
 
     upright-says : Says (flip f) (flip (On T)) (v - 1 + 1) (start .y) (start .x) (along u i j)
-    upright-says = last-upright (rounds-pos r) E target-free L U before (B .i-in) (B .j-in)
+    upright-says = last-upright (rounds-pos r) E free-targets L U before (B .i-in) (B .j-in)
 
     measured : Measured f (On T) cols nc rows nr l wl × Measured (flip f) (flip (On T)) rows nr cols nc u wu
-    measured = last-inks (rounds-pos r) E target-free L U before (rounds-inks target-free L U seeds seed-inks r)
+    measured = last-inks (rounds-pos r) E free-targets L U before (rounds-inks free-targets L U right seed-inks r)
 
     grounded : Grounded l u wl wu kl cols nr nc × Grounded u l wu wl ku rows nc nr
     grounded = last-grounded (rounds-pos r) E (rounds-grounded level-low upright-low r)
@@ -190,10 +185,10 @@ module _ {z : List ℕ} {n : ℕ} {t : List ℕ} {k w h : ℕ} {S : Point} (P : 
         → Fewest f (On T) (start .x) (start .y) k
     unfolding labelAt
     fewest k false c e =
-        fewest-level target-free L U (R .rising) (labelled .0) (labelled .1) (measured .0) (measured .1)
+        fewest-level free-targets L U (R .rising) (labelled .0) (labelled .1) (measured .0) (measured .1)
         (grounded .1) (B .i-in) (B .j-in) level-says upright-says (most .0) (most .1) k c e
     fewest k true c e =
-        fewest-upright target-free L U (R .rising) (labelled .0) (labelled .1) (measured .0) (measured .1)
+        fewest-upright free-targets L U (R .rising) (labelled .0) (labelled .1) (measured .0) (measured .1)
         (grounded .1) (B .i-in) (B .j-in) level-says upright-says (most .0) (most .1) k c e
 
     best : (k : ℕ) (qs : List ℕ) (up : Bool) → Choice l u wl wu ku rows nr i j up → labelAt up l u i j ≡ k + 1
@@ -201,10 +196,10 @@ module _ {z : List ℕ} {n : ℕ} {t : List ℕ} {k w h : ℕ} {S : Point} (P : 
         → Best up (coordinates up cols rows qs) f (On T) (start .x) (start .y)
     unfolding labelAt Trails
     best k qs false c e tr =
-        walk-level target-free L U (R .rising) (labelled .0) (labelled .1) (measured .0) (measured .1)
+        walk-level free-targets L U (R .rising) (labelled .0) (labelled .1) (measured .0) (measured .1)
         (grounded .1) (B .i-in) (B .j-in) level-says upright-says (most .0) (most .1) k qs c e tr
     best k qs true c e tr =
-        walk-upright target-free L U (R .rising) (labelled .0) (labelled .1) (measured .0) (measured .1)
+        walk-upright free-targets L U (R .rising) (labelled .0) (labelled .1) (measured .0) (measured .1)
         (grounded .1) (B .i-in) (B .j-in) level-says upright-says (most .0) (most .1) k qs c e tr
 
     takes : (k : ℕ) (qs : List ℕ) (up : Bool) → Choice l u wl wu ku rows nr i j up → labelAt up l u i j ≡ k + 1
@@ -214,15 +209,15 @@ module _ {z : List ℕ} {n : ℕ} {t : List ℕ} {k w h : ℕ} {S : Point} (P : 
         ap (λ (ps : List Point). start ∷ ps) (turns-are up cols rows i j qs)
         ∙ sym
         (corners-are (start ∷ corners up (coordinates up cols rows qs) (start .x) (start .y))
-        (best-first f w h inside start T start-free up (coordinates up cols rows qs) (best k qs up c e tr)))
+        (best-first f (a .w) (a .h) inside start T start-free up (coordinates up cols rows qs) (best k qs up c e tr)))
 
 below-top : {m n v : ℕ} {lab : List ℕ} → v < labelTop → Below m n lab (v + 1) → Below m n lab labelTop
 below-top l B = record { le = λ i li k lk. let b = B .le i li k lk in omega arith }
 
 -- What the choice is asked of, and what `labels` answers.
-module _ {z : List ℕ} {n : ℕ} {t : List ℕ} {k w h : ℕ} {S : Point} (P : Aimed z n t k w h S) {cols rows kl ku : List ℕ}
-    {nc nr : ℕ} (G : Grid z n t k w h S cols rows kl ku nc nr) {i j : ℕ} {l u wl wu : List ℕ} where
-  pub found-some : {b : Bool} → Labelling cols rows kl ku nc nr z n t k S i j b l u wl wu → b ≡ true
+module _ {z t : List ℕ} {a : Aim} (P : Aimed z t a) {cols rows kl ku : List ℕ} {nc nr : ℕ}
+    (G : Grid z t a cols rows kl ku nc nr) {i j : ℕ} {l u wl wu : List ℕ} where
+  pub found-some : {b : Bool} → Labelling z t a cols rows kl ku nc nr i j b l u wl wu → b ≡ true
       → Choosing l u wl nr i j
   found-some {b} B e = go b (B .ended) e
     where
@@ -237,58 +232,47 @@ module _ {z : List ℕ} {n : ℕ} {t : List ℕ} {k w h : ℕ} {S : Point} (P : 
           }
       go false (stuck r zl zu p q) e = clash e refl
 
-module _ {z : List ℕ} {n : ℕ} {t : List ℕ} {k w h : ℕ} {S : Point} (P : Aimed z n t k w h S) {cols rows kl ku : List ℕ}
-    {nc nr : ℕ} (G : Grid z n t k w h S cols rows kl ku nc nr) {i j : ℕ} {l u wl wu : List ℕ}
-    (ll : nr * stride ≤ length l)
-    (lu : nc * stride ≤ length u) (li : nr * stride ≤ length wl) (ui : nc * stride ≤ length wu)
-    (le : nr * stride ≤ length kl) (ue : nc * stride ≤ length ku) where
-  searched-none : Labelling cols rows kl ku nc nr z n t k S i j false l u wl wu
-      → Searched (firstPathTo (boxFree w h n z) w h S (target w h n z k t)) cols rows kl ku l u wl wu
+module _ {z t : List ℕ} {a : Aim} (P : Aimed z t a) {cols rows kl ku : List ℕ} {nc nr : ℕ}
+    (G : Grid z t a cols rows kl ku nc nr) {i j : ℕ} {l u wl wu : List ℕ}
+    (Z : Sized l u wl wu kl ku cols rows nc nr) where
+  searched-none : Labelling z t a cols rows kl ku nc nr i j false l u wl wu
+      → Searched (pathTo z t a) cols rows kl ku l u wl wu
       (record { columns = nc; rows = nr; i = i; j = j; upright = false; corners = 0 })
   searched-none B = go (B .ended)
     where
       go : Ended kl ku cols rows nc nr i j (B .l₀) (B .u₀) (B .wl₀) (B .wu₀) l u wl wu false
-          → Searched (firstPathTo (boxFree w h n z) w h S (target w h n z k t)) cols rows kl ku l u wl wu
+          → Searched (pathTo z t a) cols rows kl ku l u wl wu
           (record { columns = nc; rows = nr; i = i; j = j; upright = false; corners = 0 })
       go (stuck r zl zu p q) =
           let e = path-is P G B none
-          (none-first (f P G B) w h (inside P G B) (start P G B) (T P G B) (no-path P G B r zl zu p q)) in
+          (none-first (f P G B) (a .w) (a .h) (inside P G B) (start P G B) (T P G B) (no-path P G B r zl zu p q)) in
           record {
             nowhere = λ zero. e;
             count = rw e refl;
             ready = λ one. absurd (omega arith);
           }
 
-  searched-some : Labelling cols rows kl ku nc nr z n t k S i j true l u wl wu → (up : Bool)
+  searched-some : Labelling z t a cols rows kl ku nc nr i j true l u wl wu → (up : Bool)
       → Choice l u wl wu ku rows nr i j up
-      → Searched (firstPathTo (boxFree w h n z) w h S (target w h n z k t)) cols rows kl ku l u wl wu
+      → Searched (pathTo z t a) cols rows kl ku l u wl wu
       (record { columns = nc; rows = nr; i = i; j = j; upright = up; corners = labelAt up l u i j })
   searched-some B up c = go (B .ended)
     where
       go : Ended kl ku cols rows nc nr i j (B .l₀) (B .u₀) (B .wl₀) (B .wu₀) l u wl wu true
-          → Searched (firstPathTo (boxFree w h n z) w h S (target w h n z k t)) cols rows kl ku l u wl wu
+          → Searched (pathTo z t a) cols rows kl ku l u wl wu
           (record { columns = nc; rows = nr; i = i; j = j; upright = up; corners = labelAt up l u i j })
       go (found m r E) =
           let one = choice-some up c in
           let e : labelAt up l u i j ≡ (labelAt up l u i j - 1) + 1 = omega arith in
           let F = fewest P G B r E (labelAt up l u i j - 1) up c e in
-          let q = fewest-first (f P G B) w h (inside P G B) (start P G B) (T P G B) (start-free P G B)
+          let q = fewest-first (f P G B) (a .w) (a .h) (inside P G B) (start P G B) (T P G B) (start-free P G B)
           (labelAt up l u i j - 1) F in
           record {
             nowhere = λ zero. absurd (omega arith);
             count = let k = ap length (corners-are P G B (q .0) (q .1)) in omega (arith, q .2);
             ready = λ s. record {
               walkable = record {
-                sized = record {
-                  column-lines = G .column-axis .fits;
-                  row-lines = G .row-axis .fits;
-                  level = ll;
-                  upright = lu;
-                  level-inks = li;
-                  upright-inks = ui;
-                  level-links = le;
-                  upright-links = ue;
-                };
+                sized = Z;
                 level = grounded P G B r E .0;
                 upright = grounded P G B r E .1;
                 level-low = below-top m (below P G B r E .0);
@@ -306,8 +290,8 @@ module _ {z : List ℕ} {n : ℕ} {t : List ℕ} {k w h : ℕ} {S : Point} (P : 
             };
           }
 
-  pub searched : {b : Bool} {s : Start} → Labelling cols rows kl ku nc nr z n t k S i j b l u wl wu
+  pub searched : {b : Bool} {s : Start} → Labelling z t a cols rows kl ku nc nr i j b l u wl wu
       → Starts l u wl wu ku rows nc nr i j b s
-      → Searched (firstPathTo (boxFree w h n z) w h S (target w h n z k t)) cols rows kl ku l u wl wu s
+      → Searched (pathTo z t a) cols rows kl ku l u wl wu s
   searched B nowhere = searched-none B
   searched B (goes up c) = searched-some B up c

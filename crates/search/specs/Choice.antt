@@ -1,17 +1,41 @@
 -- Which way the first path goes from the crossing of column i and row j, by its labels l and u and its inks wl and wu.
-use Prim.Native.Nat.{ℕ, _+_, _≤_, _<_}
+use Prim.Native.Nat.{ℕ, _+_, _*_, _≤_, _<_}
 use mathlib.Core.Path.{_≡_}
 use mathlib.Core.Logic.{_≢_, _⊎_}
 use mathlib.Core.Bool.{Bool, true, false}
 use mathlib.Core.List.{List}
+use lib.ListN.{length}
+use Rattle.grid.specs.Size.{stride}
+use Rattle.grid.specs.Lines.{Lines}
 use Rattle.runs.specs.Line.{along, labelTop, Stop}
 use Rattle.runs.specs.Ink.{Low}
 
--- what the choice is asked of: the crossing has a label, and the inks of the upright line's stops are small
+-- the lists have room for the crossing of column i and row j, and for the lines through it
+pub record Crossing (l u wl wu ku rows : List ℕ) (nr i j : ℕ) : Type 0 where
+  pub lines : Lines rows nr
+  pub i-in : i < stride
+  pub j-in : j < nr
+  pub level : nr * stride ≤ length l
+  pub upright : i * stride + stride ≤ length u
+  pub level-inks : nr * stride ≤ length wl
+  pub upright-inks : i * stride + stride ≤ length wu
+  pub upright-links : i * stride + stride ≤ length ku
+
+-- the crossing has a label, and the inks of the upright line's stops are small
 pub record Choosing (l u wl : List ℕ) (nr i j : ℕ) : Type 0 where
   pub some : (along l j i ≢ 0) ⊎ (along u i j ≢ 0)
   pub top : along l j i ≤ labelTop
   pub low : (v : ℕ) → 1 ≤ v → Low l wl i nr v
+
+-- what `starts_upright` is asked
+pub record ChoiceAsked (l u wl wu ku rows : List ℕ) (nr i j : ℕ) : Type 0 where
+  pub room : Crossing l u wl wu ku rows nr i j
+  pub choosing : Choosing l u wl nr i j
+
+-- and `start_at`, where the crossing may have no label
+pub record StartAsked (l u wl wu ku rows : List ℕ) (nr i j : ℕ) (found : Bool) : Type 0 where
+  pub room : Crossing l u wl wu ku rows nr i j
+  pub choosing : found ≡ true → Choosing l u wl nr i j
 
 -- true is upright first; where both ways need as many segments, the inks decide, and where these are equal, the first
 -- stop of the upright one

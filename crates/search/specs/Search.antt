@@ -9,37 +9,56 @@ use Rattle.foil_spec.specs.Lists.{each}
 use Rattle.foil_spec.specs.Foil.{Point, point}
 use Rattle.foil_spec.specs.Corners.{pointNumbers}
 use Rattle.grid.specs.Size.{stride, area}
-use Rattle.labels.specs.Rounds.{Ended}
+use Rattle.labels.specs.Rounds.{Sized, Ended}
 use Rattle.labels.specs.Walk.{Trail, Walkable}
 use Rattle.sowing.specs.Seeds.{Unlabelled, Sown, aimedAt}
+use Rattle.search.specs.Grid.{Aimed, mostLines, BuildAsked, Grid}
 use Rattle.search.specs.Choice.{Choice, labelAt}
+use Rattle.search.specs.declared.Aim.{Aim}
 use Rattle.search.specs.declared.Start.{Start}
 
--- the lists for the labels and inks of nc columns and nr rows have room, and there is no label yet
-pub record LabelRoom (nc nr : ℕ) (l u wl wu : List ℕ) : Type 0 where
-  pub level : nr * stride ≤ length l
-  pub upright : nc * stride ≤ length u
+-- there is no label yet, and the lists of labels are no larger than the grid may be
+pub record Fresh (l u : List ℕ) : Type 0 where
   pub level-few : length l ≤ area
   pub upright-few : length u ≤ area
-  pub level-blank : Unlabelled l
-  pub upright-blank : Unlabelled u
-  pub level-inks : nr * stride ≤ length wl
-  pub upright-inks : nc * stride ≤ length wu
+  pub level : Unlabelled l
+  pub upright : Unlabelled u
+
+-- the lists for the labels and inks have room for the lines that there may be
+pub record LabelRoom (a : Aim) (l u wl wu : List ℕ) : Type 0 where
+  pub level : mostLines a * stride ≤ length l
+  pub upright : mostLines a * stride ≤ length u
+  pub level-inks : mostLines a * stride ≤ length wl
+  pub upright-inks : mostLines a * stride ≤ length wu
+  pub fresh : Fresh l u
+
+-- what a search in lists is asked
+pub record SearchAsked (z t : List ℕ) (a : Aim) (cols rows kl ku l u wl wu : List ℕ) : Type 0 where
+  pub build : BuildAsked z t a cols rows kl ku
+  pub labels : LabelRoom a l u wl wu
+
+-- what `label` is asked: the grid is there, and lists that fit it
+pub record LabelAsked (z t : List ℕ) (a : Aim) (cols rows kl ku : List ℕ) (nc nr : ℕ) (l u wl wu : List ℕ)
+    : Type 0 where
+  pub aimed : Aimed z t a
+  pub grid : Grid z t a cols rows kl ku nc nr
+  pub sized : Sized l u wl wu kl ku cols rows nc nr
+  pub fresh : Fresh l u
 
 -- the crossing (i, j) of S, the labels l₀ and u₀ and inks wl₀ and wu₀ of the targets before the first round, and the
 -- rounds
-pub record Labelling (cols rows kl ku : List ℕ) (nc nr : ℕ) (z : List ℕ) (n : ℕ) (t : List ℕ) (k : ℕ) (S : Point)
-    (i j : ℕ) (found : Bool) (l u wl wu : List ℕ) : Type 0 where
+pub record Labelling (z t : List ℕ) (a : Aim) (cols rows kl ku : List ℕ) (nc nr i j : ℕ) (found : Bool)
+    (l u wl wu : List ℕ) : Type 0 where
   pub l₀ : List ℕ
   pub u₀ : List ℕ
   pub wl₀ : List ℕ
   pub wu₀ : List ℕ
   pub i-in : i < nc
   pub j-in : j < nr
-  pub i-at : getD cols i 0 ≡ S .x
-  pub j-at : getD rows j 0 ≡ S .y
-  pub level-sown : Sown (aimedAt n z k t false rows cols) nr nc l₀ wl₀
-  pub upright-sown : Sown (aimedAt n z k t true cols rows) nc nr u₀ wu₀
+  pub i-at : getD cols i 0 ≡ a .sx
+  pub j-at : getD rows j 0 ≡ a .sy
+  pub level-sown : Sown (aimedAt (a .n) z (a .k) t false rows cols) nr nc l₀ wl₀
+  pub upright-sown : Sown (aimedAt (a .n) z (a .k) t true cols rows) nc nr u₀ wu₀
   pub ended : Ended kl ku cols rows nc nr i j l₀ u₀ wl₀ wu₀ l u wl wu found
 
 -- where a walk starts, if the crossing (i, j) was found to have a label
@@ -82,6 +101,12 @@ pub record Searched (o : Option (List Point)) (cols rows kl ku l u wl wu : List 
   pub count : s .corners ≡ length (pathCorners o)
   pub ready : 1 ≤ s .corners → Ready (pathCorners o) cols rows kl ku l u wl wu s
 
+-- what `walk` is asked: it can start, and there is room for its corners
+pub record WalkAsked (cols rows kl ku l u wl wu : List ℕ) (s : Start) (out : List ℕ) : Type 0 where
+  pub cs : List Point
+  pub ready : Ready cs cols rows kl ku l u wl wu s
+  pub room : 2 * s .corners ≤ length out
+
 -- the corners at the front of a list of numbers, and after them what stood there
 abbrev pub Written : List Point → List ℕ → List ℕ → Type 0
 Written cs out out′ = out′ ≡ each pointNumbers cs ++ drop (length (each pointNumbers cs)) out
@@ -97,3 +122,12 @@ pub record PathFound (o : Option (List Point)) (out out′ : List ℕ) (k : ℕ)
   pub count : k ≡ length (pathCorners o)
   pub corners : k * 2 ≤ length out → Written (pathCorners o) out out′
   pub untouched : length out < k * 2 → out′ ≡ out
+
+-- what `write_path` is asked
+pub record WriteAsked (cols rows kl ku l u wl wu : List ℕ) (s : Start) : Type 0 where
+  pub path : Option (List Point)
+  pub searched : Searched path cols rows kl ku l u wl wu s
+
+-- what it writes: the path that was searched, where its corners fit
+pub record PathWritten (cols rows kl ku l u wl wu : List ℕ) (s : Start) (out out′ : List ℕ) (k : ℕ) : Type 0 where
+  pub finds : (o : Option (List Point)) → Searched o cols rows kl ku l u wl wu s → PathFound o out out′ k

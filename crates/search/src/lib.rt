@@ -16,21 +16,17 @@ use labels::upright_step;
 use runs::next_stop;
 use sowing::is_boxed;
 use sowing::sow_targets;
-ghost use mathlib.Core.Path.{_≡_};
-ghost use mathlib.Core.Bool.{true};
-ghost use mathlib.Core.List.{List, [], _∷_};
-ghost use mathlib.Core.Option.{some};
-ghost use Prim.Native.Nat.{ℕ, _+_, _*_, _≤_, _<_};
+ghost use mathlib.Core.List.{[], _∷_};
+ghost use mathlib.Core.Option.{Option, some};
+ghost use Prim.Native.Nat.{_+_, _≤_};
 ghost use lib.ListN.{length};
 ghost use Rattle.foil_spec.specs.Foil.{Point, point};
-ghost use Rattle.foil_spec.specs.Paths.{firstPath, firstPathTo};
-ghost use Rattle.zones.specs.Boxes.{boxFree, Boxes};
-ghost use Rattle.grid.specs.Size.{stride};
-ghost use Rattle.grid.specs.Lines.{Lines};
-ghost use Rattle.grid.specs.Targets.{target};
-ghost use Rattle.search.specs.Grid.{mostLines, Posed, Aimed, GridRoom, Has, Placed, Grid};
-ghost use Rattle.search.specs.Choice.{Choosing, Choice};
-ghost use Rattle.search.specs.Search.{LabelRoom, Labelling, Starts, Ready, Searched, Walked, PathFound};
+ghost use Rattle.foil_spec.specs.Paths.{firstPath};
+ghost use Rattle.zones.specs.Boxes.{boxFree};
+ghost use Rattle.search.specs.Grid.{Posed, pathTo, Aimed, FewAsked, BuildAsked, Has, Placed, Grid};
+ghost use Rattle.search.specs.Choice.{ChoiceAsked, StartAsked, Choice};
+ghost use Rattle.search.specs.Search.{SearchAsked, LabelAsked, Labelling, Starts, Searched, WalkAsked, Walked};
+ghost use Rattle.search.specs.Search.{PathFound, WriteAsked, PathWritten};
 
 // Up to so many boxes and target boxes make few lines: 69 an axis. What is kept of their crossings is a quarter of
 // AREA, which takes a quarter of the time to fill.
@@ -38,10 +34,27 @@ const FEW: usize = 33;
 
 const FEW_AREA: usize = 18561;
 
+// What a search is asked: how many boxes and target boxes there are, the foil's width and height, and the start.
+pub struct Aim {
+    pub n: usize,
+    pub k: usize,
+    pub w: u16,
+    pub h: u16,
+    pub sx: u16,
+    pub sy: u16,
+}
+
 // How many columns and rows the grid has.
 struct Size {
     columns: usize,
     rows: usize,
+}
+
+// Where the start is on the grid, and whether its crossing has a label.
+struct Arrived {
+    i: usize,
+    j: usize,
+    found: bool,
 }
 
 // Where the first path begins: the start's column and row, whether the first segment is upright, and how many corners
@@ -55,29 +68,43 @@ struct Start {
     corners: usize,
 }
 
-// Makes the escape grid of a foil, with lines through S and at the ends of the target boxes: its columns, its rows, and
-// the links of both.
+// Makes the escape grid of a foil, with lines through the start and at the ends of the target boxes: its columns, its
+// rows, and the links of both.
 fn build(
     cols: &mut [u16],
     rows: &mut [u16],
     kl: &mut [u8],
     ku: &mut [u8],
     boxes: &[u16],
-    n: usize,
     targets: &[u16],
-    k: usize,
-    w: u16,
-    h: u16,
-    sx: u16,
-    sy: u16,
+    aim: Aim,
 ) -> Size
-    requires { ⌜ Aimed (now boxes) n (now targets) k w h (point sx sy) ⌝ }
-    requires { ⌜ GridRoom (n + k) (now cols) (now rows) (now kl) (now ku) ⌝ }
-    ensures { λ r. ⌜ Grid (now (boxes .entry)) n (now (targets .entry)) k w h (point sx sy)
-        (now (cols .exit)) (now (rows .exit)) (now (kl .exit)) (now (ku .exit)) (r .columns) (r .rows) ⌝ }
+    requires { ⌜ BuildAsked (now boxes) (now targets) aim (now cols) (now rows) (now kl) (now ku) ⌝ }
+    ensures { λ r. ⌜ Grid (now (boxes .entry)) (now (targets .entry)) aim (now (cols .exit)) (now (rows .exit))
+        (now (kl .exit)) (now (ku .exit)) (r .columns) (r .rows) ⌝ }
 {
-    let nc = axis(cols, boxes, n, targets, k, false, w as usize, sx as usize);
-    let nr = axis(rows, boxes, n, targets, k, true, h as usize, sy as usize);
+    let n = aim.n;
+    let k = aim.k;
+    let nc = axis(
+        cols,
+        boxes,
+        n,
+        targets,
+        k,
+        false,
+        aim.w as usize,
+        aim.sx as usize,
+    );
+    let nr = axis(
+        rows,
+        boxes,
+        n,
+        targets,
+        k,
+        true,
+        aim.h as usize,
+        aim.sy as usize,
+    );
     links(kl, boxes, n, false, rows, nr, cols, nc);
     links(ku, boxes, n, true, cols, nc, rows, nr);
     Size {
@@ -101,14 +128,7 @@ fn index_of(lines: &[u16], n: usize, x: u16) -> usize
     n
 }
 
-// Where the first point is on the grid, and whether its crossing has a label.
-struct Arrived {
-    i: usize,
-    j: usize,
-    found: bool,
-}
-
-// Labels the crossings of the grid from the targets on until S has a label or there is nothing more to label.
+// Labels the crossings of the grid from the targets on until the start has a label or there is nothing more to label.
 fn label(
     level: &mut [u32],
     upright: &mut [u32],
@@ -118,26 +138,23 @@ fn label(
     ku: &[u8],
     cols: &[u16],
     rows: &[u16],
-    nc: usize,
-    nr: usize,
     boxes: &[u16],
-    n: usize,
     targets: &[u16],
-    k: usize,
-    sx: u16,
-    sy: u16,
+    aim: Aim,
+    size: Size,
 ) -> Arrived
-    requires { ⌜ (nr * stride ≤ length (now kl)) × (nc * stride ≤ length (now ku)) × Lines (now cols) nc
-        × Lines (now rows) nr ⌝ }
-    requires { ⌜ LabelRoom nc nr (now level) (now upright) (now il) (now iu) ⌝ }
-    requires { ⌜ Has (now cols) nc sx × Has (now rows) nr sy × (n * 5 ≤ length (now boxes))
-        × ((w : ℕ) × (h : ℕ) × Boxes (now targets) k w h) ⌝ }
-    ensures { λ r. ⌜ Labelling (now (cols .entry)) (now (rows .entry)) (now (kl .entry)) (now (ku .entry)) nc nr
-        (now (boxes .entry)) n (now (targets .entry)) k (point sx sy) (r .i) (r .j) (r .found)
+    requires { ⌜ LabelAsked (now boxes) (now targets) aim (now cols) (now rows) (now kl) (now ku)
+        (size .columns) (size .rows) (now level) (now upright) (now il) (now iu) ⌝ }
+    ensures { λ r. ⌜ Labelling (now (boxes .entry)) (now (targets .entry)) aim (now (cols .entry)) (now (rows .entry))
+        (now (kl .entry)) (now (ku .entry)) (size .columns) (size .rows) (r .i) (r .j) (r .found)
         (now (level .exit)) (now (upright .exit)) (now (il .exit)) (now (iu .exit)) ⌝ }
 {
-    let i = index_of(cols, nc, sx);
-    let j = index_of(rows, nr, sy);
+    let n = aim.n;
+    let k = aim.k;
+    let nc = size.columns;
+    let nr = size.rows;
+    let i = index_of(cols, nc, aim.sx);
+    let j = index_of(rows, nr, aim.sy);
     sow_targets(level, il, boxes, n, targets, k, false, rows, nr, cols, nc);
     sow_targets(upright, iu, boxes, n, targets, k, true, cols, nc, rows, nr);
     let found = rounds(level, upright, il, iu, kl, ku, cols, rows, nc, nr, i, j);
@@ -157,10 +174,7 @@ fn starts_upright(
     i: usize,
     j: usize,
 ) -> bool
-    requires { ⌜ Lines (now rows) nr × (i < stride) × (j < nr) × (nr * stride ≤ length (now level)) ⌝ }
-    requires { ⌜ (i * stride + stride ≤ length (now upright)) × (nr * stride ≤ length (now il))
-        × (i * stride + stride ≤ length (now iu)) × (i * stride + stride ≤ length (now ku)) ⌝ }
-    requires { ⌜ Choosing (now level) (now upright) (now il) nr i j ⌝ }
+    requires { ⌜ ChoiceAsked (now level) (now upright) (now il) (now iu) (now ku) (now rows) nr i j ⌝ }
     ensures { λ r. ⌜ Choice (now (level .entry)) (now (upright .entry)) (now (il .entry)) (now (iu .entry))
         (now (ku .entry)) (now (rows .entry)) nr i j r ⌝ }
 {
@@ -195,7 +209,7 @@ fn starts_upright(
     false
 }
 
-// Where the walk starts: at the crossing of column i and row j if it was found to have a label.
+// Where the walk starts: at the start's crossing, if it was found to have a label.
 fn start_at(
     level: &[u32],
     upright: &[u32],
@@ -203,20 +217,19 @@ fn start_at(
     iu: &[u32],
     ku: &[u8],
     rows: &[u16],
-    nc: usize,
-    nr: usize,
-    i: usize,
-    j: usize,
-    found: bool,
+    size: Size,
+    at: Arrived,
 ) -> Start
-    requires { ⌜ Lines (now rows) nr × (i < stride) × (j < nr) × (nr * stride ≤ length (now level)) ⌝ }
-    requires { ⌜ (i * stride + stride ≤ length (now upright)) × (nr * stride ≤ length (now il))
-        × (i * stride + stride ≤ length (now iu)) × (i * stride + stride ≤ length (now ku)) ⌝ }
-    requires { ⌜ (found ≡ true → Choosing (now level) (now upright) (now il) nr i j) ⌝ }
+    requires { ⌜ StartAsked (now level) (now upright) (now il) (now iu) (now ku) (now rows) (size .rows)
+        (at .i) (at .j) (at .found) ⌝ }
     ensures { λ r. ⌜ Starts (now (level .entry)) (now (upright .entry)) (now (il .entry)) (now (iu .entry))
-        (now (ku .entry)) (now (rows .entry)) nc nr i j found r ⌝ }
+        (now (ku .entry)) (now (rows .entry)) (size .columns) (size .rows) (at .i) (at .j) (at .found) r ⌝ }
 {
-    if !found {
+    let nc = size.columns;
+    let nr = size.rows;
+    let i = at.i;
+    let j = at.j;
+    if !at.found {
         return Start {
             columns: nc,
             rows: nr,
@@ -258,26 +271,17 @@ fn labels(
     kl: &mut [u8],
     ku: &mut [u8],
     boxes: &[u16],
-    n: usize,
     targets: &[u16],
-    k: usize,
-    w: u16,
-    h: u16,
-    sx: u16,
-    sy: u16,
+    aim: Aim,
 ) -> Start
-    requires { ⌜ Aimed (now boxes) n (now targets) k w h (point sx sy) ⌝ }
-    requires { ⌜ GridRoom (n + k) (now cols) (now rows) (now kl) (now ku) ⌝ }
-    requires { ⌜ LabelRoom (mostLines (n + k)) (mostLines (n + k)) (now level) (now upright) (now il) (now iu) ⌝ }
-    ensures { λ r. ⌜ Searched (firstPathTo (boxFree w h n (now (boxes .entry))) w h (point sx sy)
-        (target w h n (now (boxes .entry)) k (now (targets .entry))))
-        (now (cols .exit)) (now (rows .exit)) (now (kl .exit)) (now (ku .exit))
-        (now (level .exit)) (now (upright .exit)) (now (il .exit)) (now (iu .exit)) r ⌝ }
+    requires { ⌜ SearchAsked (now boxes) (now targets) aim (now cols) (now rows) (now kl) (now ku)
+        (now level) (now upright) (now il) (now iu) ⌝ }
+    ensures { λ r. ⌜ Searched (pathTo (now (boxes .entry)) (now (targets .entry)) aim) (now (cols .exit))
+        (now (rows .exit)) (now (kl .exit)) (now (ku .exit)) (now (level .exit)) (now (upright .exit))
+        (now (il .exit)) (now (iu .exit)) r ⌝ }
 {
-    let size = build(cols, rows, kl, ku, boxes, n, targets, k, w, h, sx, sy);
-    let nc = size.columns;
-    let nr = size.rows;
-    let s = label(
+    let size = build(cols, rows, kl, ku, boxes, targets, aim);
+    let at = label(
         level,
         upright,
         il,
@@ -286,16 +290,12 @@ fn labels(
         ku,
         cols,
         rows,
-        nc,
-        nr,
         boxes,
-        n,
         targets,
-        k,
-        sx,
-        sy,
+        aim,
+        size,
     );
-    start_at(level, upright, il, iu, ku, rows, nc, nr, s.i, s.j, s.found)
+    start_at(level, upright, il, iu, ku, rows, size, at)
 }
 
 // Writes the corners of the first path to the front of `out` and nothing else, from what `labels` left.
@@ -311,9 +311,8 @@ fn walk(
     rows: &[u16],
     s: Start,
 )
-    requires { ⌜ ((cs : List Point) × Ready cs (now cols) (now rows) (now kl) (now ku) (now level) (now upright)
-        (now il) (now iu) s) ⌝ }
-    requires { ⌜ 2 * s .corners ≤ length (now out) ⌝ }
+    requires { ⌜ WalkAsked (now cols) (now rows) (now kl) (now ku) (now level) (now upright) (now il) (now iu) s
+        (now out) ⌝ }
     ensures { λ _. ⌜ Walked (now (cols .entry)) (now (rows .entry)) (now (kl .entry)) (now (ku .entry))
         (now (level .entry)) (now (upright .entry)) (now (il .entry)) (now (iu .entry)) s
         (now (out .entry)) (now (out .exit)) ⌝ }
@@ -364,6 +363,35 @@ fn walk(
     );
 }
 
+// Writes the corners of the path that `labels` found where they fit, and answers how many there are.
+fn write_path(
+    out: &mut [u16],
+    level: &[u32],
+    upright: &[u32],
+    il: &[u32],
+    iu: &[u32],
+    kl: &[u8],
+    ku: &[u8],
+    cols: &[u16],
+    rows: &[u16],
+    s: Start,
+) -> usize
+    requires { ⌜ WriteAsked (now cols) (now rows) (now kl) (now ku) (now level) (now upright) (now il) (now iu) s ⌝ }
+    ensures { λ r. ⌜ PathWritten (now (cols .entry)) (now (rows .entry)) (now (kl .entry)) (now (ku .entry))
+        (now (level .entry)) (now (upright .entry)) (now (il .entry)) (now (iu .entry)) s
+        (now (out .entry)) (now (out .exit)) r ⌝ }
+{
+    let count = s.corners;
+    if count == 0 {
+        return 0;
+    }
+    if out.len() / 2 < count {
+        return count;
+    }
+    walk(out, level, upright, il, iu, kl, ku, cols, rows, s);
+    count
+}
+
 // Searches the first path, and writes its corners where they fit.
 fn path_in(
     out: &mut [u16],
@@ -376,19 +404,12 @@ fn path_in(
     kl: &mut [u8],
     ku: &mut [u8],
     boxes: &[u16],
-    n: usize,
     targets: &[u16],
-    k: usize,
-    w: u16,
-    h: u16,
-    sx: u16,
-    sy: u16,
+    aim: Aim,
 ) -> usize
-    requires { ⌜ Aimed (now boxes) n (now targets) k w h (point sx sy) ⌝ }
-    requires { ⌜ GridRoom (n + k) (now cols) (now rows) (now kl) (now ku) ⌝ }
-    requires { ⌜ LabelRoom (mostLines (n + k)) (mostLines (n + k)) (now level) (now upright) (now il) (now iu) ⌝ }
-    ensures { λ r. ⌜ PathFound (firstPathTo (boxFree w h n (now (boxes .entry))) w h (point sx sy)
-        (target w h n (now (boxes .entry)) k (now (targets .entry))))
+    requires { ⌜ SearchAsked (now boxes) (now targets) aim (now cols) (now rows) (now kl) (now ku)
+        (now level) (now upright) (now il) (now iu) ⌝ }
+    ensures { λ r. ⌜ PathFound (pathTo (now (boxes .entry)) (now (targets .entry)) aim)
         (now (out .entry)) (now (out .exit)) r ⌝ }
 {
     let start = labels(
@@ -401,40 +422,16 @@ fn path_in(
         kl,
         ku,
         boxes,
-        n,
         targets,
-        k,
-        w,
-        h,
-        sx,
-        sy,
+        aim,
     );
-    let count = start.corners;
-    if count == 0 {
-        return 0;
-    }
-    if out.len() / 2 < count {
-        return count;
-    }
-    walk(out, level, upright, il, iu, kl, ku, cols, rows, start);
-    count
+    write_path(out, level, upright, il, iu, kl, ku, cols, rows, start)
 }
 
 // The same, with lists for the lines of few boxes.
-fn path_among_few(
-    out: &mut [u16],
-    boxes: &[u16],
-    n: usize,
-    targets: &[u16],
-    k: usize,
-    w: u16,
-    h: u16,
-    sx: u16,
-    sy: u16,
-) -> usize
-    requires { ⌜ Aimed (now boxes) n (now targets) k w h (point sx sy) × (n + k ≤ 33) ⌝ }
-    ensures { λ r. ⌜ PathFound (firstPathTo (boxFree w h n (now (boxes .entry))) w h (point sx sy)
-        (target w h n (now (boxes .entry)) k (now (targets .entry))))
+fn path_among_few(out: &mut [u16], boxes: &[u16], targets: &[u16], aim: Aim) -> usize
+    requires { ⌜ FewAsked (now boxes) (now targets) aim ⌝ }
+    ensures { λ r. ⌜ PathFound (pathTo (now (boxes .entry)) (now (targets .entry)) aim)
         (now (out .entry)) (now (out .exit)) r ⌝ }
 {
     let mut level = [0u32; FEW_AREA];
@@ -456,31 +453,15 @@ fn path_among_few(
         &mut kl,
         &mut ku,
         boxes,
-        n,
         targets,
-        k,
-        w,
-        h,
-        sx,
-        sy,
+        aim,
     )
 }
 
 // The same, with lists for the lines of as many boxes as there may be.
-fn path_among_many(
-    out: &mut [u16],
-    boxes: &[u16],
-    n: usize,
-    targets: &[u16],
-    k: usize,
-    w: u16,
-    h: u16,
-    sx: u16,
-    sy: u16,
-) -> usize
-    requires { ⌜ Aimed (now boxes) n (now targets) k w h (point sx sy) ⌝ }
-    ensures { λ r. ⌜ PathFound (firstPathTo (boxFree w h n (now (boxes .entry))) w h (point sx sy)
-        (target w h n (now (boxes .entry)) k (now (targets .entry))))
+fn path_among_many(out: &mut [u16], boxes: &[u16], targets: &[u16], aim: Aim) -> usize
+    requires { ⌜ Aimed (now boxes) (now targets) aim ⌝ }
+    ensures { λ r. ⌜ PathFound (pathTo (now (boxes .entry)) (now (targets .entry)) aim)
         (now (out .entry)) (now (out .exit)) r ⌝ }
 {
     let mut level = [0u32; AREA];
@@ -502,13 +483,8 @@ fn path_among_many(
         &mut kl,
         &mut ku,
         boxes,
-        n,
         targets,
-        k,
-        w,
-        h,
-        sx,
-        sy,
+        aim,
     )
 }
 
@@ -526,28 +502,18 @@ fn stay(out: &mut [u16], x: u16, y: u16) -> usize
 // Searches the first path of fewest bends and least length from a point that the first n boxes leave free to a target,
 // which is a point in one of the first k target boxes that they leave free. Answers how many corners it has, 0 where
 // there is no path. Where they fit, they are written to the front of `out`, and else nothing is.
-pub fn first_path_to(
-    out: &mut [u16],
-    boxes: &[u16],
-    n: usize,
-    targets: &[u16],
-    k: usize,
-    w: u16,
-    h: u16,
-    sx: u16,
-    sy: u16,
-) -> usize
-    requires { ⌜ Aimed (now boxes) n (now targets) k w h (point sx sy) ⌝ }
-    ensures { λ r. ⌜ PathFound (firstPathTo (boxFree w h n (now (boxes .entry))) w h (point sx sy)
-        (target w h n (now (boxes .entry)) k (now (targets .entry)))) (now (out .entry)) (now (out .exit)) r ⌝ }
+pub fn first_path_to(out: &mut [u16], boxes: &[u16], targets: &[u16], aim: Aim) -> usize
+    requires { ⌜ Aimed (now boxes) (now targets) aim ⌝ }
+    ensures { λ r. ⌜ PathFound (pathTo (now (boxes .entry)) (now (targets .entry)) aim)
+        (now (out .entry)) (now (out .exit)) r ⌝ }
 {
-    if is_boxed(targets, k, false, sx, sy) {
-        return stay(out, sx, sy);
+    if is_boxed(targets, aim.k, false, aim.sx, aim.sy) {
+        return stay(out, aim.sx, aim.sy);
     }
-    if n + k <= FEW {
-        return path_among_few(out, boxes, n, targets, k, w, h, sx, sy);
+    if aim.n + aim.k <= FEW {
+        return path_among_few(out, boxes, targets, aim);
     }
-    path_among_many(out, boxes, n, targets, k, w, h, sx, sy)
+    path_among_many(out, boxes, targets, aim)
 }
 
 // The same to the point (tx, ty), which they leave free.
@@ -567,5 +533,13 @@ pub fn first_path(
         (now (out .entry)) (now (out .exit)) r ⌝ }
 {
     let point = [0u16, tx, ty, tx + 1, ty + 1];
-    first_path_to(out, boxes, n, &point, 1, w, h, sx, sy)
+    let aim = Aim {
+        n,
+        k: 1,
+        w,
+        h,
+        sx,
+        sy,
+    };
+    first_path_to(out, boxes, &point, aim)
 }

@@ -1,5 +1,5 @@
 -- The labels before the first round: those of the targets.
-use Prim.Native.Nat.{ℕ, _*_, _≤_, _<_}
+use Prim.Native.Nat.{ℕ, _+_, _*_, _≤_, _<_}
 use mathlib.Core.Path.{_≡_}
 use mathlib.Core.Bool.{Bool, true, false, not, _&&_, _||_}
 use mathlib.Core.List.{List, map}
@@ -8,9 +8,10 @@ use lib.ListN.{getD, length}
 use Rattle.foil_spec.specs.Lists.{range, any}
 use Rattle.foil_spec.specs.Foil.{Entry}
 use Rattle.foil_spec.specs.Lent.{entryAt}
-use Rattle.zones.specs.Boxes.{inside, covers}
+use Rattle.zones.specs.Boxes.{inside, covers, Boxes}
 use Rattle.grid.specs.Size.{stride, area}
-use Rattle.grid.specs.Extent.{turned}
+use Rattle.grid.specs.Extent.{turned, Solid}
+use Rattle.grid.specs.Lines.{Lines}
 use Rattle.runs.specs.Line.{along}
 
 -- no crossing has a label
@@ -66,6 +67,38 @@ pub record Sowable (b hi : ℕ) (l w : List ℕ) : Type 0 where
   pub sown : Sown on m n l w
   pub lines-in : b ≤ m
   pub crossings-in : hi ≤ n
+
+-- what is asked to sow what the first n boxes of the table z leave free of a block, the crossings lo to hi, hi excluded,
+-- of the lines a to b, b excluded
+pub record BlockAsked (z : List ℕ) (n : ℕ) (lines cross : List ℕ) (a b lo hi : ℕ) (l w : List ℕ) : Type 0 where
+  pub boxes : n * 5 ≤ length z
+  pub lines-there : b ≤ length lines
+  pub crossings-there : hi ≤ length cross
+  pub lines-order : a ≤ b
+  pub crossings-order : lo ≤ hi
+  pub sowable : Sowable b hi l w
+
+-- of a target box, place e of the table t, on m lines with c crossings each
+pub record BoxAsked (z : List ℕ) (n : ℕ) (t : List ℕ) (e : ℕ) (lines : List ℕ) (m : ℕ) (cross : List ℕ) (c : ℕ)
+    (l w : List ℕ) : Type 0 where
+  pub boxes : n * 5 ≤ length z
+  pub target : e * 5 + 5 ≤ length t
+  pub solid : Solid (entryAt t e)
+  pub along-lines : Lines lines m
+  pub along-cross : Lines cross c
+  pub on : ℕ → ℕ → Bool
+  pub sown : Sown on m c l w
+
+-- and of the first k target boxes, where there is no label yet
+pub record TargetsAsked (z : List ℕ) (n : ℕ) (t : List ℕ) (k : ℕ) (lines : List ℕ) (m : ℕ) (cross : List ℕ) (c : ℕ)
+    (l w : List ℕ) : Type 0 where
+  pub boxes : n * 5 ≤ length z
+  pub width : ℕ
+  pub height : ℕ
+  pub targets : Boxes t k width height
+  pub along-lines : Lines lines m
+  pub along-cross : Lines cross c
+  pub blank : Sown (λ i c. false) m c l w
 
 -- the first n boxes of the table z leave crossing c of line i free
 unfoldable pub clearAt : (n : ℕ) (z : List ℕ) (upright : Bool) (lines cross : List ℕ) → ℕ → ℕ → Bool

@@ -7,15 +7,14 @@ use grid::STRIDE;
 use grid::extent_of;
 use grid::first_from;
 ghost use mathlib.Core.Path.{_≡_};
-ghost use mathlib.Core.Bool.{Bool, true, false};
-ghost use Prim.Native.Nat.{ℕ, _+_, _*_, _≤_, _<_};
+ghost use mathlib.Core.Bool.{true};
+ghost use Prim.Native.Nat.{_+_, _*_, _≤_};
 ghost use lib.ListN.{length};
 ghost use Rattle.foil_spec.specs.Lent.{entryAt};
-ghost use Rattle.zones.specs.Boxes.{covers, Boxes};
-ghost use Rattle.grid.specs.Extent.{turned, Solid};
-ghost use Rattle.grid.specs.Lines.{Lines};
-ghost use Rattle.sowing.specs.Seeds.{boxed, overlap, Enough, BlockSown, Sowable, Sown, Sows, clearAt};
-ghost use Rattle.sowing.specs.Seeds.{aimedAt, aimedOne};
+ghost use Rattle.zones.specs.Boxes.{covers};
+ghost use Rattle.grid.specs.Extent.{turned};
+ghost use Rattle.sowing.specs.Seeds.{boxed, overlap, Enough, BlockSown, Sowable, Sown, Sows};
+ghost use Rattle.sowing.specs.Seeds.{BlockAsked, BoxAsked, TargetsAsked, clearAt, aimedAt, aimedOne};
 
 // Whether box k of a table has the point (x, y), or (y, x) if upright.
 fn box_has(boxes: &[u16], k: usize, upright: bool, x: u16, y: u16) -> bool
@@ -105,8 +104,7 @@ fn sow_clear(
     line: usize,
     k: usize,
 )
-    requires { ⌜ (n * 5 ≤ length (now boxes)) × (line < length (now lines)) × (k < length (now cross)) ⌝ }
-    requires { ⌜ Sowable (line + 1) (k + 1) (now labels) (now inks) ⌝ }
+    requires { ⌜ BlockAsked (now boxes) n (now lines) (now cross) line (line + 1) k (k + 1) (now labels) (now inks) ⌝ }
     ensures { λ _. ⌜ BlockSown line (line + 1) k (k + 1)
         (clearAt n (now (boxes .entry)) upright (now (lines .entry)) (now (cross .entry)))
         (now (labels .entry)) (now (inks .entry)) (now (labels .exit)) (now (inks .exit)) ⌝ }
@@ -130,8 +128,7 @@ fn sow_run(
     lo: usize,
     hi: usize,
 )
-    requires { ⌜ (n * 5 ≤ length (now boxes)) × (line < length (now lines)) × (hi ≤ length (now cross)) × (lo ≤ hi) ⌝ }
-    requires { ⌜ Sowable (line + 1) hi (now labels) (now inks) ⌝ }
+    requires { ⌜ BlockAsked (now boxes) n (now lines) (now cross) line (line + 1) lo hi (now labels) (now inks) ⌝ }
     ensures { λ _. ⌜ BlockSown line (line + 1) lo hi
         (clearAt n (now (boxes .entry)) upright (now (lines .entry)) (now (cross .entry)))
         (now (labels .entry)) (now (inks .entry)) (now (labels .exit)) (now (inks .exit)) ⌝ }
@@ -157,9 +154,7 @@ fn sow_block(
     lo: usize,
     hi: usize,
 )
-    requires { ⌜ (n * 5 ≤ length (now boxes)) × (b ≤ length (now lines)) × (hi ≤ length (now cross)) × (a ≤ b)
-        × (lo ≤ hi) ⌝ }
-    requires { ⌜ Sowable b hi (now labels) (now inks) ⌝ }
+    requires { ⌜ BlockAsked (now boxes) n (now lines) (now cross) a b lo hi (now labels) (now inks) ⌝ }
     ensures { λ _. ⌜ BlockSown a b lo hi
         (clearAt n (now (boxes .entry)) upright (now (lines .entry)) (now (cross .entry)))
         (now (labels .entry)) (now (inks .entry)) (now (labels .exit)) (now (inks .exit)) ⌝ }
@@ -185,9 +180,7 @@ fn sow_box(
     cross: &[u16],
     c: usize,
 )
-    requires { ⌜ (n * 5 ≤ length (now boxes)) × (e * 5 + 5 ≤ length (now targets)) × Solid (entryAt (now targets) e) ⌝ }
-    requires { ⌜ Lines (now lines) m × Lines (now cross) c ⌝ }
-    requires { ⌜ ((on : ℕ → ℕ → Bool) × Sown on m c (now labels) (now inks)) ⌝ }
+    requires { ⌜ BoxAsked (now boxes) n (now targets) e (now lines) m (now cross) c (now labels) (now inks) ⌝ }
     ensures { λ _. ⌜ Sows (aimedOne n (now (boxes .entry)) (entryAt (now (targets .entry)) e) upright
         (now (lines .entry)) (now (cross .entry))) m c (now (labels .entry)) (now (inks .entry))
         (now (labels .exit)) (now (inks .exit)) ⌝ }
@@ -228,9 +221,7 @@ pub fn sow_targets(
     cross: &[u16],
     c: usize,
 )
-    requires { ⌜ (n * 5 ≤ length (now boxes)) × ((w : ℕ) × (h : ℕ) × Boxes (now targets) k w h) ⌝ }
-    requires { ⌜ Lines (now lines) m × Lines (now cross) c
-        × Sown (λ i c. false) m c (now labels) (now inks) ⌝ }
+    requires { ⌜ TargetsAsked (now boxes) n (now targets) k (now lines) m (now cross) c (now labels) (now inks) ⌝ }
     ensures { λ _. ⌜ Sown (aimedAt n (now (boxes .entry)) k (now (targets .entry)) upright
         (now (lines .entry)) (now (cross .entry))) m c (now (labels .exit)) (now (inks .exit)) ⌝ }
 {

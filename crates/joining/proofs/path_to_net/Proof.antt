@@ -82,7 +82,8 @@ returns c =
     let legs = atLegs (rule .before) in
     let others = atOthers (legs .before) in
     net-found (atStart (others .before) .pre .known) (others .without .ensures) (legs .own-legs .ensures)
-    (rule .pen-rule .ensures) (zones .zones .ensures .0) (zones .zones .ensures .1) _ (path .first-path-to .ensures)
+    (rule .pen-rule .ensures) (zones .zones .ensures .0) (zones .zones .ensures .1) _ _
+    (path .first-path-to .ensures)
 
 pub path-to-net-spec : {M : Type 1} → statement M
 path-to-net-spec =

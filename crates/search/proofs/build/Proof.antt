@@ -6,11 +6,11 @@ use Rattle.search.proofs.build.Statement.{statement}
 use Rattle.search.proofs.build.Tie as tie
 
 -- back to the start, to the columns, and to the rows
-abbrev atStart : tie.After-axis-arg → tie.Start
-atStart c = c .before .before .before .before .before .before .before
+abbrev atStart : tie.After-struct-known2 → tie.Start
+atStart c = c .before .before .before .before .before .before .before .before .before
 
-abbrev atColumns : tie.After-axis-arg2 → tie.After-axis
-atColumns c = c .before .before .before
+abbrev atColumns : tie.After-struct-known4 → tie.After-axis
+atColumns c = c .before .before .before .before .before
 
 abbrev atRows : tie.After-links-arg3 → tie.After-axis2
 atRows c = c .before .before .before .before .before
@@ -18,40 +18,53 @@ atRows c = c .before .before .before .before .before
 abbrev afterRows : tie.After-links-arg6 → tie.After-rows
 afterRows c = c .before .before .before .before .before .before .before .before .before .before
 
+cast-axis : tie.Need-cast-axis
+cast-axis c = search needs
+
+cast-axis-2 : tie.Need-cast-axis-2
+cast-axis-2 c = search needs
+
 axis-requires : tie.Need-axis-requires
 axis-requires c κs =
-    let asked = atStart c .pre .0 in
+    let asked = atStart c .pre in
+    let aimed = asked .aimed in
     record {
-      boxes = asked .boxes .len;
-      targets = asked .targets .len;
-      few = asked .few;
-      on = aimed-on asked .0;
-      short = asked .boxes .width;
-      room = atStart c .pre .1 .column-lines;
+      boxes = aimed .boxes .len;
+      targets = aimed .targets .len;
+      few = aimed .few;
+      on = aimed-on aimed .0;
+      short = aimed .boxes .width;
+      room = asked .room .column-lines;
     }
+
+cast-axis-3 : tie.Need-cast-axis-3
+cast-axis-3 c = search needs
+
+cast-axis-4 : tie.Need-cast-axis-4
+cast-axis-4 c = search needs
 
 axis-requires-2 : tie.Need-axis-requires-2
 axis-requires-2 c κs =
-    let start = atStart (atColumns c .before) in
-    let asked = start .pre .0 in
+    let asked = atStart (atColumns c .before) .pre in
+    let aimed = asked .aimed in
     record {
-      boxes = asked .boxes .len;
-      targets = asked .targets .len;
-      few = asked .few;
-      on = aimed-on asked .1;
-      short = asked .boxes .height;
-      room = start .pre .1 .row-lines;
+      boxes = aimed .boxes .len;
+      targets = aimed .targets .len;
+      few = aimed .few;
+      on = aimed-on aimed .1;
+      short = aimed .boxes .height;
+      room = asked .room .row-lines;
     }
 
 links-requires : tie.Need-links-requires
 links-requires c κs =
     let columns = atColumns (atRows c .before) in
-    let pre = atStart (columns .before) .pre in (
-      (_, _, pre .0 .boxes),
+    let asked = atStart (columns .before) .pre in (
+      (_, _, asked .aimed .boxes),
       record {
         along = atRows c .axis2 .ensures .fits;
         across = columns .axis .ensures .fits;
-        room = omega (arith, pre .1 .level-links, axis-few (atRows c .axis2 .ensures));
+        room = omega (arith, asked .room .level-links, axis-few (atRows c .axis2 .ensures));
       },
     )
 
@@ -59,12 +72,12 @@ links-requires-2 : tie.Need-links-requires-2
 links-requires-2 c κs =
     let rows = afterRows c .before in
     let columns = atColumns (rows .before) in
-    let pre = atStart (columns .before) .pre in (
-      (_, _, pre .0 .boxes),
+    let asked = atStart (columns .before) .pre in (
+      (_, _, asked .aimed .boxes),
       record {
         along = columns .axis .ensures .fits;
         across = rows .axis2 .ensures .fits;
-        room = omega (arith, pre .1 .upright-links, axis-few (columns .axis .ensures));
+        room = omega (arith, asked .room .upright-links, axis-few (columns .axis .ensures));
       },
     )
 
@@ -85,5 +98,5 @@ returns c = search needs
 
 pub build-spec : {M : Type 1} → statement M
 build-spec =
-    tie.close (tie.spec axis-requires axis-requires-2 links-requires links-requires-2 same-length same-length-2
-    same-length-3 same-length-4 returns)
+    tie.close (tie.spec cast-axis cast-axis-2 axis-requires cast-axis-3 cast-axis-4 axis-requires-2 links-requires
+    links-requires-2 same-length same-length-2 same-length-3 same-length-4 returns)

@@ -10,13 +10,13 @@ use Rattle.search.proofs.first_path.Tie as tie
 abbrev atStart : tie.After-shared-slice-known → tie.Start
 atStart c = c .before .before
 
-add-t11 : tie.Need-add-t11
-add-t11 c =
+add-t12 : tie.Need-add-t12
+add-t12 c =
     let asked = atStart c .pre in
     omega (arith, not-covered _ _ _ _ _ _ (asked .t-free), asked .boxes .width, asked .boxes .height)
 
-add-t12 : tie.Need-add-t12
-add-t12 c =
+add-t13 : tie.Need-add-t13
+add-t13 c =
     let asked = atStart c .pre in
     omega (arith, not-covered _ _ _ _ _ _ (asked .t-free), asked .boxes .width, asked .boxes .height)
 
@@ -36,4 +36,4 @@ returns c =
 
 pub first-path-spec : {M : Type 1} → statement M
 first-path-spec =
-    tie.close (tie.spec add-t11 add-t12 slice-aggregate-first-path-to first-path-to-requires same-length returns)
+    tie.close (tie.spec add-t12 add-t13 slice-aggregate-first-path-to first-path-to-requires same-length returns)

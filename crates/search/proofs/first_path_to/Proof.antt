@@ -27,10 +27,11 @@ returns c =
     (at-stay .stay .ensures)
 
 add-if2 : tie.Need-add-if2
-add-if2 c = let few = atStart (c .before) .pre .few in omega arith
+add-if2 c = let few = atStart (c .before .before) .pre .few in omega arith
 
 path-among-few-requires : tie.Need-path-among-few-requires
-path-among-few-requires c κs = (atStart (c .before .before .before) .pre, omega (arith, c .before .if2 .taken))
+path-among-few-requires c κs =
+    record { aimed = atStart (c .before .before .before .before) .pre; few = omega (arith, c .before .if2 .taken) }
 
 same-length-2 : tie.Need-same-length-2
 same-length-2 c = search needs
@@ -39,7 +40,7 @@ returns-2 : tie.Need-returns-2
 returns-2 c = c .before .before .path-among-few .ensures
 
 path-among-many-requires : tie.Need-path-among-many-requires
-path-among-many-requires c κs = atStart (c .before .before .before) .pre
+path-among-many-requires c κs = atStart (c .before .before .before .before) .pre
 
 same-length-3 : tie.Need-same-length-3
 same-length-3 c = search needs

@@ -1,86 +1,89 @@
--- The place of S, the labels of the targets, and the rounds.
+-- The place of the start, the labels of the targets, and the rounds.
 use native.Mathlib.Omega.{arith}
 use mathlib.Core.Path.{_∙_}
 use borrow.Author.Needs.{needs}
 use Rattle.sowing.proofs.Seeds.{sown-none, begun}
 use Rattle.sowing.proofs.Boxed.{aimed-twin}
+use Rattle.search.proofs.Grid.{start-on, same-sizes}
 use Rattle.search.proofs.label.Statement.{statement}
 use Rattle.search.proofs.label.Tie as tie
 
--- back to the start, to S's row, to both seeds, and to the rounds
-abbrev atStart : tie.After-sow-targets-arg2 → tie.Start
-atStart c = c .before .before .before .before .before .before .before .before .before .before .before .before .before
-    .before
+-- back to the start, to the start's row, to both seeds, and to the rounds
+abbrev atEntry : tie.After-shared-slice-known6 → tie.Start
+atEntry c = c .before .before .before .before .before .before .before .before .before .before
+
+abbrev atStart : tie.After-index-of2 → tie.Start
+atStart c = atEntry (c .before .before)
 
 abbrev atJ : tie.After-sow-targets-arg2 → tie.After-index-of2
 atJ c = c .before .before
 
-abbrev beforeSow : tie.After-sow-targets-arg4 → tie.After-sow-targets
-beforeSow c = c .before .before .before .before .before .before
+abbrev beforeUpright : tie.After-sow-targets-arg4 → tie.After-sow-targets
+beforeUpright c = c .before .before .before .before .before .before
 
 abbrev atUpright : tie.After-rounds-arg4 → tie.After-sow-targets2
 atUpright c = c .before .before .before .before .before .before .before .before
 
 abbrev atLevel : tie.After-rounds-arg4 → tie.After-sow-targets
-atLevel c = beforeSow (atUpright c .before)
+atLevel c = beforeUpright (atUpright c .before)
 
 abbrev atRounds : tie.After-slice-known12 → tie.After-rounds
 atRounds c = c .before .before .before .before .before .before .before .before
 
 index-of-requires : tie.Need-index-of-requires
-index-of-requires c κs = search needs
+index-of-requires c κs =
+    let asked = atEntry c .pre in
+    (asked .sized .column-lines .fit, start-on (asked .grid) (asked .aimed) .0)
 
 index-of-requires-2 : tie.Need-index-of-requires-2
-index-of-requires-2 c κs = search needs
+index-of-requires-2 c κs =
+    let asked = atEntry (c .before) .pre in
+    (asked .sized .row-lines .fit, start-on (asked .grid) (asked .aimed) .1)
 
 sow-targets-requires : tie.Need-sow-targets-requires
 sow-targets-requires c κs =
-    let pre = atStart c .pre in
-    let room = pre .1 .0 in
-    let cols = pre .0 .2 in
-    let rows = pre .0 .3 in (
-      (pre .1 .1 .2, pre .1 .1 .3),
-      (
-        rows,
-        cols,
-        sown-none (rows .few) (cols .few) (room .level) (room .level-few) (room .level-inks) (room .level-blank),
-      ),
-    )
+    let asked = atStart (atJ c) .pre in
+    let sized = asked .sized in
+    let lines = sized .row-lines in
+    let cross = sized .column-lines in
+    record {
+      boxes = asked .aimed .boxes .len;
+      width = _;
+      height = _;
+      targets = asked .aimed .targets;
+      along-lines = lines;
+      along-cross = cross;
+      blank =
+          sown-none (lines .few) (cross .few) (sized .level) (asked .fresh .level-few) (sized .level-inks)
+          (asked .fresh .level);
+    }
 
 sow-targets-requires-2 : tie.Need-sow-targets-requires-2
 sow-targets-requires-2 c κs =
-    let level = beforeSow c .before in
-    let pre = atStart level .pre in
-    let room = pre .1 .0 in
-    let cols = pre .0 .2 in
-    let rows = pre .0 .3 in (
-      (pre .1 .1 .2, pre .1 .1 .3),
-      (
-        cols,
-        rows,
-        sown-none (cols .few) (rows .few) (room .upright) (room .upright-few) (room .upright-inks)
-            (room .upright-blank),
-      ),
-    )
+    let asked = atStart (atJ (beforeUpright c .before)) .pre in
+    let sized = asked .sized in
+    let lines = sized .column-lines in
+    let cross = sized .row-lines in
+    record {
+      boxes = asked .aimed .boxes .len;
+      width = _;
+      height = _;
+      targets = asked .aimed .targets;
+      along-lines = lines;
+      along-cross = cross;
+      blank =
+          sown-none (lines .few) (cross .few) (sized .upright) (asked .fresh .upright-few) (sized .upright-inks)
+          (asked .fresh .upright);
+    }
 
 rounds-requires : tie.Need-rounds-requires
 rounds-requires c κs =
     let level = atLevel c .sow-targets in
     let upright = atUpright c .sow-targets2 in
-    let at-j = atJ (atLevel c .before) in
-    let pre = atStart (atLevel c .before) .pre in
-    let room = pre .1 .0 in (
+    let at-j = atJ (atLevel c .before) in (
       (
-        record {
-          column-lines = pre .0 .2;
-          row-lines = pre .0 .3;
-          level = omega (arith, room .level, level .kept .0);
-          upright = omega (arith, room .upright, upright .kept .0);
-          level-inks = omega (arith, room .level-inks, level .kept .1 .0);
-          upright-inks = omega (arith, room .upright-inks, upright .kept .1 .0);
-          level-links = pre .0 .0;
-          upright-links = pre .0 .1;
-        },
+        same-sizes (atStart at-j .pre .sized) (omega (arith, level .kept)) (omega (arith, upright .kept))
+            (omega (arith, level .kept)) (omega (arith, upright .kept)),
         at-j .before .index-of .ensures .below,
         at-j .index-of2 .ensures .below,
       ),
@@ -88,16 +91,16 @@ rounds-requires c κs =
     )
 
 same-length : tie.Need-same-length
-same-length c = atRounds c .rounds .kept .0 ∙ atLevel (atRounds c .before) .sow-targets .kept .0
+same-length c = omega (arith, atRounds c .rounds .kept, atLevel (atRounds c .before) .sow-targets .kept)
 
 same-length-2 : tie.Need-same-length-2
-same-length-2 c = atRounds c .rounds .kept .1 .0 ∙ atUpright (atRounds c .before) .sow-targets2 .kept .0
+same-length-2 c = omega (arith, atRounds c .rounds .kept, atUpright (atRounds c .before) .sow-targets2 .kept)
 
 same-length-3 : tie.Need-same-length-3
-same-length-3 c = atRounds c .rounds .kept .1 .1 .0 ∙ atLevel (atRounds c .before) .sow-targets .kept .1 .0
+same-length-3 c = omega (arith, atRounds c .rounds .kept, atLevel (atRounds c .before) .sow-targets .kept)
 
 same-length-4 : tie.Need-same-length-4
-same-length-4 c = atRounds c .rounds .kept .1 .1 .1 .0 ∙ atUpright (atRounds c .before) .sow-targets2 .kept .1 .0
+same-length-4 c = omega (arith, atRounds c .rounds .kept, atUpright (atRounds c .before) .sow-targets2 .kept)
 
 returns : tie.Need-returns
 returns c =

@@ -1,7 +1,8 @@
 -- The lists hold what few boxes ask for.
 use native.Mathlib.Omega.{arith}
 use borrow.Author.Needs.{needs}
-use Rattle.labels.proofs.Marks.{blank}
+use Rattle.search.specs.Grid.{fewArea}
+use Rattle.search.proofs.Grid.{fresh-room}
 use Rattle.search.proofs.path_among_few.Statement.{statement}
 use Rattle.search.proofs.path_among_few.Tie as tie
 
@@ -35,28 +36,8 @@ slice-aggregate-path-in-8 c = search needs
 
 path-in-requires : tie.Need-path-in-requires
 path-in-requires c κs =
-    let start = atStart c in
-    let few = start .pre .1 in (
-      start .pre .0,
-      (
-        record {
-          column-lines = omega arith;
-          row-lines = omega arith;
-          level-links = omega (arith, few);
-          upright-links = omega (arith, few);
-        },
-        record {
-          level = omega (arith, few);
-          upright = omega (arith, few);
-          level-few = omega arith;
-          upright-few = omega arith;
-          level-blank = blank 18561;
-          upright-blank = blank 18561;
-          level-inks = omega (arith, few);
-          upright-inks = omega (arith, few);
-        },
-      ),
-    )
+    let asked = atStart c .pre in
+    fresh-room fewArea (asked .aimed) (omega (arith, asked .few)) (omega arith)
 
 same-length : tie.Need-same-length
 same-length c = search needs

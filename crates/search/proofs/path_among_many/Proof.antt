@@ -2,7 +2,7 @@
 use native.Mathlib.Omega.{arith}
 use borrow.Author.Needs.{needs}
 use Rattle.grid.specs.Size.{area}
-use Rattle.labels.proofs.Marks.{blank}
+use Rattle.search.proofs.Grid.{fresh-room}
 use Rattle.search.proofs.path_among_many.Statement.{statement}
 use Rattle.search.proofs.path_among_many.Tie as tie
 
@@ -36,28 +36,8 @@ slice-aggregate-path-in-8 c = search needs
 
 path-in-requires : tie.Need-path-in-requires
 path-in-requires c κs =
-    let start = atStart c in
-    let few = start .pre .few in (
-      start .pre,
-      (
-        record {
-          column-lines = omega arith;
-          row-lines = omega arith;
-          level-links = omega (arith, few);
-          upright-links = omega (arith, few);
-        },
-        record {
-          level = omega (arith, few);
-          upright = omega (arith, few);
-          level-few = omega arith;
-          upright-few = omega arith;
-          level-blank = blank area;
-          upright-blank = blank area;
-          level-inks = omega (arith, few);
-          upright-inks = omega (arith, few);
-        },
-      ),
-    )
+    let aimed = atStart c .pre in
+    fresh-room area aimed (omega (arith, aimed .few)) (omega arith)
 
 same-length : tie.Need-same-length
 same-length c = search needs

@@ -70,7 +70,7 @@ shared-slice-read-t : tie.Need-shared-slice-read-t
 shared-slice-read-t c = search needs
 
 returns : tie.Need-returns
-returns c = choose-upright (atStart (c .before) .pre .1 .1 .some) (c .if1 .taken)
+returns c = choose-upright (atStart (c .before) .pre .choosing .some) (c .if1 .taken)
 
 returns-2 : tie.Need-returns-2
 returns-2 c = level-only (c .before .if1 .left) (inl (c .if2 .taken))
@@ -102,18 +102,19 @@ sub-next-stop c = omega arith
 
 next-stop-requires : tie.Need-next-stop-requires
 next-stop-requires c κs =
-    let pre = atStart (bothHave c .before .before) .pre in
-    let choosing = pre .1 .1 in (
+    let asked = atStart (bothHave c .before .before) .pre in
+    let room = asked .room in
+    let choosing = asked .choosing in (
       record {
-        line-in = pre .0 .1;
-        crossings = pre .0 .0;
+        line-in = room .i-in;
+        crossings = room .lines;
         top = omega (arith, choosing .top);
-        others = pre .0 .3;
-        other-inks = pre .1 .0 .1;
+        others = room .level;
+        other-inks = room .level-inks;
         low = choosing .low _ (omega (arith, bothHave c .before .if1 .left, c .if7 .left));
       },
-      pre .1 .0 .3,
-      pre .0 .2,
+      room .upright-links,
+      room .j-in,
     )
 
 returns-8 : tie.Need-returns-8

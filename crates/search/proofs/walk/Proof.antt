@@ -52,7 +52,7 @@ shared-slice-read-upright-step c = search needs
 upright-step-requires : tie.Need-upright-step-requires
 upright-step-requires c κs =
     let start = atStart (atFirst (c .before .before)) in
-    let ready = start .pre .0 .1 in
+    let ready = start .pre .ready in
     let label = upright-label ready (c .before .before .if1 .taken) in (
       ready .walkable,
       record {
@@ -60,7 +60,7 @@ upright-step-requires c κs =
         j-in = ready .j-in;
         pos = omega (arith, label, ready .some);
         is = refl;
-        room = omega (arith, label, start .pre .1, atFirst (c .before .before) .put-corner .kept .0);
+        room = omega (arith, label, start .pre .room, atFirst (c .before .before) .put-corner .kept .0);
       },
     )
 
@@ -71,7 +71,7 @@ returns : tie.Need-returns
 returns c =
     record {
       writes = λ cs ready.
-          upright-written cs _ _ _ _ _ _ _ _ _ ready _ _ (atStart (atFirst (goesUpright c)) .pre .1)
+          upright-written cs _ _ _ _ _ _ _ _ _ ready _ _ (atStart (atFirst (goesUpright c)) .pre .room)
           (goesUpright c .if1 .taken)
           (upright-label ready (goesUpright c .if1 .taken)) (atFirst (goesUpright c) .put-corner .ensures)
           (c .before .before .upright-step .ensures);
@@ -92,7 +92,7 @@ shared-slice-read-level-step c = search needs
 level-step-requires : tie.Need-level-step-requires
 level-step-requires c κs =
     let start = atStart (firstWritten (c .before .before) .before) in
-    let ready = start .pre .0 .1 in
+    let ready = start .pre .ready in
     let label = level-label ready (c .before .before .if1 .left) in (
       ready .walkable,
       record {
@@ -100,7 +100,7 @@ level-step-requires c κs =
         j-in = ready .j-in;
         pos = omega (arith, label, ready .some);
         is = refl;
-        room = omega (arith, label, start .pre .1, firstWritten (c .before .before) .before .put-corner .kept .0);
+        room = omega (arith, label, start .pre .room, firstWritten (c .before .before) .before .put-corner .kept .0);
       },
     )
 
@@ -111,7 +111,7 @@ returns-2 : tie.Need-returns-2
 returns-2 c =
     record {
       writes = λ cs ready.
-          level-written cs _ _ _ _ _ _ _ _ _ ready _ _ (atStart (firstWritten (goesLevel c) .before) .pre .1)
+          level-written cs _ _ _ _ _ _ _ _ _ ready _ _ (atStart (firstWritten (goesLevel c) .before) .pre .room)
           (goesLevel c .if1 .left)
           (level-label ready (goesLevel c .if1 .left)) (firstWritten (goesLevel c) .before .put-corner .ensures)
           (c .before .before .level-step .ensures);

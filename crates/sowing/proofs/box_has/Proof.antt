@@ -5,18 +5,24 @@ use Rattle.sowing.proofs.Boxed.{no-ahead, no-past, no-above, by-last}
 use Rattle.sowing.proofs.box_has.Statement.{statement}
 use Rattle.sowing.proofs.box_has.Tie as tie
 
+-- back to where the box lies on the axis
+abbrev atAlong : tie.Else1 → tie.After-extent-of
+atAlong c = c .before .before
+
 extent-of-requires : tie.Need-extent-of-requires
 extent-of-requires c κs = search needs
 
 returns : tie.Need-returns
 returns c =
-    let args = c .before .before .before .before .args in
-    no-ahead _ _ (args .x) (args .y) (c .before .before .extent-of .ensures) (c .if1 .taken)
+    let at-along = c .before .before in
+    let args = at-along .before .before .args in
+    no-ahead _ _ (args .x) (args .y) (at-along .extent-of .ensures) (c .if1 .taken)
 
 returns-2 : tie.Need-returns-2
 returns-2 c =
-    let args = c .before .before .before .before .before .before .args in
-    no-past _ _ (args .x) (args .y) (c .before .before .before .before .extent-of .ensures) (c .if2 .taken)
+    let at-along = atAlong (c .before .before) in
+    let args = at-along .before .before .args in
+    no-past _ _ (args .x) (args .y) (at-along .extent-of .ensures) (c .if2 .taken)
 
 extent-of-requires-2 : tie.Need-extent-of-requires-2
 extent-of-requires-2 c κs = search needs
@@ -24,7 +30,7 @@ extent-of-requires-2 c κs = search needs
 returns-3 : tie.Need-returns-3
 returns-3 c =
     let at-beside = c .before .before in
-    let at-along = at-beside .before .before .before .before .before in
+    let at-along = atAlong (at-beside .before .before .before) in
     let args = at-along .before .before .args in
     no-above _ _ (args .x) (args .y) (at-along .extent-of .ensures) (at-beside .extent-of2 .ensures) (c .if3 .taken)
 
@@ -34,7 +40,7 @@ returns-4 c =
     let at-beside = at-if3 .before .before in
     let at-if2 = at-beside .before in
     let at-if1 = at-if2 .before .before in
-    let at-along = at-if1 .before .before in
+    let at-along = atAlong at-if1 in
     let args = at-along .before .before .args in
     by-last _ _ (args .x) (args .y) (at-along .extent-of .ensures) (at-beside .extent-of2 .ensures)
     (omega (arith, at-if1 .if1 .left)) (omega (arith, at-if2 .if2 .left)) (omega (arith, at-if3 .if3 .left))

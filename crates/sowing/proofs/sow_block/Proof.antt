@@ -16,9 +16,12 @@ Inv-loop labels₀ inks₀ boxes n upright lines cross a b lo hi line₀ labels 
 abbrev μ-loop : tie.MeasureT-loop
 μ-loop labels₀ inks₀ boxes n upright lines cross a b lo hi line₀ labels inks line = b - line
 
--- back to the start, to the loop's turn, and to what was sown in it
+-- back to the start, before the loop and in it, to the loop's turn, and to what was sown in it
+abbrev atEntry : tie.After-shared-slice-known3 Inv-loop μ-loop → tie.Start Inv-loop μ-loop
+atEntry c = c .before .before .before .before .before
+
 abbrev atStart : tie.At-loop Inv-loop μ-loop → tie.Start Inv-loop μ-loop
-atStart c = c .before .before .before .before .before .before
+atStart c = atEntry (c .before)
 
 abbrev atLoop : tie.After-sow-run-arg2 Inv-loop μ-loop → tie.At-loop Inv-loop μ-loop
 atLoop c = c .before .before .before
@@ -27,19 +30,24 @@ abbrev atSow : tie.After-slice-known4 Inv-loop μ-loop → tie.After-sow-run Inv
 atSow c = c .before .before .before .before
 
 loop-holds : tie.Need-loop-holds Inv-loop μ-loop
-loop-holds c =
-    let pre = c .before .before .before .before .before .pre .0 in
-    (omega arith, omega (arith, pre .3), refl, refl, block-none)
+loop-holds c = (omega arith, omega (arith, atEntry c .pre .lines-order), refl, refl, block-none)
 
 sow-run-requires : tie.Need-sow-run-requires Inv-loop μ-loop
 sow-run-requires c κs =
     let at-loop = atLoop c in
-    let start = atStart at-loop in
+    let asked = atStart at-loop .pre in
     let inv = at-loop .loop .inv in
-    let below = c .before .before .loop-test in (
-      (start .pre .0 .0, omega (arith, start .pre .0 .1, below), start .pre .0 .2, start .pre .0 .4),
-      sowable-after (omega (arith, inv .1)) (omega arith) (omega (arith, below)) (omega arith) (start .pre .1) (inv .4),
-    )
+    let below = c .before .before .loop-test in
+    record {
+      boxes = asked .boxes;
+      lines-there = omega (arith, asked .lines-there, below);
+      crossings-there = asked .crossings-there;
+      lines-order = omega arith;
+      crossings-order = asked .crossings-order;
+      sowable =
+          sowable-after (omega (arith, inv .1)) (omega arith) (omega (arith, below)) (omega arith) (asked .sowable)
+          (inv .4);
+    }
 
 add-line : tie.Need-add-line Inv-loop μ-loop
 add-line c = omega arith

@@ -35,19 +35,19 @@ extent-of-requires : tie.Need-extent-of-requires
 extent-of-requires c κs = search needs
 
 first-from-requires : tie.Need-first-from-requires
-first-from-requires c κs = atStart (atNear c) .pre .1 .0 .0
+first-from-requires c κs = atStart (atNear c) .pre .along-lines
 
 first-from-requires-2 : tie.Need-first-from-requires-2
-first-from-requires-2 c κs = atStart (atNear (c .before)) .pre .1 .0 .0
+first-from-requires-2 c κs = atStart (atNear (c .before)) .pre .along-lines
 
 extent-of-requires-2 : tie.Need-extent-of-requires-2
-extent-of-requires-2 c κs = atStart (atNear (atBeside c)) .pre .0 .1
+extent-of-requires-2 c κs = atStart (atNear (atBeside c)) .pre .target
 
 first-from-requires-3 : tie.Need-first-from-requires-3
-first-from-requires-3 c κs = atStart (atNear (atBeside (atB c))) .pre .1 .0 .1
+first-from-requires-3 c κs = atStart (atNear (atBeside (atB c))) .pre .along-cross
 
 first-from-requires-4 : tie.Need-first-from-requires-4
-first-from-requires-4 c κs = atStart (atNear (atBeside (atB (c .before)))) .pre .1 .0 .1
+first-from-requires-4 c κs = atStart (atNear (atBeside (atB (c .before)))) .pre .along-cross
 
 sow-block-requires : tie.Need-sow-block-requires
 sow-block-requires c κs =
@@ -56,25 +56,26 @@ sow-block-requires c κs =
     let b = atB along in
     let beside = atBeside b in
     let near = atNear beside in
-    let pre = atStart near .pre in (
-      (
-        omega (arith, pre .0 .0, near .boxes-near .ensures .le),
-        omega (arith, pre .1 .0 .0 .fit, b .first-from2 .ensures .le),
-        omega (arith, pre .1 .0 .1 .fit, hi .first-from4 .ensures .le),
-        block-ordered _ _ (beside .extent-of .ensures) (pre .0 .2) (b .before .first-from .ensures)
-            (b .first-from2 .ensures),
-        block-ordered _ _ (along .extent-of2 .ensures) (pre .0 .2) (hi .before .first-from3 .ensures)
-            (hi .first-from4 .ensures),
-      ),
-      record {
+    let asked = atStart near .pre in
+    record {
+      boxes = omega (arith, asked .boxes, near .boxes-near .ensures .le);
+      lines-there = omega (arith, asked .along-lines .fit, b .first-from2 .ensures .le);
+      crossings-there = omega (arith, asked .along-cross .fit, hi .first-from4 .ensures .le);
+      lines-order =
+          block-ordered _ _ (beside .extent-of .ensures) (asked .solid) (b .before .first-from .ensures)
+          (b .first-from2 .ensures);
+      crossings-order =
+          block-ordered _ _ (along .extent-of2 .ensures) (asked .solid) (hi .before .first-from3 .ensures)
+          (hi .first-from4 .ensures);
+      sowable = record {
         m = _;
         n = _;
-        on = pre .1 .1 .0;
-        sown = pre .1 .1 .1;
+        on = asked .on;
+        sown = asked .sown;
         lines-in = b .first-from2 .ensures .le;
         crossings-in = hi .first-from4 .ensures .le;
-      },
-    )
+      };
+    }
 
 same-length : tie.Need-same-length
 same-length c = search needs

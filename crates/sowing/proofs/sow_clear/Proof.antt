@@ -23,14 +23,14 @@ shared-slice-read-is-boxed-2 : tie.Need-shared-slice-read-is-boxed-2
 shared-slice-read-is-boxed-2 c = search needs
 
 is-boxed-requires : tie.Need-is-boxed-requires
-is-boxed-requires c κs = atStart c .pre .0 .0
+is-boxed-requires c κs = atStart c .pre .boxes
 
 returns : tie.Need-returns
 returns c =
     cell-blocked _ _ (not-clear _ _ _ _ _ _ _ (sym (c .if1 .taken) ∙ c .before .is-boxed .ensures))
 
 sow-requires : tie.Need-sow-requires
-sow-requires c κs = atStart (c .before .before .before .before) .pre .1
+sow-requires c κs = atStart (c .before .before .before .before) .pre .sowable
 
 same-length : tie.Need-same-length
 same-length c = search needs

@@ -16,9 +16,12 @@ Inv-loop labels₀ inks₀ boxes n upright lines cross line lo hi k₀ labels in
 abbrev μ-loop : tie.MeasureT-loop
 μ-loop labels₀ inks₀ boxes n upright lines cross line lo hi k₀ labels inks k = hi - k
 
--- back to the start, to the loop's turn, and to what was sown in it
+-- back to the start, before the loop and in it, to the loop's turn, and to what was sown in it
+abbrev atEntry : tie.After-shared-slice-known3 Inv-loop μ-loop → tie.Start Inv-loop μ-loop
+atEntry c = c .before .before .before .before .before
+
 abbrev atStart : tie.At-loop Inv-loop μ-loop → tie.Start Inv-loop μ-loop
-atStart c = c .before .before .before .before .before .before
+atStart c = atEntry (c .before)
 
 abbrev atLoop : tie.After-sow-clear-arg2 Inv-loop μ-loop → tie.At-loop Inv-loop μ-loop
 atLoop c = c .before .before .before
@@ -27,19 +30,24 @@ abbrev atSow : tie.After-slice-known4 Inv-loop μ-loop → tie.After-sow-clear I
 atSow c = c .before .before .before .before
 
 loop-holds : tie.Need-loop-holds Inv-loop μ-loop
-loop-holds c =
-    let pre = c .before .before .before .before .before .pre .0 in
-    (omega arith, omega (arith, pre .3), refl, refl, run-none)
+loop-holds c = (omega arith, omega (arith, atEntry c .pre .crossings-order), refl, refl, run-none)
 
 sow-clear-requires : tie.Need-sow-clear-requires Inv-loop μ-loop
 sow-clear-requires c κs =
     let at-loop = atLoop c in
-    let start = atStart at-loop in
+    let asked = atStart at-loop .pre in
     let inv = at-loop .loop .inv in
-    let below = c .before .before .loop-test in (
-      (start .pre .0 .0, start .pre .0 .1, omega (arith, start .pre .0 .2, below)),
-      sowable-after (omega arith) (omega (arith, inv .1)) (omega arith) (omega (arith, below)) (start .pre .1) (inv .4),
-    )
+    let below = c .before .before .loop-test in
+    record {
+      boxes = asked .boxes;
+      lines-there = asked .lines-there;
+      crossings-there = omega (arith, asked .crossings-there, below);
+      lines-order = asked .lines-order;
+      crossings-order = omega arith;
+      sowable =
+          sowable-after (omega arith) (omega (arith, inv .1)) (omega arith) (omega (arith, below)) (asked .sowable)
+          (inv .4);
+    }
 
 add-k : tie.Need-add-k Inv-loop μ-loop
 add-k c = omega arith

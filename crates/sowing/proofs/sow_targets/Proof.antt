@@ -17,9 +17,12 @@ Inv-loop labels₀ inks₀ boxes n targets k upright lines m cross c e₀ labels
 abbrev μ-loop : tie.MeasureT-loop
 μ-loop labels₀ inks₀ boxes n targets k upright lines m cross c e₀ labels inks e = k - e
 
--- back to the start, to the loop's turn, and to what was sown in it
+-- back to the start, before the loop and in it, to the loop's turn, and to what was sown in it
+abbrev atEntry : tie.After-shared-slice-known4 Inv-loop μ-loop → tie.Start Inv-loop μ-loop
+atEntry c = c .before .before .before .before .before .before
+
 abbrev atStart : tie.At-loop Inv-loop μ-loop → tie.Start Inv-loop μ-loop
-atStart c = c .before .before .before .before .before .before .before
+atStart c = atEntry (c .before)
 
 abbrev atLoop : tie.After-sow-box-arg2 Inv-loop μ-loop → tie.At-loop Inv-loop μ-loop
 atLoop c = c .before .before .before
@@ -28,18 +31,21 @@ abbrev atSow : tie.After-slice-known4 Inv-loop μ-loop → tie.After-sow-box Inv
 atSow c = c .before .before .before .before
 
 loop-holds : tie.Need-loop-holds Inv-loop μ-loop
-loop-holds c =
-    let pre = c .before .before .before .before .before .before .pre in
-    (omega arith, refl, refl, targets-none _ _ _ _ _ _ (pre .1 .2))
+loop-holds c = (omega arith, refl, refl, targets-none _ _ _ _ _ _ (atEntry c .pre .blank))
 
 sow-box-requires : tie.Need-sow-box-requires Inv-loop μ-loop
 sow-box-requires c κs =
-    let start = atStart (atLoop c) in
-    let boxes = start .pre .0 .1 .2 in
-    let below = c .before .before .loop-test in (
-      (start .pre .0 .0, omega (arith, boxes .len, below), solid boxes _ (omega (arith, below))),
-      ((start .pre .1 .0, start .pre .1 .1), (_, atLoop c .loop .inv .3)),
-    )
+    let asked = atStart (atLoop c) .pre in
+    let below = c .before .before .loop-test in
+    record {
+      boxes = asked .boxes;
+      target = omega (arith, asked .targets .len, below);
+      solid = solid (asked .targets) _ (omega (arith, below));
+      along-lines = asked .along-lines;
+      along-cross = asked .along-cross;
+      on = _;
+      sown = atLoop c .loop .inv .3;
+    }
 
 add-e : tie.Need-add-e Inv-loop μ-loop
 add-e c = omega arith
