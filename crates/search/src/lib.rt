@@ -16,13 +16,16 @@ use labels::upright_step;
 use runs::next_stop;
 use sowing::is_boxed;
 use sowing::sow_targets;
+ghost use mathlib.Core.Path.{_≡_};
 ghost use mathlib.Core.List.{[], _∷_};
 ghost use mathlib.Core.Option.{Option, some};
-ghost use Prim.Native.Nat.{_+_, _≤_};
+ghost use Prim.Native.Nat.{_+_, _*_, _≤_, _<_};
 ghost use lib.ListN.{length};
 ghost use Rattle.foil_spec.specs.Foil.{Point, point};
 ghost use Rattle.foil_spec.specs.Paths.{firstPath};
 ghost use Rattle.zones.specs.Boxes.{boxFree};
+ghost use Rattle.grid.specs.Size.{stride};
+ghost use Rattle.runs.specs.Line.{along};
 ghost use Rattle.search.specs.Grid.{Posed, pathTo, Aimed, FewAsked, BuildAsked, Has, Placed, Grid};
 ghost use Rattle.search.specs.Choice.{ChoiceAsked, StartAsked, Choice};
 ghost use Rattle.search.specs.Search.{SearchAsked, LabelAsked, Labelling, Starts, Searched, WalkAsked, Walked};
@@ -161,6 +164,14 @@ fn label(
     Arrived { i, j, found }
 }
 
+// The label of crossing k of a line.
+fn label_at(labels: &[u32], line: usize, k: usize) -> u32
+    requires { ⌜ line * stride + k < length (now labels) ⌝ }
+    ensures { λ r. ⌜ r ≡ along (now (labels .entry)) line k ⌝ }
+{
+    labels[line * STRIDE + k]
+}
+
 // Whether the first path goes upright from the crossing of column i and row j, which has a label. Where both ways
 // need as many segments and steps, it does so if that leads to a smaller y.
 fn starts_upright(
@@ -240,22 +251,24 @@ fn start_at(
         };
     }
     if starts_upright(level, upright, il, iu, ku, rows, nr, i, j) {
+        let corners = label_at(upright, i, j) as usize;
         return Start {
             columns: nc,
             rows: nr,
             i,
             j,
             upright: true,
-            corners: upright[i * STRIDE + j] as usize,
+            corners,
         };
     }
+    let corners = label_at(level, j, i) as usize;
     Start {
         columns: nc,
         rows: nr,
         i,
         j,
         upright: false,
-        corners: level[j * STRIDE + i] as usize,
+        corners,
     }
 }
 
@@ -339,7 +352,7 @@ fn walk(
             nr,
             i,
             j,
-            upright[i * STRIDE + j],
+            label_at(upright, i, j),
             1,
         );
         return;
@@ -358,7 +371,7 @@ fn walk(
         nr,
         i,
         j,
-        level[j * STRIDE + i],
+        label_at(level, j, i),
         1,
     );
 }

@@ -18,7 +18,7 @@ use Rattle.runs.specs.Ink.{Lean}
 use Rattle.labels.specs.Pass.{Below}
 use Rattle.labels.specs.Rounds.{Begun}
 use Rattle.labels.proofs.Meaning.{Says, Labelled, Measures, Measured}
-use Rattle.sowing.specs.Seeds.{Unlabelled, Sown, orElse, Sows, inBlock, BlockSown, Sowable}
+use Rattle.sowing.specs.Seeds.{Unlabelled, Sown, orElse, Sows, inBlock, BlockSown, BlockAsked}
 
 -- ---- one crossing
 
@@ -248,18 +248,28 @@ pub block-done : {a b b′ lo hi hi′ : ℕ} {test : ℕ → ℕ → Bool} {l�
 block-done e f h = rw (← e, ← f) h
 
 -- after a part of the block the rest can be sown
-pub sowable-after : {a b hi b′ hi′ lo : ℕ} {test : ℕ → ℕ → Bool} {l₀ w₀ l w : List ℕ} {b″ hi″ : ℕ}
-    → b ≤ b″ → hi ≤ hi″ → b′ ≤ b″ → hi′ ≤ hi″ → Sowable b″ hi″ l₀ w₀
-    → BlockSown a b lo hi test l₀ w₀ l w → Sowable b′ hi′ l w
-sowable-after lb lh lb′ lh′ S B =
+pub part-asked : {z : List ℕ} {n : ℕ} {lines cross : List ℕ} {a b lo hi a₁ b₁ lo₁ hi₁ a₂ b₂ lo₂ hi₂ : ℕ}
+    {test : ℕ → ℕ → Bool} {l₀ w₀ l w : List ℕ} → BlockAsked z n lines cross a b lo hi l₀ w₀
+    → BlockSown a₁ b₁ lo₁ hi₁ test l₀ w₀ l w → b₁ ≤ b → hi₁ ≤ hi → a₂ ≤ b₂ → b₂ ≤ b → lo₂ ≤ hi₂ → hi₂ ≤ hi
+    → BlockAsked z n lines cross a₂ b₂ lo₂ hi₂ l w
+part-asked A B lb lh oa lb₂ oh lh₂ =
+    let S = A .sowable in
     record {
-      m = S .m;
-      n = S .n;
-      on = _;
-      sown =
-          B .sows (S .m) (S .n) (omega (arith, S .lines-in)) (omega (arith, S .crossings-in)) .sown (S .on) (S .sown);
-      lines-in = omega (arith, S .lines-in);
-      crossings-in = omega (arith, S .crossings-in);
+      boxes = A .boxes;
+      lines-there = omega (arith, A .lines-there);
+      crossings-there = omega (arith, A .crossings-there);
+      lines-order = oa;
+      crossings-order = oh;
+      sowable = record {
+        m = S .m;
+        n = S .n;
+        on = _;
+        sown =
+            B .sows (S .m) (S .n) (omega (arith, S .lines-in)) (omega (arith, S .crossings-in)) .sown (S .on)
+            (S .sown);
+        lines-in = omega (arith, S .lines-in);
+        crossings-in = omega (arith, S .crossings-in);
+      };
     }
 
 -- a crossing is sown

@@ -1,6 +1,6 @@
 -- The first corner, and then the steps by turns.
 use native.Mathlib.Omega.{arith}
-use mathlib.Core.Path.{refl}
+use mathlib.Core.Path.{sym, _∙_}
 use borrow.Author.Needs.{needs}
 use Rattle.search.proofs.Written.{level-label, upright-label, level-written, upright-written}
 use Rattle.search.proofs.walk.Statement.{statement}
@@ -37,30 +37,22 @@ shared-slice-read-y c = search needs
 put-corner-requires : tie.Need-put-corner-requires
 put-corner-requires c κs = search needs
 
-mul-upright-step : tie.Need-mul-upright-step
-mul-upright-step c = search needs
-
-add-upright-step : tie.Need-add-upright-step
-add-upright-step c = search needs
-
-mul-upright-step-2 : tie.Need-mul-upright-step-2
-mul-upright-step-2 c = search needs
-
-shared-slice-read-upright-step : tie.Need-shared-slice-read-upright-step
-shared-slice-read-upright-step c = search needs
+label-at-requires : tie.Need-label-at-requires
+label-at-requires c κs = search needs
 
 upright-step-requires : tie.Need-upright-step-requires
 upright-step-requires c κs =
     let start = atStart (atFirst (c .before .before)) in
     let ready = start .pre .ready in
-    let label = upright-label ready (c .before .before .if1 .taken) in (
+    let label = upright-label ready (c .before .before .if1 .taken) in
+    let is = c .label-at .ensures in (
       ready .walkable,
       record {
         i-in = ready .i-in;
         j-in = ready .j-in;
-        pos = omega (arith, label, ready .some);
-        is = refl;
-        room = omega (arith, label, start .pre .room, atFirst (c .before .before) .put-corner .kept .0);
+        pos = omega (arith, is, label, ready .some);
+        is = sym is;
+        room = omega (arith, is, label, start .pre .room, atFirst (c .before .before) .put-corner .kept .0);
       },
     )
 
@@ -69,38 +61,31 @@ same-length c = search needs
 
 returns : tie.Need-returns
 returns c =
+    let step = c .before .before in
     record {
       writes = λ cs ready.
           upright-written cs _ _ _ _ _ _ _ _ _ ready _ _ (atStart (atFirst (goesUpright c)) .pre .room)
           (goesUpright c .if1 .taken)
-          (upright-label ready (goesUpright c .if1 .taken)) (atFirst (goesUpright c) .put-corner .ensures)
-          (c .before .before .upright-step .ensures);
+          (step .before .label-at .ensures ∙ upright-label ready (goesUpright c .if1 .taken))
+          (atFirst (goesUpright c) .put-corner .ensures) (step .upright-step .ensures);
     }
 
-mul-level-step : tie.Need-mul-level-step
-mul-level-step c = search needs
-
-add-level-step : tie.Need-add-level-step
-add-level-step c = search needs
-
-mul-level-step-2 : tie.Need-mul-level-step-2
-mul-level-step-2 c = search needs
-
-shared-slice-read-level-step : tie.Need-shared-slice-read-level-step
-shared-slice-read-level-step c = search needs
+label-at-requires-2 : tie.Need-label-at-requires-2
+label-at-requires-2 c κs = search needs
 
 level-step-requires : tie.Need-level-step-requires
 level-step-requires c κs =
     let start = atStart (firstWritten (c .before .before) .before) in
     let ready = start .pre .ready in
-    let label = level-label ready (c .before .before .if1 .left) in (
+    let label = level-label ready (c .before .before .if1 .left) in
+    let is = c .label-at2 .ensures in (
       ready .walkable,
       record {
         i-in = ready .i-in;
         j-in = ready .j-in;
-        pos = omega (arith, label, ready .some);
-        is = refl;
-        room = omega (arith, label, start .pre .room, firstWritten (c .before .before) .before .put-corner .kept .0);
+        pos = omega (arith, is, label, ready .some);
+        is = sym is;
+        room = omega (arith, is, label, start .pre .room, firstWritten (c .before .before) .before .put-corner .kept .0);
       },
     )
 
@@ -109,17 +94,16 @@ same-length-2 c = search needs
 
 returns-2 : tie.Need-returns-2
 returns-2 c =
+    let step = c .before .before in
     record {
       writes = λ cs ready.
           level-written cs _ _ _ _ _ _ _ _ _ ready _ _ (atStart (firstWritten (goesLevel c) .before) .pre .room)
           (goesLevel c .if1 .left)
-          (level-label ready (goesLevel c .if1 .left)) (firstWritten (goesLevel c) .before .put-corner .ensures)
-          (c .before .before .level-step .ensures);
+          (step .before .label-at2 .ensures ∙ level-label ready (goesLevel c .if1 .left))
+          (firstWritten (goesLevel c) .before .put-corner .ensures) (step .level-step .ensures);
     }
 
 pub walk-spec : {M : Type 1} → statement M
 walk-spec =
-    tie.close (tie.spec mul-x shared-slice-read-x mul-y shared-slice-read-y
-    put-corner-requires mul-upright-step add-upright-step mul-upright-step-2 shared-slice-read-upright-step
-    upright-step-requires same-length returns mul-level-step add-level-step mul-level-step-2
-    shared-slice-read-level-step level-step-requires same-length-2 returns-2)
+    tie.close (tie.spec mul-x shared-slice-read-x mul-y shared-slice-read-y put-corner-requires label-at-requires
+    upright-step-requires same-length returns label-at-requires-2 level-step-requires same-length-2 returns-2)

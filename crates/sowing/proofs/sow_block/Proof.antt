@@ -4,7 +4,7 @@ use native.Mathlib.Omega.{arith}
 use mathlib.Core.Path.{_≡_, refl, _∙_}
 use lib.ListN.{length}
 use Rattle.sowing.specs.Seeds.{BlockSown, clearAt}
-use Rattle.sowing.proofs.Seeds.{block-none, block-more, block-done, sowable-after}
+use Rattle.sowing.proofs.Seeds.{block-none, block-more, block-done, part-asked}
 use Rattle.sowing.proofs.sow_block.Statement.{statement}
 use Rattle.sowing.proofs.sow_block.Tie as tie
 
@@ -38,16 +38,8 @@ sow-run-requires c κs =
     let asked = atStart at-loop .pre in
     let inv = at-loop .loop .inv in
     let below = c .before .before .loop-test in
-    record {
-      boxes = asked .boxes;
-      lines-there = omega (arith, asked .lines-there, below);
-      crossings-there = asked .crossings-there;
-      lines-order = omega arith;
-      crossings-order = asked .crossings-order;
-      sowable =
-          sowable-after (omega (arith, inv .1)) (omega arith) (omega (arith, below)) (omega arith) (asked .sowable)
-          (inv .4);
-    }
+    part-asked asked (inv .4) (omega (arith, inv .1)) (omega arith) (omega arith) (omega (arith, below))
+    (asked .crossings-order) (omega arith)
 
 add-line : tie.Need-add-line Inv-loop μ-loop
 add-line c = omega arith

@@ -4,7 +4,7 @@ use native.Mathlib.Omega.{arith}
 use mathlib.Core.Path.{_≡_, refl, _∙_}
 use lib.ListN.{length}
 use Rattle.sowing.specs.Seeds.{BlockSown, clearAt}
-use Rattle.sowing.proofs.Seeds.{run-none, run-more, block-done, sowable-after}
+use Rattle.sowing.proofs.Seeds.{run-none, run-more, block-done, part-asked}
 use Rattle.sowing.proofs.sow_run.Statement.{statement}
 use Rattle.sowing.proofs.sow_run.Tie as tie
 
@@ -38,16 +38,8 @@ sow-clear-requires c κs =
     let asked = atStart at-loop .pre in
     let inv = at-loop .loop .inv in
     let below = c .before .before .loop-test in
-    record {
-      boxes = asked .boxes;
-      lines-there = asked .lines-there;
-      crossings-there = omega (arith, asked .crossings-there, below);
-      lines-order = asked .lines-order;
-      crossings-order = omega arith;
-      sowable =
-          sowable-after (omega arith) (omega (arith, inv .1)) (omega arith) (omega (arith, below)) (asked .sowable)
-          (inv .4);
-    }
+    part-asked asked (inv .4) (omega arith) (omega (arith, inv .1)) (omega arith) (omega arith) (omega arith)
+    (omega (arith, below))
 
 add-k : tie.Need-add-k Inv-loop μ-loop
 add-k c = omega arith
