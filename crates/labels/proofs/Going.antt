@@ -8,10 +8,10 @@ use mathlib.Core.Bool.{false}
 use mathlib.Core.List.{List}
 use Rattle.grid.specs.Size.{stride, area}
 use Rattle.grid.specs.Lines.{Lines}
-use Rattle.runs.specs.Line.{along}
+use Rattle.runs.specs.Line.{along, labelTop}
 use Rattle.runs.specs.Ink.{Inked, Lean}
 use Rattle.labels.specs.Pass.{zeros, Cell, kept, none, new, Pass, Below, floor, Full, Marked, Spanned, PassTo}
-use Rattle.labels.specs.Rounds.{Twin, Begun, Rounds, start, more, Ended, stuck}
+use Rattle.labels.specs.Rounds.{Twin, Begun, Rounds, start, more, Shallow, Ended, stuck}
 use Rattle.labels.proofs.Runs.{zeros-le}
 use Rattle.labels.proofs.Pass.{visited-all, visited-full}
 use Rattle.labels.proofs.Part.{pass-parts, parts-below, parts-lean}
@@ -87,7 +87,8 @@ pub record Going (kl ku cols rows : List ℕ) (nc nr : ℕ) (l₀ u₀ wl₀ wu�
   pub twin : Twin l u nc nr
   pub level-full : Full kl l nr nc (floor v)
   pub upright-full : Full ku u nc nr (floor v)
-  pub top : v + (zeros l + zeros u) ≤ 2 * area + 1
+  pub top : v < labelTop
+  pub few : zeros l + zeros u ≤ 2 * area
 
 full-start : (link : List ℕ) {lab : List ℕ} {m n : ℕ} → Below m n lab 1 → Full link lab m n (floor 1)
 full-start link B = record {
@@ -108,7 +109,8 @@ going-start kl ku cols rows {l = l} {u = u} B ML MU = record {
   twin = B .twin;
   level-full = full-start kl (B .level-low);
   upright-full = full-start ku (B .upright-low);
-  top = omega (arith, zeros-le l, zeros-le u, B .level-few, B .upright-few);
+  top = omega arith;
+  few = omega (arith, zeros-le l, zeros-le u, B .level-few, B .upright-few);
 }
 
 -- A level pass, and an upright pass after it.
@@ -145,11 +147,24 @@ module _ {kl ku cols rows : List ℕ} {nc nr : ℕ} (C : Lines cols nc) (R : Lin
       upright = upright-twin;
     }
 
+    rounds-next : Rounds kl ku cols rows nc nr l₀ u₀ wl₀ wu₀ (v + 1) l′ u′ wl′ wu′
+    rounds-next = more (G .rounds) level-pass (P .inked) upright-pass (S .inked)
+
+    -- one of the new labels says how large they are
+    top-next : Shallow kl ku cols rows nc nr l₀ u₀ wl₀ wu₀ → le + ue ≢ 0 → Dec (le ≡ 0) → v + 1 < labelTop
+    top-next H ne (no y) =
+        let w = P .visited .new y in
+        omega (arith, w .is, H .level rounds-next (w .line) (w .line-in) (w .k) (w .k-in))
+    top-next H ne (yes y) =
+        let w = S .visited .new (λ x. ne (omega arith)) in
+        omega (arith, w .is, H .upright rounds-next (w .line) (w .line-in) (w .k) (w .k-in))
+
     -- there are new labels
-    pub going-next : le + ue ≢ 0 → Going kl ku cols rows nc nr l₀ u₀ wl₀ wu₀ (v + 1) l′ u′ wl′ wu′ nl nu
-    going-next ne = record {
+    pub going-next : Shallow kl ku cols rows nc nr l₀ u₀ wl₀ wu₀ → le + ue ≢ 0 →
+        Going kl ku cols rows nc nr l₀ u₀ wl₀ wu₀ (v + 1) l′ u′ wl′ wu′ nl nu
+    going-next H ne = record {
       pos = omega arith;
-      rounds = more (G .rounds) level-pass (P .inked) upright-pass (S .inked);
+      rounds = rounds-next;
       level-low = pass-below level-pass (G .level-low);
       upright-low = pass-below upright-pass (G .upright-low);
       level-lean = going-lean;
@@ -159,7 +174,8 @@ module _ {kl ku cols rows : List ℕ} {nc nr : ℕ} (C : Lines cols nc) (R : Lin
       twin = twin-next;
       level-full = visited-full (G .pos) (R .few) (P .visited) level-twin;
       upright-full = visited-full (G .pos) (C .few) (S .visited) upright-twin;
-      top = omega (arith, G .top, P .visited .count, S .visited .count);
+      top = top-next H ne (ℕ-discrete le 0);
+      few = omega (arith, G .few, P .visited .count, S .visited .count);
     }
 
     -- there are none

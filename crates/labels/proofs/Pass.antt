@@ -16,7 +16,8 @@ use Rattle.runs.specs.Ink.{OnLine, StopIn, Blank, RunInked, LeastInk, Inked, Le
 use Rattle.labels.specs.Pass.{zeros, Cell, kept, none, new, Pass, floor, Joined, Full, Spans, Marks, Marked}
 use Rattle.labels.specs.Pass.{Widened, NextNew, Fill, held, fresh, RunFilled, Visit, passed, left, ran}
 use Rattle.labels.specs.Pass.{OneWay, LineLists, Visiting}
-use Rattle.labels.specs.Pass.{Part, stood, got, Done, labelled, waits, Visited, Spanned, PassTo}
+use Rattle.labels.specs.Pass.{Part, stood, got, Done, labelled, waits, NewLabel, Visited}
+use Rattle.labels.specs.Pass.{Spanned, PassTo}
 use Rattle.labels.proofs.Runs.{zeros-le}
 use Rattle.runs.proofs.Inks.{lean-low}
 use Rattle.runs.proofs.Line.{linked-sym, linked-trans, in-run, run-joined}
@@ -71,6 +72,10 @@ fill-on : {v a b : ℕ} → Fill v a b → b ≢ 0
 fill-on (held h) = h
 fill-on fresh = λ e. omega arith
 
+fill-new : {v a b : ℕ} → Fill v a b → a ≡ 0 → b ≡ v + 1
+fill-new (held h) z = absurd (h z)
+fill-new fresh z = refl
+
 fill-held : {v a b : ℕ} → Fill v a b → a ≢ 0 → b ≡ a
 fill-held (held h) z = refl
 fill-held fresh z = absurd (z refl)
@@ -113,6 +118,10 @@ part-fresh : {other link : List ℕ} {line n v k a b : ℕ} (h : ℕ) → h < n 
 part-fresh h l r e stood z = rw z (got h l r e)
 part-fresh h l r e (got q lq s f) z = absurd (omega arith)
 
+part-was : {other link : List ℕ} {line n v k a b : ℕ} → Part other link line n v k a b → b ≡ 0 → a ≡ 0
+part-was stood z = z
+part-was (got q l r e) z = refl
+
 part-fill : {other link : List ℕ} {line n v k a b c : ℕ} (h : ℕ) → h < n → Linked link line k h →
     across other line h ≡ v → Part other link line n v k a b → Fill v b c → Part other link line n v k a c
 part-fill h l r e x (held y) = x
@@ -126,6 +135,7 @@ visited-none other link m n v l F = record {
   did = λ i li k lk p. absurd (omega arith);
   count = add-zero (zeros l);
   same = λ e. refl;
+  new = λ e. absurd (e refl);
   full = F;
 }
 
@@ -139,6 +149,7 @@ visited-past {other} {link} {m} {n} {v} {p} {r} {l₀} {l} free G = record {
   did = λ i li k lk lt e. pick i li k lk lt e (decLt (k * stride + i) p);
   count = G .count;
   same = G .same;
+  new = G .new;
   full = G .full;
 }
   where
@@ -172,6 +183,7 @@ module _ {other link : List ℕ} {m n v : ℕ} {l₀ l : List ℕ} {c line h : �
     did = did-more (λ i li k lk x. x) d;
     count = G .count;
     same = G .same;
+    new = G .new;
     full = G .full;
   }
 
@@ -188,6 +200,30 @@ module _ {other link : List ℕ} {m n v : ℕ} {l₀ l : List ℕ} {c line h : �
     in-line : (k : ℕ) → lo ≤ k → k < hi → Linked link line k h
     in-line k x y = run-joined s e k x y h (s .le) (e .after)
 
+    -- a new label, of this run or of one before
+    run-new : c + r ≢ 0 → Dec (r ≡ 0) → NewLabel m n v l₀ l′
+    run-new z (no y) =
+        let w = R .new y in
+        let in-n : w .0 < n = omega (arith, w .2, e .le) in
+        record {
+          line = line;
+          k = w .0;
+          line-in = ll;
+          k-in = in-n;
+          was = part-was (G .part line ll (w .0) in-n) (w .3);
+          is = fill-new (R .fill (w .0) (w .2) (w .1)) (w .3);
+        }
+    run-new z (yes y) =
+        let w = G .new (λ x. z (omega arith)) in
+        record {
+          line = w .line;
+          k = w .k;
+          line-in = w .line-in;
+          k-in = w .k-in;
+          was = w .was;
+          is = run-held R few (e .le) (w .line) (w .k) (w .k-in) (λ x. omega (arith, w .is)) ∙ w .is;
+        }
+
     visited-run : Visited other link m n v (h * stride + (line + 1)) l₀ l′ (c + r)
     visited-run = record {
       size = R .size ∙ G .size;
@@ -198,6 +234,7 @@ module _ {other link : List ℕ} {m n v : ℕ} {l₀ l : List ℕ} {c line h : �
       did = did-more (λ i li k lk d. done-grown R few (e .le) d) (labelled run-on);
       count = omega (arith, G .count, R .count);
       same = λ z. R .same (omega arith) ∙ G .same (omega arith);
+      new = λ z. run-new z (ℕ-discrete r 0);
       full = record {
         joined = λ i li. record {
           on = λ k q lk lq z t.

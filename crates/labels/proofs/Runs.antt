@@ -40,6 +40,7 @@ filled-none line lo v l = record {
   high = λ i p. refl;
   count = add-zero (zeros l);
   same = λ e. refl;
+  new = λ e. absurd (e refl);
 }
 
 module _ {line lo k v : ℕ} {l₀ l : List ℕ} {c : ℕ} (R : RunFilled line lo k v l₀ l c) where
@@ -52,6 +53,7 @@ module _ {line lo k v : ℕ} {l₀ l : List ℕ} {c : ℕ} (R : RunFilled line l
     high = λ i p. R .high i (omega arith);
     count = R .count;
     same = R .same;
+    new = λ e. let w = R .new e in (w .0, w .1, omega (arith, w .2), w .3);
   }
 
   pub filled-puts : line * stride + k < length l₀ → lo ≤ k → along l line k ≡ 0 →
@@ -69,6 +71,7 @@ module _ {line lo k v : ℕ} {l₀ l : List ℕ} {c : ℕ} (R : RunFilled line l
         high = λ i a. getD-set-other l at i (v + 1) 0 (omega arith) ∙ R .high i (omega arith);
         count = omega (arith, zeros-set l at v (omega arith) z, R .count);
         same = λ e. absurd (omega arith);
+        new = λ e. (k, p, omega arith, sym (R .high at (omega arith)) ∙ z);
       }
 
 -- crossing after crossing

@@ -107,7 +107,7 @@ pub data Fill (v : ℕ) : ℕ → ℕ → Type 0 where
   fresh : Fill v 0 (v + 1)
 
 -- the crossings lo to k, k excluded, of a line get labels where they have none: the labels before and after, c of which
--- are new
+-- are new, and one that is, if there are any
 pub record RunFilled (line lo k v : ℕ) (l₀ l : List ℕ) (c : ℕ) : Type 0 where
   pub size : length l ≡ length l₀
   pub fill : (j : ℕ) → j < k → lo ≤ j → Fill v (along l₀ line j) (along l line j)
@@ -115,6 +115,7 @@ pub record RunFilled (line lo k v : ℕ) (l₀ l : List ℕ) (c : ℕ) : Type 0 
   pub high : (i : ℕ) → line * stride + k ≤ i → getD l i 0 ≡ getD l₀ i 0
   pub count : zeros l + c ≡ zeros l₀
   pub same : c ≡ 0 → l ≡ l₀
+  pub new : c ≢ 0 → (j : ℕ) × (lo ≤ j) × (j < k) × (along l₀ line j ≡ 0)
 
 -- the lists of m lines with n crossings each: their labels, inks and links, and the other direction's labels and inks
 pub record OneWay (lab own other inks link cross : List ℕ) (m n : ℕ) : Type 0 where
@@ -173,6 +174,15 @@ pub data Done (other link : List ℕ) (line n v : ℕ) (l : List ℕ) (k : ℕ) 
   labelled : ((q : ℕ) → q < n → Linked link line k q → along l line q ≢ 0) → Done other link line n v l k
   waits : Left other link line k v → Done other link line n v l k
 
+-- a crossing of m lines with n crossings each had no label, and has the label v + 1: the labels before and after
+pub record NewLabel (m n v : ℕ) (l₀ l : List ℕ) : Type 0 where
+  pub line : ℕ
+  pub k : ℕ
+  pub line-in : line < m
+  pub k-in : k < n
+  pub was : along l₀ line k ≡ 0
+  pub is : along l line k ≡ v + 1
+
 -- the crossings with the label v before place p of the other direction's labels are visited: what that did to the
 -- labels, c of which are new
 pub record Visited (other link : List ℕ) (m n v p : ℕ) (l₀ l : List ℕ) (c : ℕ) : Type 0 where
@@ -181,6 +191,7 @@ pub record Visited (other link : List ℕ) (m n v p : ℕ) (l₀ l : List ℕ) (
   pub did : (i : ℕ) → i < m → (k : ℕ) → k < n → k * stride + i < p → across other i k ≡ v → Done other link i n v l k
   pub count : zeros l + c ≡ zeros l₀
   pub same : c ≡ 0 → l ≡ l₀
+  pub new : c ≢ 0 → NewLabel m n v l₀ l
   pub full : Full link l m n (floor v)
 
 -- the marks span the crossings that got labels

@@ -47,6 +47,13 @@ pub data Rounds (kl ku cols rows : List ℕ) (nc nr : ℕ) (l₀ u₀ wl₀ wu�
       Pass l′ ku nc nr v u u′ → Inked l′ wl′ ku rows nc nr v u u′ wu wu′ →
       Rounds kl ku cols rows nc nr l₀ u₀ wl₀ wu₀ (v + 1) l′ u′ wl′ wu′
 
+-- whatever rounds lead to, all labels are below the largest
+pub record Shallow (kl ku cols rows : List ℕ) (nc nr : ℕ) (l₀ u₀ wl₀ wu₀ : List ℕ) : Type 0 where
+  pub level : {v : ℕ} {l u wl wu : List ℕ} → Rounds kl ku cols rows nc nr l₀ u₀ wl₀ wu₀ v l u wl wu →
+      (j : ℕ) → j < nr → (i : ℕ) → i < nc → along l j i < labelTop
+  pub upright : {v : ℕ} {l u wl wu : List ℕ} → Rounds kl ku cols rows nc nr l₀ u₀ wl₀ wu₀ v l u wl wu →
+      (i : ℕ) → i < nc → (j : ℕ) → j < nr → along u i j < labelTop
+
 -- what is known before the last round is tried for the crossing of column i and row j
 pub record Trying (l u wl wu : List ℕ) (nc nr i j v : ℕ) : Type 0 where
   pub i-in : i < nc

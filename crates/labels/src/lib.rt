@@ -31,7 +31,7 @@ ghost use Rattle.runs.specs.Ink.{OnLine, Blank};
 ghost use Rattle.labels.specs.Pass.{Below, floor, Marks, Marked, Widened, NextNew, Summed};
 ghost use Rattle.labels.specs.Pass.{OneWay, LineLists, Visiting, Seeking, PassRoom};
 ghost use Rattle.labels.specs.Pass.{CellFilled, RunFilled, Visit, PassTo, Alone};
-ghost use Rattle.labels.specs.Rounds.{Sized, Begun, Trying, Tried, Ended};
+ghost use Rattle.labels.specs.Rounds.{Sized, Begun, Shallow, Trying, Tried, Ended};
 ghost use Rattle.labels.specs.Walk.{Walkable, WalkFrom, LevelWalk, UprightWalk};
 
 // The marks of the lines of a direction have two numbers for each.
@@ -59,7 +59,7 @@ fn widen(marks: &mut [u16], line: usize, run: Run)
 }
 
 // The first crossing of a line with the label v from the crossing `at` on, or `end`.
-fn scan_new(labels: &[u32], line: usize, at: usize, end: usize, v: u32) -> usize
+fn scan_new(labels: &[u16], line: usize, at: usize, end: usize, v: u16) -> usize
     requires { ⌜ (line < stride) × (end ≤ stride) × HasLine (now labels) line ⌝ }
     ensures { λ r. ⌜ NextNew (now (labels .entry)) line at end v r ⌝ }
 {
@@ -74,7 +74,7 @@ fn scan_new(labels: &[u32], line: usize, at: usize, end: usize, v: u32) -> usize
 }
 
 // The same. It is no more than `end`, as `run_start` is no more than its crossing.
-fn next_new(labels: &[u32], line: usize, at: usize, end: usize, v: u32) -> usize
+fn next_new(labels: &[u16], line: usize, at: usize, end: usize, v: u16) -> usize
     requires { ⌜ (line < stride) × (end ≤ stride) × HasLine (now labels) line ⌝ }
     ensures { λ r. ⌜ NextNew (now (labels .entry)) line at end v r ⌝ }
 {
@@ -82,7 +82,7 @@ fn next_new(labels: &[u32], line: usize, at: usize, end: usize, v: u32) -> usize
 }
 
 // The sum of the labels of a line with n crossings, each of which is 1 at most.
-fn sum_of(labels: &[u32], line: usize, n: usize) -> u32
+fn sum_of(labels: &[u16], line: usize, n: usize) -> u16
     requires { ⌜ (line < stride) × (n ≤ stride) × HasLine (now labels) line
         × ((k : ℕ) → k < n → along (now labels) line k ≤ 1) ⌝ }
     ensures { λ r. ⌜ Summed (now (labels .entry)) line n r ⌝ }
@@ -97,7 +97,7 @@ fn sum_of(labels: &[u32], line: usize, n: usize) -> u32
 }
 
 // Marks the lines, m with n crossings each, that have a target's label, from end to end.
-fn mark_targets(marks: &mut [u16], labels: &[u32], m: usize, n: usize)
+fn mark_targets(marks: &mut [u16], labels: &[u16], m: usize, n: usize)
     requires { ⌜ (m ≤ stride) × (n ≤ stride) × (m * stride ≤ length (now labels))
         × (2 * stride ≤ length (now marks)) ⌝ }
     requires { ⌜ Below m n (now labels) 1 × Marks (now marks) n ⌝ }
@@ -120,7 +120,7 @@ fn mark_targets(marks: &mut [u16], labels: &[u32], m: usize, n: usize)
 }
 
 // Gives crossing k of a line the label v + 1, if it has none. Returns how many labels are new.
-fn fill_cell(labels: &mut [u32], line: usize, k: usize, v: u32, blank: bool) -> usize
+fn fill_cell(labels: &mut [u16], line: usize, k: usize, v: u16, blank: bool) -> usize
     requires { ⌜ (line < stride) × (k < stride) × (v < labelTop) × HasLine (now labels) line ⌝ }
     requires { ⌜ (blank ≡ true → along (now labels) line k ≡ 0) ⌝ }
     ensures { λ r. ⌜ CellFilled line k v (now (labels .entry)) (now (labels .exit)) r ⌝ }
@@ -133,7 +133,7 @@ fn fill_cell(labels: &mut [u32], line: usize, k: usize, v: u32, blank: bool) -> 
 }
 
 // The same for the crossings lo to hi, hi excluded. Where they are known to be blank, they are not looked at.
-fn fill_run(labels: &mut [u32], line: usize, lo: usize, hi: usize, v: u32, blank: bool) -> usize
+fn fill_run(labels: &mut [u16], line: usize, lo: usize, hi: usize, v: u16, blank: bool) -> usize
     requires { ⌜ (line < stride) × (hi ≤ stride) × (lo ≤ hi) × (v < labelTop) × HasLine (now labels) line ⌝ }
     requires { ⌜ (blank ≡ true → Blank (now labels) line lo hi) ⌝ }
     ensures { λ r. ⌜ RunFilled line lo hi v (now (labels .entry)) (now (labels .exit)) r ⌝ }
@@ -148,7 +148,7 @@ fn fill_run(labels: &mut [u32], line: usize, lo: usize, hi: usize, v: u32, blank
 }
 
 // Up to which label a crossing may have no run yet in the round that looks for v: 1, the target's, in the first.
-fn floor_of(v: u32) -> u32
+fn floor_of(v: u16) -> u16
     ensures { λ r. ⌜ r ≡ floor v ⌝ }
 {
     if v < 2 {
@@ -160,19 +160,19 @@ fn floor_of(v: u32) -> u32
 // Gives the run of crossing k inks and labels, unless a label above `low` says that this is done, or it is left to the
 // visit of a crossing before k.
 fn visit(
-    labels: &mut [u32],
+    labels: &mut [u16],
     own: &mut [u32],
     ahead: &mut [u32],
     behind: &mut [u32],
-    other: &[u32],
+    other: &[u16],
     inks: &[u32],
     link: &[u8],
     cross: &[u16],
     line: usize,
     n: usize,
     k: usize,
-    v: u32,
-    low: u32,
+    v: u16,
+    low: u16,
 ) -> Run
     requires { ⌜ OnLine (now other) (now inks) (now cross) line n v × LineLists (now labels) (now own) (now link) line
         × Visiting (now labels) (now other) (now link) (now ahead) (now behind) line n k v low ⌝ }
@@ -220,19 +220,19 @@ fn visit(
 // A pass over m lines with n crossings each: labels v + 1 what is joined with a label v of the other direction, whose
 // marks are `from`, and marks the lines where labels are new. Returns how many are.
 fn label_pass(
-    labels: &mut [u32],
+    labels: &mut [u16],
     own: &mut [u32],
     marks: &mut [u16],
     ahead: &mut [u32],
     behind: &mut [u32],
-    other: &[u32],
+    other: &[u16],
     inks: &[u32],
     link: &[u8],
     cross: &[u16],
     from: &[u16],
     m: usize,
     n: usize,
-    v: u32,
+    v: u16,
 ) -> usize
     requires { ⌜ OneWay (now labels) (now own) (now other) (now inks) (now link) (now cross) m n
         × Seeking (now labels) (now other) (now inks) (now link) (now from) m n v
@@ -276,16 +276,16 @@ fn label_pass(
 // Gives crossing k of a line alone what a pass gives it: if it has no label and is joined with a label v of the other
 // direction, the label v + 1 and its ink. Returns whether it has a label then.
 fn label_alone(
-    labels: &mut [u32],
+    labels: &mut [u16],
     own: &mut [u32],
-    other: &[u32],
+    other: &[u16],
     inks: &[u32],
     link: &[u8],
     cross: &[u16],
     line: usize,
     n: usize,
     k: usize,
-    v: u32,
+    v: u16,
 ) -> bool
     requires { ⌜ OnLine (now other) (now inks) (now cross) line n v × LineLists (now labels) (now own) (now link) line
         × (k < n) ⌝ }
@@ -309,8 +309,8 @@ fn label_alone(
 // Gives the crossing of column i and row j alone what a round gives it that looks for the label v. Returns whether it
 // has a label then: the round would be the last one.
 fn last_round(
-    level: &mut [u32],
-    upright: &mut [u32],
+    level: &mut [u16],
+    upright: &mut [u16],
     il: &mut [u32],
     iu: &mut [u32],
     kl: &[u8],
@@ -321,7 +321,7 @@ fn last_round(
     nr: usize,
     i: usize,
     j: usize,
-    v: u32,
+    v: u16,
 ) -> bool
     requires { ⌜ Sized (now level) (now upright) (now il) (now iu) (now kl) (now ku) (now cols) (now rows) nc nr
         × Trying (now level) (now upright) (now il) (now iu) nc nr i j v ⌝ }
@@ -341,8 +341,8 @@ fn last_round(
 // nothing. Returns whether it has one. The last round labels that crossing alone: a walk from it comes over smaller
 // labels only. The targets have labels.
 pub fn rounds(
-    level: &mut [u32],
-    upright: &mut [u32],
+    level: &mut [u16],
+    upright: &mut [u16],
     il: &mut [u32],
     iu: &mut [u32],
     kl: &[u8],
@@ -357,6 +357,7 @@ pub fn rounds(
     requires { ⌜ Sized (now level) (now upright) (now il) (now iu) (now kl) (now ku) (now cols) (now rows) nc nr
         × (i < nc) × (j < nr) ⌝ }
     requires { ⌜ Begun (now level) (now upright) (now il) (now iu) nc nr ⌝ }
+    requires { ⌜ Shallow (now kl) (now ku) (now cols) (now rows) nc nr (now level) (now upright) (now il) (now iu) ⌝ }
     ensures { λ r. ⌜ Ended (now (kl .entry)) (now (ku .entry)) (now (cols .entry)) (now (rows .entry)) nc nr i j
         (now (level .entry)) (now (upright .entry)) (now (il .entry)) (now (iu .entry))
         (now (level .exit)) (now (upright .exit)) (now (il .exit)) (now (iu .exit)) r ⌝ }
@@ -367,7 +368,7 @@ pub fn rounds(
     let mut mu = [0u16; MARKS];
     mark_targets(&mut ml, level, nr, nc);
     mark_targets(&mut mu, upright, nc, nr);
-    let mut v = 1u32;
+    let mut v = 1u16;
     loop {
         if last_round(level, upright, il, iu, kl, ku, cols, rows, nc, nr, i, j, v) {
             return true;
@@ -418,8 +419,8 @@ pub fn rounds(
 // then.
 pub fn level_step(
     out: &mut [u16],
-    level: &[u32],
-    upright: &[u32],
+    level: &[u16],
+    upright: &[u16],
     il: &[u32],
     iu: &[u32],
     kl: &[u8],
@@ -430,7 +431,7 @@ pub fn level_step(
     nr: usize,
     i: usize,
     j: usize,
-    v: u32,
+    v: u16,
     at: usize,
 ) -> usize
     requires { ⌜ Walkable (now level) (now upright) (now il) (now iu) (now kl) (now ku) (now cols) (now rows) nc nr ⌝ }
@@ -468,8 +469,8 @@ pub fn level_step(
 // The same for its upright label, and an upright segment.
 pub fn upright_step(
     out: &mut [u16],
-    level: &[u32],
-    upright: &[u32],
+    level: &[u16],
+    upright: &[u16],
     il: &[u32],
     iu: &[u32],
     kl: &[u8],
@@ -480,7 +481,7 @@ pub fn upright_step(
     nr: usize,
     i: usize,
     j: usize,
-    v: u32,
+    v: u16,
     at: usize,
 ) -> usize
     requires { ⌜ Walkable (now level) (now upright) (now il) (now iu) (now kl) (now ku) (now cols) (now rows) nc nr ⌝ }

@@ -45,9 +45,9 @@ pub record Left (other link : List ℕ) (line at v : ℕ) : Type 0 where
   pub linked : Linked link line at j
   pub stop : across other line j ≡ v
 
--- no label is larger: a round that is not the last one gives a label to a crossing, in one direction or the other
+-- no label is larger: a label is a number of 16 bits
 abbrev pub labelTop : ℕ
-labelTop = 144724
+labelTop = 65535
 
 -- crossing k is a stop for the label v, over which s steps lead from x: it has that label in the other direction, and
 -- its ink there and the steps from x to it make s

@@ -83,7 +83,7 @@ pub fn run_end(link: &[u8], line: usize, n: usize, at: usize) -> usize
 
 // Whether the visit of crossing `at` can be left to one before it: in the first round, where a crossing before it that
 // is joined with it has the label v in the other direction as well. So the run of many targets is visited once.
-pub fn is_left(other: &[u32], link: &[u8], line: usize, at: usize, v: u32) -> bool
+pub fn is_left(other: &[u16], link: &[u8], line: usize, at: usize, v: u16) -> bool
     requires { ⌜ (line < stride) × (at ≤ stride) × (at * stride ≤ length (now other)) × HasLine (now link) line ⌝ }
     ensures { λ r. ⌜ (r ≡ true → Left (now (other .entry)) (now (link .entry)) line at v) ⌝ }
 {
@@ -105,13 +105,13 @@ pub fn is_left(other: &[u32], link: &[u8], line: usize, at: usize, v: u32) -> bo
 
 // Whether crossing k of a line is a stop for the label v, over which s steps lead from x.
 fn is_stop(
-    other: &[u32],
+    other: &[u16],
     inks: &[u32],
     cross: &[u16],
     line: usize,
     k: usize,
     x: u16,
-    v: u32,
+    v: u16,
     s: u32,
 ) -> bool
     requires { ⌜ AtCrossing (now other) (now inks) line v k × (k < length (now cross)) ⌝ }
@@ -128,7 +128,7 @@ fn is_stop(
 
 // The first such stop from the crossing lo on, and joined with it, or n.
 fn scan(
-    other: &[u32],
+    other: &[u16],
     inks: &[u32],
     link: &[u8],
     cross: &[u16],
@@ -136,7 +136,7 @@ fn scan(
     n: usize,
     lo: usize,
     x: u16,
-    v: u32,
+    v: u16,
     s: u32,
 ) -> usize
     requires { ⌜ OnLine (now other) (now inks) (now cross) line n v × HasLine (now link) line × (lo ≤ n) ⌝ }
@@ -158,14 +158,14 @@ fn scan(
 
 // The first stop for the label v joined with the crossing `at`, over which s steps lead from there, or n.
 pub fn next_stop(
-    other: &[u32],
+    other: &[u16],
     inks: &[u32],
     link: &[u8],
     cross: &[u16],
     line: usize,
     n: usize,
     at: usize,
-    v: u32,
+    v: u16,
     s: u32,
 ) -> usize
     requires { ⌜ OnLine (now other) (now inks) (now cross) line n v × HasLine (now link) line × (at < n) ⌝ }
@@ -187,7 +187,7 @@ pub fn next_stop(
 }
 
 // The least of `best` and, where crossing k of a line is a stop for the label v, its ink and x more.
-fn carry(other: &[u32], inks: &[u32], line: usize, k: usize, v: u32, x: u32, best: u32) -> u32
+fn carry(other: &[u16], inks: &[u32], line: usize, k: usize, v: u16, x: u32, best: u32) -> u32
     requires { ⌜ AtCrossing (now other) (now inks) line v k × (x ≤ 4096) ⌝ }
     ensures { λ r. ⌜ Carried (now (other .entry)) (now (inks .entry)) line v k x best r ⌝ }
 {
@@ -198,7 +198,7 @@ fn carry(other: &[u32], inks: &[u32], line: usize, k: usize, v: u32, x: u32, bes
 }
 
 // The first of the crossings lo to hi, hi excluded, of a line that has the label v in the other direction, or hi.
-pub fn first_stop(other: &[u32], line: usize, lo: usize, hi: usize, v: u32) -> usize
+pub fn first_stop(other: &[u16], line: usize, lo: usize, hi: usize, v: u16) -> usize
     requires { ⌜ (line < stride) × (lo ≤ hi) × (hi ≤ stride) × (hi * stride ≤ length (now other)) ⌝ }
     ensures { λ r. ⌜ FirstStop (now (other .entry)) line v lo hi r ⌝ }
 {
@@ -214,7 +214,7 @@ pub fn first_stop(other: &[u32], line: usize, lo: usize, hi: usize, v: u32) -> u
 
 // The least ink at crossing `at` over the stops for the label v from crossing h, which is one, to hi, hi excluded.
 pub fn ink_at(
-    other: &[u32],
+    other: &[u16],
     inks: &[u32],
     cross: &[u16],
     line: usize,
@@ -222,7 +222,7 @@ pub fn ink_at(
     h: usize,
     hi: usize,
     at: usize,
-    v: u32,
+    v: u16,
 ) -> u32
     requires { ⌜ OnLine (now other) (now inks) (now cross) line n v × StopIn (now other) line n v h hi h × (at < n) ⌝ }
     ensures { λ r. ⌜ Least (now (other .entry)) (now (inks .entry)) (now (cross .entry)) line v h hi h hi
@@ -242,7 +242,7 @@ pub fn ink_at(
 // from it on, and its number more. Crossing h of the run is a stop.
 pub fn ahead_of(
     ahead: &mut [u32],
-    other: &[u32],
+    other: &[u16],
     inks: &[u32],
     cross: &[u16],
     line: usize,
@@ -250,7 +250,7 @@ pub fn ahead_of(
     lo: usize,
     hi: usize,
     h: usize,
-    v: u32,
+    v: u16,
 )
     requires { ⌜ OnLine (now other) (now inks) (now cross) line n v × StopIn (now other) line n v lo hi h
         × (stride ≤ length (now ahead)) ⌝ }
@@ -270,7 +270,7 @@ pub fn ahead_of(
 // The sweep up: the least ink at each over the stops up to it, and as much more as its number is below 4,096.
 pub fn behind_of(
     behind: &mut [u32],
-    other: &[u32],
+    other: &[u16],
     inks: &[u32],
     cross: &[u16],
     line: usize,
@@ -278,7 +278,7 @@ pub fn behind_of(
     lo: usize,
     hi: usize,
     h: usize,
-    v: u32,
+    v: u16,
 )
     requires { ⌜ OnLine (now other) (now inks) (now cross) line n v × StopIn (now other) line n v lo hi h
         × (stride ≤ length (now behind)) ⌝ }
@@ -306,7 +306,7 @@ fn ink_of(ahead: u32, behind: u32, x: u16) -> u32
 }
 
 // Whether crossing k of a line has a label. Where it is known to be blank, it is not looked at.
-pub fn has_label(labels: &[u32], line: usize, k: usize, blank: bool) -> bool
+pub fn has_label(labels: &[u16], line: usize, k: usize, blank: bool) -> bool
     requires { ⌜ (line < stride) × (k < stride) × HasLine (now labels) line ⌝ }
     requires { ⌜ (blank ≡ true → along (now labels) line k ≡ 0) ⌝ }
     ensures { λ r. ⌜ (r ≡ true → along (now (labels .entry)) line k ≢ 0)
@@ -322,7 +322,7 @@ pub fn has_label(labels: &[u32], line: usize, k: usize, blank: bool) -> bool
 }
 
 // Gives crossing k of a line the ink s, if it has no label.
-fn put_ink(own: &mut [u32], labels: &[u32], line: usize, k: usize, s: u32, blank: bool)
+fn put_ink(own: &mut [u32], labels: &[u16], line: usize, k: usize, s: u32, blank: bool)
     requires { ⌜ (line < stride) × (k < stride) × HasLine (now own) line × HasLine (now labels) line ⌝ }
     requires { ⌜ (blank ≡ true → along (now labels) line k ≡ 0) ⌝ }
     ensures { λ _. ⌜ InkPut line k s (now (labels .entry)) (now (own .entry)) (now (own .exit)) ⌝ }
@@ -339,15 +339,15 @@ pub fn ink_run(
     own: &mut [u32],
     ahead: &[u32],
     behind: &[u32],
-    labels: &[u32],
-    other: &[u32],
+    labels: &[u16],
+    other: &[u16],
     inks: &[u32],
     cross: &[u16],
     line: usize,
     n: usize,
     lo: usize,
     hi: usize,
-    v: u32,
+    v: u16,
     blank: bool,
 )
     requires { ⌜ Swept (now other) (now inks) (now cross) line n v lo hi (now ahead) (now behind) ⌝ }

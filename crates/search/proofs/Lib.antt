@@ -1,5 +1,6 @@
 -- Laws of the search.
 pub mod Grid
+pub mod Shallow
 pub mod Choice
 pub mod Written
 pub mod Search

@@ -50,7 +50,7 @@ fewBoxes = 33
 abbrev pub fewArea : ℕ
 fewArea = 18561
 
--- and it has few of them
+-- a search can be asked, and it has few of them
 pub record FewAsked (z t : List ℕ) (a : Aim) : Type 0 where
   pub aimed : Aimed z t a
   pub few : a .n + a .k ≤ fewBoxes

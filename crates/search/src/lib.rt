@@ -18,10 +18,10 @@ use sowing::is_boxed;
 use sowing::sow_targets;
 ghost use mathlib.Core.Path.{_≡_};
 ghost use mathlib.Core.List.{[], _∷_};
-ghost use mathlib.Core.Option.{Option, some};
+ghost use mathlib.Core.Option.{some};
 ghost use Prim.Native.Nat.{_+_, _*_, _≤_, _<_};
 ghost use lib.ListN.{length};
-ghost use Rattle.foil_spec.specs.Foil.{Point, point};
+ghost use Rattle.foil_spec.specs.Foil.{point};
 ghost use Rattle.foil_spec.specs.Paths.{firstPath};
 ghost use Rattle.zones.specs.Boxes.{boxFree};
 ghost use Rattle.grid.specs.Size.{stride};
@@ -133,8 +133,8 @@ fn index_of(lines: &[u16], n: usize, x: u16) -> usize
 
 // Labels the crossings of the grid from the targets on until the start has a label or there is nothing more to label.
 fn label(
-    level: &mut [u32],
-    upright: &mut [u32],
+    level: &mut [u16],
+    upright: &mut [u16],
     il: &mut [u32],
     iu: &mut [u32],
     kl: &[u8],
@@ -165,7 +165,7 @@ fn label(
 }
 
 // The label of crossing k of a line.
-fn label_at(labels: &[u32], line: usize, k: usize) -> u32
+fn label_at(labels: &[u16], line: usize, k: usize) -> u16
     requires { ⌜ line * stride + k < length (now labels) ⌝ }
     ensures { λ r. ⌜ r ≡ along (now (labels .entry)) line k ⌝ }
 {
@@ -175,8 +175,8 @@ fn label_at(labels: &[u32], line: usize, k: usize) -> u32
 // Whether the first path goes upright from the crossing of column i and row j, which has a label. Where both ways
 // need as many segments and steps, it does so if that leads to a smaller y.
 fn starts_upright(
-    level: &[u32],
-    upright: &[u32],
+    level: &[u16],
+    upright: &[u16],
     il: &[u32],
     iu: &[u32],
     ku: &[u8],
@@ -222,8 +222,8 @@ fn starts_upright(
 
 // Where the walk starts: at the start's crossing, if it was found to have a label.
 fn start_at(
-    level: &[u32],
-    upright: &[u32],
+    level: &[u16],
+    upright: &[u16],
     il: &[u32],
     iu: &[u32],
     ku: &[u8],
@@ -275,8 +275,8 @@ fn start_at(
 // Searches the first path of fewest bends from a free point of a foil to a target, and says how many corners it has: 0
 // where there is no path. What it leaves in the lists is for `walk`; before, the lists of labels hold zeros.
 fn labels(
-    level: &mut [u32],
-    upright: &mut [u32],
+    level: &mut [u16],
+    upright: &mut [u16],
     il: &mut [u32],
     iu: &mut [u32],
     cols: &mut [u16],
@@ -314,8 +314,8 @@ fn labels(
 // Writes the corners of the first path to the front of `out` and nothing else, from what `labels` left.
 fn walk(
     out: &mut [u16],
-    level: &[u32],
-    upright: &[u32],
+    level: &[u16],
+    upright: &[u16],
     il: &[u32],
     iu: &[u32],
     kl: &[u8],
@@ -379,8 +379,8 @@ fn walk(
 // Writes the corners of the path that `labels` found where they fit, and answers how many there are.
 fn write_path(
     out: &mut [u16],
-    level: &[u32],
-    upright: &[u32],
+    level: &[u16],
+    upright: &[u16],
     il: &[u32],
     iu: &[u32],
     kl: &[u8],
@@ -408,8 +408,8 @@ fn write_path(
 // Searches the first path, and writes its corners where they fit.
 fn path_in(
     out: &mut [u16],
-    level: &mut [u32],
-    upright: &mut [u32],
+    level: &mut [u16],
+    upright: &mut [u16],
     il: &mut [u32],
     iu: &mut [u32],
     cols: &mut [u16],
@@ -447,8 +447,8 @@ fn path_among_few(out: &mut [u16], boxes: &[u16], targets: &[u16], aim: Aim) -> 
     ensures { λ r. ⌜ PathFound (pathTo (now (boxes .entry)) (now (targets .entry)) aim)
         (now (out .entry)) (now (out .exit)) r ⌝ }
 {
-    let mut level = [0u32; FEW_AREA];
-    let mut upright = [0u32; FEW_AREA];
+    let mut level = [0u16; FEW_AREA];
+    let mut upright = [0u16; FEW_AREA];
     let mut il = [0u32; FEW_AREA];
     let mut iu = [0u32; FEW_AREA];
     let mut cols = [0u16; STRIDE];
@@ -477,8 +477,8 @@ fn path_among_many(out: &mut [u16], boxes: &[u16], targets: &[u16], aim: Aim) ->
     ensures { λ r. ⌜ PathFound (pathTo (now (boxes .entry)) (now (targets .entry)) aim)
         (now (out .entry)) (now (out .exit)) r ⌝ }
 {
-    let mut level = [0u32; AREA];
-    let mut upright = [0u32; AREA];
+    let mut level = [0u16; AREA];
+    let mut upright = [0u16; AREA];
     let mut il = [0u32; AREA];
     let mut iu = [0u32; AREA];
     let mut cols = [0u16; STRIDE];

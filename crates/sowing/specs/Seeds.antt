@@ -68,8 +68,8 @@ pub record Sowable (b hi : ℕ) (l w : List ℕ) : Type 0 where
   pub lines-in : b ≤ m
   pub crossings-in : hi ≤ n
 
--- what is asked to sow what the first n boxes of the table z leave free of a block, the crossings lo to hi, hi excluded,
--- of the lines a to b, b excluded
+-- what is asked to sow what n boxes of the table z leave free of a block, the crossings lo to hi, hi excluded, of the
+-- lines a to b, b excluded
 pub record BlockAsked (z : List ℕ) (n : ℕ) (lines cross : List ℕ) (a b lo hi : ℕ) (l w : List ℕ) : Type 0 where
   pub boxes : n * 5 ≤ length z
   pub lines-there : b ≤ length lines

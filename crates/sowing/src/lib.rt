@@ -83,7 +83,7 @@ fn boxes_near(boxes: &[u16], n: usize, target: Entry) -> usize
 }
 
 // Sows crossing k of a line.
-fn sow(labels: &mut [u32], inks: &mut [u32], line: usize, k: usize)
+fn sow(labels: &mut [u16], inks: &mut [u32], line: usize, k: usize)
     requires { ⌜ Sowable (line + 1) (k + 1) (now labels) (now inks) ⌝ }
     ensures { λ _. ⌜ BlockSown line (line + 1) k (k + 1) (λ i c. true) (now (labels .entry)) (now (inks .entry))
         (now (labels .exit)) (now (inks .exit)) ⌝ }
@@ -94,7 +94,7 @@ fn sow(labels: &mut [u32], inks: &mut [u32], line: usize, k: usize)
 
 // The same, if the first n boxes leave it free.
 fn sow_clear(
-    labels: &mut [u32],
+    labels: &mut [u16],
     inks: &mut [u32],
     boxes: &[u16],
     n: usize,
@@ -117,7 +117,7 @@ fn sow_clear(
 
 // The same for the crossings lo to hi, hi excluded.
 fn sow_run(
-    labels: &mut [u32],
+    labels: &mut [u16],
     inks: &mut [u32],
     boxes: &[u16],
     n: usize,
@@ -142,7 +142,7 @@ fn sow_run(
 
 // The same for the lines a to b, b excluded.
 fn sow_block(
-    labels: &mut [u32],
+    labels: &mut [u16],
     inks: &mut [u32],
     boxes: &[u16],
     n: usize,
@@ -168,7 +168,7 @@ fn sow_block(
 
 // The same for the crossings in target box e, of m lines with c crossings each.
 fn sow_box(
-    labels: &mut [u32],
+    labels: &mut [u16],
     inks: &mut [u32],
     boxes: &[u16],
     n: usize,
@@ -209,7 +209,7 @@ fn sow_box(
 
 // The same for all targets, where there is no label yet.
 pub fn sow_targets(
-    labels: &mut [u32],
+    labels: &mut [u16],
     inks: &mut [u32],
     boxes: &[u16],
     n: usize,

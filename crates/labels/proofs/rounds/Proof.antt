@@ -64,8 +64,10 @@ slice-aggregate-mark-targets c = search needs
 mark-targets-requires : tie.Need-mark-targets-requires Inv-loop μ-loop
 mark-targets-requires c κs =
     let pre = atStart c .pre in
-    let sized = pre .0 .0 in
-    ((sized .row-lines .few, sized .column-lines .few, sized .level, omega arith), (pre .1 .level-low, no-marks 538 _))
+    let sized = pre .0 .0 in (
+      (sized .row-lines .few, sized .column-lines .few, sized .level, omega arith),
+      (pre .1 .0 .level-low, no-marks 538 _),
+    )
 
 slice-aggregate-mark-targets-2 : tie.Need-slice-aggregate-mark-targets-2 Inv-loop μ-loop
 slice-aggregate-mark-targets-2 c = search needs
@@ -75,7 +77,7 @@ mark-targets-requires-2 c κs =
     let pre = atStart (c .before .before .before .before) .pre in
     let sized = pre .0 .0 in (
       (sized .column-lines .few, sized .row-lines .few, sized .upright, omega arith),
-      (pre .1 .upright-low, no-marks 538 _),
+      (pre .1 .0 .upright-low, no-marks 538 _),
     )
 
 loop-holds : tie.Need-loop-holds Inv-loop μ-loop
@@ -90,7 +92,7 @@ loop-holds c =
       upright .mark-targets2 .kept .0,
       refl,
       refl,
-      going-start _ _ _ _ (atStart (level .before) .pre .1) (level .mark-targets .ensures)
+      going-start _ _ _ _ (atStart (level .before) .pre .1 .0) (level .mark-targets .ensures)
           (upright .mark-targets2 .ensures),
     )
 
@@ -154,7 +156,7 @@ label-pass-requires c κs =
       record {
         pos = going .pos;
         top = omega (arith, going .top);
-        few = omega (arith, pre .1 .level-few, inv .0, size .0);
+        few = omega (arith, pre .1 .0 .level-few, inv .0, size .0);
         lean = going .upright-lean;
         marked = going .upright-marked;
         full = going .level-full;
@@ -198,7 +200,7 @@ label-pass-requires-2 c κs =
       record {
         pos = going .pos;
         top = omega (arith, going .top);
-        few = omega (arith, pre .1 .upright-few, inv .1, size .1 .0);
+        few = omega (arith, pre .1 .0 .upright-few, inv .1, size .1 .0);
         lean = going-lean C R going first;
         marked = going-second C R going first;
         full = going .upright-full;
@@ -218,7 +220,7 @@ add-if2 c =
     let going = tried-on (last .last-round .ensures) (inRound c .if1 .left) (atLoop (last .before) .loop .inv .8) .0 in
     let first = atFirst (atSecond c .before) .label-pass .ensures in
     let second = atSecond c .label-pass2 .ensures in
-    omega (arith, going .top, first .visited .count, second .visited .count)
+    omega (arith, going .few, first .visited .count, second .visited .count)
 
 same-length-5 : tie.Need-same-length-5 Inv-loop μ-loop
 same-length-5 c =
@@ -277,7 +279,8 @@ loop-again c =
     let kept = at-first .label-pass .kept .1 .1 in
     let kept2 = at-second .label-pass2 .kept .1 .1 in
     let size = last .last-round .kept in
-    let sized = begun (atLoop (last .before)) .pre .0 .0 in
+    let pre = begun (atLoop (last .before)) .pre in
+    let sized = pre .0 .0 in
     let inv = atLoop (last .before) .loop .inv in
     let going = tried-on (last .last-round .ensures) (not-last .if1 .left) (inv .8) .0 in (
       first .visited .size ∙ (size .0 ∙ inv .0),
@@ -288,7 +291,7 @@ loop-again c =
       kept2 .0,
       kept2 .1 .0 ∙ (kept .1 .0 ∙ inv .6),
       kept2 .1 .1 .0 ∙ (kept .1 .1 .0 ∙ inv .7),
-      going-next (sized .column-lines) (sized .row-lines) going first second (c .if2 .left),
+      going-next (sized .column-lines) (sized .row-lines) going first second (pre .1 .1) (c .if2 .left),
     )
 
 pub rounds-spec : {M : Type 1} → statement M

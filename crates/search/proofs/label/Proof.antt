@@ -5,6 +5,7 @@ use borrow.Author.Needs.{needs}
 use Rattle.sowing.proofs.Seeds.{sown-none, begun}
 use Rattle.sowing.proofs.Boxed.{aimed-twin}
 use Rattle.search.proofs.Grid.{start-on, same-sizes}
+use Rattle.search.proofs.Shallow.{shallow}
 use Rattle.search.proofs.label.Statement.{statement}
 use Rattle.search.proofs.label.Tie as tie
 
@@ -80,14 +81,18 @@ rounds-requires : tie.Need-rounds-requires
 rounds-requires c κs =
     let level = atLevel c .sow-targets in
     let upright = atUpright c .sow-targets2 in
-    let at-j = atJ (atLevel c .before) in (
+    let at-j = atJ (atLevel c .before) in
+    let asked = atStart at-j .pre in (
       (
-        same-sizes (atStart at-j .pre .sized) (omega (arith, level .kept)) (omega (arith, upright .kept))
+        same-sizes (asked .sized) (omega (arith, level .kept)) (omega (arith, upright .kept))
             (omega (arith, level .kept)) (omega (arith, upright .kept)),
         at-j .before .index-of .ensures .below,
         at-j .index-of2 .ensures .below,
       ),
-      begun (λ j lj i li. aimed-twin _ _ _ _ _ _ j i) (level .ensures) (upright .ensures),
+      (
+        begun (λ j lj i li. aimed-twin _ _ _ _ _ _ j i) (level .ensures) (upright .ensures),
+        shallow (asked .aimed) (asked .grid) (level .ensures) (upright .ensures),
+      ),
     )
 
 same-length : tie.Need-same-length

@@ -85,7 +85,8 @@ level-step-requires c κs =
         j-in = ready .j-in;
         pos = omega (arith, is, label, ready .some);
         is = sym is;
-        room = omega (arith, is, label, start .pre .room, firstWritten (c .before .before) .before .put-corner .kept .0);
+        room =
+            omega (arith, is, label, start .pre .room, firstWritten (c .before .before) .before .put-corner .kept .0);
       },
     )
 
