@@ -2,7 +2,7 @@
 use Prim.Native.Nat.{ℕ, _+_, _*_, _≤_, _<_}
 use mathlib.Core.Path.{_≡_}
 use mathlib.Core.List.{List, [], _∷_}
-use mathlib.Core.Bool.{true}
+use mathlib.Core.Bool.{Bool, true, false}
 use lib.ListN.{getD, length}
 use lib.Seq.{sets}
 use Rattle.foil_spec.specs.Foil.{point}
@@ -11,6 +11,7 @@ use Rattle.labels.specs.Rounds.{Sized}
 use Rattle.runs.specs.Line.{along, Linked, isStop, Stop, labelTop}
 use Rattle.runs.specs.Ink.{Lean}
 use Rattle.labels.specs.Pass.{Below}
+use Rattle.labels.specs.declared.Walker.{Walker}
 
 -- every label but the first rests on one of the other direction, a segment away, and its ink on the ink there
 pub record Grounded (own other wown wother link cross : List ℕ) (m n : ℕ) : Type 0 where
@@ -28,17 +29,27 @@ pub data Trail : (own other wown wother link link′ cross lines : List ℕ) (m 
       Trail other own wother wown link′ link lines cross n m q line v qs →
       Trail own other wown wother link link′ cross lines m n line k (v + 1) (q ∷ qs)
 
--- the corner list after a walk from column i and row j over the crossings, whose first segment is level or upright
-unfoldable mutual
-  pub levelOut : List ℕ → List ℕ → List ℕ → ℕ → ℕ → ℕ → List ℕ → List ℕ
-  levelOut cols rows out at i j [] = out
-  levelOut cols rows out at i j (q ∷ qs) =
-      uprightOut cols rows (sets out (at * 2) (pointNumbers (point (getD cols q 0) (getD rows j 0)))) (at + 1) q j qs
+-- the same from the crossing of column i and row j, the first segment level or, if up, upright
+unfoldable pub Trails : Bool → (l u wl wu kl ku cols rows : List ℕ) (nc nr i j v : ℕ) → List ℕ → Type 0
+Trails false l u wl wu kl ku cols rows nc nr i j v qs = Trail l u wl wu kl ku cols rows nr nc j i v qs
+Trails true l u wl wu kl ku cols rows nc nr i j v qs = Trail u l wu wl ku kl rows cols nc nr i j v qs
 
-  pub uprightOut : List ℕ → List ℕ → List ℕ → ℕ → ℕ → ℕ → List ℕ → List ℕ
-  uprightOut cols rows out at i j [] = out
-  uprightOut cols rows out at i j (q ∷ qs) =
-      levelOut cols rows (sets out (at * 2) (pointNumbers (point (getD cols i 0) (getD rows q 0)))) (at + 1) i q qs
+-- the label of a crossing in a direction
+unfoldable pub labelAt : Bool → List ℕ → List ℕ → ℕ → ℕ → ℕ
+labelAt false l u i j = along l j i
+labelAt true l u i j = along u i j
+
+-- a corner list with a corner put at a place
+abbrev pub withCorner : List ℕ → ℕ → ℕ → ℕ → List ℕ
+withCorner out at x y = sets out (at * 2) (pointNumbers (point x y))
+
+-- the corner list after a walk over the crossings, from the corner `at` on
+unfoldable pub walkOut : Bool → List ℕ → List ℕ → List ℕ → ℕ → ℕ → ℕ → List ℕ → List ℕ
+walkOut up cols rows out at i j [] = out
+walkOut false cols rows out at i j (q ∷ qs) =
+    walkOut true cols rows (withCorner out at (getD cols q 0) (getD rows j 0)) (at + 1) q j qs
+walkOut true cols rows out at i j (q ∷ qs) =
+    walkOut false cols rows (withCorner out at (getD cols i 0) (getD rows q 0)) (at + 1) i q qs
 
 -- what the walk is given
 pub record Walkable (l u wl wu kl ku cols rows : List ℕ) (nc nr : ℕ) : Type 0 where
@@ -50,26 +61,26 @@ pub record Walkable (l u wl wu kl ku cols rows : List ℕ) (nc nr : ℕ) : Type 
   pub level-lean : Lean nr nc l wl
   pub upright-lean : Lean nc nr u wu
 
--- and from where it goes: the crossing of column i and row j has the label v, and its corners fit from corner `at` on
-pub record WalkFrom (label : ℕ) (nc nr i j v at : ℕ) (out : List ℕ) : Type 0 where
-  pub i-in : i < nc
-  pub j-in : j < nr
-  pub pos : 1 ≤ v
-  pub is : label ≡ v
-  pub room : 2 * at + 2 * v ≤ length out + 2
+-- a walk under way stands at a crossing of the grid, with its label, and the list has room for its corners
+pub record Standing (l u : List ℕ) (nc nr : ℕ) (w : Walker) (out : List ℕ) : Type 0 where
+  pub i-in : w .i < nc
+  pub j-in : w .j < nr
+  pub some : 1 ≤ w .label
+  pub label : labelAt (w .upright) l u (w .i) (w .j) ≡ w .label
+  pub room : 2 * w .corners + 2 * w .label ≤ length out + 2
 
--- what a walk from column i and row j gives, the first segment level: the crossings, the corner list, and r corners
-pub record LevelWalk (l u wl wu kl ku cols rows : List ℕ) (nc nr i j v at : ℕ) (out out′ : List ℕ) (r : ℕ)
-    : Type 0 where
+-- what a walk on to a target gives: its crossings, and the corner list
+pub record Walk (l u wl wu kl ku cols rows : List ℕ) (nc nr : ℕ) (w : Walker) (out out′ : List ℕ) : Type 0 where
   pub crossings : List ℕ
-  pub trail : Trail l u wl wu kl ku cols rows nr nc j i v crossings
-  pub wrote : out′ ≡ levelOut cols rows out at i j crossings
-  pub count : r ≡ at + length crossings
+  pub trail : Trails (w .upright) l u wl wu kl ku cols rows nc nr (w .i) (w .j) (w .label) crossings
+  pub wrote : out′ ≡ walkOut (w .upright) cols rows out (w .corners) (w .i) (w .j) crossings
 
--- the same, the first segment upright
-pub record UprightWalk (l u wl wu kl ku cols rows : List ℕ) (nc nr i j v at : ℕ) (out out′ : List ℕ) (r : ℕ)
-    : Type 0 where
-  pub crossings : List ℕ
-  pub trail : Trail u l wu wl ku kl rows cols nc nr i j v crossings
-  pub wrote : out′ ≡ uprightOut cols rows out at i j crossings
-  pub count : r ≡ at + length crossings
+-- a part of a walk with so many legs left, from where w stands to where w′ does: it has come nearer to the target, if
+-- that is not met and there were legs, and a walk on from its end is a walk from where it began
+pub record Part (l u wl wu kl ku cols rows : List ℕ) (nc nr legs : ℕ) (w : Walker) (out : List ℕ) (w′ : Walker)
+    (out′ : List ℕ) : Type 0 where
+  pub standing : Standing l u nc nr w′ out′
+  pub falls : w′ .label ≤ w .label
+  pub nearer : 1 < w .label → 0 < legs → w′ .label < w .label
+  pub rest : (end : List ℕ) → Walk l u wl wu kl ku cols rows nc nr w′ out′ end
+      → Walk l u wl wu kl ku cols rows nc nr w out end

@@ -22,7 +22,7 @@ use runs::next_stop;
 use runs::run_end;
 use runs::run_start;
 ghost use mathlib.Core.Path.{_≡_};
-ghost use mathlib.Core.Bool.{true};
+ghost use mathlib.Core.Bool.{true, false};
 ghost use Prim.Native.Nat.{ℕ, _+_, _*_, _≤_, _<_};
 ghost use lib.ListN.{length};
 ghost use Rattle.grid.specs.Size.{stride};
@@ -32,7 +32,7 @@ ghost use Rattle.labels.specs.Pass.{Below, floor, Marks, Marked, Widened
 ghost use Rattle.labels.specs.Pass.{OneWay, LineLists, Visiting, Seeking, PassRoom};
 ghost use Rattle.labels.specs.Pass.{CellFilled, RunFilled, Visit, PassTo, Alone};
 ghost use Rattle.labels.specs.Rounds.{Sized, Begun, Shallow, Trying, Tried, Ended};
-ghost use Rattle.labels.specs.Walk.{Walkable, WalkFrom, LevelWalk, UprightWalk};
+ghost use Rattle.labels.specs.Walk.{Walkable, Standing, Walk, Part};
 
 // The marks of the lines of a direction have two numbers for each.
 const MARKS: usize = 538;
@@ -414,11 +414,24 @@ pub fn rounds(
     }
 }
 
-// Puts the corners after the crossing of column i and row j, whose level label is v, from corner `at` on: a level
-// segment to the first stop for one less over which its ink leads, and on from there. Returns the number of corners
-// then.
-pub fn level_step(
+// A walk under way: it stands at the crossing of column i and row j, whose label in the direction of its next segment
+// is `label`, and has written so many corners.
+pub struct Walker {
+    pub i: usize,
+    pub j: usize,
+    pub upright: bool,
+    pub label: u16,
+    pub corners: usize,
+}
+
+// A walk's parts have so many legs at most, so that the calls of the two steps go no deeper.
+const PART: usize = 32;
+
+// Puts the next corners of a walk whose next segment is level, at most as many as there are legs left: a level segment
+// to the first stop for one less over which the ink leads, and on from there. Returns where the walk stands then.
+fn level_step(
     out: &mut [u16],
+    legs: usize,
     level: &[u16],
     upright: &[u16],
     il: &[u32],
@@ -429,26 +442,39 @@ pub fn level_step(
     rows: &[u16],
     nc: usize,
     nr: usize,
-    i: usize,
-    j: usize,
-    v: u16,
-    at: usize,
-) -> usize
+    w: Walker,
+) -> Walker
     requires { ⌜ Walkable (now level) (now upright) (now il) (now iu) (now kl) (now ku) (now cols) (now rows) nc nr ⌝ }
-    requires { ⌜ WalkFrom (along (now level) j i) nc nr i j v at (now out) ⌝ }
-    ensures { λ r. ⌜ LevelWalk (now (level .entry)) (now (upright .entry)) (now (il .entry)) (now (iu .entry))
-        (now (kl .entry)) (now (ku .entry)) (now (cols .entry)) (now (rows .entry)) nc nr i j v at
-        (now (out .entry)) (now (out .exit)) r ⌝ }
+    requires { ⌜ Standing (now level) (now upright) nc nr w (now out) ⌝ }
+    requires { ⌜ w .upright ≡ false ⌝ }
+    ensures { λ r. ⌜ Part (now (level .entry)) (now (upright .entry)) (now (il .entry)) (now (iu .entry))
+        (now (kl .entry)) (now (ku .entry)) (now (cols .entry)) (now (rows .entry)) nc nr legs w (now (out .entry))
+        r (now (out .exit)) ⌝ }
 {
+    let v = w.label;
     if v == 1 {
-        return at;
+        return w;
     }
+    if legs == 0 {
+        return w;
+    }
+    let i = w.i;
+    let j = w.j;
+    let at = w.corners;
     let k = next_stop(upright, iu, kl, cols, j, nc, i, v - 1, il[j * STRIDE + i]);
     let x = cols[k];
     let y = rows[j];
     put_corner(out, at, Point { x, y });
+    let next = Walker {
+        i: k,
+        j,
+        upright: true,
+        label: v - 1,
+        corners: at + 1,
+    };
     upright_step(
         out,
+        legs - 1,
         level,
         upright,
         il,
@@ -459,15 +485,73 @@ pub fn level_step(
         rows,
         nc,
         nr,
-        k,
-        j,
-        v - 1,
-        at + 1,
+        next,
     )
 }
 
-// The same for its upright label, and an upright segment.
-pub fn upright_step(
+// The same for a walk whose next segment is upright.
+fn upright_step(
+    out: &mut [u16],
+    legs: usize,
+    level: &[u16],
+    upright: &[u16],
+    il: &[u32],
+    iu: &[u32],
+    kl: &[u8],
+    ku: &[u8],
+    cols: &[u16],
+    rows: &[u16],
+    nc: usize,
+    nr: usize,
+    w: Walker,
+) -> Walker
+    requires { ⌜ Walkable (now level) (now upright) (now il) (now iu) (now kl) (now ku) (now cols) (now rows) nc nr ⌝ }
+    requires { ⌜ Standing (now level) (now upright) nc nr w (now out) ⌝ }
+    requires { ⌜ w .upright ≡ true ⌝ }
+    ensures { λ r. ⌜ Part (now (level .entry)) (now (upright .entry)) (now (il .entry)) (now (iu .entry))
+        (now (kl .entry)) (now (ku .entry)) (now (cols .entry)) (now (rows .entry)) nc nr legs w (now (out .entry))
+        r (now (out .exit)) ⌝ }
+{
+    let v = w.label;
+    if v == 1 {
+        return w;
+    }
+    if legs == 0 {
+        return w;
+    }
+    let i = w.i;
+    let j = w.j;
+    let at = w.corners;
+    let k = next_stop(level, il, ku, rows, i, nr, j, v - 1, iu[i * STRIDE + j]);
+    let x = cols[i];
+    let y = rows[k];
+    put_corner(out, at, Point { x, y });
+    let next = Walker {
+        i,
+        j: k,
+        upright: false,
+        label: v - 1,
+        corners: at + 1,
+    };
+    level_step(
+        out,
+        legs - 1,
+        level,
+        upright,
+        il,
+        iu,
+        kl,
+        ku,
+        cols,
+        rows,
+        nc,
+        nr,
+        next,
+    )
+}
+
+// A part of a walk: its next segments, level and upright by turns.
+fn walk_part(
     out: &mut [u16],
     level: &[u16],
     upright: &[u16],
@@ -479,26 +563,34 @@ pub fn upright_step(
     rows: &[u16],
     nc: usize,
     nr: usize,
-    i: usize,
-    j: usize,
-    v: u16,
-    at: usize,
-) -> usize
+    w: Walker,
+) -> Walker
     requires { ⌜ Walkable (now level) (now upright) (now il) (now iu) (now kl) (now ku) (now cols) (now rows) nc nr ⌝ }
-    requires { ⌜ WalkFrom (along (now upright) i j) nc nr i j v at (now out) ⌝ }
-    ensures { λ r. ⌜ UprightWalk (now (level .entry)) (now (upright .entry)) (now (il .entry)) (now (iu .entry))
-        (now (kl .entry)) (now (ku .entry)) (now (cols .entry)) (now (rows .entry)) nc nr i j v at
-        (now (out .entry)) (now (out .exit)) r ⌝ }
+    requires { ⌜ Standing (now level) (now upright) nc nr w (now out) ⌝ }
+    ensures { λ r. ⌜ Part (now (level .entry)) (now (upright .entry)) (now (il .entry)) (now (iu .entry))
+        (now (kl .entry)) (now (ku .entry)) (now (cols .entry)) (now (rows .entry)) nc nr 32 w (now (out .entry))
+        r (now (out .exit)) ⌝ }
 {
-    if v == 1 {
-        return at;
+    if w.upright {
+        return upright_step(
+            out,
+            PART,
+            level,
+            upright,
+            il,
+            iu,
+            kl,
+            ku,
+            cols,
+            rows,
+            nc,
+            nr,
+            w,
+        );
     }
-    let k = next_stop(level, il, ku, rows, i, nr, j, v - 1, iu[i * STRIDE + j]);
-    let x = cols[i];
-    let y = rows[k];
-    put_corner(out, at, Point { x, y });
     level_step(
         out,
+        PART,
         level,
         upright,
         il,
@@ -509,9 +601,33 @@ pub fn upright_step(
         rows,
         nc,
         nr,
-        i,
-        k,
-        v - 1,
-        at + 1,
+        w,
     )
+}
+
+// Puts all corners of a walk that are still to come, part by part.
+pub fn walk_on(
+    out: &mut [u16],
+    level: &[u16],
+    upright: &[u16],
+    il: &[u32],
+    iu: &[u32],
+    kl: &[u8],
+    ku: &[u8],
+    cols: &[u16],
+    rows: &[u16],
+    nc: usize,
+    nr: usize,
+    from: Walker,
+)
+    requires { ⌜ Walkable (now level) (now upright) (now il) (now iu) (now kl) (now ku) (now cols) (now rows) nc nr ⌝ }
+    requires { ⌜ Standing (now level) (now upright) nc nr from (now out) ⌝ }
+    ensures { λ _. ⌜ Walk (now (level .entry)) (now (upright .entry)) (now (il .entry)) (now (iu .entry))
+        (now (kl .entry)) (now (ku .entry)) (now (cols .entry)) (now (rows .entry)) nc nr from
+        (now (out .entry)) (now (out .exit)) ⌝ }
+{
+    let mut w = from;
+    while 1 < w.label {
+        w = walk_part(out, level, upright, il, iu, kl, ku, cols, rows, nc, nr, w);
+    }
 }

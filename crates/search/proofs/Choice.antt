@@ -11,7 +11,7 @@ use Rattle.course_laws.specs.Best.{PathD, inkD, LexD, Best}
 use Rattle.course_laws.proofs.Greedy.{path-course, path-within}
 use Rattle.course_laws.proofs.Best.{Fewest, level-fewest, upright-fewest, best-level, best-upright}
 use Rattle.grid.specs.Lines.{Rising}
-use Rattle.labels.specs.Walk.{Grounded, Trail}
+use Rattle.labels.specs.Walk.{Grounded, Trail, labelAt}
 use Rattle.labels.proofs.Walk.{grounded-next}
 use Rattle.labels.proofs.Faithful.{Faithful}
 use Rattle.labels.proofs.Meaning.{Says, Labelled, Measured}
@@ -19,7 +19,6 @@ use Rattle.labels.proofs.First.{coords, coords-length, trail-length, trail-gree
 use Rattle.runs.specs.Line.{along, Stop}
 use Rattle.search.specs.Choice.{Choice, level-only, upright-only, level-less, upright-less}
 use Rattle.search.specs.Choice.{here, tie-level, tie-upright}
-use Rattle.search.specs.Choice.{labelAt}
 use Rattle.search.specs.Search.{Starts, nowhere, goes}
 
 module _ {l u wl wu ku rows : List ℕ} {nr i j : ℕ} where

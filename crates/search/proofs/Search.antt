@@ -20,7 +20,7 @@ use Rattle.runs.specs.Line.{along, labelTop}
 use Rattle.runs.specs.Ink.{Lean}
 use Rattle.labels.specs.Pass.{Pass, Below}
 use Rattle.labels.specs.Rounds.{Sized, Rounds, Last, Ended, found, stuck}
-use Rattle.labels.specs.Walk.{Grounded}
+use Rattle.labels.specs.Walk.{Grounded, Trails, labelAt}
 use Rattle.runs.proofs.Inks.{lean-low}
 use Rattle.labels.proofs.Going.{rounds-lean}
 use Rattle.labels.proofs.Faithful.{Faithful}
@@ -30,8 +30,8 @@ use Rattle.labels.proofs.Meaning.{last-below, last-lean, last-grounded}
 use Rattle.labels.proofs.First.{coords}
 use Rattle.search.specs.Grid.{freeOf, targetOf, startOf, pathTo, Aimed, Grid}
 use Rattle.sowing.specs.Seeds.{Sown}
-use Rattle.search.specs.Choice.{Choosing, Choice, labelAt}
-use Rattle.search.specs.Search.{Labelling, Starts, nowhere, goes, Trails, turns, pathCorners, Searched}
+use Rattle.search.specs.Choice.{Choosing, Choice}
+use Rattle.search.specs.Search.{Labelling, Starts, nowhere, goes, turns, pathCorners, Searched}
 use Rattle.search.specs.declared.Aim.{Aim}
 use Rattle.search.specs.declared.Start.{Start}
 use Rattle.search.proofs.Grid.{target-free, level-faithful, upright-faithful, level-targets, upright-targets}

@@ -2,7 +2,7 @@
 use Prim.Native.Nat.{ℕ, suc, _+_, _*_, _≤_}
 use native.Mathlib.Omega.{arith}
 use native.Mathlib.Nat.{zero-add}
-use mathlib.Core.Path.{_≡_, refl, ap, _∙_, subst}
+use mathlib.Core.Path.{_≡_, refl, ap, _∙_}
 use mathlib.Core.Bool.{Bool, true, false}
 use mathlib.Core.List.{List, [], _∷_, _++_}
 use lib.ListN.{getD, length, drop}
@@ -10,11 +10,11 @@ use lib.Seq.{sets, sets-eq}
 use Rattle.foil_spec.specs.Lists.{each}
 use Rattle.foil_spec.specs.Foil.{Point, point}
 use Rattle.foil_spec.specs.Corners.{pointNumbers}
-use Rattle.runs.specs.Line.{along}
-use Rattle.labels.specs.Walk.{levelOut, uprightOut, LevelWalk, UprightWalk}
+use Rattle.runs.specs.Line.{labelTop}
+use Rattle.labels.specs.Walk.{Trails, labelAt, withCorner, walkOut, Standing, Walk}
+use Rattle.labels.specs.declared.Walker.{Walker}
 use Rattle.labels.proofs.First.{trail-length}
-use Rattle.search.specs.Choice.{labelAt}
-use Rattle.search.specs.Search.{Trails, turns, Ready, Written}
+use Rattle.search.specs.Search.{turns, Ready, Written}
 use Rattle.search.specs.declared.Start.{Start}
 
 -- the numbers that corners are written as
@@ -33,24 +33,17 @@ put-more : (out : List ℕ) (at x y : ℕ) (cs : List Point)
 unfolding pointNumbers
 put-more out at x y cs = let d : (at + 1) * 2 ≡ suc (suc (at * 2)) = omega arith in rw d refl
 
-module _ (cols rows : List ℕ) where
-  -- what the steps of a walk put
-  mutual
-    unfolding levelOut uprightOut turns
-
-    level-puts : (qs out : List ℕ) (at i j : ℕ)
-        → levelOut cols rows out at i j qs ≡ sets out (at * 2) (numbers (turns false cols rows i j qs))
-    level-puts [] out at i j = refl
-    level-puts (q ∷ qs) out at i j =
-        upright-puts qs (sets out (at * 2) (pointNumbers (point (getD cols q 0) (getD rows j 0)))) (at + 1) q j
-        ∙ put-more out at (getD cols q 0) (getD rows j 0) (turns true cols rows q j qs)
-
-    upright-puts : (qs out : List ℕ) (at i j : ℕ)
-        → uprightOut cols rows out at i j qs ≡ sets out (at * 2) (numbers (turns true cols rows i j qs))
-    upright-puts [] out at i j = refl
-    upright-puts (q ∷ qs) out at i j =
-        level-puts qs (sets out (at * 2) (pointNumbers (point (getD cols i 0) (getD rows q 0)))) (at + 1) i q
-        ∙ put-more out at (getD cols i 0) (getD rows q 0) (turns false cols rows i q qs)
+-- what a walk puts
+walk-puts : (up : Bool) (cols rows qs out : List ℕ) (at i j : ℕ)
+    → walkOut up cols rows out at i j qs ≡ sets out (at * 2) (numbers (turns up cols rows i j qs))
+unfolding walkOut turns
+walk-puts up cols rows [] out at i j = refl
+walk-puts false cols rows (q ∷ qs) out at i j =
+    walk-puts true cols rows qs (withCorner out at (getD cols q 0) (getD rows j 0)) (at + 1) q j
+    ∙ put-more out at (getD cols q 0) (getD rows j 0) (turns true cols rows q j qs)
+walk-puts true cols rows (q ∷ qs) out at i j =
+    walk-puts false cols rows qs (withCorner out at (getD cols i 0) (getD rows q 0)) (at + 1) i q
+    ∙ put-more out at (getD cols i 0) (getD rows q 0) (turns false cols rows i q qs)
 
 written : (cs : List Point) (out : List ℕ) → 2 * length cs ≤ length out → Written cs out (sets out 0 (numbers cs))
 written cs out l =
@@ -63,71 +56,56 @@ pub corner-written : (x y : ℕ) (out : List ℕ) → 2 ≤ length out
     → Written (point x y ∷ []) out (sets out 0 (pointNumbers (point x y)))
 corner-written x y out l = put-more out 0 x y [] ∙ written (point x y ∷ []) out l
 
+trails-length : (up : Bool) (l u wl wu kl ku cols rows : List ℕ) (nc nr i j v : ℕ) (qs : List ℕ)
+    → Trails up l u wl wu kl ku cols rows nc nr i j v qs → v ≡ length qs + 1
+unfolding Trails
+trails-length false l u wl wu kl ku cols rows nc nr i j v qs t = trail-length t
+trails-length true l u wl wu kl ku cols rows nc nr i j v qs t = trail-length t
+
 turns-length : (up : Bool) (cols rows : List ℕ) (i j : ℕ) (qs : List ℕ) → length (turns up cols rows i j qs) ≡ length qs
 unfolding turns
 turns-length up cols rows i j [] = refl
 turns-length false cols rows i j (q ∷ qs) = ap suc (turns-length true cols rows q j qs)
 turns-length true cols rows i j (q ∷ qs) = ap suc (turns-length false cols rows i q qs)
 
--- the label of the way that the walk starts
+-- the walk under way after its first corner
+abbrev pub setOut : Start → Walker
+setOut s = record { i = s .i; j = s .j; upright = s .upright; label = s .corners; corners = 1 }
+
 module _ {cs : List Point} {cols rows kl ku l u wl wu : List ℕ} {s : Start}
     (R : Ready cs cols rows kl ku l u wl wu s) where
-  label-at : (up : Bool) → s .upright ≡ up → labelAt up l u (s .i) (s .j) ≡ s .corners
-  label-at up e = subst (λ (up : Bool). labelAt up l u (s .i) (s .j) ≡ s .corners) e (R .label)
+  pub sets-out : (out mid : List ℕ) → 2 * s .corners ≤ length out → length mid ≡ length out
+      → Standing l u (s .columns) (s .rows) (setOut s) mid
+  sets-out out mid room e = record {
+    i-in = R .i-in;
+    j-in = R .j-in;
+    some = R .some;
+    label = R .label;
+    room = omega arith;
+  }
 
-  pub level-label : s .upright ≡ false → along l (s .j) (s .i) ≡ s .corners
+  -- the number of corners is a label
+  pub corners-low : s .corners ≤ labelTop
   unfolding labelAt
-  level-label e = label-at false e
+  corners-low = low (s .upright) (R .label)
+    where
+      low : (up : Bool) → labelAt up l u (s .i) (s .j) ≡ s .corners → s .corners ≤ labelTop
+      low false e = let h = R .walkable .level-low .le (s .j) (R .j-in) (s .i) (R .i-in) in omega arith
+      low true e = let h = R .walkable .upright-low .le (s .i) (R .i-in) (s .j) (R .j-in) in omega arith
 
-  pub upright-label : s .upright ≡ true → along u (s .i) (s .j) ≡ s .corners
-  unfolding labelAt
-  upright-label e = label-at true e
-
-module _ (cs : List Point) (cols rows kl ku l u wl wu : List ℕ) (s : Start) (R : Ready cs cols rows kl ku l u wl wu s)
-    (out out′ : List ℕ) (room : 2 * s .corners ≤ length out) where
   -- the first corner, and then those of the walk
-  taken : (up : Bool) (qs : List ℕ) → s .upright ≡ up → s .corners ≡ length qs + 1
-      → Trails up l u wl wu kl ku cols rows (s .columns) (s .rows) (s .i) (s .j) (s .corners) qs
-      → out′ ≡ sets (sets out 0 (pointNumbers (point (getD cols (s .i) 0) (getD rows (s .j) 0)))) 2
-      (numbers (turns up cols rows (s .i) (s .j) qs))
-      → Written cs out out′
-  taken up qs e n t w =
-      let c = takes up e t in
-      let m = turns-length up cols rows (s .i) (s .j) qs in
-      let k = ap length c in
-      w
-      ∙ put-more out 0 (getD cols (s .i) 0) (getD rows (s .j) 0) (turns up cols rows (s .i) (s .j) qs)
+  pub walk-written : (out mid out′ : List ℕ) → 2 * s .corners ≤ length out
+      → mid ≡ withCorner out 0 (getD cols (s .i) 0) (getD rows (s .j) 0)
+      → Walk l u wl wu kl ku cols rows (s .columns) (s .rows) (setOut s) mid out′ → Written cs out out′
+  walk-written out mid out′ room e k =
+      let qs = k .crossings in
+      let ts : List Point = turns (s .upright) cols rows (s .i) (s .j) qs in
+      let c = R .takes qs (k .trail) in
+      let m = turns-length (s .upright) cols rows (s .i) (s .j) qs in
+      let n = trails-length (s .upright) _ _ _ _ _ _ _ _ _ _ _ _ _ qs (k .trail) in
+      let h = ap length c in
+      k .wrote ∙ walk-puts (s .upright) cols rows qs mid 1 (s .i) (s .j)
+      ∙ ap (λ (o : List ℕ). sets o 2 (numbers ts)) e
+      ∙ put-more out 0 (getD cols (s .i) 0) (getD rows (s .j) 0) ts
       ∙ ap (λ (ps : List Point). sets out 0 (numbers ps)) c
       ∙ written cs out (omega arith)
-    where
-      takes : (up : Bool) → s .upright ≡ up
-          → Trails up l u wl wu kl ku cols rows (s .columns) (s .rows) (s .i) (s .j) (s .corners) qs
-          → point (getD cols (s .i) 0) (getD rows (s .j) 0) ∷ turns up cols rows (s .i) (s .j) qs ≡ cs
-      takes up e =
-          subst
-          (λ (up : Bool).
-          Trails up l u wl wu kl ku cols rows (s .columns) (s .rows) (s .i) (s .j) (s .corners) qs
-          → point (getD cols (s .i) 0) (getD rows (s .j) 0) ∷ turns up cols rows (s .i) (s .j) qs ≡ cs)
-          e (R .takes qs)
-
-  pub level-written : {v r : ℕ} {mid : List ℕ} → s .upright ≡ false → v ≡ s .corners
-      → mid ≡ sets out 0 (pointNumbers (point (getD cols (s .i) 0) (getD rows (s .j) 0)))
-      → LevelWalk l u wl wu kl ku cols rows (s .columns) (s .rows) (s .i) (s .j) v 1 mid out′ r → Written cs out out′
-  unfolding Trails
-  level-written {mid = mid} e ev em k =
-      let t = rw ev at (k .trail) in
-      taken false (k .crossings) e
-      (trail-length t) t
-      (k .wrote ∙ level-puts cols rows (k .crossings) mid 1 (s .i) (s .j)
-      ∙ ap (λ (o : List ℕ). sets o 2 (numbers (turns false cols rows (s .i) (s .j) (k .crossings)))) em)
-
-  pub upright-written : {v r : ℕ} {mid : List ℕ} → s .upright ≡ true → v ≡ s .corners
-      → mid ≡ sets out 0 (pointNumbers (point (getD cols (s .i) 0) (getD rows (s .j) 0)))
-      → UprightWalk l u wl wu kl ku cols rows (s .columns) (s .rows) (s .i) (s .j) v 1 mid out′ r → Written cs out out′
-  unfolding Trails
-  upright-written {mid = mid} e ev em k =
-      let t = rw ev at (k .trail) in
-      taken true (k .crossings) e
-      (trail-length t) t
-      (k .wrote ∙ upright-puts cols rows (k .crossings) mid 1 (s .i) (s .j)
-      ∙ ap (λ (o : List ℕ). sets o 2 (numbers (turns true cols rows (s .i) (s .j) (k .crossings)))) em)

@@ -53,8 +53,3 @@ pub data Choice (l u wl wu ku rows : List ℕ) (nr i j : ℕ) : Bool → Type 0 
       → Stop l wl ku rows i nr j v (along wu i j) r → j ≤ r → Choice l u wl wu ku rows nr i j false
   tie-upright : (v r : ℕ) → 1 ≤ v → along l j i ≡ v + 1 → along u i j ≡ v + 1 → along wl j i ≡ along wu i j
       → Stop l wl ku rows i nr j v (along wu i j) r → r < j → Choice l u wl wu ku rows nr i j true
-
--- the label of the chosen way
-unfoldable pub labelAt : Bool → List ℕ → List ℕ → ℕ → ℕ → ℕ
-labelAt false l u i j = along l j i
-labelAt true l u i j = along u i j

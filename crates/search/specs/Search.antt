@@ -10,10 +10,10 @@ use Rattle.foil_spec.specs.Foil.{Point, point}
 use Rattle.foil_spec.specs.Corners.{pointNumbers}
 use Rattle.grid.specs.Size.{stride, area}
 use Rattle.labels.specs.Rounds.{Sized, Ended}
-use Rattle.labels.specs.Walk.{Trail, Walkable}
+use Rattle.labels.specs.Walk.{Trails, labelAt, Walkable}
 use Rattle.sowing.specs.Seeds.{Unlabelled, Sown, aimedAt}
 use Rattle.search.specs.Grid.{Aimed, mostLines, BuildAsked, Grid}
-use Rattle.search.specs.Choice.{Choice, labelAt}
+use Rattle.search.specs.Choice.{Choice}
 use Rattle.search.specs.declared.Aim.{Aim}
 use Rattle.search.specs.declared.Start.{Start}
 
@@ -69,12 +69,7 @@ pub data Starts (l u wl wu ku rows : List ℕ) (nc nr i j : ℕ) : Bool → Star
       → Starts l u wl wu ku rows nc nr i j true
       (record { columns = nc; rows = nr; i = i; j = j; upright = up; corners = labelAt up l u i j })
 
--- the crossings of a walk from (i, j), whose label is v, the first segment level or, if up, upright
-unfoldable pub Trails : Bool → (l u wl wu kl ku cols rows : List ℕ) (nc nr i j v : ℕ) → List ℕ → Type 0
-Trails false l u wl wu kl ku cols rows nc nr i j v qs = Trail l u wl wu kl ku cols rows nr nc j i v qs
-Trails true l u wl wu kl ku cols rows nc nr i j v qs = Trail u l wu wl ku kl rows cols nc nr i j v qs
-
--- its corners after the first
+-- the corners of a walk from (i, j) over these crossings, but for the first
 unfoldable pub turns : Bool → (cols rows : List ℕ) (i j : ℕ) → List ℕ → List Point
 turns up cols rows i j [] = []
 turns false cols rows i j (q ∷ qs) = point (getD cols q 0) (getD rows j 0) ∷ turns true cols rows q j qs

@@ -10,9 +10,9 @@ use grid::AREA;
 use grid::STRIDE;
 use grid::axis;
 use grid::links;
-use labels::level_step;
+use labels::Walker;
 use labels::rounds;
-use labels::upright_step;
+use labels::walk_on;
 use runs::next_stop;
 use sowing::is_boxed;
 use sowing::sow_targets;
@@ -337,27 +337,14 @@ fn walk(
     let x = cols[i];
     let y = rows[j];
     put_corner(out, 0, Point { x, y });
-    if s.upright {
-        upright_step(
-            out,
-            level,
-            upright,
-            il,
-            iu,
-            kl,
-            ku,
-            cols,
-            rows,
-            nc,
-            nr,
-            i,
-            j,
-            label_at(upright, i, j),
-            1,
-        );
-        return;
-    }
-    level_step(
+    let first = Walker {
+        i,
+        j,
+        upright: s.upright,
+        label: s.corners as u16,
+        corners: 1,
+    };
+    walk_on(
         out,
         level,
         upright,
@@ -369,10 +356,7 @@ fn walk(
         rows,
         nc,
         nr,
-        i,
-        j,
-        label_at(level, j, i),
-        1,
+        first,
     );
 }
 
