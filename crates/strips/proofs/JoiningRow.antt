@@ -30,7 +30,7 @@ pub record JoiningRow
   pub xw : x ≤ w
   pub jm : j ≤ m
   pub behind : Behind t row m x j
-  pub edge : (x ≡ 0) ⊎ ((x ≡ w) ⊎ (boxFree w h n t x y ≡ false))
+  pub edge : (x ≡ 0) ⊎ ((x ≡ w) ⊎ (boxFree w h n t (x - 1) y ≡ false))
   pub small : count ≤ maxStrips
   pub same-out : length out ≡ length out₀
   pub same-last : length last ≡ length last₀
@@ -65,8 +65,8 @@ module _
     abbrev SoFar : List ℕ → Type 0
     SoFar o = Joined f w h o out last count y z x (ahead f w h y z x)
 
-    -- the next run, from a up to b
-    module _ (a b i : ℕ) (r : SweptRun (rowOf f y) t row m w x a b i) where
+    -- the next run, from a up to b, with no other up to e
+    module _ (a b e i : ℕ) (r : SweptRun (rowOf f y) t row m w x a b e i) where
       ab : a < b
       ab = r .gt
 
@@ -76,41 +76,47 @@ module _
       is-run : isRun (rowOf f y) w (run a b) ≡ true
       is-run = swept-run f w h y z ch x a b (s .edge) (r .from) ab (r .stop) (r .blocked)
 
-      old-rest : isTop f w y (run a b) ≡ false → ahead f w h y z x ≡ ahead f w h y z b
-      old-rest e =
+      old-rest : isTop f w y (run a b) ≡ false → ahead f w h y z x ≡ ahead f w h y z e
+      old-rest q =
           ap (λ (l : List Strip). l ++ stripsFrom f w h z)
-          (ap (begun f w h y) (r .next) ∙ begun-old f w h y (run a b) (runsFrom (rowOf f y) w b) e)
+          (ap (begun f w h y) (r .next) ∙ begun-old f w h y (run a b) (runsFrom (rowOf f y) w e) q)
 
-      new-rest : isTop f w y (run a b) ≡ true → ahead f w h y z x ≡ stripAt f w h y (run a b) ∷ ahead f w h y z b
-      new-rest e =
+      new-rest : isTop f w y (run a b) ≡ true → ahead f w h y z x ≡ stripAt f w h y (run a b) ∷ ahead f w h y z e
+      new-rest q =
           ap (λ (l : List Strip). l ++ stripsFrom f w h z)
-          (ap (begun f w h y) (r .next) ∙ begun-top f w h y (run a b) (runsFrom (rowOf f y) w b) e)
+          (ap (begun f w h y) (r .next) ∙ begun-top f w h y (run a b) (runsFrom (rowOf f y) w e) q)
+
+      -- behind the run the row is joined up to e
+      past : (o out′ last′ : List ℕ) (count′ : ℕ) → Joined f w h o out′ last′ count′ y z b (ahead f w h y z e)
+          → Joined f w h o out′ last′ count′ y z e (ahead f w h y z e)
+      past o out′ last′ count′ =
+          joined-none f w h y z ch o out′ last′ count′ b e (ahead f w h y z e) (ahead f w h y z e) (r .be) refl (r .gap)
 
       -- it goes on with the strip at place k
       pub row-old : (k : ℕ) → k ≡ getD last a 0 → Opened out k count a b y
           → (out′ : List ℕ) → out′ ≡ set out (k * 4 + 3) z
-          → JoiningRow t row n m w h y z c out₀ last₀ out′ last b i count
-      row-old k ek p out′ e =
+          → JoiningRow t row n m w h y z c out₀ last₀ out′ last e i count
+      row-old k ek p out′ q =
           record {
-            xw = bw;
+            xw = r .ew;
             jm = r .jm;
             behind = r .behind;
-            edge = inr (r .stop .ends);
+            edge = inr (r .edge);
             small = s .small;
-            same-out = ap length e ∙ length-set out (k * 4 + 3) z ∙ s .same-out;
+            same-out = ap length q ∙ length-set out (k * 4 + 3) z ∙ s .same-out;
             same-last = s .same-last;
-            joined = λ o J₀. on o (s .joined o J₀);
+            joined = λ o J₀. past o out′ last count (on o (s .joined o J₀));
           }
         where
-          on : (o : List ℕ) → SoFar o → Joined f w h o out′ last count y z b (ahead f w h y z b)
+          on : (o : List ℕ) → SoFar o → Joined f w h o out′ last count y z b (ahead f w h y z e)
           on o J =
               joined-old f w h y z ch x a b (r .from) ab bw (alone f w h y z ch x a b is-run (r .blocked)) is-run
               o out last count (ahead f w h y z x) J k (p .lt) ek
               (open-x0 f w h o out last count y z x a b (ahead f w h y z x) J k p)
               (open-x1 f w h o out last count y z x a b (ahead f w h y z x) J k p)
               (open-y1 f w h o out last count y z x a b (ahead f w h y z x) J k p)
-              out′ (ahead f w h y z b)
-              (old-rest (open-old f w h o out last count y z x a b (ahead f w h y z x) J k p (r .from))) e
+              out′ (ahead f w h y z e)
+              (old-rest (open-old f w h o out last count y z x a b (ahead f w h y z x) J k p (r .from))) q
 
       -- it begins a strip
       module _ (bad : Opened out (getD last a 0) count a b y → ⊥) where
@@ -118,30 +124,30 @@ module _
         fresh o J =
             not-open f w h o out last count y z x a b (ahead f w h y z x) J (r .from) (omega (arith, ab, bw)) bad
 
-        rest-is : (o : List ℕ) → SoFar o → ahead f w h y z x ≡ stripAt f w h y (run a b) ∷ ahead f w h y z b
+        rest-is : (o : List ℕ) → SoFar o → ahead f w h y z x ≡ stripAt f w h y (run a b) ∷ ahead f w h y z e
         rest-is o J = new-rest (new-top f w (run a b) y (fresh o J))
 
         pub row-new : count < maxStrips → (out′ last′ : List ℕ) → length out′ ≡ length out
             → out′ ≡ take (count * 4) out ++ (a ∷ y ∷ b ∷ z ∷ drop (count * 4 + 4) out) → last′ ≡ set last a count
-            → JoiningRow t row n m w h y z c out₀ last₀ out′ last′ b i (count + 1)
-        row-new lt out′ last′ len e e′ =
+            → JoiningRow t row n m w h y z c out₀ last₀ out′ last′ e i (count + 1)
+        row-new lt out′ last′ len p q =
             record {
-              xw = bw;
+              xw = r .ew;
               jm = r .jm;
               behind = r .behind;
-              edge = inr (r .stop .ends);
+              edge = inr (r .edge);
               small = omega arith;
               same-out = len ∙ s .same-out;
-              same-last = ap length e′ ∙ length-set last a count ∙ s .same-last;
-              joined = λ o J₀. on o (s .joined o J₀);
+              same-last = ap length q ∙ length-set last a count ∙ s .same-last;
+              joined = λ o J₀. past o out′ last′ (count + 1) (on o (s .joined o J₀));
             }
           where
-            on : (o : List ℕ) → SoFar o → Joined f w h o out′ last′ (count + 1) y z b (ahead f w h y z b)
+            on : (o : List ℕ) → SoFar o → Joined f w h o out′ last′ (count + 1) y z b (ahead f w h y z e)
             on o J =
-                subst (λ (l : List ℕ). Joined f w h o out′ l (count + 1) y z b (ahead f w h y z b)) (sym e′)
+                subst (λ (l : List ℕ). Joined f w h o out′ l (count + 1) y z b (ahead f w h y z e)) (sym q)
                 (joined-new f w h y z ch x a b (r .from) ab bw (alone f w h y z ch x a b is-run (r .blocked)) is-run
-                o out last count (ahead f w h y z x) J (omega arith) (fresh o J) out′ (ahead f w h y z b) lt
-                (rest-is o J) len e)
+                o out last count (ahead f w h y z x) J (omega arith) (fresh o J) out′ (ahead f w h y z e) lt
+                (rest-is o J) len p)
 
         -- there is no room for it
         pub row-full : count ≡ maxStrips → JoinsRow f w h out₀ last₀ c y z out last (suc maxStrips)
@@ -150,7 +156,7 @@ module _
               held = λ l. absurd (omega arith);
               over = λ l. (
                 refl,
-                joined-full f w h o out last count y z x (ahead f w h y z x) (ahead f w h y z b)
+                joined-full f w h o out last count y z x (ahead f w h y z x) (ahead f w h y z e)
                     (stripAt f w h y (run a b)) (rest-is o (s .joined o J₀)) q (s .joined o J₀),
               );
             }
@@ -161,7 +167,7 @@ module _
     row-none r o J₀ =
         record {
           held = λ l.
-              joined-none f w h y z ch o out last count x (ahead f w h y z x) (stripsFrom f w h z) (s .xw)
+              joined-none f w h y z ch o out last count x w (ahead f w h y z x) (stripsFrom f w h z) (s .xw)
               (ap (λ (l : List Strip). l ++ stripsFrom f w h z) (ap (begun f w h y) (r .next))) (r .blocked)
               (s .joined o J₀);
           over = λ l. absurd (omega (arith, s .small));

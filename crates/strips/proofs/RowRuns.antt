@@ -54,22 +54,32 @@ module _ (f : ℕ → ℕ → Bool) (w h v z : ℕ) (ch : Change f h v z) where
       same q = (ap (λ (r : Run). r .from) q, ap (λ (r : Run). r .to) q)
 
   -- the columns from a up to b that the sweep finds from x on are a run
-  pub swept-run : (x a b : ℕ) → (x ≡ 0) ⊎ ((x ≡ w) ⊎ (f x v ≡ false)) → x ≤ a → a < b → Stop (rowOf f v) w a b
+  pub swept-run : (x a b : ℕ) → (x ≡ 0) ⊎ ((x ≡ w) ⊎ (f (x - 1) v ≡ false)) → x ≤ a → a < b → Stop (rowOf f v) w a b
       → ((u : ℕ) → x ≤ u → u < a → f u v ≡ false) → isRunOf f w v a b ≡ true
   swept-run x a b edge l gt s blocked =
       isRun-yes (rowOf f v) w (run a b)
-      (⊎-elim (λ g. inside g) (λ g. at-x (omega arith) edge) (lt-or-le x a)) gt (stop-of (rowOf f v) w a b s)
+      (⊎-elim
+      (λ g. behind (omega arith) (blocked (a - 1) (omega arith) (omega arith)))
+      (λ g. at-x (omega arith) edge)
+      (lt-or-le x a))
+      gt (stop-of (rowOf f v) w a b s)
     where
-      inside : x < a → starts (rowOf f v) a ≡ true
-      inside g =
+      behind : 0 < a → f (a - 1) v ≡ false → starts (rowOf f v) a ≡ true
+      behind g e =
           let q : a ≡ suc (a - 1) = omega arith in
-          ap (starts (rowOf f v)) q
-          ∙ starts-after (rowOf f v) (a - 1) (blocked (a - 1) (omega arith) (omega arith))
+          ap (starts (rowOf f v)) q ∙ starts-after (rowOf f v) (a - 1) e
 
-      at-x : a ≡ x → (x ≡ 0) ⊎ ((x ≡ w) ⊎ (f x v ≡ false)) → starts (rowOf f v) a ≡ true
-      at-x q (inl e) = ap (starts (rowOf f v)) (q ∙ e) ∙ starts-zero (rowOf f v)
+      first : a ≡ 0 → starts (rowOf f v) a ≡ true
+      first q = ap (starts (rowOf f v)) q ∙ starts-zero (rowOf f v)
+
+      at-x : a ≡ x → (x ≡ 0) ⊎ ((x ≡ w) ⊎ (f (x - 1) v ≡ false)) → starts (rowOf f v) a ≡ true
+      at-x q (inl e) = first (q ∙ e)
       at-x q (inr (inl e)) = absurd (omega (arith, s .le))
-      at-x q (inr (inr e)) = clash (s .passes a (omega arith) gt) (ap (rowOf f v) q ∙ e)
+      at-x q (inr (inr e)) =
+          ⊎-elim
+          (λ g. behind g (ap (λ (u : ℕ). f (u - 1) v) q ∙ e))
+          (λ g. first (omega arith))
+          (lt-or-le 0 a)
 
   -- a run of the last row before z is one of row v
   pub row-now : (a b e : ℕ) → a < e → isRunOf f w (bound v z e a - 1) a b ≡ true → isRunOf f w v a b ≡ true
@@ -135,11 +145,11 @@ module _ (f : ℕ → ℕ → Bool) (w h v z : ℕ) (ch : Change f h v z) where
       pub meets : x ≤ s .x0 → v < s .y1 → isRunOf f w v (s .x0) (s .x1) ≡ true
       meets l m = p .rows .passes v (omega (arith, p .early, bound-out v z x (s .x0) l)) m
 
-  -- no run is left in the row
-  pub joined-none : (o out last : List ℕ) (count x : ℕ) (rest rest′ : List Strip) → x ≤ w → rest ≡ rest′
-      → ((u : ℕ) → x ≤ u → u < w → f u v ≡ false) → Joined f w h o out last count v z x rest
-      → Joined f w h o out last count v z w rest′
-  joined-none o out last count x rest rest′ xw q blocked j =
+  -- the row has no run from column x up to e
+  pub joined-none : (o out last : List ℕ) (count x e : ℕ) (rest rest′ : List Strip) → x ≤ e → rest ≡ rest′
+      → ((u : ℕ) → x ≤ u → u < e → f u v ≡ false) → Joined f w h o out last count v z x rest
+      → Joined f w h o out last count v z e rest′
+  joined-none o out last count x e rest rest′ xe q blocked j =
       record {
         small = j .small;
         same = j .same;
@@ -151,27 +161,31 @@ module _ (f : ℕ → ℕ → Bool) (w h v z : ℕ) (ch : Change f h v z) where
         len = j .len;
         held = j .held;
         placed = λ k l.
-            placed-keep x w xw last last (at (j .done) k) (at (j .cur) k) k (j .placed k l) (short k l) (λ c. refl);
+            placed-keep x e xe last last (at (j .done) k) (at (j .cur) k) k (j .placed k l) (short k l) (λ c. refl);
         opens = λ a b l m r.
             ⊎-elim
-            (λ g. before a b l m r g)
-            (λ g. clash (begins-free a b (row-now a b w l r)) (blocked a g l))
+            (λ g. kept a b l m r (inl g))
+            (λ g.
+            ⊎-elim
+            (λ i. clash (begins-free a b (row-now a b e i r)) (blocked a g i))
+            (λ i. kept a b l m r (inr i))
+            (lt-or-le a e))
             (lt-or-le a x);
       }
     where
-      short : (k : ℕ) (l : k < count) → x ≤ at (j .done) k .x0 → at (j .done) k .x0 < w → at (j .done) k .y1 ≤ v
+      short : (k : ℕ) (l : k < count) → x ≤ at (j .done) k .x0 → at (j .done) k .x0 < e → at (j .done) k .y1 ≤ v
       short k l m g =
           ⊎-elim
           (λ n.
           clash
           (begins-free (at (j .done) k .x0) (at (j .done) k .x1)
-          (meets x w xw last last (at (j .done) k) (at (j .cur) k) k (j .placed k l) m n))
+          (meets x e xe last last (at (j .done) k) (at (j .cur) k) k (j .placed k l) m n))
           (blocked (at (j .done) k .x0) m g))
           (λ n. n)
           (lt-or-le v (at (j .done) k .y1))
 
-      before : (a b : ℕ) → a < w → 0 < bound v z w a → isRunOf f w (bound v z w a - 1) a b ≡ true → a < x
-          → Open last (j .cur) count a b (bound v z w a)
-      before a b l m r g =
-          let q : bound v z w a ≡ bound v z x a = outside x w xw a (inl g) in
+      kept : (a b : ℕ) → a < w → 0 < bound v z e a → isRunOf f w (bound v z e a - 1) a b ≡ true → (a < x) ⊎ (e ≤ a)
+          → Open last (j .cur) count a b (bound v z e a)
+      kept a b l m r g =
+          let q : bound v z e a ≡ bound v z x a = outside x e xe a g in
           rw q (j .opens a b l (omega arith) (rw (← q) r))

@@ -3,10 +3,10 @@ use Prim.Native.Nat.{ℕ, _+_, _-_, _≤_, _<_, max}
 use native.Mathlib.Omega.{arith}
 use mathlib.Core.Path.{_≡_, refl, sym, ap, _∙_}
 use mathlib.Core.Bool.{Bool, true, false}
-use mathlib.Core.List.{List}
+use mathlib.Core.List.{List, _∷_}
 use mathlib.Core.Logic.{_⊎_, ⊎-elim, inl, inr}
 use lib.ListN.{getD}
-use Rattle.foil_spec.specs.Strips.{runsFrom, rowOf}
+use Rattle.foil_spec.specs.Strips.{Run, run, runsFrom, rowOf}
 use Rattle.foil_spec.specs.Lent.{entryAt}
 use Rattle.list_laws.proofs.Tests.{both, lt-or-le}
 use Rattle.zones.specs.Boxes.{covers, boxFree, Covered, Boxes}
@@ -116,63 +116,84 @@ module _ (t o : List ℕ) (n m w h y x : ℕ) where
           clear-row : (u : ℕ) → at ≤ u → u < w → ((p : ℕ) → p < j → u < listedBox t o p .x0) → free u ≡ true
           clear-row u a b far = box-free-at w h n t u y b yh (clear-box u a far)
 
-          found-run : (e i : ℕ) → at < e → Stop free w at e → i ≤ m → Behind t o m e i
-              → Sweep free t o m w x (found at e i)
-          found-run e i gt st b far =
+          found-run : (b e i : ℕ) → at < b → Stop free w at b → b ≤ e → e ≤ w
+              → ((u : ℕ) → b ≤ u → u < e → free u ≡ false) → (e ≡ w) ⊎ (free (e - 1) ≡ false) → i ≤ m
+              → Behind t o m e i
+              → Sweep free t o m w x (found at b e i)
+          found-run b e i gt st be ew gap edge im far =
               let q : at ≡ x + (at - x) = omega (arith, s .from) in
+              let p : e ≡ b + (e - b) = omega arith in
               record {
                 from = s .from;
                 gt = gt;
                 blocked = blocked-row;
                 stop = st;
+                be = be;
+                ew = ew;
+                gap = gap;
+                edge = edge;
                 next =
                     skip free w (at - x) x (omega (arith, s .from, s .le)) (λ u a c. blocked-row u a (omega arith))
                     ∙ ap (runsFrom free w) (sym q)
-                    ∙ take-run free w at e gt st;
-                jm = b;
+                    ∙ take-run free w at b gt st
+                    ∙ ap (λ (l : List Run). run at b ∷ l)
+                    (skip free w (e - b) b (omega arith) (λ u a c. gap u a (omega arith))
+                    ∙ ap (runsFrom free w) (sym p));
+                jm = im;
                 behind = far;
               }
 
           -- no box is left
-          pub sweep-last : j ≡ 0 → Sweep free t o m w x (found at w 0)
+          pub sweep-last : j ≡ 0 → Sweep free t o m w x (found at w w 0)
           sweep-last q =
-              found-run w 0 lt
+              found-run w w 0 lt
               (record {
                 ge = omega arith;
                 le = omega arith;
                 passes = λ u a b. clear-row u a b (λ p g. absurd (omega arith));
                 ends = inl refl;
               })
+              (omega arith) (omega arith) (λ u a b. absurd (omega arith)) (inl refl)
               (omega arith)
               (λ p a b. omega (arith, s .behind p (omega arith) b))
 
-          -- the next box begins after `at`
-          pub sweep-run : 0 < j → at < listedBox t o (j - 1) .x0
-              → Sweep free t o m w x (found at (listedBox t o (j - 1) .x0) j)
-          sweep-run pos low =
-              let in-list : j - 1 < m = omega (arith, s .jm) in
-              let m : getD o (j - 1) 0 < n = row .below (j - 1) in-list in
-              let lx : listedBox t o (j - 1) .x0 < listedBox t o (j - 1) .x1 = tab .x-order (getD o (j - 1) 0) m in
-              let le : listedBox t o (j - 1) .x1 ≤ w = tab .x-end (getD o (j - 1) 0) m in
-              found-run (listedBox t o (j - 1) .x0) j low
+          -- the next box, from b up to e, begins after `at`
+          pub sweep-run : 0 < j → (b e : ℕ) → b ≡ listedBox t o (j - 1) .x0 → e ≡ listedBox t o (j - 1) .x1 → at < b
+              → Sweep free t o m w x (found at b e (j - 1))
+          sweep-run pos b e qb qe low =
+              let lx : b < e = omega (arith, tab .x-order (getD o (j - 1) 0) in-table) in
+              let ew : e ≤ w = omega (arith, tab .x-end (getD o (j - 1) 0) in-table) in
+              found-run b e (j - 1) low
               (record {
                 ge = omega arith;
                 le = omega arith;
-                passes = λ u a b.
+                passes = λ u a c.
                     clear-row u a (omega arith)
                     (λ p g. omega (arith, row .falling p (j - 1) (omega arith) in-list));
-                ends =
-                    inr (covered-at w h n t (listedBox t o (j - 1) .x0) y
-                    (record {
-                      place = getD o (j - 1) 0;
-                      lt = m;
-                      yes =
-                          covers-yes (listedBox t o (j - 1)) (listedBox t o (j - 1) .x0) y
-                          (inside-yes _ _ _ (omega arith) (omega arith)) (on-row (j - 1) in-list);
-                    }));
+                ends = inr (taken b (omega arith) lx);
               })
-              (s .jm)
-              (λ p a b. omega (arith, s .behind p a b))
+              (omega arith) ew taken (inr (taken (e - 1) (omega arith) (omega arith))) (omega (arith, s .jm))
+              (λ p a c. ⊎-elim (λ g. here p (omega arith)) (λ g. omega (arith, s .behind p g c)) (lt-or-le p j))
+            where
+              in-list : j - 1 < m
+              in-list = omega (arith, s .jm)
+
+              in-table : getD o (j - 1) 0 < n
+              in-table = row .below (j - 1) in-list
+
+              taken : (u : ℕ) → b ≤ u → u < e → free u ≡ false
+              taken u a c =
+                  covered-at w h n t u y
+                  (record {
+                    place = getD o (j - 1) 0;
+                    lt = in-table;
+                    yes =
+                        covers-yes (listedBox t o (j - 1)) u y (inside-yes _ _ _ (omega arith) (omega arith))
+                        (on-row (j - 1) in-list);
+                  })
+
+              here : (p : ℕ) → p ≡ j - 1 → listedBox t o p .x1 ≤ e
+              here p q = omega (arith, ap (λ (i : ℕ). listedBox t o i .x1) q)
 
 -- where the sweep is left: at the end of the row, or with no box to come
 pub record LeftAt (t o : List ℕ) (n m w y x at : ℕ) : Type 0 where
@@ -183,7 +204,7 @@ pub record LeftAt (t o : List ℕ) (n m w y x at : ℕ) : Type 0 where
 module _
     (t o : List ℕ) (n m w h y x at : ℕ) (tab : Boxes t n w h) (row : OnRow t o n m y) (yh : y < h)
     (l : LeftAt t o n m w y x at) where
-  pub left-run : at < w → Sweep (rowOf (boxFree w h n t) y) t o m w x (found at w 0)
+  pub left-run : at < w → Sweep (rowOf (boxFree w h n t) y) t o m w x (found at w w 0)
   left-run lt =
       ⊎-elim
       (λ q. absurd (omega arith))

@@ -69,7 +69,7 @@ fn join_row(
     let mut j = m;
     let mut count = c;
     while x < w {
-        let Swept::Run(a, b, i) = sweep(boxes, row, n, m, w, h, y, x, j) else {
+        let Swept::Run(a, b, behind, i) = sweep(boxes, row, n, m, w, h, y, x, j) else {
             return count;
         };
         let s = wide(a);
@@ -90,7 +90,7 @@ fn join_row(
             last[s] = count;
             count += 1;
         }
-        x = b;
+        x = behind;
         j = i;
     }
     count

@@ -6,9 +6,10 @@ ghost use Rattle.zones.specs.Boxes.{Boxes};
 ghost use Rattle.strips.specs.RowBoxes.{OnRow};
 ghost use Rattle.strips.specs.Sweep.{Sweeps, Behind};
 
-// The next run of a row, and how many boxes the sweep goes on with; or that none is left.
+// The next run of a row, the column behind the box that ends it, and how many boxes the sweep goes on with from there;
+// or that none is left.
 pub(crate) enum Swept {
-    Run(u16, u16, usize),
+    Run(u16, u16, u16, usize),
     Nothing,
 }
 
@@ -37,11 +38,11 @@ pub(crate) fn sweep(
             if j == 0 {
                 break 'scan;
             }
-            let zone = entry_at(boxes, row[j - 1]);
-            if at < zone.x0 {
-                return Swept::Run(at, zone.x0, j);
-            }
             j -= 1;
+            let zone = entry_at(boxes, row[j]);
+            if at < zone.x0 {
+                return Swept::Run(at, zone.x0, zone.x1, j);
+            }
             if at < zone.x1 {
                 at = zone.x1;
                 continue 'scan;
@@ -49,7 +50,7 @@ pub(crate) fn sweep(
         }
     }
     if at < w {
-        return Swept::Run(at, w, 0);
+        return Swept::Run(at, w, w, 0);
     }
     Swept::Nothing
 }

@@ -56,15 +56,18 @@ hasRoom c = c .before .before .before .before
 abbrev atMatch : tie.After-known-told Inv-loop μ-loop → tie.At-match-keys1 Inv-loop μ-loop
 atMatch c = c .before .before
 
--- the run that the sweep found: from a up to b, and on with i boxes
+-- the run that the sweep found: from a up to b, and on from e with i boxes
 abbrev a : tie.After-known-told Inv-loop μ-loop → ℕ
 a c = c .before .a .given .0 .0
 
 abbrev b : tie.After-known-told Inv-loop μ-loop → ℕ
 b c = c .before .a .given .0 .1 .0
 
+abbrev e : tie.After-known-told Inv-loop μ-loop → ℕ
+e c = c .before .a .given .0 .1 .1 .0
+
 abbrev i : tie.After-known-told Inv-loop μ-loop → ℕ
-i c = c .before .a .given .0 .1 .1 .0
+i c = c .before .a .given .0 .1 .1 .1 .0
 
 -- what the sweep from column x of the row answers
 abbrev Found : tie.Start Inv-loop μ-loop → ℕ → Swept → Type 0
@@ -77,7 +80,7 @@ answered : (c : tie.After-sweep Inv-loop μ-loop)
 answered c = c .sweep .ensures
 
 swept : (c : tie.After-known-told Inv-loop μ-loop)
-    → Found (atStart (inLoop c)) (inLoop c .before .loop .x) (found (a c) (b c) (i c))
+    → Found (atStart (inLoop c)) (inLoop c .before .loop .x) (found (a c) (b c) (e c) (i c))
 swept c =
     subst (λ (r : Swept). Found (atStart (inLoop c)) (inLoop c .before .loop .x) r) (c .before .a .given .1)
     (answered (atMatch c .before))
@@ -196,7 +199,7 @@ returns-2 c =
     let r = atRun (c .before .before) in
     let l = inLoop r in
     row-full _ _ _ _ _ _ _ _ _ _ _ (omega (arith, atStart l .pre .1 .1 .0)) (atStart l .pre .1 .1 .1) _ _ _ _ _
-    (l .before .loop .inv) _ _ _ (swept r) (closed (c .before)) (c .if2 .taken)
+    (l .before .loop .inv) _ _ _ _ (swept r) (closed (c .before)) (c .if2 .taken)
 
 put-strip-requires : tie.Need-put-strip-requires Inv-loop μ-loop
 put-strip-requires c κs =
@@ -225,21 +228,21 @@ add-count c = omega (arith, inLoop (atRun (notOpen c .before)) .before .loop .in
 loop-less : tie.Need-loop-less Inv-loop μ-loop
 loop-less c =
     let r = atRun (c .before) in
-    omega (arith, swept r .from, swept r .gt, swept r .stop .le)
+    omega (arith, swept r .from, swept r .gt, swept r .be, swept r .ew)
 
 loop-again : tie.Need-loop-again Inv-loop μ-loop
 loop-again c =
     let r = atRun (c .before) in
     let l = inLoop r in
     row-old _ _ _ _ _ _ _ _ _ _ _ (omega (arith, atStart l .pre .1 .1 .0)) (atStart l .pre .1 .1 .1) _ _ _ _ _
-    (l .before .loop .inv) _ _ _ (swept r) _
+    (l .before .loop .inv) _ _ _ _ (swept r) _
     (ap (λ (u : ℕ). getD (l .before .loop .last) u 0) (atWide (c .before) .wide .ensures))
     (opened c) _ refl
 
 loop-less-2 : tie.Need-loop-less-2 Inv-loop μ-loop
 loop-less-2 c =
     let r = atRun (notOpen c .before) in
-    omega (arith, swept r .from, swept r .gt, swept r .stop .le)
+    omega (arith, swept r .from, swept r .gt, swept r .be, swept r .ew)
 
 loop-again-2 : tie.Need-loop-again-2 Inv-loop μ-loop
 loop-again-2 c =
@@ -247,7 +250,7 @@ loop-again-2 c =
     let r = atRun o in
     let l = inLoop r in
     row-new _ _ _ _ _ _ _ _ _ _ _ (omega (arith, atStart l .pre .1 .1 .0)) (atStart l .pre .1 .1 .1) _ _ _ _ _
-    (l .before .loop .inv) _ _ _ (swept r) (closed (notOpen c))
+    (l .before .loop .inv) _ _ _ _ (swept r) (closed (notOpen c))
     (omega (arith, hasRoom c .if2 .left, l .before .loop .inv .small)) _ _
     (c .before .before .put-strip .kept .0)
     (c .before .before .put-strip .ensures

@@ -97,8 +97,8 @@ scan-holds c =
 loop-holds : tie.Need-loop-holds Inv-loop μ-loop Inv-scan μ-scan
 loop-holds c = (refl, omega arith, c .before .scan .inv)
 
-sub-entry-at : tie.Need-sub-entry-at Inv-loop μ-loop Inv-scan μ-scan
-sub-entry-at c = omega (arith, pos c)
+sub-j : tie.Need-sub-j Inv-loop μ-loop Inv-scan μ-scan
+sub-j c = omega (arith, pos c)
 
 mul-entry-at : tie.Need-mul-entry-at Inv-loop μ-loop Inv-scan μ-scan
 mul-entry-at c = omega (arith, long c)
@@ -114,12 +114,8 @@ returns c =
     let e = fromRun c in
     let l = inLoop e in
     let p = atStart l .pre in
-    rw (x0-is e)
-    (sweep-run _ _ _ _ _ _ _ _ (p .0) (p .1 .0) _ _ (l .before .loop .inv .2) (p .1 .1 .0 .1) (in-width l) (pos l)
-    (omega (arith, x0-is e, c .if1 .taken)))
-
-sub-j : tie.Need-sub-j Inv-loop μ-loop Inv-scan μ-scan
-sub-j c = omega (arith, pos (inLoop (fromPass c)))
+    sweep-run _ _ _ _ _ _ _ _ (p .0) (p .1 .0) _ _ (l .before .loop .inv .2) (p .1 .1 .0 .1) (in-width l) (pos l) _ _
+    (x0-is e) (x1-is e) (c .if1 .taken)
 
 scan-less : tie.Need-scan-less Inv-loop μ-loop Inv-scan μ-scan
 scan-less c =
@@ -168,12 +164,11 @@ sweep-spec =
     μ-scan
     scan-holds
     loop-holds
-    sub-entry-at
+    sub-j
     mul-entry-at
     shared-slice-read-entry-at
     entry-at-requires
     returns
-    sub-j
     scan-less
     scan-again
     loop-less
