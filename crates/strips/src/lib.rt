@@ -18,7 +18,7 @@ ghost use Rattle.foil_spec.specs.Limits.{stripsSize};
 ghost use Rattle.foil_spec.specs.Strips.{strips, holds};
 ghost use Rattle.foil_spec.specs.Lent.{listedStrip, listedStrips};
 ghost use Rattle.zones.specs.Boxes.{boxFree, Boxes};
-ghost use Rattle.strips.specs.Built.{Rebuilt};
+ghost use Rattle.strips.specs.Built.{Listed, Rebuilt};
 ghost use Rattle.strips.specs.Places.{placeIn, ByRow};
 
 // How many strips there are, or that there are more than the list has places.
@@ -35,14 +35,29 @@ pub fn rebuild(out: &mut [u16], boxes: &[u16], n: usize, w: u16, h: u16) -> Buil
     ensures { λ r. ⌜ Rebuilt (now (out .entry)) (now (out .exit))
         (strips (boxFree w h n (now (boxes .entry))) w h) r ⌝ }
 {
-    let mut last = [0usize; MAX_SIDE];
+    let count = list_strips(out, boxes, n, w, h);
+    if MAX_STRIPS < count {
+        return Built::TooMany;
+    }
+    clear(out, count * 4, STRIPS_SIZE);
+    Built::Strips(count)
+}
+
+// Writes the strips that the first n boxes leave of a foil of w by h to the front of out. Answers how many there are,
+// 4,097 for more than 4,096; then what out holds is undecided.
+pub fn list_strips(out: &mut [u16], boxes: &[u16], n: usize, w: u16, h: u16) -> usize
+    requires { ⌜ Boxes (now boxes) n w h ⌝ }
+    requires { ⌜ stripsSize ≤ length (now out) ⌝ }
+    ensures { λ r. ⌜ Listed (now (out .entry)) (now (out .exit)) r (strips (boxFree w h n (now (boxes .entry))) w h) ⌝ }
+{
+    let mut last = [0u16; MAX_SIDE];
     let mut row = [0usize; MAX_BOXES];
     let mut marks = [0u16; 4097];
     let mut heads = [0u16; MAX_SIDE];
     let mut nexts = [0u16; MAX_BOXES];
     rows::mark_rows(&mut marks, boxes, n);
     row_boxes::chain_boxes(&mut heads, &mut nexts, boxes, n);
-    let count = row_joining::join_rows(
+    row_joining::join_rows(
         out,
         &mut last,
         &mut row,
@@ -53,16 +68,11 @@ pub fn rebuild(out: &mut [u16], boxes: &[u16], n: usize, w: u16, h: u16) -> Buil
         n,
         w,
         h,
-    );
-    if MAX_STRIPS < count {
-        return Built::TooMany;
-    }
-    clear(out, count * 4, STRIPS_SIZE);
-    Built::Strips(count)
+    )
 }
 
 // Sets the numbers from `from` up to `to` to zero.
-fn clear(out: &mut [u16], from: usize, to: usize)
+pub fn clear(out: &mut [u16], from: usize, to: usize)
     requires { ⌜ (from ≤ to) × (to ≤ length (now out)) ⌝ }
     ensures { λ _. ⌜ now (out .exit)
         ≡ take from (now (out .entry)) ++ (replicate (to - from) 0 ++ drop to (now (out .entry))) ⌝ }

@@ -12,6 +12,7 @@ ghost use Rattle.strips.specs.Joining.{JoinsRow, Opened};
 ghost use Rattle.strips.specs.Decided.{Decided};
 ghost use Rattle.strips.specs.Built.{Listed};
 use crate::row_boxes::move_to;
+use crate::rows::narrow;
 use crate::rows::next_change;
 use crate::rows::wide;
 use crate::sweep::Swept;
@@ -47,7 +48,7 @@ fn is_open(out: &[u16], k: usize, count: usize, a: u16, b: u16, y: u16) -> bool
 // hold anything. Answers how many strips there are then, 4,097 for more than 4,096.
 fn join_row(
     out: &mut [u16],
-    last: &mut [usize],
+    last: &mut [u16],
     boxes: &[u16],
     row: &[usize],
     n: usize,
@@ -73,7 +74,7 @@ fn join_row(
             return count;
         };
         let s = wide(a);
-        let k = last[s];
+        let k = wide(last[s]);
         if is_open(out, k, count, a, b, y) {
             out[k * 4 + 3] = z;
         } else {
@@ -87,7 +88,7 @@ fn join_row(
                 y1: z,
             };
             put_strip(out, count, strip);
-            last[s] = count;
+            last[s] = narrow(count);
             count += 1;
         }
         x = behind;
@@ -99,7 +100,7 @@ fn join_row(
 // Writes the strips of a foil to out. Answers how many there are, 4,097 for more than 4,096.
 pub(crate) fn join_rows(
     out: &mut [u16],
-    last: &mut [usize],
+    last: &mut [u16],
     row: &mut [usize],
     boxes: &[u16],
     marks: &[u16],

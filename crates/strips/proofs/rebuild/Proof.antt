@@ -1,80 +1,29 @@
 -- `strips::rebuild` meets its contract.
 use native.Mathlib.Omega.{arith}
-use mathlib.Core.Path.{refl}
 use Rattle.strips.proofs.Listing.{rebuilt}
 use Rattle.strips.proofs.rebuild.Statement.{statement}
 use Rattle.strips.proofs.rebuild.Tie as tie
 
--- back to the start from the marks, from the chains, and from the arguments of the joining
-abbrev fromMarks : tie.After-marks → tie.Start
-fromMarks c = c .before .before .before
+-- back to the function's start, to the strips listed, and to where there are not too many
+abbrev atStart : tie.After-list-strips → tie.Start
+atStart c = c .before .before .before .before
 
-abbrev fromChains : tie.After-nexts → tie.Start
-fromChains c = fromMarks (c .before .before .before .before)
-
-abbrev afterChains : tie.After-nexts3 → tie.After-chain-boxes
-afterChains c = c .before .before .before .before .before .before .before .before
-
-abbrev atStart : tie.After-nexts3 → tie.Start
-atStart c = fromChains (afterChains c .before)
-
--- to the marks made, to the rows joined, and to where there are not too many
-abbrev afterMarks : tie.After-chain-boxes → tie.After-mark-rows
-afterMarks c = c .before .before .before .before
-
-abbrev afterJoinRows : tie.After-row2 → tie.After-join-rows
-afterJoinRows c = c .before .before .before .before
+abbrev listed : tie.After-slice-known2 → tie.After-list-strips
+listed c = c .before .before
 
 abbrev inElse : tie.After-slice-known3 → tie.Else1
 inElse c = c .before .before .before .before
 
-slice-aggregate-mark-rows : tie.Need-slice-aggregate-mark-rows
-slice-aggregate-mark-rows c = omega arith
-
-mark-rows-requires : tie.Need-mark-rows-requires
-mark-rows-requires c κs =
-    let p = fromMarks c .pre .0 in
-    (p .len, λ k l. omega (arith, p .y-order k l, p .y-end k l, p .height))
-
-slice-aggregate-chain-boxes : tie.Need-slice-aggregate-chain-boxes
-slice-aggregate-chain-boxes c = omega arith
-
-slice-aggregate-chain-boxes-2 : tie.Need-slice-aggregate-chain-boxes-2
-slice-aggregate-chain-boxes-2 c = omega arith
-
-chain-boxes-requires : tie.Need-chain-boxes-requires
-chain-boxes-requires c κs =
-    let p = fromChains c .pre .0 in
-    (omega (arith, p .len, p .few), (λ k l. omega (arith, p .y-order k l, p .y-end k l, p .height), refl))
-
-slice-aggregate-join-rows : tie.Need-slice-aggregate-join-rows
-slice-aggregate-join-rows c = omega arith
-
-slice-aggregate-join-rows-2 : tie.Need-slice-aggregate-join-rows-2
-slice-aggregate-join-rows-2 c = omega arith
-
-slice-aggregate-join-rows-3 : tie.Need-slice-aggregate-join-rows-3
-slice-aggregate-join-rows-3 c = omega arith
-
-slice-aggregate-join-rows-4 : tie.Need-slice-aggregate-join-rows-4
-slice-aggregate-join-rows-4 c = omega arith
-
-slice-aggregate-join-rows-5 : tie.Need-slice-aggregate-join-rows-5
-slice-aggregate-join-rows-5 c = omega arith
-
-join-rows-requires : tie.Need-join-rows-requires
-join-rows-requires c κs =
-    let p = atStart c .pre in
-    let chains = afterChains c in
-    (p .0, ((afterMarks chains .mark-rows .ensures, chains .chain-boxes .ensures), omega (arith, p .1)))
+list-strips-requires : tie.Need-list-strips-requires
+list-strips-requires c κs = c .before .before .before .pre
 
 same-length : tie.Need-same-length
 same-length c = omega arith
 
 returns : tie.Need-returns
 returns c =
-    let j = afterJoinRows (c .before) in
-    (omega (arith, j .join-rows .ensures .count, c .if1 .taken), j .join-rows .kept .0)
+    let l = listed (c .before) in
+    (omega (arith, l .list-strips .ensures .count, c .if1 .taken), l .list-strips .kept .0)
 
 mul-clear : tie.Need-mul-clear
 mul-clear c = omega arith
@@ -87,28 +36,11 @@ same-length-2 c = omega arith
 
 returns-2 : tie.Need-returns-2
 returns-2 c =
-    let j = afterJoinRows (inElse c .before) in
-    rebuilt _ _ _ _ _ (j .join-rows .kept .0) (omega (arith, atStart (j .before) .pre .1)) (inElse c .if1 .left)
-    (j .join-rows .ensures) (c .before .before .clear .ensures)
+    let l = listed (inElse c .before) in
+    rebuilt _ _ _ _ _ (l .list-strips .kept .0) (omega (arith, atStart l .pre .1)) (inElse c .if1 .left)
+    (l .list-strips .ensures) (c .before .before .clear .ensures)
 
 pub rebuild-spec : {M : Type 1} → statement M
 rebuild-spec =
     tie.close
-    (tie.spec
-    slice-aggregate-mark-rows
-    mark-rows-requires
-    slice-aggregate-chain-boxes
-    slice-aggregate-chain-boxes-2
-    chain-boxes-requires
-    slice-aggregate-join-rows
-    slice-aggregate-join-rows-2
-    slice-aggregate-join-rows-3
-    slice-aggregate-join-rows-4
-    slice-aggregate-join-rows-5
-    join-rows-requires
-    same-length
-    returns
-    mul-clear
-    clear-requires
-    same-length-2
-    returns-2)
+    (tie.spec list-strips-requires same-length returns mul-clear clear-requires same-length-2 returns-2)

@@ -1,6 +1,6 @@
 -- `strips::row_joining::join_row` meets its contract: the row is joined up to column x.
 use Prim.Native.Nat.{ℕ, _-_, _<_}
-use mathlib.Core.Path.{refl, ap, subst, _∙_}
+use mathlib.Core.Path.{_≡_, refl, ap, ap₂, subst, _∙_}
 use native.Mathlib.Omega.{arith}
 use lib.ListN.{length, getD, set}
 use Rattle.foil_spec.specs.Strips.{rowOf}
@@ -21,15 +21,19 @@ Inv-loop out₀ last₀ boxes row n m w h y z c x₀ j₀ count₀ out last x j 
 abbrev μ-loop : tie.MeasureT-loop
 μ-loop out₀ last₀ boxes row n m w h y z c x₀ j₀ count₀ out last x j count = w - x
 
--- back to the function's start, to the loop's turn, to the run that the sweep found, and to the new strip's run
+-- back to the function's start, to the loop's turn, to the run that the sweep found and the last strip of its column,
+-- and to the new strip's run
 abbrev atStart : tie.In-loop Inv-loop μ-loop → tie.Start Inv-loop μ-loop
 atStart c = c .before .before .before .before .before .before
 
 abbrev inLoop : tie.After-known-told Inv-loop μ-loop → tie.In-loop Inv-loop μ-loop
 inLoop c = c .before .before .before .before
 
+abbrev atPlace : tie.After-is-open Inv-loop μ-loop → tie.After-wide2 Inv-loop μ-loop
+atPlace c = c .before .before
+
 abbrev atWide : tie.After-is-open Inv-loop μ-loop → tie.After-wide Inv-loop μ-loop
-atWide c = c .before .before .before
+atWide c = atPlace c .before .before
 
 abbrev atRun : tie.After-is-open Inv-loop μ-loop → tie.After-known-told Inv-loop μ-loop
 atRun c = atWide c .before
@@ -45,7 +49,7 @@ abbrev noRun : tie.After-enum-told Inv-loop μ-loop → tie.In-loop Inv-loop μ-
 noRun c = c .before .before .before
 
 abbrev fromArg : tie.After-is-open-arg Inv-loop μ-loop → tie.After-known-told Inv-loop μ-loop
-fromArg c = c .before .before .before
+fromArg c = c .before .before .before .before
 
 abbrev fromPut : tie.After-put-strip-arg Inv-loop μ-loop → tie.After-is-open Inv-loop μ-loop
 fromPut c = c .before .before .before
@@ -97,6 +101,12 @@ in-last c =
       atStart (inLoop c) .pre .1 .1 .0,
     )
 
+-- the place of the last strip that began at its first column
+place : (c : tie.After-is-open Inv-loop μ-loop)
+    → atPlace c .wide2 .result ≡ getD (inLoop (atRun c) .before .loop .last) (a (atRun c)) 0
+place c =
+    atPlace c .wide2 .ensures ∙ ap (λ (u : ℕ). getD (inLoop (atRun c) .before .loop .last) u 0) (atWide c .wide .ensures)
+
 -- the strip at place k goes on with the run, or does not
 abbrev GoesOn : tie.After-is-open Inv-loop μ-loop → ℕ → Type 0
 GoesOn c k =
@@ -104,14 +114,13 @@ GoesOn c k =
     (atStart (inLoop (atRun c)) .args .y)
 
 opened : (c : tie.Then1 Inv-loop μ-loop)
-    → GoesOn (c .before)
-    (getD (inLoop (atRun (c .before)) .before .loop .last) (atWide (c .before) .wide .result) 0)
+    → GoesOn (c .before) (atPlace (c .before) .wide2 .result)
 opened c = rw (c .if1 .taken) at (c .before .is-open .ensures)
 
 closed : (c : tie.Else1 Inv-loop μ-loop)
     → GoesOn (c .before) (getD (inLoop (atRun (c .before)) .before .loop .last) (a (atRun (c .before))) 0) → ⊥
 closed c =
-    rw (atWide (c .before) .wide .ensures) at (rw (c .if1 .left) at (c .before .is-open .ensures))
+    subst (λ (k : ℕ). GoesOn (c .before) k → ⊥) (place (c .before)) (rw (c .if1 .left) at (c .before .is-open .ensures))
 
 loop-holds : tie.Need-loop-holds Inv-loop μ-loop
 loop-holds c =
@@ -154,11 +163,14 @@ returns c =
 wide-requires : tie.Need-wide-requires Inv-loop μ-loop
 wide-requires c κs = omega arith
 
-mul-k : tie.Need-mul-k Inv-loop μ-loop
-mul-k c = omega (arith, c .wide .ensures, in-last (c .before))
+mul-wide : tie.Need-mul-wide Inv-loop μ-loop
+mul-wide c = omega (arith, c .wide .ensures, in-last (c .before))
 
-slice-read-k : tie.Need-slice-read-k Inv-loop μ-loop
-slice-read-k c = omega (arith, c .before .wide .ensures, in-last (c .before .before))
+slice-read-wide : tie.Need-slice-read-wide Inv-loop μ-loop
+slice-read-wide c = omega (arith, c .before .wide .ensures, in-last (c .before .before))
+
+wide-requires-2 : tie.Need-wide-requires-2 Inv-loop μ-loop
+wide-requires-2 c κs = omega arith
 
 is-open-requires : tie.Need-is-open-requires Inv-loop μ-loop
 is-open-requires c κs =
@@ -212,18 +224,21 @@ put-strip-requires c κs =
       atStart l .pre .1 .1 .0,
     )
 
+narrow-requires : tie.Need-narrow-requires Inv-loop μ-loop
+narrow-requires c κs = omega (arith, inLoop (atRun (notOpen c .before)) .before .loop .inv .small)
+
 mul-last : tie.Need-mul-last Inv-loop μ-loop
 mul-last c =
-    let o = notOpen c .before in
+    let o = notOpen (c .before) .before in
     omega (arith, atWide o .wide .ensures, in-last (atRun o))
 
 slice-write-last : tie.Need-slice-write-last Inv-loop μ-loop
 slice-write-last c =
-    let o = notOpen c .before in
+    let o = notOpen (c .before) .before in
     omega (arith, atWide o .wide .ensures, in-last (atRun o))
 
 add-count : tie.Need-add-count Inv-loop μ-loop
-add-count c = omega (arith, inLoop (atRun (notOpen c .before)) .before .loop .inv .small)
+add-count c = omega (arith, inLoop (atRun (notOpen (c .before) .before)) .before .loop .inv .small)
 
 loop-less : tie.Need-loop-less Inv-loop μ-loop
 loop-less c =
@@ -236,34 +251,33 @@ loop-again c =
     let l = inLoop r in
     row-old _ _ _ _ _ _ _ _ _ _ _ (omega (arith, atStart l .pre .1 .1 .0)) (atStart l .pre .1 .1 .1) _ _ _ _ _
     (l .before .loop .inv) _ _ _ _ (swept r) _
-    (ap (λ (u : ℕ). getD (l .before .loop .last) u 0) (atWide (c .before) .wide .ensures))
-    (opened c) _ refl
+    (place (c .before)) (opened c) _ refl
 
 loop-less-2 : tie.Need-loop-less-2 Inv-loop μ-loop
 loop-less-2 c =
-    let r = atRun (notOpen c .before) in
+    let r = atRun (notOpen (c .before) .before) in
     omega (arith, swept r .from, swept r .gt, swept r .be, swept r .ew)
 
 loop-again-2 : tie.Need-loop-again-2 Inv-loop μ-loop
 loop-again-2 c =
-    let o = notOpen c .before in
+    let p = c .before in
+    let o = notOpen p .before in
     let r = atRun o in
     let l = inLoop r in
     row-new _ _ _ _ _ _ _ _ _ _ _ (omega (arith, atStart l .pre .1 .1 .0)) (atStart l .pre .1 .1 .1) _ _ _ _ _
-    (l .before .loop .inv) _ _ _ _ (swept r) (closed (notOpen c))
-    (omega (arith, hasRoom c .if2 .left, l .before .loop .inv .small)) _ _
-    (c .before .before .put-strip .kept .0)
-    (c .before .before .put-strip .ensures
+    (l .before .loop .inv) _ _ _ _ (swept r) (closed (notOpen p))
+    (omega (arith, hasRoom p .if2 .left, l .before .loop .inv .small)) _ _
+    (p .before .before .put-strip .kept .0)
+    (p .before .before .put-strip .ensures
     ∙ strip-put _ _ _
     (omega (
       arith,
-      hasRoom c .if2 .left,
+      hasRoom p .if2 .left,
       l .before .loop .inv .small,
       l .before .loop .inv .same-out,
       atStart l .pre .1 .1 .0,
     )))
-    (ap (λ (u : ℕ). set (l .before .loop .last) u (l .before .loop .count))
-    (atWide o .wide .ensures))
+    (ap₂ (λ (u v : ℕ). set (l .before .loop .last) u v) (atWide o .wide .ensures) (c .narrow .ensures))
 
 same-length-5 : tie.Need-same-length-5 Inv-loop μ-loop
 same-length-5 c = c .before .loop .inv .same-out
@@ -291,8 +305,9 @@ join-row-spec =
     same-length-2
     returns
     wide-requires
-    mul-k
-    slice-read-k
+    mul-wide
+    slice-read-wide
+    wide-requires-2
     is-open-requires
     mul-out
     add-out
@@ -303,6 +318,7 @@ join-row-spec =
     same-length-4
     returns-2
     put-strip-requires
+    narrow-requires
     mul-last
     slice-write-last
     add-count
