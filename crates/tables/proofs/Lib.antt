@@ -3,4 +3,5 @@ pub mod Filling
 pub mod Appending
 pub mod Copying
 pub mod Nets
+pub mod Putting
 pub mod Taking

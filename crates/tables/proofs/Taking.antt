@@ -14,9 +14,10 @@ use Rattle.foil_spec.specs.Strips.{Strip}
 use Rattle.foil_spec.specs.Ledger.{stripsOf, tooFine}
 use Rattle.foil_spec.specs.Lent.{stripNumbers, written, boardOf, entryAt, layoutOf}
 use Rattle.foil_spec.specs.declared.Board.{Board}
-use Rattle.ledger_laws.proofs.Stored.{length-entries, length-strips}
+use Rattle.ledger_laws.proofs.Stored.{length-entries}
 use Rattle.ledger_laws.proofs.Sound.{length-read, front-written}
 use Rattle.tables.specs.Rows.{rowsOf}
+use Rattle.tables.specs.StripList.{PutStrips}
 use Rattle.tables.specs.Booked.{Stored, Unchanged}
 use Rattle.tables.proofs.Filling.{length-rows}
 
@@ -46,34 +47,27 @@ module _ (w h : ℕ) (p : Pen) (n : ℕ) (rows t s : List ℕ) (ss : List Strip)
   boardWith k c =
       record { width = w; height = h; half = p .half; gap = p .gap; entries = k; strips = c }
 
-  pub refused : (t′ s′ : List ℕ) → maxStrips < length ss → t′ ≡ t → s′ ≡ s → Unchanged l t s t′ s′
+  pub refused : (t′ s′ : List ℕ) (c : ℕ) → PutStrips s s′ c ss → maxStrips < c → t′ ≡ t → Unchanged l t s t′ s′
   unfolding tooFine
-  refused t′ s′ m a b =
+  refused t′ s′ c z m a =
       record {
-        many = lt-ltb maxStrips (length (stripsOf l)) (omega (arith, ap length are));
+        many = lt-ltb maxStrips (length (stripsOf l)) (omega (arith, z .count, ap length are));
         table = a;
-        strips = b;
+        strips = z .same m;
       }
 
-  pub taken : (out o t′ s′ : List ℕ) (c : ℕ) → n ≤ maxEntries → rows ≡ rowsOf (map (entryAt rows) (range 0 n))
-      → c ≡ length ss → c ≤ maxStrips → out ≡ written stripsSize (each stripNumbers ss) o
-      → t′ ≡ paste t 0 rows tableSize → s′ ≡ paste s 0 out stripsSize
-      → Stored l t s t′ s′ (boardWith n c)
+  pub taken : (t′ s′ : List ℕ) (c : ℕ) → n ≤ maxEntries → rows ≡ rowsOf (map (entryAt rows) (range 0 n))
+      → PutStrips s s′ c ss → c ≤ maxStrips → t′ ≡ paste t 0 rows tableSize → Stored l t s t′ s′ (boardWith n c)
   unfolding tooFine boardOf layoutOf rowsOf
-  taken out o t′ s′ c few r e m q a b =
+  taken t′ s′ c few r p m a =
       let es = length-entries (map (entryAt rows) (range 0 n)) in
       let k = length-read rows n in
-      let z : c ≡ length (stripsOf l) = e ∙ ap length are in
-      let ls = length-strips (stripsOf l) in
+      let z : c ≡ length (stripsOf l) = omega (arith, p .count, ap length are) in
       record {
         fine = le-ltb maxStrips (length (stripsOf l)) (omega arith);
         board = λ i. boardWith (sym k i) (z i);
         table =
             a ∙ ap (λ (x : List ℕ). paste t 0 x tableSize) r
             ∙ copied tableSize (each entryNumbers (map (entryAt rows) (range 0 n))) [] t (omega arith);
-        strips =
-            b
-            ∙ ap (λ (x : List ℕ). paste s 0 x stripsSize)
-            (q ∙ ap (λ (ts : List Strip). written stripsSize (each stripNumbers ts) o) are)
-            ∙ copied stripsSize (each stripNumbers (stripsOf l)) o s (omega arith);
+        strips = p .held m ∙ ap (λ (ts : List Strip). written stripsSize (each stripNumbers ts) s) are;
       }

@@ -1,9 +1,10 @@
 // A table in the making: its rows, the legs of a path in them, and taking it over with its strips.
 mod legs;
 mod rows;
+mod strip_list;
 
 use foil_spec::Board;
-use foil_spec::STRIPS_SIZE;
+use foil_spec::MAX_STRIPS;
 use foil_spec::TABLE_SIZE;
 pub use legs::append_legs;
 pub use legs::bend_count;
@@ -11,8 +12,7 @@ pub use legs::leg_count;
 pub use rows::copy_front;
 pub use rows::in_use;
 pub use rows::without;
-use strips::Built;
-use strips::rebuild;
+use strip_list::put_strips;
 use zones::BOXES_SIZE;
 use zones::pen_zones;
 ghost use mathlib.Core.Path.{_≡_};
@@ -49,14 +49,12 @@ pub fn take_over(
         (now (table .entry)) (now (strips .entry)) (now (table .exit)) (now (strips .exit)) r ⌝ }
 {
     let mut boxes = [0u16; BOXES_SIZE];
-    let mut out = [0u16; STRIPS_SIZE];
     let m = pen_zones(&mut boxes, rows, n, board);
-    let built = rebuild(&mut out, &boxes, m, board.width, board.height);
-    let Built::Strips(count) = built else {
+    let count = put_strips(strips, &boxes, m, board.width, board.height);
+    if MAX_STRIPS < count {
         return Booked::TooFine;
-    };
+    }
     copy_front(table, rows, TABLE_SIZE);
-    copy_front(strips, &out, STRIPS_SIZE);
     Booked::Taken(Board {
         width: board.width,
         height: board.height,
