@@ -52,7 +52,7 @@ pub fn list_strips(out: &mut [u16], boxes: &[u16], n: usize, w: u16, h: u16) -> 
 {
     let mut last = [0u16; MAX_SIDE];
     let mut row = [0usize; MAX_BOXES];
-    let mut marks = [0u16; 4097];
+    let mut marks = [0u8; 4097];
     let mut heads = [0u16; MAX_SIDE];
     let mut nexts = [0u16; MAX_BOXES];
     rows::mark_rows(&mut marks, boxes, n);

@@ -103,7 +103,7 @@ pub(crate) fn join_rows(
     last: &mut [u16],
     row: &mut [usize],
     boxes: &[u16],
-    marks: &[u16],
+    marks: &[u8],
     heads: &[u16],
     nexts: &[u16],
     n: usize,
