@@ -4,12 +4,11 @@ use native.Mathlib.Omega.{arith}
 use native.Mathlib.Nat.{sub-zero}
 use native.Mathlib.Numerals.{add-one}
 use mathlib.Core.Path.{_≡_, refl, sym, ap, ap₂, _∙_}
-use mathlib.Core.List.{List, [], _++_, append-assoc}
+use mathlib.Core.List.{List, _++_, append-assoc, append-nil}
 use lib.ListN.{length, getD, set, take, drop, replicate, length-set, length-take, length-drop, length-append}
 use lib.Seq.{paste, paste-zero, paste-suc, getD-drop, take-at, drop-append-add, length-take-le}
 use Rattle.foil_spec.specs.Limits.{sheetSize}
 use Rattle.foil_spec.specs.Lent.{written}
-use Rattle.tables.proofs.Taking.{copied}
 
 -- i numbers of s stand in what was d, from place `at` on
 pub record Pasted (d : List ℕ) (at : ℕ) (s : List ℕ) (n : ℕ) (l : List ℕ) (i : ℕ) : Type 0 where
@@ -65,6 +64,19 @@ filled n ns s old d d′ at m e p here ls fits =
     (ap (λ (i : ℕ). drop i (ns ++ zs)) q ∙ drop-append-add ns zs m ∙ drop-zeros m r (drop n old) (omega arith))
     ∙ ap (λ (j : ℕ). (ns ++ take m s) ++ (replicate j 0 ++ drop n old)) left
 
+-- the rows put behind the first numbers of a table: what followed these is zero before
+pub put-last : (t rows a t′ : List ℕ) (m start : ℕ) → start + m ≤ sheetSize → sheetSize ≤ length t → m ≤ length rows
+    → a ≡ take start t ++ (replicate (sheetSize - start) 0 ++ drop sheetSize t) → t′ ≡ paste a start rows m
+    → t′ ≡ written sheetSize (take start t ++ take m rows) t
+put-last t rows a t′ m start fits long full ea et =
+    filled sheetSize (take start t) rows t a t′ start m (unfold written in cleared) et lf full fits
+  where
+    lf : length (take start t) ≡ start
+    lf = length-take-le start t (omega arith)
+
+    cleared : a ≡ take start t ++ (replicate (sheetSize - length (take start t)) 0 ++ drop sheetSize t)
+    cleared = ea ∙ ap (λ (i : ℕ). take start t ++ (replicate (sheetSize - i) 0 ++ drop sheetSize t)) (sym lf)
+
 module _ (t rows : List ℕ) (m start rest end : ℕ) (room : start + m + (end - rest) ≤ sheetSize) (order : rest ≤ end)
     (last : end ≤ sheetSize) (long : sheetSize ≤ length t) (full : m ≤ length rows) where
   abbrev front : List ℕ
@@ -76,24 +88,29 @@ module _ (t rows : List ℕ) (m start rest end : ℕ) (room : start + m + (end -
   abbrev back : List ℕ
   back = take (end - rest) (drop rest t)
 
-  -- three copies into zeros, and the whole copied over the table
-  pub replacing : (a b c t′ : List ℕ) → a ≡ paste (replicate sheetSize 0) 0 t start → b ≡ paste a start rows m
-      → c ≡ paste b (start + m) (drop rest t) (end - rest) → t′ ≡ paste t 0 c sheetSize
+  -- nothing stands behind
+  pub replacing-last : (t′ : List ℕ) → rest ≡ end → t′ ≡ written sheetSize (front ++ middle) t
       → t′ ≡ written sheetSize (front ++ (middle ++ back)) t
-  replacing a b c t′ ea eb ec et =
+  replacing-last t′ e p =
+      let q : end - rest ≡ 0 = omega arith in
+      p
+      ∙ ap (λ (x : List ℕ). written sheetSize (front ++ x) t)
+      (sym (append-nil middle) ∙ ap (λ (i : ℕ). middle ++ take i (drop rest t)) (sym q))
+
+  -- what stands behind is copied apart, and put behind the rows
+  pub replacing : (z a t′ : List ℕ) → z ≡ paste (replicate sheetSize 0) 0 (drop rest t) (end - rest)
+      → a ≡ written sheetSize (front ++ middle) t → t′ ≡ paste a (start + m) z (end - rest)
+      → t′ ≡ written sheetSize (front ++ (middle ++ back)) t
+  replacing z a t′ ez ea et =
       let lf : length front ≡ start = length-take-le start t (omega arith) in
       let lm : length middle ≡ m = length-take-le m rows full in
-      let lb : length back ≤ end - rest = omega (arith, length-take (end - rest) (drop rest t)) in
+      let lb : length back ≡ end - rest =
+      length-take-le (end - rest) (drop rest t) (omega (arith, length-drop rest t)) in
       let l1 = length-append front middle in
-      let l2 = length-append (front ++ middle) back in
-      let fa : a ≡ written sheetSize front [] =
-      filled sheetSize [] t [] (replicate sheetSize 0) a 0 start (unfold written in refl) ea refl (omega arith)
-      (omega arith) in
-      let fb : b ≡ written sheetSize (front ++ middle) [] =
-      filled sheetSize front rows [] a b start m fa eb lf full (omega arith) in
-      let fc : c ≡ written sheetSize ((front ++ middle) ++ back) [] =
-      filled sheetSize (front ++ middle) (drop rest t) [] b c (start + m) (end - rest) fb ec (omega arith)
-      (omega (arith, length-drop rest t)) room in
-      et ∙ ap (λ (x : List ℕ). paste t 0 x sheetSize) fc
-      ∙ copied sheetSize ((front ++ middle) ++ back) [] t (omega arith)
-      ∙ ap (λ (x : List ℕ). written sheetSize x t) (append-assoc front middle back)
+      let tz : take (end - rest) z ≡ back =
+      ap (take (end - rest)) ez ∙ take-at back (drop (0 + (end - rest)) (replicate sheetSize 0)) (end - rest) lb in
+      let lz = length-take (end - rest) z in
+      filled sheetSize (front ++ middle) z t a t′ (start + m) (end - rest) ea et (omega arith)
+      (omega (arith, ap length tz)) room
+      ∙ ap (λ (x : List ℕ). written sheetSize x t)
+      (ap (λ (x : List ℕ). (front ++ middle) ++ x) tz ∙ append-assoc front middle back)

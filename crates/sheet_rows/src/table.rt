@@ -7,6 +7,7 @@ use crate::counts_of;
 use crate::limits::start_of;
 use crate::with_board;
 use foil_spec::Board;
+use strips::clear;
 ghost use mathlib.Core.Path.{_≡_};
 ghost use mathlib.Core.Bool.{true};
 ghost use mathlib.Core.List.{[], _++_};
@@ -74,11 +75,24 @@ fn replace(table: &mut [u16], rows: &[u16], m: usize, start: usize, rest: usize,
     ensures { λ _. ⌜ now (table .exit) ≡ written sheetSize (take start (now (table .entry))
         ++ (take m (now (rows .entry)) ++ take (end - rest) (drop rest (now (table .entry))))) (now (table .entry)) ⌝ }
 {
-    let mut anew = [0u16; SHEET_SIZE];
-    copy(&mut anew, 0, table, 0, start);
-    copy(&mut anew, start, rows, 0, m);
-    copy(&mut anew, start + m, table, rest, end - rest);
-    copy(table, 0, &anew, 0, SHEET_SIZE);
+    if rest == end {
+        put_last(table, rows, m, start);
+        return;
+    }
+    let mut behind = [0u16; SHEET_SIZE];
+    copy(&mut behind, 0, table, rest, end - rest);
+    put_last(table, rows, m, start);
+    copy(table, start + m, &behind, 0, end - rest);
+}
+
+// Puts the first m numbers of the rows behind the table's first `start`. Zeros follow.
+fn put_last(table: &mut [u16], rows: &[u16], m: usize, start: usize)
+    requires { ⌜ (start + m ≤ sheetSize) × (sheetSize ≤ length (now table)) × (m ≤ length (now rows)) ⌝ }
+    ensures { λ _. ⌜ now (table .exit) ≡ written sheetSize (take start (now (table .entry))
+        ++ take m (now (rows .entry))) (now (table .entry)) ⌝ }
+{
+    clear(table, start, SHEET_SIZE);
+    copy(table, start, rows, 0, m);
 }
 
 // Copies n numbers of `from`, from place `start` on, to `to`, from place `at` on.

@@ -1,82 +1,85 @@
--- `sheet_rows::table::replace` copies the three parts into zeros, and these over the table.
-use Rattle.sheet_rows.proofs.Copying.{replacing}
+-- `sheet_rows::table::replace` copies what stands behind apart, if anything does, and puts it behind the rows.
+use Rattle.sheet_rows.proofs.Copying.{replacing-last, replacing}
 use borrow.Author.Needs.{needs}
 use Rattle.sheet_rows.proofs.table.replace.Statement.{statement}
 use Rattle.sheet_rows.proofs.table.replace.Tie as tie
 
--- back from each copy to the one before it, and to the start
-abbrev atFourth : tie.After-slice-known2 → tie.After-copy4
-atFourth c = c .before .before
+-- back from the rows that are last to the test, and from the last copy to the rows and to the first one
+abbrev noneBehind : tie.After-put-last → tie.Then1
+noneBehind c = c .before .before
 
-abbrev atThird : tie.After-copy4 → tie.After-copy3
-atThird c = c .before .before .before .before
+abbrev atRows : tie.After-copy2 → tie.After-put-last2
+atRows c = c .before .before .before .before .before
 
-abbrev atSecond : tie.After-copy3 → tie.After-copy2
-atSecond c = c .before .before .before .before
+abbrev atBehind : tie.After-put-last2 → tie.After-copy
+atBehind c = c .before .before .before
 
-abbrev atFirst : tie.After-copy2 → tie.After-copy
-atFirst c = c .before .before .before
-
-abbrev atZeros : tie.After-copy → tie.After-anew
-atZeros c = c .before .before
-
-slice-aggregate-copy : tie.Need-slice-aggregate-copy
-slice-aggregate-copy c = search needs
-
-copy-requires : tie.Need-copy-requires
-copy-requires c κs = search needs
-
-slice-aggregate-copy-2 : tie.Need-slice-aggregate-copy-2
-slice-aggregate-copy-2 c = search needs
-
-copy-requires-2 : tie.Need-copy-requires-2
-copy-requires-2 c κs = search needs
-
-slice-aggregate-copy-3 : tie.Need-slice-aggregate-copy-3
-slice-aggregate-copy-3 c = search needs
-
-add-copy : tie.Need-add-copy
-add-copy c = search needs
-
-sub-copy : tie.Need-sub-copy
-sub-copy c = search needs
-
-copy-requires-3 : tie.Need-copy-requires-3
-copy-requires-3 c κs = search needs
-
-slice-aggregate-copy-4 : tie.Need-slice-aggregate-copy-4
-slice-aggregate-copy-4 c = search needs
-
-copy-requires-4 : tie.Need-copy-requires-4
-copy-requires-4 c κs = search needs
+put-last-requires : tie.Need-put-last-requires
+put-last-requires c κs = search needs
 
 same-length : tie.Need-same-length
 same-length c = search needs
 
 returns : tie.Need-returns
 returns c =
-    let fourth = atFourth c in
-    let third = atThird fourth in
-    let second = atSecond third in
-    let copied = atFirst second in
-    let s = atZeros copied .before .before .before in
+    let put = c .before .before in
+    let none = noneBehind put in
+    let s = none .before .before .before in
+    replacing-last (s .args .table .now) (s .args .rows .now) (s .args .m) (s .args .start) (s .args .rest)
+    (s .args .end) (s .pre .0 .0) (s .pre .0 .1) (s .pre .0 .2) (s .pre .1 .0) (s .pre .1 .1) _ (none .if1 .taken)
+    (put .put-last .ensures)
+
+slice-aggregate-copy : tie.Need-slice-aggregate-copy
+slice-aggregate-copy c = search needs
+
+sub-copy : tie.Need-sub-copy
+sub-copy c = search needs
+
+copy-requires : tie.Need-copy-requires
+copy-requires c κs = search needs
+
+put-last-requires-2 : tie.Need-put-last-requires-2
+put-last-requires-2 c κs = search needs
+
+add-copy : tie.Need-add-copy
+add-copy c = search needs
+
+slice-aggregate-copy-2 : tie.Need-slice-aggregate-copy-2
+slice-aggregate-copy-2 c = search needs
+
+sub-copy-2 : tie.Need-sub-copy-2
+sub-copy-2 c = search needs
+
+copy-requires-2 : tie.Need-copy-requires-2
+copy-requires-2 c κs = search needs
+
+same-length-2 : tie.Need-same-length-2
+same-length-2 c = search needs
+
+returns-2 : tie.Need-returns-2
+returns-2 c =
+    let last = c .before .before in
+    let rows = atRows last in
+    let behind = atBehind rows in
+    let s = behind .before .before .before .before .before .before in
     replacing (s .args .table .now) (s .args .rows .now) (s .args .m) (s .args .start) (s .args .rest) (s .args .end)
-    (s .pre .0 .0) (s .pre .0 .1) (s .pre .0 .2) (s .pre .1 .0) (s .pre .1 .1) _ _ _ _ (copied .copy .ensures)
-    (second .copy2 .ensures) (third .copy3 .ensures) (fourth .copy4 .ensures)
+    (s .pre .0 .0) (s .pre .0 .1) (s .pre .0 .2) (s .pre .1 .0) (s .pre .1 .1) _ _ _ (behind .copy .ensures)
+    (rows .put-last2 .ensures) (last .copy2 .ensures)
 
 pub replace-spec : {M : Type 1} → statement M
 replace-spec =
     tie.close
     (tie.spec
-    slice-aggregate-copy
-    copy-requires
-    slice-aggregate-copy-2
-    copy-requires-2
-    slice-aggregate-copy-3
-    add-copy
-    sub-copy
-    copy-requires-3
-    slice-aggregate-copy-4
-    copy-requires-4
+    put-last-requires
     same-length
-    returns)
+    returns
+    slice-aggregate-copy
+    sub-copy
+    copy-requires
+    put-last-requires-2
+    add-copy
+    slice-aggregate-copy-2
+    sub-copy-2
+    copy-requires-2
+    same-length-2
+    returns-2)
