@@ -5,7 +5,9 @@ use crate::run::Ended;
 use crate::run::Job;
 use crate::run::run_front;
 use crate::show;
-ghost use Prim.Native.Nat.{_<_, _≤_};
+use foil_spec::INPUT_SIZE;
+ghost use Prim.Native.Nat.{_+_, _<_, _≤_};
+ghost use Rattle.foil_spec.specs.Limits.{maxBytes};
 
 pub(crate) fn all() {
     cuts();
@@ -19,7 +21,7 @@ pub(crate) fn all() {
 
 // The foil of document 01's job with its patch, its track in the next record, and a lift of its net: 30 bytes. The
 // patch goes first, and the board's last byte takes the place of its map byte.
-fn small_job(bytes: &mut [u8; 60001]) {
+fn small_job(bytes: &mut [u8; INPUT_SIZE]) {
     file::patch(bytes, 6, 2, 0, 3, 3);
     file::board(bytes, 0, 6, 4, 0);
     bytes[0] = 3;
@@ -39,8 +41,8 @@ fn place_of(job: Job) -> usize {
 }
 
 // Runs the first n bytes and counts how the job ended.
-fn tally(ends: &mut [u64; 32], bytes: &[u8; 60001], n: usize)
-    requires { ⌜ n ≤ 60001 ⌝ }
+fn tally(ends: &mut [u64; 32], bytes: &[u8; INPUT_SIZE], n: usize)
+    requires { ⌜ n ≤ maxBytes + 1 ⌝ }
 {
     let mut counts = [0u64; 32];
     let k = place_of(run_front(&mut counts, bytes, n));
@@ -65,7 +67,7 @@ fn show_ends(words: &[u8], ends: &[u64; 32]) {
 
 // Every cut of the small job, from none of its bytes to all of them.
 fn cuts() {
-    let mut bytes = [0u8; 60001];
+    let mut bytes = [0u8; INPUT_SIZE];
     let mut ends = [0u64; 32];
     small_job(&mut bytes);
     for n in 0..31 {
@@ -78,7 +80,7 @@ fn cuts() {
 fn maps(words: &[u8], place: usize)
     requires { ⌜ place < 30 ⌝ }
 {
-    let mut bytes = [0u8; 60001];
+    let mut bytes = [0u8; INPUT_SIZE];
     let mut ends = [0u64; 32];
     small_job(&mut bytes);
     for b in 0u16..256 {
@@ -91,7 +93,7 @@ fn maps(words: &[u8], place: usize)
 // Short files: nothing, the end mark alone and with a byte after it, a board cut short, one that is repeated and cut
 // short, no end mark, a byte after it, a pen cut short, and one without a board.
 fn marks() {
-    let mut bytes = [0u8; 60001];
+    let mut bytes = [0u8; INPUT_SIZE];
     show::job(b"empty file: ", &bytes, 0);
     show::job(b"end mark alone: ", &bytes, 1);
     show::job(b"end mark and a byte: ", &bytes, 2);
@@ -114,12 +116,12 @@ fn marks() {
 
 // 60,000 bytes, mostly lifts of a net that is not there; and one byte more.
 fn lengths() {
-    let mut bytes = [0u8; 60001];
+    let mut bytes = [0u8; INPUT_SIZE];
     let a = file::board(&mut bytes, 0, 4, 4, 0);
     let b = file::track(&mut bytes, a, 1, 0, 0, 3, 3);
     let c = file::track(&mut bytes, b, 1, 0, 0, 3, 3);
     let d = file::lifts(&mut bytes, c, 19990, 2);
     let n = file::end(&mut bytes, d);
     show::job(b"60000 bytes: ", &bytes, n);
-    show::job(b"60001 bytes: ", &bytes, 60001);
+    show::job(b"60001 bytes: ", &bytes, INPUT_SIZE);
 }

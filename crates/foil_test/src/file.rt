@@ -1,17 +1,19 @@
 // Job files, record by record. Each function puts a record at a place of the file and answers the place after it.
+use foil_spec::INPUT_SIZE;
 ghost use mathlib.Core.Path.{_≡_};
 ghost use Prim.Native.Nat.{_+_, _*_, _<_, _≤_};
+ghost use Rattle.foil_spec.specs.Limits.{maxBytes};
 
 // Puts a number, low byte first.
-fn put(bytes: &mut [u8; 60001], at: usize, n: u16)
-    requires { ⌜ at < 60000 ⌝ }
+fn put(bytes: &mut [u8; INPUT_SIZE], at: usize, n: u16)
+    requires { ⌜ at < maxBytes ⌝ }
 {
     bytes[at] = (n % 256) as u8;
     bytes[at + 1] = (n / 256) as u8;
 }
 
 // A record with a board.
-pub(crate) fn board(bytes: &mut [u8; 60001], at: usize, w: u16, h: u16, d: u16) -> usize
+pub(crate) fn board(bytes: &mut [u8; INPUT_SIZE], at: usize, w: u16, h: u16, d: u16) -> usize
     requires { ⌜ at < 59900 ⌝ }
     ensures { λ r. ⌜ r ≡ at + 7 ⌝ }
 {
@@ -24,7 +26,7 @@ pub(crate) fn board(bytes: &mut [u8; 60001], at: usize, w: u16, h: u16, d: u16) 
 
 // A record with a board and its pen; the reach, which does not count then, is the largest number there is.
 pub(crate) fn pen_board(
-    bytes: &mut [u8; 60001],
+    bytes: &mut [u8; INPUT_SIZE],
     at: usize,
     w: u16,
     h: u16,
@@ -42,7 +44,14 @@ pub(crate) fn pen_board(
 }
 
 // A record with a patch.
-pub(crate) fn patch(bytes: &mut [u8; 60001], at: usize, x0: u16, y0: u16, x1: u16, y1: u16) -> usize
+pub(crate) fn patch(
+    bytes: &mut [u8; INPUT_SIZE],
+    at: usize,
+    x0: u16,
+    y0: u16,
+    x1: u16,
+    y1: u16,
+) -> usize
     requires { ⌜ at < 59900 ⌝ }
     ensures { λ r. ⌜ r ≡ at + 9 ⌝ }
 {
@@ -56,7 +65,7 @@ pub(crate) fn patch(bytes: &mut [u8; 60001], at: usize, x0: u16, y0: u16, x1: u1
 
 // A record with a track.
 pub(crate) fn track(
-    bytes: &mut [u8; 60001],
+    bytes: &mut [u8; INPUT_SIZE],
     at: usize,
     net: u16,
     sx: u16,
@@ -77,7 +86,7 @@ pub(crate) fn track(
 }
 
 // A record with a lift.
-pub(crate) fn lift(bytes: &mut [u8; 60001], at: usize, net: u16) -> usize
+pub(crate) fn lift(bytes: &mut [u8; INPUT_SIZE], at: usize, net: u16) -> usize
     requires { ⌜ at < 59998 ⌝ }
     ensures { λ r. ⌜ r ≡ at + 3 ⌝ }
 {
@@ -87,8 +96,8 @@ pub(crate) fn lift(bytes: &mut [u8; 60001], at: usize, net: u16) -> usize
 }
 
 // The end mark.
-pub(crate) fn end(bytes: &mut [u8; 60001], at: usize) -> usize
-    requires { ⌜ at < 60001 ⌝ }
+pub(crate) fn end(bytes: &mut [u8; INPUT_SIZE], at: usize) -> usize
+    requires { ⌜ at ≤ maxBytes ⌝ }
     ensures { λ r. ⌜ r ≡ at + 1 ⌝ }
 {
     bytes[at] = 0;
@@ -96,7 +105,7 @@ pub(crate) fn end(bytes: &mut [u8; 60001], at: usize) -> usize
 }
 
 // n records that draw the same patch of one point.
-pub(crate) fn dots(bytes: &mut [u8; 60001], at: usize, n: usize, x: u16, y: u16) -> usize
+pub(crate) fn dots(bytes: &mut [u8; INPUT_SIZE], at: usize, n: usize, x: u16, y: u16) -> usize
     requires { ⌜ (at < 2000) × (n ≤ 128) × (x < 4096) × (y < 4096) ⌝ }
     ensures { λ r. ⌜ r ≡ at + 9 * n ⌝ }
 {
@@ -108,7 +117,13 @@ pub(crate) fn dots(bytes: &mut [u8; 60001], at: usize, n: usize, x: u16, y: u16)
 }
 
 // Records that draw n upright lines of a foil h high, one point wide, at x = first, first + 2, ..
-pub(crate) fn upright_lines(bytes: &mut [u8; 60001], at: usize, n: u16, first: u16, h: u16) -> usize
+pub(crate) fn upright_lines(
+    bytes: &mut [u8; INPUT_SIZE],
+    at: usize,
+    n: u16,
+    first: u16,
+    h: u16,
+) -> usize
     requires { ⌜ (at < 2000) × (n ≤ 64) × (first < 4) ⌝ }
     ensures { λ r. ⌜ r ≡ at + 9 * n ⌝ }
 {
@@ -120,7 +135,13 @@ pub(crate) fn upright_lines(bytes: &mut [u8; 60001], at: usize, n: u16, first: u
 }
 
 // Records that draw n level lines from x = begin on, of a foil w wide, one point wide, at y = 1, 3, ..
-pub(crate) fn level_lines(bytes: &mut [u8; 60001], at: usize, n: u16, begin: u16, w: u16) -> usize
+pub(crate) fn level_lines(
+    bytes: &mut [u8; INPUT_SIZE],
+    at: usize,
+    n: u16,
+    begin: u16,
+    w: u16,
+) -> usize
     requires { ⌜ (at < 2000) × (n ≤ 64) ⌝ }
     ensures { λ r. ⌜ r ≡ at + 9 * n ⌝ }
 {
@@ -132,8 +153,8 @@ pub(crate) fn level_lines(bytes: &mut [u8; 60001], at: usize, n: u16, begin: u16
 }
 
 // n records that lift a net.
-pub(crate) fn lifts(bytes: &mut [u8; 60001], at: usize, n: usize, net: u16) -> usize
-    requires { ⌜ at + 3 * n ≤ 60000 ⌝ }
+pub(crate) fn lifts(bytes: &mut [u8; INPUT_SIZE], at: usize, n: usize, net: u16) -> usize
+    requires { ⌜ at + 3 * n ≤ maxBytes ⌝ }
     ensures { λ r. ⌜ r ≡ at + 3 * n ⌝ }
 {
     let mut place = at;

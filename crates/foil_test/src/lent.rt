@@ -2,6 +2,7 @@
 // All lists are lent full of sevens.
 use crate::run::number;
 use crate::show;
+use foil_spec::INPUT_SIZE;
 use job::Next;
 use job::Reply;
 use sheet::Sheet;
@@ -74,7 +75,7 @@ fn short_table() {
     let mut table = [7u16; 2559];
     let mut strips = [7u16; 16384];
     let mut corners = [7u16; 4];
-    let long = [0u8; 60001];
+    let long = [0u8; INPUT_SIZE];
     let done = lay_across(&mut table, &mut strips, &mut corners, no_foils());
     answer(b"lay, 2559 numbers of a table: ", done);
     let ran = run_record(&mut table, &mut strips, &mut corners, no_foils(), 0, b"", 0);

@@ -1,6 +1,7 @@
 // Job files at the limits: foils that cannot be begun, a full table, and too many strips.
 use crate::file;
 use crate::show;
+use foil_spec::INPUT_SIZE;
 ghost use Prim.Native.Nat.{_≤_};
 
 pub(crate) fn all() {
@@ -28,7 +29,7 @@ fn boards() {
 }
 
 fn board(words: &[u8], w: u16, h: u16, d: u16) {
-    let mut bytes = [0u8; 60001];
+    let mut bytes = [0u8; INPUT_SIZE];
     let a = file::board(&mut bytes, 0, w, h, d);
     let b = file::patch(&mut bytes, a, 0, 0, 1, 1);
     let n = file::end(&mut bytes, b);
@@ -36,7 +37,7 @@ fn board(words: &[u8], w: u16, h: u16, d: u16) {
 }
 
 fn pen_board(words: &[u8], w: u16, h: u16, half: u16, gap: u16) {
-    let mut bytes = [0u8; 60001];
+    let mut bytes = [0u8; INPUT_SIZE];
     let a = file::pen_board(&mut bytes, 0, w, h, half, gap);
     let b = file::patch(&mut bytes, a, 0, 0, 1, 1);
     let n = file::end(&mut bytes, b);
@@ -44,7 +45,7 @@ fn pen_board(words: &[u8], w: u16, h: u16, half: u16, gap: u16) {
 }
 
 // Puts 128 entries, of which the last is a track of one point.
-fn fill(bytes: &mut [u8; 60001]) -> usize
+fn fill(bytes: &mut [u8; INPUT_SIZE]) -> usize
     ensures { λ r. ⌜ r ≤ 1500 ⌝ }
 {
     let a = file::board(bytes, 0, 4, 4, 0);
@@ -55,7 +56,7 @@ fn fill(bytes: &mut [u8; 60001]) -> usize
 // On a full table 3 and, for a patch on the track, 21 come before 10, a patch and a track are refused by 10, and once
 // the track is lifted a patch can be drawn again.
 fn full_table() {
-    let mut bytes = [0u8; 60001];
+    let mut bytes = [0u8; INPUT_SIZE];
     let c = fill(&mut bytes);
     let d = file::patch(&mut bytes, c, 1, 1, 1, 1);
     let e = file::patch(&mut bytes, d, 3, 3, 4, 4);
@@ -71,7 +72,7 @@ fn full_table() {
 // 126 entries, of which one parts the foil. A track of three legs has no room (10); where there is no way it is 9 all
 // the same; one of two legs has room.
 fn no_room() {
-    let mut bytes = [0u8; 60001];
+    let mut bytes = [0u8; INPUT_SIZE];
     let a = file::board(&mut bytes, 0, 8, 4, 0);
     let b = file::dots(&mut bytes, a, 124, 1, 1);
     let c = file::patch(&mut bytes, b, 5, 0, 6, 4);
@@ -86,7 +87,7 @@ fn no_room() {
 // 129 by 127 with lines at x = 1, 3, .. 127 and y = 1, 3, .. 123: 4,095 strips. The line at y = 125 would make too many
 // (11); a track of one point makes one more, and another one too many.
 fn too_fine() {
-    let mut bytes = [0u8; 60001];
+    let mut bytes = [0u8; INPUT_SIZE];
     let a = file::board(&mut bytes, 0, 129, 127, 0);
     let b = file::upright_lines(&mut bytes, a, 64, 1, 127);
     let c = file::level_lines(&mut bytes, b, 62, 0, 129);
@@ -100,7 +101,7 @@ fn too_fine() {
 // 129 by 129 with a track at x = 0, and lines beside it at x = 3, 5, .. 127 and y = 1, 3, .. 125: 4,096 strips. Lifting
 // the track would make one more (11).
 fn hidden() {
-    let mut bytes = [0u8; 60001];
+    let mut bytes = [0u8; INPUT_SIZE];
     let a = file::board(&mut bytes, 0, 129, 129, 0);
     let b = file::track(&mut bytes, a, 1, 0, 0, 0, 128);
     let c = file::upright_lines(&mut bytes, b, 63, 3, 129);

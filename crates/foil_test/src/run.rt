@@ -3,6 +3,7 @@
 use foil::Answer;
 use foil_spec::Board;
 use foil_spec::CORNERS_SIZE;
+use foil_spec::INPUT_SIZE;
 use foil_spec::STRIPS_SIZE;
 use foil_spec::no_board;
 use job::Answers;
@@ -15,9 +16,6 @@ use job_report::run_one;
 use sheet_rows::SHEET_SIZE;
 ghost use Prim.Native.Nat.{_<_, _≤_};
 ghost use lib.ListN.{length};
-
-// More records than any file that is not too long has.
-const RECORDS: usize = 60001;
 
 // How a job ended: by the number of a record as a whole, by its board, or by the end mark.
 pub(crate) enum Ended {
@@ -100,7 +98,8 @@ pub(crate) fn run(counts: &mut [u64; 32], bytes: &[u8]) -> Job {
     let mut corners = [0u16; CORNERS_SIZE];
     let mut board = no_board();
     let mut at: usize = 0;
-    for _ in 0..RECORDS {
+    // More records than a file has that is not too long, and one call for its end.
+    for _ in 0..INPUT_SIZE {
         let done = run_one(&mut table, &mut strips, &mut corners, board, bytes, at);
         count_reply(counts, done);
         let next = next_of(done);

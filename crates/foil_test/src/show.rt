@@ -3,7 +3,9 @@ use crate::run::Ended;
 use crate::run::Job;
 use crate::run::run_front;
 use foil_spec::Board;
-ghost use Prim.Native.Nat.{_≤_};
+use foil_spec::INPUT_SIZE;
+ghost use Prim.Native.Nat.{_+_, _≤_};
+ghost use Rattle.foil_spec.specs.Limits.{maxBytes};
 
 // Words, then a number.
 pub(crate) fn count(words: &[u8], n: u64) {
@@ -55,8 +57,8 @@ fn foil(board: Board) {
 }
 
 // A line on the job file that the first n bytes are: what came of its steps, and how it ended.
-pub(crate) fn job(words: &[u8], bytes: &[u8; 60001], n: usize)
-    requires { ⌜ n ≤ 60001 ⌝ }
+pub(crate) fn job(words: &[u8], bytes: &[u8; INPUT_SIZE], n: usize)
+    requires { ⌜ n ≤ maxBytes + 1 ⌝ }
 {
     let mut counts = [0u64; 32];
     let done = run_front(&mut counts, bytes, n);

@@ -34,9 +34,6 @@ pub enum Question {
     Slip,
 }
 
-// One byte more than a job file may have, so that a longer one is known.
-pub const INPUT_SIZE: usize = 60001;
-
 // As many bytes as the file of a foil with 128 legs has.
 const FILE_SIZE: usize = 1420;
 

@@ -3,13 +3,13 @@
 // writes its answer.
 mod asking;
 
-pub use asking::INPUT_SIZE;
 pub use asking::Question;
 pub use asking::answer_input;
 pub use asking::put_line;
 use foil::Answer;
 use foil_spec::Board;
 use foil_spec::CORNERS_SIZE;
+use foil_spec::INPUT_SIZE;
 use foil_spec::STRIPS_SIZE;
 use foil_spec::no_board;
 use job::Answers;
@@ -25,9 +25,6 @@ ghost use Rattle.foil_spec.specs.Sheet.{noBoard};
 ghost use Rattle.sheet_laws.specs.Jobs.{onlyFoil0};
 ghost use Rattle.job_end.specs.Left.{JobLeft};
 ghost use Rattle.job_end.specs.Parts.{numberTold, endedBy};
-
-// More records than any file has that is not too long, and one call more for its end.
-const RECORDS: usize = 60001;
 
 // How a job ended: at its end mark, with foil 0's record; or by the number of its board, or of the file as a whole.
 pub enum Ended {
@@ -49,7 +46,8 @@ pub fn run_job(
     let mut corners = [0u16; CORNERS_SIZE];
     let mut board = no_board();
     let mut at: usize = 0;
-    for _ in 0..RECORDS {
+    // More records than a file has that is not too long, and one call for its end.
+    for _ in 0..INPUT_SIZE {
         let done = run_one(table, strips, &mut corners, board, bytes, at);
         let next = next_of(done);
         let Next::At(place) = next else {

@@ -1,5 +1,6 @@
 // The job program: reads a job file from standard input, and writes the lines of its records in turn.
 use foil_spec::CORNERS_SIZE;
+use foil_spec::INPUT_SIZE;
 use foil_spec::STRIPS_SIZE;
 use foil_spec::no_board;
 use job::Next;
@@ -13,14 +14,8 @@ ghost use Rattle.foil_spec.specs.Limits.{maxBytes};
 ghost use Rattle.lines.specs.Output.{output};
 ghost use Rattle.job_report.specs.Writing.{NextOf};
 
-// One byte more than a job file may have, so that a longer one is known.
-const BYTES: usize = 60001;
-
-// More records than any file has that is not too long, and one call more for its end.
-const RECORDS: usize = 60001;
-
 fn main() {
-    let mut bytes = [0u8; BYTES];
+    let mut bytes = [0u8; INPUT_SIZE];
     write_input(&mut bytes);
 }
 
@@ -44,7 +39,8 @@ fn write_job(bytes: &[u8]) -> usize
     let mut board = no_board();
     let mut at: usize = 0;
     let mut written: usize = 0;
-    for _ in 0..RECORDS {
+    // More records than a file has that is not too long, and one call for its end.
+    for _ in 0..INPUT_SIZE {
         let done = report_record(
             &mut out,
             &mut table,

@@ -7,10 +7,10 @@ mod show;
 
 use figures::ink_of;
 use foil_spec::Board;
+use foil_spec::INPUT_SIZE;
 use foil_spec::MAX_ENTRIES;
 use foil_spec::STRIPS_SIZE;
 use job_end::Ended;
-use job_end::INPUT_SIZE;
 use job_end::put_line;
 use job_end::run_job;
 use sheet::ohms;

@@ -4,6 +4,8 @@ use crate::lists::LIST;
 use crate::lists::TABLE;
 use crate::show;
 use foil::Answer;
+use foil_spec::INPUT_SIZE;
+use foil_spec::MAX_BYTES;
 use sheet::Sheet;
 use sheet::SheetDone;
 use sheet::draw;
@@ -136,13 +138,13 @@ pub(crate) fn record(table: &mut [u16], list: &mut [u16], sheet: Sheet, call: Ca
 
 // The same of 60,000 zeros.
 fn most_bytes(table: &mut [u16], list: &mut [u16], sheet: Sheet, call: Call) -> Sheet {
-    let bytes = [0u8; 60000];
+    let bytes = [0u8; MAX_BYTES];
     record_of(table, list, sheet, call, &bytes)
 }
 
 // The same of one more.
 fn many_bytes(table: &mut [u16], list: &mut [u16], sheet: Sheet, call: Call) -> Sheet {
-    let bytes = [0u8; 60001];
+    let bytes = [0u8; INPUT_SIZE];
     record_of(table, list, sheet, call, &bytes)
 }
 

@@ -1,8 +1,9 @@
 -- After each record, what is still to come leaves what the whole file does, and the next record may come; the loop is
 -- left by its last reply.
-use Prim.Native.Nat.{_≤_, _-_}
+use Prim.Native.Nat.{suc, _≤_, _-_}
 use native.Mathlib.Omega.{arith}
 use borrow.Author.Needs.{needs}
+use Rattle.foil_spec.specs.Limits.{maxBytes}
 use Rattle.foil_spec.specs.Sheet.{noBoard}
 use Rattle.sheet_laws.specs.Jobs.{onlyFoil0}
 use Rattle.job_report.specs.Report.{MayCome}
@@ -13,11 +14,11 @@ use Rattle.job_end.proofs.run_job.Tie as tie
 
 abbrev Inv-loop : tie.InvT-loop
 Inv-loop table₀ strips₀ bytes _ _ _ _ table strips _ board at counter =
-    (counter ≤ 60001) × ToCome bytes (onlyFoil0 noBoard table₀ strips₀) counter at (onlyFoil0 board table strips)
+    (counter ≤ suc maxBytes) × ToCome bytes (onlyFoil0 noBoard table₀ strips₀) counter at (onlyFoil0 board table strips)
     × MayCome at board table strips
 
 abbrev μ-loop : tie.MeasureT-loop
-μ-loop _ _ _ _ _ _ _ _ _ _ _ _ counter = 60001 - counter
+μ-loop _ _ _ _ _ _ _ _ _ _ _ _ counter = suc maxBytes - counter
 
 -- back to next_of, from the end of the job and from the loop's end; to run_one and the loop's head
 abbrev lastNext : tie.After-how-ended Inv-loop μ-loop → tie.After-next-of Inv-loop μ-loop

@@ -1,10 +1,10 @@
 -- What a record gave comes next in the job's output, and the next record may come; after the last one all of the
 -- output is written.
-use Prim.Native.Nat.{ℕ, _≤_, _-_}
+use Prim.Native.Nat.{ℕ, suc, _≤_, _-_}
 use native.Mathlib.Omega.{arith}
 use lib.ListN.{length-replicate}
 use borrow.Author.Needs.{needs}
-use Rattle.foil_spec.specs.Limits.{sheetSize}
+use Rattle.foil_spec.specs.Limits.{maxBytes, sheetSize}
 use Rattle.sheet_laws.specs.Jobs.{onlyFoil0}
 use Rattle.job_report.specs.Report.{MayCome}
 use Rattle.job_report.proofs.Coming.{first-comes, reported-comes}
@@ -14,10 +14,11 @@ use Rattle.job_main.proofs.write_job.Tie as tie
 
 abbrev Inv-loop : tie.InvT-loop
 Inv-loop bytes _ _ _ _ _ _ _ _ _ table strips _ board at written counter =
-    (counter ≤ 60001) × Still bytes written counter at (onlyFoil0 board table strips) × MayCome at board table strips
+    (counter ≤ suc maxBytes) × Still bytes written counter at (onlyFoil0 board table strips)
+    × MayCome at board table strips
 
 abbrev μ-loop : tie.MeasureT-loop
-μ-loop _ _ _ _ _ _ _ _ _ _ _ _ _ _ _ _ counter = 60001 - counter
+μ-loop _ _ _ _ _ _ _ _ _ _ _ _ _ _ _ _ counter = suc maxBytes - counter
 
 -- back to report_record and to the loop's head; and from the end of the job and of the loop to write_lines
 abbrev reported : tie.After-out2 Inv-loop μ-loop → tie.After-report-record Inv-loop μ-loop

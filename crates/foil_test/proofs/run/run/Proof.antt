@@ -1,17 +1,18 @@
 -- `foil_test::run::run` is safe and ends: the loop counts the records, and each may come after the one before it.
-use Prim.Native.Nat.{_≤_, _-_}
+use Prim.Native.Nat.{suc, _≤_, _-_}
 use native.Mathlib.Omega.{arith}
 use borrow.Author.Needs.{needs}
+use Rattle.foil_spec.specs.Limits.{maxBytes}
 use Rattle.job_report.specs.Report.{MayCome}
 use Rattle.job_report.proofs.Coming.{first-comes, run-comes}
 use Rattle.foil_test.proofs.run.run.Statement.{statement}
 use Rattle.foil_test.proofs.run.run.Tie as tie
 
 abbrev Inv-loop : tie.InvT-loop
-Inv-loop _ _ _ _ _ _ _ _ _ table strips _ board at counter = (counter ≤ 60001) × MayCome at board table strips
+Inv-loop _ _ _ _ _ _ _ _ _ table strips _ board at counter = (counter ≤ suc maxBytes) × MayCome at board table strips
 
 abbrev μ-loop : tie.MeasureT-loop
-μ-loop _ _ _ _ _ _ _ _ _ _ _ _ _ _ counter = 60001 - counter
+μ-loop _ _ _ _ _ _ _ _ _ _ _ _ _ _ counter = suc maxBytes - counter
 
 -- back from the loop's end to next_of, and from there to run_one
 abbrev thisNext : tie.After-board Inv-loop μ-loop → tie.After-next-of Inv-loop μ-loop
