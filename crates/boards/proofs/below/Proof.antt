@@ -5,9 +5,6 @@ use native.Mathlib.Omega.{arith}
 use Rattle.boards.proofs.below.Statement.{statement}
 use Rattle.boards.proofs.below.Tie as tie
 
-rem-result : tie.Need-rem-result
-rem-result c = search needs
-
 cast-result : tie.Need-cast-result
 cast-result c = omega (arith, mod-lt (c .args .seed) {m = c .args .n} (omega arith))
 
@@ -15,4 +12,5 @@ returns : tie.Need-returns
 returns c = mod-lt _ (omega arith)
 
 pub below-spec : {M : Type 1} → statement M
-below-spec = tie.close (tie.spec rem-result cast-result returns)
+below-spec =
+    tie.close (tie.spec (λ c. search needs) cast-result returns)

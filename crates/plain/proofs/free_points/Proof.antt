@@ -10,34 +10,8 @@ Inv-loop map₀ table n pen w h p₀ map p = p ≤ 4096
 abbrev μ-loop : tie.MeasureT-loop
 μ-loop map₀ table n pen w h p₀ map p = 4096 - p
 
-loop-holds : tie.Need-loop-holds Inv-loop μ-loop
-loop-holds c = search needs
-
-cast-x : tie.Need-cast-x Inv-loop μ-loop
-cast-x c = search needs
-
-cast-y : tie.Need-cast-y Inv-loop μ-loop
-cast-y c = search needs
-
-is-free-requires : tie.Need-is-free-requires Inv-loop μ-loop
-is-free-requires c κs = search needs
-
-element-write-map : tie.Need-element-write-map Inv-loop μ-loop
-element-write-map c = search needs
-
-add-p : tie.Need-add-p Inv-loop μ-loop
-add-p c = search needs
-
-loop-less : tie.Need-loop-less Inv-loop μ-loop
-loop-less c = search needs
-
-loop-again : tie.Need-loop-again Inv-loop μ-loop
-loop-again c = search needs
-
-returns : tie.Need-returns Inv-loop μ-loop
-returns c = search needs
-
 pub free-points-spec : {M : Type 1} → statement M
 free-points-spec =
-    tie.close (tie.spec Inv-loop μ-loop loop-holds cast-x cast-y is-free-requires element-write-map add-p loop-less
-    loop-again returns)
+    tie.close (tie.spec Inv-loop μ-loop (λ c. search needs) (λ c. search needs) (λ c. search needs)
+    (λ c κs. search needs) (λ c. search needs) (λ c. search needs) (λ c. search needs) (λ c. search needs)
+    (λ c. search needs))

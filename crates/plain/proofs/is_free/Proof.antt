@@ -20,26 +20,11 @@ abbrev μ-loop : tie.MeasureT-loop
 abbrev atLoop : tie.After-blocks-at Inv-loop μ-loop → tie.At-loop Inv-loop μ-loop
 atLoop c = c .before .before .before
 
-cast-m : tie.Need-cast-m Inv-loop μ-loop
-cast-m c = search needs
-
-cast-m-2 : tie.Need-cast-m-2 Inv-loop μ-loop
-cast-m-2 c = search needs
-
-add-m : tie.Need-add-m Inv-loop μ-loop
-add-m c = search needs
-
-near-edge-requires : tie.Need-near-edge-requires Inv-loop μ-loop
-near-edge-requires c κs = search needs
-
 returns : tie.Need-returns Inv-loop μ-loop
 returns c = (
   λ e. absurd (true≢false (sym e)),
   λ e u. true≢false (sym (c .if1 .taken) ∙ c .before .near-edge .ensures ∙ u .x-off),
 )
-
-near-edge-requires-2 : tie.Need-near-edge-requires-2 Inv-loop μ-loop
-near-edge-requires-2 c κs = search needs
 
 returns-2 : tie.Need-returns-2 Inv-loop μ-loop
 returns-2 c = (
@@ -50,24 +35,12 @@ returns-2 c = (
 loop-holds : tie.Need-loop-holds Inv-loop μ-loop
 loop-holds c = (omega arith, λ k l. absurd (omega arith))
 
-away-requires : tie.Need-away-requires Inv-loop μ-loop
-away-requires c κs = search needs
-
-blocks-at-requires : tie.Need-blocks-at-requires Inv-loop μ-loop
-blocks-at-requires c κs = search needs
-
 returns-3 : tie.Need-returns-3 Inv-loop μ-loop
 returns-3 c = (
   λ e. absurd (true≢false (sym e)),
   λ e u. true≢false (sym (c .if3 .taken) ∙ (rw (c .before .before .away .ensures .1) at (c .before .blocks-at .ensures))
       ∙ u .none _ (omega arith)),
 )
-
-add-i : tie.Need-add-i Inv-loop μ-loop
-add-i c = search needs
-
-loop-less : tie.Need-loop-less Inv-loop μ-loop
-loop-less c = search needs
 
 loop-again : tie.Need-loop-again Inv-loop μ-loop
 loop-again c = (
@@ -90,5 +63,6 @@ returns-4 c =
 
 pub is-free-spec : {M : Type 1} → statement M
 is-free-spec =
-    tie.close (tie.spec Inv-loop μ-loop cast-m cast-m-2 add-m near-edge-requires returns near-edge-requires-2 returns-2
-    loop-holds away-requires blocks-at-requires returns-3 add-i loop-less loop-again returns-4)
+    tie.close (tie.spec Inv-loop μ-loop (λ c. search needs) (λ c. search needs) (λ c. search needs)
+    (λ c κs. search needs) returns (λ c κs. search needs) returns-2 loop-holds (λ c κs. search needs)
+    (λ c κs. search needs) returns-3 (λ c. search needs) (λ c. search needs) loop-again returns-4)

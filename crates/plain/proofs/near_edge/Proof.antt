@@ -9,12 +9,10 @@ returns : tie.Need-returns
 unfolding nearEdge
 returns c = simp (lt-ltb _ _ (c .if1 .taken))
 
-add-result : tie.Need-add-result
-add-result c = search needs
-
 returns-2 : tie.Need-returns-2
 unfolding nearEdge
 returns-2 c = simp (le-ltb _ _ (c .if1 .left))
 
 pub near-edge-spec : {M : Type 1} → statement M
-near-edge-spec = tie.close (tie.spec returns add-result returns-2)
+near-edge-spec =
+    tie.close (tie.spec returns (λ c. search needs) returns-2)

@@ -5,19 +5,14 @@ use borrow.Author.Needs.{needs}
 use Rattle.plain.proofs.within.Statement.{statement}
 use Rattle.plain.proofs.within.Tie as tie
 
-add-if1 : tie.Need-add-if1
-add-if1 c = search needs
-
 returns : tie.Need-returns
 unfolding within
 returns c = simp (lt-leb _ _ (c .if1 .taken))
-
-add-result : tie.Need-add-result
-add-result c = search needs
 
 returns-2 : tie.Need-returns-2
 unfolding within
 returns-2 c = simp (le-leb _ _ (c .if1 .left))
 
 pub within-spec : {M : Type 1} → statement M
-within-spec = tie.close (tie.spec add-if1 returns add-result returns-2)
+within-spec =
+    tie.close (tie.spec (λ c. search needs) returns (λ c. search needs) returns-2)

@@ -8,11 +8,6 @@ use Rattle.foil_test.proofs.run.run_front.Tie as tie
 slice-aggregate-run : tie.Need-slice-aggregate-run
 slice-aggregate-run c = simp length-take (omega arith)
 
-run-requires : tie.Need-run-requires
-run-requires c κs = search needs
-
-returns : tie.Need-returns
-returns c = search needs
-
 pub run-front-spec : {M : Type 1} → statement M
-run-front-spec = tie.close (tie.spec slice-aggregate-run run-requires returns)
+run-front-spec =
+    tie.close (tie.spec slice-aggregate-run (λ c κs. search needs) (λ c. search needs))

@@ -10,40 +10,8 @@ Inv-loop costs₀ rest map back on k p₀ costs p = p ≤ 4096
 abbrev μ-loop : tie.MeasureT-loop
 μ-loop costs₀ rest map back on k p₀ costs p = 4096 - p
 
-loop-holds : tie.Need-loop-holds Inv-loop μ-loop
-loop-holds c = search needs
-
-mul-cost : tie.Need-mul-cost Inv-loop μ-loop
-mul-cost c = search needs
-
-element-copy-out-cost : tie.Need-element-copy-out-cost Inv-loop μ-loop
-element-copy-out-cost c = search needs
-
-add-spread : tie.Need-add-spread Inv-loop μ-loop
-add-spread c = search needs
-
-spread-requires : tie.Need-spread-requires Inv-loop μ-loop
-spread-requires c κs = search needs
-
-add-spread-2 : tie.Need-add-spread-2 Inv-loop μ-loop
-add-spread-2 c = search needs
-
-spread-requires-2 : tie.Need-spread-requires-2 Inv-loop μ-loop
-spread-requires-2 c κs = search needs
-
-add-p : tie.Need-add-p Inv-loop μ-loop
-add-p c = search needs
-
-loop-less : tie.Need-loop-less Inv-loop μ-loop
-loop-less c = search needs
-
-loop-again : tie.Need-loop-again Inv-loop μ-loop
-loop-again c = search needs
-
-returns : tie.Need-returns Inv-loop μ-loop
-returns c = search needs
-
 pub round-spec : {M : Type 1} → statement M
 round-spec =
-    tie.close (tie.spec Inv-loop μ-loop loop-holds mul-cost element-copy-out-cost add-spread spread-requires
-    add-spread-2 spread-requires-2 add-p loop-less loop-again returns)
+    tie.close (tie.spec Inv-loop μ-loop (λ c. search needs) (λ c. search needs) (λ c. search needs)
+    (λ c. search needs) (λ c κs. search needs) (λ c. search needs) (λ c κs. search needs) (λ c. search needs)
+    (λ c. search needs) (λ c. search needs) (λ c. search needs))

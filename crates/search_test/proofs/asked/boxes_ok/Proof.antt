@@ -23,17 +23,8 @@ inLoop c = c .before .before .before
 loop-holds : tie.Need-loop-holds Inv-loop μ-loop
 loop-holds c = (omega arith, λ k l. absurd (omega arith))
 
-box-ok-requires : tie.Need-box-ok-requires Inv-loop μ-loop
-box-ok-requires c κs = search needs
-
 returns : tie.Need-returns Inv-loop μ-loop
 returns c = λ e. absurd (true≢false (sym e))
-
-add-i : tie.Need-add-i Inv-loop μ-loop
-add-i c = search needs
-
-loop-less : tie.Need-loop-less Inv-loop μ-loop
-loop-less c = search needs
 
 loop-again : tie.Need-loop-again Inv-loop μ-loop
 loop-again c = (
@@ -46,5 +37,5 @@ returns-2 c e = λ k l. c .before .loop .inv .1 k (omega arith)
 
 pub boxes-ok-spec : {M : Type 1} → statement M
 boxes-ok-spec =
-    tie.close
-    (tie.spec Inv-loop μ-loop loop-holds box-ok-requires returns add-i loop-less loop-again returns-2)
+    tie.close (tie.spec Inv-loop μ-loop loop-holds (λ c κs. search needs) returns (λ c. search needs)
+    (λ c. search needs) loop-again returns-2)

@@ -16,27 +16,6 @@ allBoxes c = c .before .before .before .before
 abbrev atZones : tie.After-boxes3 → tie.After-pen-zones
 atZones c = c .before .before .before
 
-boxes-ok-requires : tie.Need-boxes-ok-requires
-boxes-ok-requires c κs = search needs
-
-returns : tie.Need-returns
-returns c = search needs
-
-is-free-requires : tie.Need-is-free-requires
-is-free-requires c κs = search needs
-
-returns-2 : tie.Need-returns-2
-returns-2 c = search needs
-
-is-free-requires-2 : tie.Need-is-free-requires-2
-is-free-requires-2 c κs = search needs
-
-returns-3 : tie.Need-returns-3
-returns-3 c = search needs
-
-slice-aggregate-pen-zones : tie.Need-slice-aggregate-pen-zones
-slice-aggregate-pen-zones c = search needs
-
 pen-zones-requires : tie.Need-pen-zones-requires
 pen-zones-requires c κs =
     let boxes = allBoxes (bothFree c) in (
@@ -45,9 +24,6 @@ pen-zones-requires c κs =
       omega arith,
     )
 
-slice-aggregate-first-path : tie.Need-slice-aggregate-first-path
-slice-aggregate-first-path c = search needs
-
 first-path-requires : tie.Need-first-path-requires
 first-path-requires c κs =
     let last = bothFree (atZones c .before) in
@@ -55,21 +31,8 @@ first-path-requires c κs =
     posed (atZones c .pen-zones .ensures) (first .before .is-free .ensures .0 (not-false _ (first .if2 .left)))
     (last .before .is-free2 .ensures .0 (not-false _ (last .if3 .left)))
 
-returns-4 : tie.Need-returns-4
-returns-4 c = search needs
-
 pub first-path-spec : {M : Type 1} → statement M
 first-path-spec =
-    tie.close
-    (tie.spec
-    boxes-ok-requires
-    returns
-    is-free-requires
-    returns-2
-    is-free-requires-2
-    returns-3
-    slice-aggregate-pen-zones
-    pen-zones-requires
-    slice-aggregate-first-path
-    first-path-requires
-    returns-4)
+    tie.close (tie.spec (λ c κs. search needs) (λ c. search needs) (λ c κs. search needs) (λ c. search needs)
+    (λ c κs. search needs) (λ c. search needs) (λ c. search needs) pen-zones-requires (λ c. search needs)
+    first-path-requires (λ c. search needs))

@@ -14,31 +14,10 @@ no-nan nan h = absurd (true≢false h)
 no-nan (inf s) h = tt
 no-nan (fin s m e) h = tt
 
-slice-aggregate-write-all : tie.Need-slice-aggregate-write-all
-slice-aggregate-write-all c = search needs
-
-write-all-requires : tie.Need-write-all-requires
-write-all-requires c κs = search needs
-
-returns : tie.Need-returns
-returns c = search needs
-
 float-to-bits-pattern : tie.Need-float-to-bits-pattern
 float-to-bits-pattern c = no-nan (c .before .args .x) (c .if1 .left)
 
-slice-aggregate-write-all-2 : tie.Need-slice-aggregate-write-all-2
-slice-aggregate-write-all-2 c = search needs
-
-write-all-requires-2 : tie.Need-write-all-requires-2
-write-all-requires-2 c κs = search needs
-
-print-hex-requires : tie.Need-print-hex-requires
-print-hex-requires c κs = search needs
-
-returns-2 : tie.Need-returns-2
-returns-2 c = search needs
-
 pub bits-spec : {M : Type 1} → statement M
 bits-spec =
-    tie.close (tie.spec slice-aggregate-write-all write-all-requires returns float-to-bits-pattern
-    slice-aggregate-write-all-2 write-all-requires-2 print-hex-requires returns-2)
+    tie.close (tie.spec (λ c. search needs) (λ c κs. search needs) (λ c. search needs) float-to-bits-pattern
+    (λ c. search needs) (λ c κs. search needs) (λ c κs. search needs) (λ c. search needs))
