@@ -1,12 +1,11 @@
 -- The lines of the nets, one after the other: each comes next, and after the last one all are written.
-use Prim.Native.Nat.{ℕ, zero, suc, _+_, _-_, _*_, _^_, _≤_, _<_}
+use Prim.Native.Nat.{ℕ, zero, suc, _+_, _-_, _^_, _≤_, _<_}
 use native.Mathlib.Omega.{arith}
 use native.Mathlib.Nat.{add-zero, zero-add}
 use mathlib.Core.Path.{_≡_, refl, sym, ap, _∙_, subst}
-use mathlib.Core.Bool.{Bool, true, false, not, cond}
+use mathlib.Core.Bool.{Bool, true, false, not}
 use mathlib.Core.List.{List, [], _∷_, _++_, map, append-assoc, append-nil}
 use lib.ListN.{length, replicate, length-append}
-use lib.Ieee.{Float}
 use borrow.Author.Tests.{not-true, not-false}
 use Rattle.foil_spec.specs.Lists.{range}
 use Rattle.foil_spec.specs.Limits.{maxEntries, stripsSize, sheetSize}
@@ -24,7 +23,6 @@ use Rattle.putting.specs.Put.{Put}
 use Rattle.putting.proofs.Putting.{put-length, each-more}
 use Rattle.ohms.specs.Contract.{resistanceOf}
 use Rattle.ohms.specs.declared.Resistance.{Resistance}
-use Rattle.ohms.specs.declared.Resistance.the-variants.{Ohms}
 use Rattle.sheet_laws.specs.Jobs.{onlyFoil0}
 use Rattle.sheet_rows.specs.Rows.{sheetLent}
 use Rattle.sheet.specs.Contract.{SheetOhmsDone}

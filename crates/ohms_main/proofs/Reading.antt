@@ -3,14 +3,13 @@
 use Prim.Native.Nat.{ℕ, zero, suc, _+_, _*_, _/_, _%_, _<_}
 use native.Mathlib.Omega.{arith}
 use native.Mathlib.Nat.{mul-comm}
-use mathlib.Core.Path.{_≡_, refl, sym, ap, _∙_}
+use mathlib.Core.Path.{_≡_, refl, ap, _∙_}
 use mathlib.Core.Bool.{Bool, true, false, not, cond}
 use mathlib.Core.List.{List}
 use lib.Dec.{eqb}
-use lib.Ieee.{Float, nan, inf, fin, binary64, odd, div, ofFields, ofBits}
+use lib.Ieee.{Float, nan, inf, binary64, odd, div, ofFields, ofBits}
 use lib.Ieee.Scale.{finite}
 use borrow.Author.Tests.{eq-eqb, ne-eqb}
-use Rattle.list_laws.proofs.Tests.{both}
 use Rattle.foil_spec.specs.declared.Ink.{Ink}
 use Rattle.ohms_main.specs.InkBytes.{number8, figureOf, inkIn}
 

@@ -21,29 +21,11 @@ atTest c = c .before .before .before
 abbrev atStart : tie.After-in-use → tie.Start
 atStart c = c .before .before .before .before
 
-add-net : tie.Need-add-net
-add-net c = search needs
-
-in-use-requires : tie.Need-in-use-requires
-in-use-requires c κs = search needs
-
 returns : tie.Need-returns
 returns c =
     let seen = c .before in
     let start = atStart seen in
     not-there _ _ _ _ _ (start .pre .1 .1 .1) _ _ (start .pre .1 .0) _ (seen .in-use .ensures) (c .if1 .taken)
-
-only-foil-0-requires : tie.Need-only-foil-0-requires
-only-foil-0-requires c κs = search needs
-
-ink-of-requires : tie.Need-ink-of-requires
-ink-of-requires c κs = search needs
-
-ohms-requires : tie.Need-ohms-requires
-ohms-requires c κs = search needs
-
-slice-aggregate-put-net : tie.Need-slice-aggregate-put-net
-slice-aggregate-put-net c = search needs
 
 put-net-requires : tie.Need-put-net-requires
 put-net-requires c κs =
@@ -55,9 +37,6 @@ put-net-requires c κs =
           (ohms-are _ _ _ _ _ here _ _ (sheet .only-foil-0 .ensures) (omega arith) (omega arith) _
           (ohms .before .ink-of .ensures) _ (ohms .ohms .ensures)),
     )
-
-slice-aggregate-write-front : tie.Need-slice-aggregate-write-front
-slice-aggregate-write-front c = search needs
 
 write-front-requires : tie.Need-write-front-requires
 write-front-requires c κs =
@@ -89,5 +68,6 @@ returns-2 c =
 
 pub write-net-spec : {M : Type 1} → statement M
 write-net-spec =
-    tie.close (tie.spec add-net in-use-requires returns only-foil-0-requires ink-of-requires ohms-requires
-    slice-aggregate-put-net put-net-requires slice-aggregate-write-front write-front-requires returns-2)
+    tie.close (tie.spec (λ c. search needs) (λ c κs. search needs) returns (λ c κs. search needs)
+    (λ c κs. search needs) (λ c κs. search needs) (λ c. search needs) put-net-requires (λ c. search needs)
+    write-front-requires returns-2)

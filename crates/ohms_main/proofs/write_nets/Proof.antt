@@ -26,12 +26,6 @@ write-net-requires c κs =
     let start = atStart head in
     (omega arith, (head .loop .inv .1, (start .pre .1 .0, start .pre .1 .1)))
 
-add-k : tie.Need-add-k Inv-loop μ-loop
-add-k c = search needs
-
-loop-less : tie.Need-loop-less Inv-loop μ-loop
-loop-less c = search needs
-
 loop-again : tie.Need-loop-again Inv-loop μ-loop
 loop-again c = (omega arith, c .write-net .ensures)
 
@@ -42,4 +36,5 @@ returns c =
 
 pub write-nets-spec : {M : Type 1} → statement M
 write-nets-spec =
-    tie.close (tie.spec Inv-loop μ-loop loop-holds write-net-requires add-k loop-less loop-again returns)
+    tie.close (tie.spec Inv-loop μ-loop loop-holds write-net-requires (λ c. search needs) (λ c. search needs)
+    loop-again returns)

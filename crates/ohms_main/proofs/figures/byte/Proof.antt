@@ -5,9 +5,6 @@ use borrow.Author.Needs.{needs}
 use Rattle.ohms_main.proofs.figures.byte.Statement.{statement}
 use Rattle.ohms_main.proofs.figures.byte.Tie as tie
 
-shared-slice-read-result : tie.Need-shared-slice-read-result
-shared-slice-read-result c = search needs
-
 cast-result : tie.Need-cast-result
 cast-result c = omega (arith, c .shared-slice-known .given (c .before .args .at))
 
@@ -16,4 +13,4 @@ returns c = (refl, c .shared-slice-known .given (c .before .args .at) .fits)
 
 pub byte-spec : {M : Type 1} → statement M
 byte-spec =
-    tie.close (tie.spec shared-slice-read-result cast-result returns)
+    tie.close (tie.spec (λ c. search needs) cast-result returns)

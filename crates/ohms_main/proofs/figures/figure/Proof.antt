@@ -1,5 +1,4 @@
 -- A pattern whose exponent is not all ones is no NaN's, and one whose exponent is has no finite f64.
-use borrow.Author.Needs.{needs}
 use borrow.Author.Tests.{ne-eqb}
 use lib.Ieee.{nanBits}
 use Rattle.ohms_main.proofs.Reading.{as-bits, as-infinity, one-by-none}

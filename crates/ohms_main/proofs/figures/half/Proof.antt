@@ -5,21 +5,6 @@ use Rattle.ohms_main.proofs.Reading.{joined, below-half}
 use Rattle.ohms_main.proofs.figures.half.Statement.{statement}
 use Rattle.ohms_main.proofs.figures.half.Tie as tie
 
-pair-requires : tie.Need-pair-requires
-pair-requires c κs = search needs
-
-add-pair : tie.Need-add-pair
-add-pair c = search needs
-
-pair-requires-2 : tie.Need-pair-requires-2
-pair-requires-2 c κs = search needs
-
-mul-result : tie.Need-mul-result
-mul-result c = search needs
-
-add-result : tie.Need-add-result
-add-result c = search needs
-
 returns : tie.Need-returns
 unfolding number4
 returns c = (
@@ -29,4 +14,5 @@ returns c = (
 
 pub half-spec : {M : Type 1} → statement M
 half-spec =
-    tie.close (tie.spec pair-requires add-pair pair-requires-2 mul-result add-result returns)
+    tie.close (tie.spec (λ c κs. search needs) (λ c. search needs) (λ c κs. search needs) (λ c. search needs)
+    (λ c. search needs) returns)

@@ -11,24 +11,6 @@ atWidth c = c .before .before
 abbrev atSheet : tie.After-figure2 → tie.After-figure
 atSheet c = c .before .before
 
-word-requires : tie.Need-word-requires
-word-requires c κs = search needs
-
-figure-requires : tie.Need-figure-requires
-figure-requires c κs = search needs
-
-word-requires-2 : tie.Need-word-requires-2
-word-requires-2 c κs = search needs
-
-figure-requires-2 : tie.Need-figure-requires-2
-figure-requires-2 c κs = search needs
-
-word-requires-3 : tie.Need-word-requires-3
-word-requires-3 c κs = search needs
-
-figure-requires-3 : tie.Need-figure-requires-3
-figure-requires-3 c κs = search needs
-
 returns : tie.Need-returns
 returns c =
     let width = atWidth c in
@@ -38,5 +20,5 @@ returns c =
 
 pub ink-of-spec : {M : Type 1} → statement M
 ink-of-spec =
-    tie.close (tie.spec word-requires figure-requires word-requires-2 figure-requires-2 word-requires-3
-    figure-requires-3 returns)
+    tie.close (tie.spec (λ c κs. search needs) (λ c κs. search needs) (λ c κs. search needs) (λ c κs. search needs)
+    (λ c κs. search needs) (λ c κs. search needs) returns)

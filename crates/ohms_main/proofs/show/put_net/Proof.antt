@@ -5,31 +5,16 @@ use Rattle.ohms_main.proofs.Digits.{as-told}
 use Rattle.ohms_main.proofs.show.put_net.Statement.{statement}
 use Rattle.ohms_main.proofs.show.put_net.Tie as tie
 
-enum-known-r : tie.Need-enum-known-r
-enum-known-r c = search needs
-
-put-refused-requires : tie.Need-put-refused-requires
-put-refused-requires c κs = search needs
-
-enum-known-r-2 : tie.Need-enum-known-r-2
-enum-known-r-2 c = search needs
-
 put-ohms-requires : tie.Need-put-ohms-requires
 put-ohms-requires c κs =
     let told = c .before .before in
     (omega arith, told .before .before .before .pre .1 _ (told .r2 .given .1))
-
-same-length : tie.Need-same-length
-same-length c = omega arith
 
 returns : tie.Need-returns
 returns c =
     let put = c .before .before in
     let told = put .before .before .before in
     (as-told _ _ _ (told .r .given .1) (put .put-refused .ensures .0), put .put-refused .ensures .1)
-
-same-length-2 : tie.Need-same-length-2
-same-length-2 c = omega arith
 
 returns-2 : tie.Need-returns-2
 returns-2 c =
@@ -39,5 +24,5 @@ returns-2 c =
 
 pub put-net-spec : {M : Type 1} → statement M
 put-net-spec =
-    tie.close (tie.spec enum-known-r put-refused-requires enum-known-r-2 put-ohms-requires same-length returns
-    same-length-2 returns-2)
+    tie.close (tie.spec (λ c. search needs) (λ c κs. search needs) (λ c. search needs) put-ohms-requires
+    (λ c. omega arith) returns (λ c. omega arith) returns-2)

@@ -19,30 +19,6 @@ atBlank c = c .before .before .before .before
 abbrev atHead : tie.After-put-bytes → tie.After-put-head
 atHead c = c .before .before .before .before .before
 
-put-head-requires : tie.Need-put-head-requires
-put-head-requires c κs = search needs
-
-slice-aggregate-put-bytes : tie.Need-slice-aggregate-put-bytes
-slice-aggregate-put-bytes c = search needs
-
-put-bytes-requires : tie.Need-put-bytes-requires
-put-bytes-requires c κs = search needs
-
-float-to-bits-put-hex : tie.Need-float-to-bits-put-hex
-float-to-bits-put-hex c = search needs
-
-put-hex-requires : tie.Need-put-hex-requires
-put-hex-requires c κs = search needs
-
-slice-aggregate-put-bytes-2 : tie.Need-slice-aggregate-put-bytes-2
-slice-aggregate-put-bytes-2 c = search needs
-
-put-bytes-requires-2 : tie.Need-put-bytes-requires-2
-put-bytes-requires-2 c κs = search needs
-
-same-length : tie.Need-same-length
-same-length c = search needs
-
 returns : tie.Need-returns
 unfolding netLine
 returns c =
@@ -64,5 +40,5 @@ returns c =
 
 pub put-ohms-spec : {M : Type 1} → statement M
 put-ohms-spec =
-    tie.close (tie.spec put-head-requires slice-aggregate-put-bytes put-bytes-requires float-to-bits-put-hex
-    put-hex-requires slice-aggregate-put-bytes-2 put-bytes-requires-2 same-length returns)
+    tie.close (tie.spec (λ c κs. search needs) (λ c. search needs) (λ c κs. search needs) (λ c. search needs)
+    (λ c κs. search needs) (λ c. search needs) (λ c κs. search needs) (λ c. search needs) returns)
