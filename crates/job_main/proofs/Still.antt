@@ -5,7 +5,7 @@ use mathlib.Core.Path.{_≡_, refl, sym, ap, _∙_, subst}
 use mathlib.Core.List.{List, [], _++_}
 use mathlib.Core.Option.{Option, none, some}
 use lib.ListN.{length}
-use Rattle.foil_spec.specs.Limits.{maxEntries, maxBytes, sheetSize}
+use Rattle.foil_spec.specs.Limits.{maxBytes, sheetSize}
 use Rattle.foil_spec.specs.Calls.{placeAfter}
 use Rattle.foil_spec.specs.Sheet.{SheetLent, noBoard}
 use Rattle.foil_spec.specs.declared.Board.{Board}

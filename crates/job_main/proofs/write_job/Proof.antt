@@ -33,9 +33,6 @@ lastLines c = c .before .before
 abbrev theseLines : tie.After-board Inv-loop μ-loop → tie.After-write-lines Inv-loop μ-loop
 theseLines c = c .before .before .before .before
 
-no-board-requires : tie.Need-no-board-requires Inv-loop μ-loop
-no-board-requires c κs = search needs
-
 loop-holds : tie.Need-loop-holds Inv-loop μ-loop
 loop-holds c = (
   omega arith,
@@ -43,20 +40,11 @@ loop-holds c = (
   first-comes _ _ _,
 )
 
-report-record-requires : tie.Need-report-record-requires Inv-loop μ-loop
-report-record-requires c κs = search needs
-
 write-lines-requires : tie.Need-write-lines-requires Inv-loop μ-loop
 write-lines-requires c κs =
     let done = reported c in
     next-lines _ _ _ _ _ (atLoop done .loop .inv .1) (omega arith) _ _ _ _ _ _ _ (done .report-record .ensures .0)
     (done .report-record .ensures .1)
-
-enum-known-next : tie.Need-enum-known-next Inv-loop μ-loop
-enum-known-next c = search needs
-
-enum-told : tie.Need-enum-told Inv-loop μ-loop
-enum-told c = search needs
 
 returns : tie.Need-returns Inv-loop μ-loop
 returns c =
@@ -64,12 +52,6 @@ returns c =
     let done = reported (lines .before) in
     ends _ _ _ _ _ (atLoop done .loop .inv .1) (omega arith) _ _ _ _ _ _ _ (done .report-record .ensures .0)
     (done .report-record .ensures .1) _ (lines .write-lines .ensures) (c .enum-told .given .1)
-
-add-counter : tie.Need-add-counter Inv-loop μ-loop
-add-counter c = search needs
-
-loop-less : tie.Need-loop-less Inv-loop μ-loop
-loop-less c = search needs
 
 loop-again : tie.Need-loop-again Inv-loop μ-loop
 loop-again c =
@@ -86,5 +68,5 @@ returns-2 c = all-told _ _ _ _ _ (c .before .loop .inv .1) (omega arith)
 
 pub write-job-spec : {M : Type 1} → statement M
 write-job-spec =
-    tie.close (tie.spec Inv-loop μ-loop no-board-requires loop-holds report-record-requires
-    write-lines-requires enum-known-next enum-told returns add-counter loop-less loop-again returns-2)
+    tie.close (tie.spec Inv-loop μ-loop (λ c κs. search needs) loop-holds (λ c κs. search needs) write-lines-requires
+    (λ c. search needs) (λ c. search needs) returns (λ c. search needs) (λ c. search needs) loop-again returns-2)
