@@ -12,34 +12,8 @@ abbrev μ-loop : tie.MeasureT-loop
 μ-loop counts₀ row₀ corners₀ answers₀ wishes asked refused laid₀ k₀ k-end counts row corners answers laid k =
     k-end - k
 
-count-requires : tie.Need-count-requires Inv-loop μ-loop
-count-requires c κs = search needs
-
-count-requires-2 : tie.Need-count-requires-2 Inv-loop μ-loop
-count-requires-2 c κs = search needs
-
-returns : tie.Need-returns Inv-loop μ-loop
-returns c = search needs
-
-loop-holds : tie.Need-loop-holds Inv-loop μ-loop
-loop-holds c = search needs
-
-lay-one-requires : tie.Need-lay-one-requires Inv-loop μ-loop
-lay-one-requires c κs = search needs
-
-add-k : tie.Need-add-k Inv-loop μ-loop
-add-k c = search needs
-
-loop-less : tie.Need-loop-less Inv-loop μ-loop
-loop-less c = search needs
-
-loop-again : tie.Need-loop-again Inv-loop μ-loop
-loop-again c = search needs
-
-returns-2 : tie.Need-returns-2 Inv-loop μ-loop
-returns-2 c = search needs
-
 pub lay-all-spec : {M : Type 1} → statement M
 lay-all-spec =
-    tie.close (tie.spec Inv-loop μ-loop count-requires count-requires-2 returns loop-holds lay-one-requires
-    add-k loop-less loop-again returns-2)
+    tie.close (tie.spec Inv-loop μ-loop (λ c κs. search needs) (λ c κs. search needs) (λ c. search needs)
+    (λ c. search needs) (λ c κs. search needs) (λ c. search needs) (λ c. search needs) (λ c. search needs)
+    (λ c. search needs))
