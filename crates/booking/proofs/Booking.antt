@@ -22,10 +22,9 @@ use Rattle.ledger_laws.proofs.Legs.{legs-ok, length-legs}
 use Rattle.ledger_laws.proofs.Rules.{of-ok}
 use Rattle.ledger_laws.proofs.Sound.{Sound, of-sound, sound-long, length-read}
 use Rattle.tables.specs.Rows.{rowsOf}
-use Rattle.tables.specs.Booked.{Stored, Unchanged, Booking}
+use Rattle.tables.specs.Booked.{Booking}
 use Rattle.tables.specs.Legs.{Corners, Legs}
 use Rattle.tables.specs.declared.Booked.{Booked}
-use Rattle.tables.specs.declared.Booked.the-variants.{Taken, TooFine}
 use Rattle.foil.proofs.Making.{rows-again, rows-layout, rows-table, copied-rows}
 use Rattle.foil.proofs.Limits.{Held, held-limits}
 use Rattle.booking.specs.Booking.{withLegs, MayBook}
@@ -47,15 +46,6 @@ unfolding held layoutOf
 entries-count m net cs some =
     length-append (held m .entries) (legs net cs)
     ∙ omega (arith, length-read (m .table) (m .board .entries), length-legs net cs some)
-
--- what a booking left, by the case that it answers
-pub taken-by : {l : Layout} {t s t′ s′ : List ℕ} (k : Booked) → Booking l t s t′ s′ k → (after : Board)
-    → k ≡ Taken after → Stored l t s t′ s′ after
-taken-by {l} {t} {s} {t′} {s′} k left after e = subst (λ (x : Booked). Booking l t s t′ s′ x) e left
-
-pub not-taken : {l : Layout} {t s t′ s′ : List ℕ} (k : Booked) → Booking l t s t′ s′ k → k ≡ TooFine
-    → Unchanged l t s t′ s′
-not-taken {l} {t} {s} {t′} {s′} k left e = subst (λ (x : Booked). Booking l t s t′ s′ x) e left
 
 module _ (b : Board) (t s : List ℕ) (net : ℕ) (path : List ℕ) (k : ℕ) (y : MayBook (lent b t s) net path k) where
   abbrev m : Lent

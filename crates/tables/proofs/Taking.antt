@@ -2,7 +2,7 @@
 use Prim.Native.Nat.{ℕ, _+_, _-_, _≤_, _<_}
 use native.Mathlib.Omega.{arith}
 use native.Mathlib.Nat.{zero-add}
-use mathlib.Core.Path.{_≡_, sym, ap, _∙_}
+use mathlib.Core.Path.{_≡_, sym, ap, _∙_, subst}
 use mathlib.Core.List.{List, [], _++_, map, append-assoc}
 use lib.ListN.{length, drop, replicate}
 use lib.Seq.{paste}
@@ -18,7 +18,9 @@ use Rattle.ledger_laws.proofs.Stored.{length-entries}
 use Rattle.ledger_laws.proofs.Sound.{length-read, front-written}
 use Rattle.tables.specs.Rows.{rowsOf}
 use Rattle.tables.specs.StripList.{PutStrips}
-use Rattle.tables.specs.Booked.{Stored, Unchanged}
+use Rattle.tables.specs.Booked.{Stored, Unchanged, Booking}
+use Rattle.tables.specs.declared.Booked.{Booked}
+use Rattle.tables.specs.declared.Booked.the-variants.{Taken, TooFine}
 use Rattle.tables.proofs.Filling.{length-rows}
 
 pub rows-long : (n : ℕ) (rows : List ℕ) → n ≤ maxEntries
@@ -71,3 +73,11 @@ module _ (w h : ℕ) (p : Pen) (n : ℕ) (rows t s : List ℕ) (ss : List Strip)
             ∙ copied tableSize (each entryNumbers (map (entryAt rows) (range 0 n))) [] t (omega arith);
         strips = p .held m ∙ ap (λ (ts : List Strip). written stripsSize (each stripNumbers ts) s) are;
       }
+
+-- what a booking left, by the case that it answers
+module _ {l : Layout} {t s t′ s′ : List ℕ} (k : Booked) (left : Booking l t s t′ s′ k) where
+  pub stored-by : (after : Board) → k ≡ Taken after → Stored l t s t′ s′ after
+  stored-by after e = subst (λ (x : Booked). Booking l t s t′ s′ x) e left
+
+  pub unchanged-by : k ≡ TooFine → Unchanged l t s t′ s′
+  unchanged-by e = subst (λ (x : Booked). Booking l t s t′ s′ x) e left

@@ -2,7 +2,7 @@
 use native.Mathlib.Omega.{arith}
 use Rattle.ledger_laws.proofs.Sound.{of-sound}
 use Rattle.foil.proofs.Limits.{held-limits, held-table}
-use Rattle.booking.proofs.Booking.{taken-by, not-taken}
+use Rattle.tables.proofs.Taking.{stored-by, unchanged-by}
 use Rattle.booking.proofs.Checking.{no-net, used, no-way, table-full, may-book, too-fine, booked-done}
 use borrow.Author.Needs.{needs}
 use Rattle.booking.proofs.book_in.Statement.{statement}
@@ -28,12 +28,6 @@ fits c = c .before .before
 abbrev booked : tie.After-slice-known4 → tie.After-book-path
 booked c = c .before .before .before .before
 
-net-ok-requires : tie.Need-net-ok-requires
-net-ok-requires c κs = search needs
-
-refuse-requires : tie.Need-refuse-requires
-refuse-requires c κs = search needs
-
 returns : tie.Need-returns
 returns c =
     let net = c .before .before in
@@ -42,12 +36,6 @@ returns c =
 
 in-use-requires : tie.Need-in-use-requires
 in-use-requires c κs = held-table _ _ _ (atStart (c .before .before) .pre .0) .len
-
-refuse-requires-2 : tie.Need-refuse-requires-2
-refuse-requires-2 c κs = search needs
-
-same-length : tie.Need-same-length
-same-length c = search needs
 
 returns-2 : tie.Need-returns-2
 returns-2 c =
@@ -60,12 +48,6 @@ returns-2 c =
 draws-way-requires : tie.Need-draws-way-requires
 draws-way-requires c κs = held-table _ _ _ (atStart (netOk (c .before .before) .before) .pre .0)
 
-refuse-requires-3 : tie.Need-refuse-requires-3
-refuse-requires-3 c κs = search needs
-
-same-length-2 : tie.Need-same-length-2
-same-length-2 c = search needs
-
 returns-3 : tie.Need-returns-3
 returns-3 c =
     let list = c .before .before in
@@ -76,9 +58,6 @@ returns-3 c =
     (nets .before .in-use .ensures) (nets .if2 .left) _ (list .draws-way .ensures) (c .before .if3 .taken) _
     (c .refuse3 .ensures)
 
-leg-count-requires : tie.Need-leg-count-requires
-leg-count-requires c κs = search needs
-
 add-if4 : tie.Need-add-if4
 add-if4 c =
     let net = netOk (unused (way c .before) .before) in
@@ -87,12 +66,6 @@ add-if4 c =
       c .before .leg-count .ensures,
       held-limits _ _ _ (of-sound _ (atStart (net .before) .pre .0)) .few,
     )
-
-refuse-requires-4 : tie.Need-refuse-requires-4
-refuse-requires-4 c κs = search needs
-
-same-length-3 : tie.Need-same-length-3
-same-length-3 c = search needs
 
 returns-4 : tie.Need-returns-4
 returns-4 c =
@@ -116,21 +89,6 @@ book-path-requires c κs =
     (nets .before .in-use .ensures) (nets .if2 .left) _ (list .before .draws-way .ensures) (list .if3 .left) _
     (room .before .before .leg-count .ensures) (room .if4 .left)
 
-enum-known-booked : tie.Need-enum-known-booked
-enum-known-booked c = search needs
-
-enum-told : tie.Need-enum-told
-enum-told c = search needs
-
-refuse-requires-5 : tie.Need-refuse-requires-5
-refuse-requires-5 c κs = search needs
-
-same-length-4 : tie.Need-same-length-4
-same-length-4 c = search needs
-
-same-length-5 : tie.Need-same-length-5
-same-length-5 c = search needs
-
 returns-5 : tie.Need-returns-5
 returns-5 c =
     let end = booked (c .before .before .before) in
@@ -142,16 +100,7 @@ returns-5 c =
     too-fine _ _ _ _ _ _ (pre .1) (pre .0) _ (net .before .net-ok .ensures) (net .if1 .left) _
     (nets .before .in-use .ensures) (nets .if2 .left) _ (list .before .draws-way .ensures) (list .if3 .left) _
     (room .before .before .leg-count .ensures) (room .if4 .left) _ _ _
-    (not-taken _ (end .book-path .ensures) (c .before .enum-told .given .1)) (c .refuse5 .ensures)
-
-bend-count-requires : tie.Need-bend-count-requires
-bend-count-requires c κs = search needs
-
-same-length-6 : tie.Need-same-length-6
-same-length-6 c = search needs
-
-same-length-7 : tie.Need-same-length-7
-same-length-7 c = search needs
+    (unchanged-by _ (end .book-path .ensures) (c .before .enum-told .given .1)) (c .refuse5 .ensures)
 
 returns-6 : tie.Need-returns-6
 returns-6 c =
@@ -165,11 +114,12 @@ returns-6 c =
     booked-done _ _ _ _ _ _ (pre .1) (pre .0) _ (net .before .net-ok .ensures) (net .if1 .left) _
     (nets .before .in-use .ensures) (nets .if2 .left) _ (list .before .draws-way .ensures) (list .if3 .left) _
     (room .before .before .leg-count .ensures) (room .if4 .left) _ _ _ _ (c .bend-count .ensures)
-    (taken-by _ (end .book-path .ensures) _ (told .booked .given .1))
+    (stored-by _ (end .book-path .ensures) _ (told .booked .given .1))
 
 pub book-in-spec : {M : Type 1} → statement M
 book-in-spec =
-    tie.close (tie.spec net-ok-requires refuse-requires returns in-use-requires refuse-requires-2 same-length
-    returns-2 draws-way-requires refuse-requires-3 same-length-2 returns-3 leg-count-requires add-if4
-    refuse-requires-4 same-length-3 returns-4 book-path-requires enum-known-booked enum-told refuse-requires-5
-    same-length-4 same-length-5 returns-5 bend-count-requires same-length-6 same-length-7 returns-6)
+    tie.close (tie.spec (λ c κs. search needs) (λ c κs. search needs) returns in-use-requires (λ c κs. search needs)
+    (λ c. search needs) returns-2 draws-way-requires (λ c κs. search needs) (λ c. search needs) returns-3
+    (λ c κs. search needs) add-if4 (λ c κs. search needs) (λ c. search needs) returns-4 book-path-requires
+    (λ c. search needs) (λ c. search needs) (λ c κs. search needs) (λ c. search needs) (λ c. search needs) returns-5
+    (λ c κs. search needs) (λ c. search needs) (λ c. search needs) returns-6)

@@ -22,23 +22,14 @@ atLegs c = c .before .before .before .before
 abbrev taken : tie.After-slice-known4 → tie.After-take-over
 taken c = c .before .before .before .before
 
-slice-aggregate-copy-front : tie.Need-slice-aggregate-copy-front
-slice-aggregate-copy-front c = search needs
-
 copy-front-requires : tie.Need-copy-front-requires
 copy-front-requires c κs = (omega arith, lists-long _ _ _ _ _ _ (atStart c .pre) .0)
-
-slice-aggregate-append-legs : tie.Need-slice-aggregate-append-legs
-slice-aggregate-append-legs c = search needs
 
 append-legs-requires : tie.Need-append-legs-requires
 append-legs-requires c κs =
     let pre = atStart (atCopy c .before) .pre in
     let fits = sums _ _ _ _ _ _ pre in
     ((fits .0, fits .1, fits .2, omega arith), small _ _ _ _ _ _ pre)
-
-slice-aggregate-take-over : tie.Need-slice-aggregate-take-over
-slice-aggregate-take-over c = search needs
 
 take-over-requires : tie.Need-take-over-requires
 take-over-requires c κs =
@@ -52,12 +43,6 @@ take-over-requires c κs =
       ),
     )
 
-same-length : tie.Need-same-length
-same-length c = search needs
-
-same-length-2 : tie.Need-same-length-2
-same-length-2 c = search needs
-
 returns : tie.Need-returns
 returns c =
     let end = taken c in
@@ -68,5 +53,5 @@ returns c =
 
 pub book-path-spec : {M : Type 1} → statement M
 book-path-spec =
-    tie.close (tie.spec slice-aggregate-copy-front copy-front-requires slice-aggregate-append-legs
-    append-legs-requires slice-aggregate-take-over take-over-requires same-length same-length-2 returns)
+    tie.close (tie.spec (λ c. search needs) copy-front-requires (λ c. search needs) append-legs-requires
+    (λ c. search needs) take-over-requires (λ c. search needs) (λ c. search needs) returns)

@@ -9,14 +9,8 @@ use Rattle.booking.proofs.draws_way.Tie as tie
 abbrev atZones : tie.After-boxes3 → tie.After-pen-zones
 atZones c = c .before .before
 
-slice-aggregate-pen-zones : tie.Need-slice-aggregate-pen-zones
-slice-aggregate-pen-zones c = search needs
-
 pen-zones-requires : tie.Need-pen-zones-requires
 pen-zones-requires c κs = (c .before .before .before .pre, omega arith)
-
-slice-aggregate-is-way : tie.Need-slice-aggregate-is-way
-slice-aggregate-is-way c = search needs
 
 is-way-requires : tie.Need-is-way-requires
 is-way-requires c κs = atZones c .pen-zones .ensures .boxes
@@ -26,4 +20,4 @@ returns c = layout-way _ _ _ _ _ _ (atZones (c .before) .pen-zones .ensures) _ (
 
 pub draws-way-spec : {M : Type 1} → statement M
 draws-way-spec =
-    tie.close (tie.spec slice-aggregate-pen-zones pen-zones-requires slice-aggregate-is-way is-way-requires returns)
+    tie.close (tie.spec (λ c. search needs) pen-zones-requires (λ c. search needs) is-way-requires returns)

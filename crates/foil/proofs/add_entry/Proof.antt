@@ -22,30 +22,12 @@ afterPut c = c .before .before .before .before
 abbrev afterSettle : tie.After-slice-known4 → tie.After-settle
 afterSettle c = c .before .before .before .before
 
-refuse-requires : tie.Need-refuse-requires
-refuse-requires c κs = search needs
-
 returns : tie.Need-returns
 returns c = table-full _ _ _ (atStart (c .before .before) .pre .0) _
     (atStart (c .before .before) .pre .1 .0) _ (c .before .if1 .taken) _ (c .refuse .ensures)
 
-slice-aggregate-copy-front : tie.Need-slice-aggregate-copy-front
-slice-aggregate-copy-front c = search needs
-
 copy-front-requires : tie.Need-copy-front-requires
 copy-front-requires c κs = (omega arith, sound-long _ (atStart (inElse c .before) .pre .0) .table)
-
-slice-aggregate-put-entry : tie.Need-slice-aggregate-put-entry
-slice-aggregate-put-entry c = search needs
-
-put-entry-requires : tie.Need-put-entry-requires
-put-entry-requires c κs = search needs
-
-slice-aggregate-settle : tie.Need-slice-aggregate-settle
-slice-aggregate-settle c = search needs
-
-add-settle : tie.Need-add-settle
-add-settle c = search needs
 
 settle-requires : tie.Need-settle-requires
 settle-requires c κs =
@@ -61,12 +43,6 @@ settle-requires c κs =
       ),
     )
 
-same-length : tie.Need-same-length
-same-length c = search needs
-
-same-length-2 : tie.Need-same-length-2
-same-length-2 c = search needs
-
 returns-2 : tie.Need-returns-2
 returns-2 c =
     let rows = afterSettle c .before in
@@ -78,5 +54,6 @@ returns-2 c =
 
 pub add-entry-spec : {M : Type 1} → statement M
 add-entry-spec =
-    tie.close (tie.spec refuse-requires returns slice-aggregate-copy-front copy-front-requires slice-aggregate-put-entry
-    put-entry-requires slice-aggregate-settle add-settle settle-requires same-length same-length-2 returns-2)
+    tie.close (tie.spec (λ c κs. search needs) returns (λ c. search needs) copy-front-requires (λ c. search needs)
+    (λ c κs. search needs) (λ c. search needs) (λ c. search needs) settle-requires (λ c. search needs)
+    (λ c. search needs) returns-2)

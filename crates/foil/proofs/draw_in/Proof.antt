@@ -19,12 +19,6 @@ noLeg c = c .before .before
 abbrev afterAddEntry : tie.After-slice-known4 → tie.After-add-entry
 afterAddEntry c = c .before .before .before .before
 
-box-ok-requires : tie.Need-box-ok-requires
-box-ok-requires c κs = search needs
-
-refuse-requires : tie.Need-refuse-requires
-refuse-requires c κs = search needs
-
 returns : tie.Need-returns
 returns c = no-patch _ _ _ (atStart (c .before .before) .pre .0) _
     (atStart (c .before .before) .pre .1) _ _ _ _ _ (c .before .before .box-ok .ensures)
@@ -35,12 +29,6 @@ patch-margin-requires c κs = held-table _ _ _ (atStart (c .before .before) .pre
 
 over-leg-requires : tie.Need-over-leg-requires
 over-leg-requires c κs = omega (arith, held-table _ _ _ (atStart (c .before .before .before) .pre .0) .len)
-
-refuse-requires-2 : tie.Need-refuse-requires-2
-refuse-requires-2 c κs = search needs
-
-same-length : tie.Need-same-length
-same-length c = search needs
 
 returns-2 : tie.Need-returns-2
 returns-2 c =
@@ -61,12 +49,6 @@ add-entry-requires c κs =
       ),
     )
 
-same-length-2 : tie.Need-same-length-2
-same-length-2 c = search needs
-
-same-length-3 : tie.Need-same-length-3
-same-length-3 c = search needs
-
 returns-3 : tie.Need-returns-3
 returns-3 c =
     let added = afterAddEntry c in
@@ -78,5 +60,6 @@ returns-3 c =
 
 pub draw-in-spec : {M : Type 1} → statement M
 draw-in-spec =
-    tie.close (tie.spec box-ok-requires refuse-requires returns patch-margin-requires over-leg-requires
-    refuse-requires-2 same-length returns-2 add-entry-requires same-length-2 same-length-3 returns-3)
+    tie.close (tie.spec (λ c κs. search needs) (λ c κs. search needs) returns patch-margin-requires over-leg-requires
+    (λ c κs. search needs) (λ c. search needs) returns-2 add-entry-requires (λ c. search needs) (λ c. search needs)
+    returns-3)

@@ -30,12 +30,6 @@ afterSettle c = c .before .before .before .before
 abbrev beforeInUse : tie.After-rows3 → tie.After-in-use-arg
 beforeInUse c = inUse c .before .before
 
-net-ok-requires : tie.Need-net-ok-requires
-net-ok-requires c κs = search needs
-
-refuse-requires : tie.Need-refuse-requires
-refuse-requires c κs = search needs
-
 returns : tie.Need-returns
 returns c = no-net _ _ _ _ (atStart (c .before .before) .pre) _ (c .before .before .net-ok .ensures)
     (c .before .if1 .taken) _ (c .refuse .ensures)
@@ -47,19 +41,10 @@ in-use-requires c κs = omega (
   held-limits _ _ _ (of-sound _ (atStart (c .before .before) .pre)) .few,
 )
 
-refuse-requires-2 : tie.Need-refuse-requires-2
-refuse-requires-2 c κs = search needs
-
-same-length : tie.Need-same-length
-same-length c = search needs
-
 returns-2 : tie.Need-returns-2
 returns-2 c = not-there _ _ _ _ (atStart (netOk c .before) .pre) _
     (netOk c .before .net-ok .ensures) (netOk c .if1 .left) _
     (c .before .before .in-use .ensures) (c .before .if2 .taken) _ (c .refuse2 .ensures)
-
-slice-aggregate-without : tie.Need-slice-aggregate-without
-slice-aggregate-without c = search needs
 
 without-requires : tie.Need-without-requires
 without-requires c κs = (
@@ -73,9 +58,6 @@ without-requires c κs = (
   ),
   no-rows,
 )
-
-slice-aggregate-settle : tie.Need-slice-aggregate-settle
-slice-aggregate-settle c = search needs
 
 settle-requires : tie.Need-settle-requires
 settle-requires c κs = (
@@ -101,12 +83,6 @@ settle-requires c κs = (
   ),
 )
 
-same-length-2 : tie.Need-same-length-2
-same-length-2 c = search needs
-
-same-length-3 : tie.Need-same-length-3
-same-length-3 c = search needs
-
 returns-3 : tie.Need-returns-3
 returns-3 c = lifted _ _ _ _ (atStart (beforeInUse (afterSettle c .before) .before .before) .pre) _
     (beforeInUse (afterSettle c .before) .before .before .net-ok .ensures)
@@ -117,6 +93,6 @@ returns-3 c = lifted _ _ _ _ (atStart (beforeInUse (afterSettle c .before) .befo
 
 pub lift-in-spec : {M : Type 1} → statement M
 lift-in-spec =
-    tie.close (tie.spec net-ok-requires refuse-requires returns in-use-requires refuse-requires-2 same-length
-    returns-2 slice-aggregate-without without-requires slice-aggregate-settle settle-requires same-length-2
-    same-length-3 returns-3)
+    tie.close (tie.spec (λ c κs. search needs) (λ c κs. search needs) returns in-use-requires (λ c κs. search needs)
+    (λ c. search needs) returns-2 (λ c. search needs) without-requires (λ c. search needs) settle-requires
+    (λ c. search needs) (λ c. search needs) returns-3)

@@ -38,12 +38,6 @@ locate-requires c κs = (
   by-row-of _ (of-sound _ (atStart (c .before) .pre)),
 )
 
-enum-known-place : tie.Need-enum-known-place
-enum-known-place c = search needs
-
-enum-told : tie.Need-enum-told
-enum-told c = search needs
-
 returns-3 : tie.Need-returns-3
 returns-3 c = nowhere _ _ _ _ (atStart (inElse2 c .before) .pre)
     (inElse2 c .before .before .if1 .left) (inElse2 c .if2 .left)
@@ -57,4 +51,4 @@ returns-4 c = somewhere _ _ _ _
 
 pub look-up-in-spec : {M : Type 1} → statement M
 look-up-in-spec =
-    tie.close (tie.spec returns returns-2 locate-requires enum-known-place enum-told returns-3 returns-4)
+    tie.close (tie.spec returns returns-2 locate-requires (λ c. search needs) (λ c. search needs) returns-3 returns-4)

@@ -48,37 +48,16 @@ clear : (c : tie.After-pen-of)
     (atStart (atHeight (passed c) .before .before .before) .args .clearance)) ∷ []) ≡ none
 clear c = none-first _ _ (passed c .clearance-refusal .ensures) (c .before .enum-told .given .1)
 
-size-ok-requires : tie.Need-size-ok-requires
-size-ok-requires c κs = search needs
-
-refuse-requires : tie.Need-refuse-requires
-refuse-requires c κs = search needs
-
 returns : tie.Need-returns
 returns c = λ room long.
     no-width _ _ _ _ _ _ room long _ (c .before .before .size-ok .ensures) (c .before .if1 .taken) _
     (c .refuse .ensures)
-
-size-ok-requires-2 : tie.Need-size-ok-requires-2
-size-ok-requires-2 c κs = search needs
-
-refuse-requires-2 : tie.Need-refuse-requires-2
-refuse-requires-2 c κs = search needs
 
 returns-2 : tie.Need-returns-2
 returns-2 c = λ room long.
     let tested = c .before .before in
     no-height _ _ _ _ _ _ room long _ (atWidth tested .before .size-ok .ensures) (atWidth tested .if1 .left) _
     (tested .size-ok2 .ensures) (c .before .if2 .taken) _ (c .refuse2 .ensures)
-
-clearance-refusal-requires : tie.Need-clearance-refusal-requires
-clearance-refusal-requires c κs = search needs
-
-enum-known-checked : tie.Need-enum-known-checked
-enum-known-checked c = search needs
-
-refuse-requires-3 : tie.Need-refuse-requires-3
-refuse-requires-3 c κs = search needs
 
 returns-3 : tie.Need-returns-3
 returns-3 c = λ room long.
@@ -89,15 +68,6 @@ returns-3 c = λ room long.
     (number-first _ _ (refused c .clearance-refusal .ensures) _ (c .before .before .checked .given .1)) _
     (c .refuse3 .ensures)
 
-enum-told : tie.Need-enum-told
-enum-told c = search needs
-
-pen-of-requires : tie.Need-pen-of-requires
-pen-of-requires c κs = search needs
-
-slice-aggregate-settle : tie.Need-slice-aggregate-settle
-slice-aggregate-settle c = search needs
-
 settle-requires : tie.Need-settle-requires
 settle-requires c κs =
     let tested = atHeight (passed (penned c)) in (
@@ -105,12 +75,6 @@ settle-requires c κs =
           (ap penOk (penned c .pen-of .ensures) ∙ passed-pen _ (clear (penned c))),
       (no-rows, atStart (tested .before .before .before) .pre),
     )
-
-same-length : tie.Need-same-length
-same-length c = search needs
-
-same-length-2 : tie.Need-same-length-2
-same-length-2 c = search needs
 
 returns-4 : tie.Need-returns-4
 returns-4 c = λ room long.
@@ -123,22 +87,7 @@ returns-4 c = λ room long.
 
 pub new-foil-in-spec : {M : Type 1} → statement M
 new-foil-in-spec =
-    tie.close
-    (tie.spec
-    size-ok-requires
-    refuse-requires
-    returns
-    size-ok-requires-2
-    refuse-requires-2
-    returns-2
-    clearance-refusal-requires
-    enum-known-checked
-    refuse-requires-3
-    returns-3
-    enum-told
-    pen-of-requires
-    slice-aggregate-settle
-    settle-requires
-    same-length
-    same-length-2
-    returns-4)
+    tie.close (tie.spec (λ c κs. search needs) (λ c κs. search needs) returns (λ c κs. search needs)
+    (λ c κs. search needs) returns-2 (λ c κs. search needs) (λ c. search needs) (λ c κs. search needs) returns-3
+    (λ c. search needs) (λ c κs. search needs) (λ c. search needs) settle-requires (λ c. search needs)
+    (λ c. search needs) returns-4)

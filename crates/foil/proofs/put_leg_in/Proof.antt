@@ -24,23 +24,11 @@ noPatch c = c .before .before
 abbrev afterAddEntry : tie.After-slice-known4 → tie.After-add-entry
 afterAddEntry c = c .before .before .before .before
 
-net-ok-requires : tie.Need-net-ok-requires
-net-ok-requires c κs = search needs
-
-refuse-requires : tie.Need-refuse-requires
-refuse-requires c κs = search needs
-
 returns : tie.Need-returns
 returns c =
     let net = c .before .before in
     no-net _ _ _ (atStart net .pre .0) _ (atStart net .pre .1) _ _ (net .net-ok .ensures) (c .before .if1 .taken) _
     (c .refuse .ensures)
-
-entry-ok-requires : tie.Need-entry-ok-requires
-entry-ok-requires c κs = search needs
-
-refuse-requires-2 : tie.Need-refuse-requires-2
-refuse-requires-2 c κs = search needs
 
 returns-2 : tie.Need-returns-2
 returns-2 c =
@@ -55,12 +43,6 @@ patch-margin-requires c κs = held-table _ _ _ (atStart (afterNetOk (c .before .
 under-patch-requires : tie.Need-under-patch-requires
 under-patch-requires c κs =
     omega (arith, held-table _ _ _ (atStart (afterNetOk (c .before .before .before)) .pre .0) .len)
-
-refuse-requires-3 : tie.Need-refuse-requires-3
-refuse-requires-3 c κs = search needs
-
-same-length : tie.Need-same-length
-same-length c = search needs
 
 returns-3 : tie.Need-returns-3
 returns-3 c =
@@ -79,12 +61,6 @@ add-entry-requires c κs =
       (atStart net .pre .1, sym (is .before .entry-ok .ensures) ∙ not-false _ (is .if2 .left)),
     )
 
-same-length-2 : tie.Need-same-length-2
-same-length-2 c = search needs
-
-same-length-3 : tie.Need-same-length-3
-same-length-3 c = search needs
-
 returns-4 : tie.Need-returns-4
 returns-4 c =
     let added = afterAddEntry c in
@@ -97,6 +73,6 @@ returns-4 c =
 
 pub put-leg-in-spec : {M : Type 1} → statement M
 put-leg-in-spec =
-    tie.close (tie.spec net-ok-requires refuse-requires returns entry-ok-requires refuse-requires-2 returns-2
-    patch-margin-requires under-patch-requires refuse-requires-3 same-length returns-3
-    add-entry-requires same-length-2 same-length-3 returns-4)
+    tie.close (tie.spec (λ c κs. search needs) (λ c κs. search needs) returns (λ c κs. search needs)
+    (λ c κs. search needs) returns-2 patch-margin-requires under-patch-requires (λ c κs. search needs)
+    (λ c. search needs) returns-3 add-entry-requires (λ c. search needs) (λ c. search needs) returns-4)

@@ -2,7 +2,7 @@
 use native.Mathlib.Omega.{arith}
 use Rattle.ledger_laws.proofs.Sound.{of-sound}
 use Rattle.foil.proofs.Limits.{held-limits}
-use Rattle.booking.proofs.Booking.{taken-by, not-taken}
+use Rattle.tables.proofs.Taking.{stored-by, unchanged-by}
 use Rattle.booking.proofs.Tracking.{path-long, may-book, no-path, few-corners, table-full, too-fine, laid-done}
 use borrow.Author.Needs.{needs}
 use Rattle.booking.proofs.tracks.book_found.Statement.{statement}
@@ -28,18 +28,12 @@ told c = c .before .before
 abbrev copied : tie.After-bend-count → tie.After-copy-front
 copied c = c .before .before .before
 
-refuse-requires : tie.Need-refuse-requires
-refuse-requires c κs = search needs
-
 returns : tie.Need-returns
 returns c =
     let tried = c .before in
     let start = atStart (tried .before) in
     λ o p. no-path _ _ _ (start .args .corners .now) _ _ (start .pre .1) _ _ (start .pre .0) o p (tried .if1 .taken) _
     (c .refuse .ensures)
-
-refuse-requires-2 : tie.Need-refuse-requires-2
-refuse-requires-2 c κs = search needs
 
 returns-2 : tie.Need-returns-2
 returns-2 c =
@@ -48,9 +42,6 @@ returns-2 c =
     let start = atStart (some .before) in
     λ o p. few-corners _ _ _ (start .args .corners .now) _ _ (start .pre .1) _ _ (start .pre .0) o p (some .if1 .left)
     (tried .if2 .taken) _ (c .refuse2 .ensures)
-
-leg-count-requires : tie.Need-leg-count-requires
-leg-count-requires c κs = search needs
 
 add-if3 : tie.Need-add-if3
 add-if3 c =
@@ -61,9 +52,6 @@ add-if3 c =
       fit .if2 .left,
       held-limits _ _ _ (of-sound _ (atStart (fit .before .before) .pre .0 .fine)) .few,
     )
-
-refuse-requires-3 : tie.Need-refuse-requires-3
-refuse-requires-3 c κs = search needs
 
 returns-3 : tie.Need-returns-3
 returns-3 c =
@@ -83,21 +71,6 @@ book-path-requires c κs =
     may-book _ _ _ (start .args .corners .now) _ _ (start .pre .1) _ _ (start .pre .0) (some .if1 .left) _
     (fits .before .leg-count .ensures) (fits .if3 .left)
 
-enum-known-booked : tie.Need-enum-known-booked
-enum-known-booked c = search needs
-
-enum-told : tie.Need-enum-told
-enum-told c = search needs
-
-refuse-requires-4 : tie.Need-refuse-requires-4
-refuse-requires-4 c κs = search needs
-
-same-length : tie.Need-same-length
-same-length c = search needs
-
-same-length-2 : tie.Need-same-length-2
-same-length-2 c = search needs
-
 returns-4 : tie.Need-returns-4
 returns-4 c =
     let end = booked (c .before .before .before) in
@@ -107,7 +80,7 @@ returns-4 c =
     let start = atStart (some .before) in
     λ o p. too-fine _ _ _ (start .args .corners .now) _ _ (start .pre .1) _ _ (start .pre .0) o p (some .if1 .left)
     (fit .if2 .left) _ (fits .before .leg-count .ensures) (fits .if3 .left) _ _ _
-    (not-taken _ (end .book-path .ensures) (c .before .enum-told .given .1)) (c .refuse4 .ensures)
+    (unchanged-by _ (end .book-path .ensures) (c .before .enum-told .given .1)) (c .refuse4 .ensures)
 
 mul-copy-front : tie.Need-mul-copy-front
 mul-copy-front c =
@@ -128,18 +101,6 @@ copy-front-requires c κs =
       ),
     )
 
-bend-count-requires : tie.Need-bend-count-requires
-bend-count-requires c κs = search needs
-
-same-length-3 : tie.Need-same-length-3
-same-length-3 c = search needs
-
-same-length-4 : tie.Need-same-length-4
-same-length-4 c = search needs
-
-same-length-5 : tie.Need-same-length-5
-same-length-5 c = search needs
-
 returns-5 : tie.Need-returns-5
 returns-5 c =
     let copy = copied c in
@@ -151,11 +112,11 @@ returns-5 c =
     let start = atStart (some .before) in
     λ o p. laid-done _ _ _ (start .args .corners .now) _ _ (start .pre .1) _ _ (start .pre .0) o p (some .if1 .left)
     (fit .if2 .left) _ (fits .before .leg-count .ensures) (fits .if3 .left) _ _ _ _ _ (c .bend-count .ensures)
-    (taken-by _ (end .book-path .ensures) _ (answer .booked .given .1)) (copy .copy-front .ensures)
+    (stored-by _ (end .book-path .ensures) _ (answer .booked .given .1)) (copy .copy-front .ensures)
 
 pub book-found-spec : {M : Type 1} → statement M
 book-found-spec =
-    tie.close (tie.spec refuse-requires returns refuse-requires-2 returns-2 leg-count-requires add-if3
-    refuse-requires-3 returns-3 book-path-requires enum-known-booked enum-told refuse-requires-4 same-length
-    same-length-2 returns-4 mul-copy-front copy-front-requires bend-count-requires same-length-3 same-length-4
-    same-length-5 returns-5)
+    tie.close (tie.spec (λ c κs. search needs) returns (λ c κs. search needs) returns-2 (λ c κs. search needs) add-if3
+    (λ c κs. search needs) returns-3 book-path-requires (λ c. search needs) (λ c. search needs) (λ c κs. search needs)
+    (λ c. search needs) (λ c. search needs) returns-4 mul-copy-front copy-front-requires (λ c κs. search needs)
+    (λ c. search needs) (λ c. search needs) (λ c. search needs) returns-5)

@@ -40,21 +40,12 @@ entry-at-requires c κs =
     let pre = atStart (onFoil (c .before) .before .before) .pre in
     omega (arith, pre .0 .len, c .loop-test .taken)
 
-meets-requires : tie.Need-meets-requires Inv-loop μ-loop
-meets-requires c κs = search needs
-
 returns-3 : tie.Need-returns-3 Inv-loop μ-loop
 returns-3 c =
     let turn = inLoop (c .before) in
     let pre = atStart (onFoil (turn .before) .before .before) .pre in
     met _ _ _ _ (pre .0) _ _ (pre .1 .0) (pre .1 .1) _ (turn .loop-test .taken) _ (c .before .before .entry-at .ensures)
     _ (c .before .meets .ensures) (c .if3 .taken)
-
-add-k : tie.Need-add-k Inv-loop μ-loop
-add-k c = omega arith
-
-loop-less : tie.Need-loop-less Inv-loop μ-loop
-loop-less c = omega arith
 
 loop-again : tie.Need-loop-again Inv-loop μ-loop
 loop-again c =
@@ -71,5 +62,5 @@ returns-4 c =
 
 pub clear-spec : {M : Type 1} → statement M
 clear-spec =
-    tie.close (tie.spec Inv-loop μ-loop returns returns-2 loop-holds entry-at-requires meets-requires returns-3 add-k
-    loop-less loop-again returns-4)
+    tie.close (tie.spec Inv-loop μ-loop returns returns-2 loop-holds entry-at-requires (λ c κs. search needs)
+    returns-3 (λ c. omega arith) (λ c. omega arith) loop-again returns-4)

@@ -4,14 +4,9 @@ use Rattle.foil_spec.specs.Foil.{point}
 use Rattle.booking.proofs.way.high_of.Statement.{statement}
 use Rattle.booking.proofs.way.high_of.Tie as tie
 
-larger-requires : tie.Need-larger-requires
-larger-requires c κs = search needs
-
-larger-requires-2 : tie.Need-larger-requires-2
-larger-requires-2 c κs = search needs
-
 returns : tie.Need-returns
 returns c = λ i. point (c .before .larger .ensures i) (c .larger2 .ensures i)
 
 pub high-of-spec : {M : Type 1} → statement M
-high-of-spec = tie.close (tie.spec larger-requires larger-requires-2 returns)
+high-of-spec =
+    tie.close (tie.spec (λ c κs. search needs) (λ c κs. search needs) returns)

@@ -8,17 +8,8 @@ use Rattle.booking.proofs.way.segment.Tie as tie
 abbrev goes : tie.After-high-of → tie.Else1
 goes c = c .before .before
 
-heads-requires : tie.Need-heads-requires
-heads-requires c κs = search needs
-
 returns : tie.Need-returns
 returns c = no-segment _ _ _ _ _ (c .before .heads .ensures) (c .if1 .taken)
-
-low-of-requires : tie.Need-low-of-requires
-low-of-requires c κs = search needs
-
-high-of-requires : tie.Need-high-of-requires
-high-of-requires c κs = search needs
 
 clear-requires : tie.Need-clear-requires
 clear-requires c κs =
@@ -32,4 +23,5 @@ returns-2 c =
 
 pub segment-spec : {M : Type 1} → statement M
 segment-spec =
-    tie.close (tie.spec heads-requires returns low-of-requires high-of-requires clear-requires returns-2)
+    tie.close (tie.spec (λ c κs. search needs) returns (λ c κs. search needs) (λ c κs. search needs) clear-requires
+    returns-2)

@@ -10,14 +10,8 @@ use Rattle.foil.proofs.lent.lent_refusal.Tie as tie
 abbrev afterListsShort : tie.Then2 → tie.After-lists-short
 afterListsShort c = c .before .before .before
 
-lists-short-requires : tie.Need-lists-short-requires
-lists-short-requires c κs = search needs
-
 returns : tie.Need-returns
 returns c = too-short _ _ _ _ (c .before .lists-short .ensures) (c .if1 .taken)
-
-is-sound-requires : tie.Need-is-sound-requires
-is-sound-requires c κs = search needs
 
 returns-2 : tie.Need-returns-2
 returns-2 c = broken _ _ _ _ (afterListsShort c .lists-short .ensures) (c .before .before .if1 .left) _
@@ -27,4 +21,5 @@ returns-3 : tie.Need-returns-3
 returns-3 c = sym (c .before .is-sound .ensures) ∙ not-false _ (c .if2 .left)
 
 pub lent-refusal-spec : {M : Type 1} → statement M
-lent-refusal-spec = tie.close (tie.spec lists-short-requires returns is-sound-requires returns-2 returns-3)
+lent-refusal-spec =
+    tie.close (tie.spec (λ c κs. search needs) returns (λ c κs. search needs) returns-2 returns-3)

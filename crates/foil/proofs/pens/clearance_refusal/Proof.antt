@@ -14,22 +14,10 @@ byPen c = c .before .before
 abbrev byReach : tie.After-reach-ok → tie.After-clearance2
 byReach c = c .before .before
 
-enum-known-clearance : tie.Need-enum-known-clearance
-enum-known-clearance c = search needs
-
-pen-ok-requires : tie.Need-pen-ok-requires
-pen-ok-requires c κs = search needs
-
 returns : tie.Need-returns
 unfolding clearanceOf clearanceRefusal first
 returns c =
     rw (byPen (c .before) .clearance .given .1, sym (c .before .pen-ok .ensures) ∙ not-true _ (c .if1 .taken)) refl
-
-enum-known-clearance-2 : tie.Need-enum-known-clearance-2
-enum-known-clearance-2 c = search needs
-
-reach-ok-requires : tie.Need-reach-ok-requires
-reach-ok-requires c κs = search needs
 
 returns-2 : tie.Need-returns-2
 unfolding clearanceOf clearanceRefusal first
@@ -50,13 +38,5 @@ returns-4 c =
 
 pub clearance-refusal-spec : {M : Type 1} → statement M
 clearance-refusal-spec =
-    tie.close
-    (tie.spec
-    enum-known-clearance
-    pen-ok-requires
-    returns
-    enum-known-clearance-2
-    reach-ok-requires
-    returns-2
-    returns-3
-    returns-4)
+    tie.close (tie.spec (λ c. search needs) (λ c κs. search needs) returns (λ c. search needs) (λ c κs. search needs)
+    returns-2 returns-3 returns-4)

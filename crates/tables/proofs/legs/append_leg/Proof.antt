@@ -22,21 +22,6 @@ atBottom c = c .before .before .before .before
 abbrev atRight : tie.After-slice-known2 → tie.After-larger
 atRight c = atBottom c .before
 
-corner-at-requires : tie.Need-corner-at-requires
-corner-at-requires c κs = search needs
-
-corner-at-requires-2 : tie.Need-corner-at-requires-2
-corner-at-requires-2 c κs = search needs
-
-smaller-requires : tie.Need-smaller-requires
-smaller-requires c κs = search needs
-
-smaller-requires-2 : tie.Need-smaller-requires-2
-smaller-requires-2 c κs = search needs
-
-larger-requires : tie.Need-larger-requires
-larger-requires c κs = search needs
-
 add-t13 : tie.Need-add-t13
 add-t13 c =
     let p = atStart (atCorners c) .pre .1 .1 in
@@ -48,9 +33,6 @@ add-t13 c =
       p .0 .0,
       p .1 .0,
     )
-
-larger-requires-2 : tie.Need-larger-requires-2
-larger-requires-2 c κs = search needs
 
 add-t15 : tie.Need-add-t15
 add-t15 c =
@@ -65,12 +47,6 @@ add-t15 c =
       p .1 .1,
     )
 
-put-entry-requires : tie.Need-put-entry-requires
-put-entry-requires c κs = search needs
-
-same-length : tie.Need-same-length
-same-length c = search needs
-
 returns : tie.Need-returns
 returns c =
     let k = atCorners (atRight c) in
@@ -82,16 +58,5 @@ returns c =
 
 pub append-leg-spec : {M : Type 1} → statement M
 append-leg-spec =
-    tie.close
-    (tie.spec
-    corner-at-requires
-    corner-at-requires-2
-    smaller-requires
-    smaller-requires-2
-    larger-requires
-    add-t13
-    larger-requires-2
-    add-t15
-    put-entry-requires
-    same-length
-    returns)
+    tie.close (tie.spec (λ c κs. search needs) (λ c κs. search needs) (λ c κs. search needs) (λ c κs. search needs)
+    (λ c κs. search needs) add-t13 (λ c κs. search needs) add-t15 (λ c κs. search needs) (λ c. search needs) returns)

@@ -39,9 +39,6 @@ append-leg-requires c κs =
       ),
     )
 
-add-result : tie.Need-add-result Inv-loop μ-loop
-add-result c = omega arith
-
 same-length : tie.Need-same-length Inv-loop μ-loop
 same-length c = c .before .before .append-leg .kept .0
 
@@ -52,15 +49,6 @@ returns c =
 
 loop-holds : tie.Need-loop-holds Inv-loop μ-loop
 loop-holds c = (refl, going-none _ _ _ _ _ (omega arith) (omega arith))
-
-add-loop : tie.Need-add-loop Inv-loop μ-loop
-add-loop c = omega arith
-
-add-append-leg : tie.Need-add-append-leg Inv-loop μ-loop
-add-append-leg c = omega arith
-
-add-append-leg-2 : tie.Need-add-append-leg-2 Inv-loop μ-loop
-add-append-leg-2 c = omega arith
 
 append-leg-requires-2 : tie.Need-append-leg-requires-2 Inv-loop μ-loop
 append-leg-requires-2 c κs =
@@ -75,21 +63,12 @@ append-leg-requires-2 c κs =
       ),
     )
 
-add-j : tie.Need-add-j Inv-loop μ-loop
-add-j c = omega arith
-
-loop-less : tie.Need-loop-less Inv-loop μ-loop
-loop-less c = omega arith
-
 loop-again : tie.Need-loop-again Inv-loop μ-loop
 loop-again c = (
   omega (arith, c .before .before .append-leg2 .kept .0, atLoop c .loop .inv .0),
   going-more _ _ _ _ _ _ _ _ (omega arith) (atLoop c .loop .inv .1)
       (c .before .before .append-leg2 .ensures),
 )
-
-add-result-2 : tie.Need-add-result-2 Inv-loop μ-loop
-add-result-2 c = omega arith
 
 same-length-2 : tie.Need-same-length-2 Inv-loop μ-loop
 same-length-2 c = c .before .loop .inv .0
@@ -100,22 +79,6 @@ returns-2 c =
 
 pub append-legs-spec : {M : Type 1} → statement M
 append-legs-spec =
-    tie.close
-    (tie.spec
-    Inv-loop
-    μ-loop
-    append-leg-requires
-    add-result
-    same-length
-    returns
-    loop-holds
-    add-loop
-    add-append-leg
-    add-append-leg-2
-    append-leg-requires-2
-    add-j
-    loop-less
-    loop-again
-    add-result-2
-    same-length-2
-    returns-2)
+    tie.close (tie.spec Inv-loop μ-loop append-leg-requires (λ c. omega arith) same-length returns loop-holds
+    (λ c. omega arith) (λ c. omega arith) (λ c. omega arith) append-leg-requires-2 (λ c. omega arith)
+    (λ c. omega arith) loop-again (λ c. omega arith) same-length-2 returns-2)

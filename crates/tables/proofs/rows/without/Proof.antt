@@ -24,12 +24,6 @@ loop-holds c = (omega arith, kept-none _ _ _ (c .before .before .pre .2), refl)
 keep-other-requires : tie.Need-keep-other-requires Inv-loop μ-loop
 keep-other-requires c κs = (omega arith, omega arith, c .before .before .loop .inv .1)
 
-add-k : tie.Need-add-k Inv-loop μ-loop
-add-k c = omega arith
-
-loop-less : tie.Need-loop-less Inv-loop μ-loop
-loop-less c = omega arith
-
 loop-again : tie.Need-loop-again Inv-loop μ-loop
 loop-again c = (
   omega arith,
@@ -45,14 +39,5 @@ returns c = kept-done _ _ _ _ _ _ (omega arith) (c .before .loop .inv .0) (c .be
 
 pub without-spec : {M : Type 1} → statement M
 without-spec =
-    tie.close
-    (tie.spec
-    Inv-loop
-    μ-loop
-    loop-holds
-    keep-other-requires
-    add-k
-    loop-less
-    loop-again
-    same-length
-    returns)
+    tie.close (tie.spec Inv-loop μ-loop loop-holds keep-other-requires (λ c. omega arith) (λ c. omega arith)
+    loop-again same-length returns)
