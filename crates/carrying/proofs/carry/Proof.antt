@@ -22,33 +22,9 @@ atRows c = c .before .before .before .before .before .before
 abbrev atSound : tie.After-carry-rows-arg3 → tie.Else4
 atSound c = c .before .before .before
 
-lists-short-requires : tie.Need-lists-short-requires
-lists-short-requires c κs = search needs
-
-refuse-requires : tie.Need-refuse-requires
-refuse-requires c κs = search needs
-
-same-length : tie.Need-same-length
-same-length c = search needs
-
-same-length-2 : tie.Need-same-length-2
-same-length-2 c = search needs
-
 returns : tie.Need-returns
 returns c =
     short-new _ _ _ _ _ _ _ _ _ (c .before .before .lists-short .ensures) (c .before .if1 .taken) (c .refuse .ensures)
-
-lists-short-requires-2 : tie.Need-lists-short-requires-2
-lists-short-requires-2 c κs = search needs
-
-refuse-requires-2 : tie.Need-refuse-requires-2
-refuse-requires-2 c κs = search needs
-
-same-length-3 : tie.Need-same-length-3
-same-length-3 c = search needs
-
-same-length-4 : tie.Need-same-length-4
-same-length-4 c = search needs
 
 returns-2 : tie.Need-returns-2
 returns-2 c =
@@ -57,33 +33,12 @@ returns-2 c =
     short-old _ _ _ _ _ _ _ _ _ (new .before .lists-short .ensures) (new .if1 .left) _ (olds .lists-short2 .ensures)
     (c .before .if2 .taken) (c .refuse2 .ensures)
 
-refuse-requires-3 : tie.Need-refuse-requires-3
-refuse-requires-3 c κs = search needs
-
-same-length-5 : tie.Need-same-length-5
-same-length-5 c = search needs
-
-same-length-6 : tie.Need-same-length-6
-same-length-6 c = search needs
-
 returns-3 : tie.Need-returns-3
 returns-3 c =
     let olds = c .before .before in
     let new = olds .before .before in
     short-report _ _ _ _ _ _ _ _ _ (new .before .lists-short .ensures) (new .if1 .left) _
     (olds .before .lists-short2 .ensures) (olds .if2 .left) (c .before .if3 .taken) (c .refuse3 .ensures)
-
-old-sound-requires : tie.Need-old-sound-requires
-old-sound-requires c κs = search needs
-
-refuse-requires-4 : tie.Need-refuse-requires-4
-refuse-requires-4 c κs = search needs
-
-same-length-7 : tie.Need-same-length-7
-same-length-7 c = search needs
-
-same-length-8 : tie.Need-same-length-8
-same-length-8 c = search needs
 
 returns-4 : tie.Need-returns-4
 returns-4 c =
@@ -106,15 +61,6 @@ carry-rows-requires c κs =
       (lists .table, lists .strips, long .if3 .left),
     )
 
-same-length-9 : tie.Need-same-length-9
-same-length-9 c = search needs
-
-same-length-10 : tie.Need-same-length-10
-same-length-10 c = search needs
-
-same-length-11 : tie.Need-same-length-11
-same-length-11 c = search needs
-
 returns-5 : tie.Need-returns-5
 returns-5 c =
     let rows = atRows c in
@@ -129,29 +75,8 @@ returns-5 c =
 
 pub carry-spec : {M : Type 1} → statement M
 carry-spec =
-    tie.close
-    (tie.spec
-    lists-short-requires
-    refuse-requires
-    same-length
-    same-length-2
-    returns
-    lists-short-requires-2
-    refuse-requires-2
-    same-length-3
-    same-length-4
-    returns-2
-    refuse-requires-3
-    same-length-5
-    same-length-6
-    returns-3
-    old-sound-requires
-    refuse-requires-4
-    same-length-7
-    same-length-8
-    returns-4
-    carry-rows-requires
-    same-length-9
-    same-length-10
-    same-length-11
-    returns-5)
+    tie.close (tie.spec (λ c κs. search needs) (λ c κs. search needs) (λ c. search needs) (λ c. search needs) returns
+    (λ c κs. search needs) (λ c κs. search needs) (λ c. search needs) (λ c. search needs) returns-2
+    (λ c κs. search needs) (λ c. search needs) (λ c. search needs) returns-3 (λ c κs. search needs)
+    (λ c κs. search needs) (λ c. search needs) (λ c. search needs) returns-4 carry-rows-requires (λ c. search needs)
+    (λ c. search needs) (λ c. search needs) returns-5)

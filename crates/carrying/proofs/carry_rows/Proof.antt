@@ -22,28 +22,16 @@ fromList c = c .before .before .before .before
 abbrev fromTold : tie.After-known-told → tie.After-take-over
 fromTold c = fromList (c .before .before .before)
 
-slice-aggregate-mark-nets : tie.Need-slice-aggregate-mark-nets
-slice-aggregate-mark-nets c = search needs
-
 mark-nets-requires : tie.Need-mark-nets-requires
 mark-nets-requires c κs =
     let lists = c .before .before in
     let start = lists .before .before .before in
     (small-nets _ _ (start .pre .0), refl)
 
-slice-aggregate-keep-unmarked : tie.Need-slice-aggregate-keep-unmarked
-slice-aggregate-keep-unmarked c = search needs
-
-slice-aggregate-keep-unmarked-2 : tie.Need-slice-aggregate-keep-unmarked-2
-slice-aggregate-keep-unmarked-2 c = search needs
-
 keep-unmarked-requires : tie.Need-keep-unmarked-requires
 keep-unmarked-requires c κs =
     let marks = c .before .before .before in
     (small-nets _ _ (atStart marks .pre .0), marks .mark-nets .ensures .long, no-rows)
-
-slice-aggregate-take-over : tie.Need-slice-aggregate-take-over
-slice-aggregate-take-over c = search needs
 
 take-over-requires : tie.Need-take-over-requires
 take-over-requires c κs =
@@ -57,21 +45,6 @@ take-over-requires c κs =
       ),
     )
 
-enum-known-booked : tie.Need-enum-known-booked
-enum-known-booked c = search needs
-
-enum-told : tie.Need-enum-told
-enum-told c = search needs
-
-refuse-requires : tie.Need-refuse-requires
-refuse-requires c κs = search needs
-
-same-length : tie.Need-same-length
-same-length c = search needs
-
-same-length-2 : tie.Need-same-length-2
-same-length-2 c = search needs
-
 returns : tie.Need-returns
 returns c =
     let matched = c .before .before in
@@ -81,24 +54,12 @@ returns c =
     too-fine _ _ (atStart marks .pre .0) _ (marks .mark-nets .ensures) _ _ (rows .keep-unmarked .ensures) _ _ _ _ _ _ _
     (over .take-over .result) (over .take-over .ensures) (c .before .enum-told .given .1) (c .refuse .ensures)
 
-slice-aggregate-report-nets : tie.Need-slice-aggregate-report-nets
-slice-aggregate-report-nets c = search needs
-
 report-nets-requires : tie.Need-report-nets-requires
 report-nets-requires c κs =
     let marks = atMarks (atRows (fromTold (c .before .before) .before)) in
     let p = atStart marks .pre in
     let report = atStart marks .args .report .now in
     (marks .mark-nets .ensures .long, report-room _ _ (p .0) _ (marks .mark-nets .ensures) report (p .1 .2))
-
-same-length-3 : tie.Need-same-length-3
-same-length-3 c = search needs
-
-same-length-4 : tie.Need-same-length-4
-same-length-4 c = search needs
-
-same-length-5 : tie.Need-same-length-5
-same-length-5 c = search needs
 
 returns-2 : tie.Need-returns-2
 returns-2 c =
@@ -112,24 +73,7 @@ returns-2 c =
 
 pub carry-rows-spec : {M : Type 1} → statement M
 carry-rows-spec =
-    tie.close
-    (tie.spec
-    slice-aggregate-mark-nets
-    mark-nets-requires
-    slice-aggregate-keep-unmarked
-    slice-aggregate-keep-unmarked-2
-    keep-unmarked-requires
-    slice-aggregate-take-over
-    take-over-requires
-    enum-known-booked
-    enum-told
-    refuse-requires
-    same-length
-    same-length-2
-    returns
-    slice-aggregate-report-nets
-    report-nets-requires
-    same-length-3
-    same-length-4
-    same-length-5
-    returns-2)
+    tie.close (tie.spec (λ c. search needs) mark-nets-requires (λ c. search needs) (λ c. search needs)
+    keep-unmarked-requires (λ c. search needs) take-over-requires (λ c. search needs) (λ c. search needs)
+    (λ c κs. search needs) (λ c. search needs) (λ c. search needs) returns (λ c. search needs) report-nets-requires
+    (λ c. search needs) (λ c. search needs) (λ c. search needs) returns-2)

@@ -26,12 +26,6 @@ with-entry-requires c κs = (
   (atStart c .pre .box (c .before .loop .k) (omega arith), c .before .loop .inv .1),
 )
 
-add-k : tie.Need-add-k Inv-loop μ-loop
-add-k c = omega arith
-
-loop-less : tie.Need-loop-less Inv-loop μ-loop
-loop-less c = omega arith
-
 loop-again : tie.Need-loop-again Inv-loop μ-loop
 loop-again c = (omega arith, c .with-entry .ensures)
 
@@ -39,4 +33,6 @@ returns : tie.Need-returns Inv-loop μ-loop
 returns c = measured-done _ _ _ _ _ (omega arith) (c .before .loop .inv .0) (c .before .loop .inv .1)
 
 pub measure-spec : {M : Type 1} → statement M
-measure-spec = tie.close (tie.spec Inv-loop μ-loop loop-holds with-entry-requires add-k loop-less loop-again returns)
+measure-spec =
+    tie.close (tie.spec Inv-loop μ-loop loop-holds with-entry-requires (λ c. omega arith) (λ c. omega arith)
+    loop-again returns)

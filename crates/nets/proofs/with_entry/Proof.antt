@@ -16,18 +16,12 @@ atStart c = c .before .before .before
 abbrev inElse : tie.After-struct-known3 → tie.Else1
 inElse c = c .before .before .before
 
-entry-at-requires : tie.Need-entry-at-requires
-entry-at-requires c κs = search needs
-
 returns : tie.Need-returns
 returns c = measured-skip _ _ _ _ (atStart (c .before) .pre .1 .1)
     (λ e. omega (arith, c .if1 .taken, ap (λ (x : Entry). x .net) (c .before .before .entry-at .ensures), e))
 
 leg-steps-requires : tie.Need-leg-steps-requires
 leg-steps-requires c κs = subst Box (sym (c .before .before .entry-at .ensures)) (atStart (c .before) .pre .1 .0)
-
-add-t8 : tie.Need-add-t8
-add-t8 c = search needs
 
 add-t9 : tie.Need-add-t9
 add-t9 c = let start = atStart (inElse c .before) in
@@ -48,4 +42,5 @@ returns-2 c = let start = atStart (inElse c .before) in
     (c .before .before .leg-steps .ensures ∙ ap legSteps (inElse c .before .before .entry-at .ensures))
 
 pub with-entry-spec : {M : Type 1} → statement M
-with-entry-spec = tie.close (tie.spec entry-at-requires returns leg-steps-requires add-t8 add-t9 returns-2)
+with-entry-spec =
+    tie.close (tie.spec (λ c κs. search needs) returns leg-steps-requires (λ c. search needs) add-t9 returns-2)

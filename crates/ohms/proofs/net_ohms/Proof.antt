@@ -4,9 +4,6 @@ use borrow.Author.Needs.{needs}
 use Rattle.ohms.proofs.net_ohms.Statement.{statement}
 use Rattle.ohms.proofs.net_ohms.Tie as tie
 
-net-ok-requires : tie.Need-net-ok-requires
-net-ok-requires c κs = search needs
-
 returns : tie.Need-returns
 returns c = no-net _ _ _ _ _ (c .before .net-ok .ensures) (c .if1 .taken)
 
@@ -18,9 +15,6 @@ returns-2 c =
     let allowed = c .before .before in
     not-there _ _ _ _ _ (allowed .before .net-ok .ensures) (allowed .if1 .left) _ (c .before .in-use .ensures)
     (c .if2 .taken)
-
-ink-ok-requires : tie.Need-ink-ok-requires
-ink-ok-requires c κs = search needs
 
 returns-3 : tie.Need-returns-3
 returns-3 c =
@@ -41,9 +35,6 @@ sub-formula c =
     let used = inked .before .before in
     has-leg _ _ _ _ (used .before .in-use .ensures) (used .if2 .left) _ (c .before .measure .ensures)
 
-formula-requires : tie.Need-formula-requires
-formula-requires c κs = search needs
-
 returns-4 : tie.Need-returns-4
 returns-4 c =
     let inked = c .before .before .before in
@@ -55,15 +46,5 @@ returns-4 c =
 
 pub net-ohms-spec : {M : Type 1} → statement M
 net-ohms-spec =
-    tie.close
-    (tie.spec
-    net-ok-requires
-    returns
-    in-use-requires
-    returns-2
-    ink-ok-requires
-    returns-3
-    measure-requires
-    sub-formula
-    formula-requires
-    returns-4)
+    tie.close (tie.spec (λ c κs. search needs) returns in-use-requires returns-2 (λ c κs. search needs) returns-3
+    measure-requires sub-formula (λ c κs. search needs) returns-4)

@@ -26,9 +26,6 @@ returns c =
     let begins = c .before in
     begins-too-fine _ _ _ _ (atStart begins .pre) _ (begins .beginning-too-fine .ensures) (c .if1 .taken)
 
-slice-aggregate-write-file : tie.Need-slice-aggregate-write-file
-slice-aggregate-write-file c = search needs
-
 write-file-requires : tie.Need-write-file-requires
 write-file-requires c κs =
     let table = held-table _ _ _ (atStart (c .before .before) .pre) in
@@ -42,17 +39,11 @@ returns-2 c =
     no-room _ _ _ _ (atStart begins .pre) _ (begins .beginning-too-fine .ensures) (fine .if1 .left)
     (file .write-file .ensures) (omega (arith, c .if2 .taken))
 
-array-share-prefix-file : tie.Need-array-share-prefix-file
-array-share-prefix-file c = search needs
-
 slice-aggregate-put-bytes : tie.Need-slice-aggregate-put-bytes
 slice-aggregate-put-bytes c = sym (front-long (atFile c .write-file .ensures))
 
 put-bytes-requires : tie.Need-put-bytes-requires
 put-bytes-requires c κs = omega (arith, front-long (atFile c .write-file .ensures), c .before .before .if2 .left)
-
-same-length : tie.Need-same-length
-same-length c = search needs
 
 returns-3 : tie.Need-returns-3
 returns-3 c =
@@ -66,15 +57,5 @@ returns-3 c =
 
 pub save-in-spec : {M : Type 1} → statement M
 save-in-spec =
-    tie.close
-    (tie.spec
-    beginning-too-fine-requires
-    returns
-    slice-aggregate-write-file
-    write-file-requires
-    returns-2
-    array-share-prefix-file
-    slice-aggregate-put-bytes
-    put-bytes-requires
-    same-length
-    returns-3)
+    tie.close (tie.spec beginning-too-fine-requires returns (λ c. search needs) write-file-requires returns-2
+    (λ c. search needs) slice-aggregate-put-bytes put-bytes-requires (λ c. search needs) returns-3)

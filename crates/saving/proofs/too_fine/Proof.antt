@@ -8,23 +8,11 @@ use Rattle.saving.proofs.too_fine.Tie as tie
 abbrev atRule : tie.After-strips-of → tie.After-pen-rule
 atRule c = c .before .before
 
-pen-rule-requires : tie.Need-pen-rule-requires
-pen-rule-requires c κs = search needs
-
-slice-aggregate-strips-of : tie.Need-slice-aggregate-strips-of
-slice-aggregate-strips-of c = search needs
-
 strips-of-requires : tie.Need-strips-of-requires
 strips-of-requires c κs =
     let made = c .before in
     let start = made .before .before in
     (rw (made .pen-rule .ensures) (start .pre), search needs)
-
-enum-told : tie.Need-enum-told
-enum-told c = search needs
-
-enum-told-2 : tie.Need-enum-told-2
-enum-told-2 c = search needs
 
 returns : tie.Need-returns
 returns c =
@@ -40,12 +28,5 @@ returns-2 c =
 
 pub too-fine-spec : {M : Type 1} → statement M
 too-fine-spec =
-    tie.close
-    (tie.spec
-    pen-rule-requires
-    slice-aggregate-strips-of
-    strips-of-requires
-    enum-told
-    enum-told-2
-    returns
-    returns-2)
+    tie.close (tie.spec (λ c κs. search needs) (λ c. search needs) strips-of-requires (λ c. search needs)
+    (λ c. search needs) returns returns-2)

@@ -14,9 +14,6 @@ atStart c = c .before .before .before .before
 abbrev atPage : tie.After-page3 → tie.After-put-page
 atPage c = c .before .before .before .before
 
-slice-aggregate-put-page : tie.Need-slice-aggregate-put-page
-slice-aggregate-put-page c = search needs
-
 put-page-requires : tie.Need-put-page-requires
 put-page-requires c κs = (tracks _ _ _ (atStart c .pre), omega arith)
 
@@ -25,17 +22,11 @@ returns c =
     let page = c .before .before in
     no-room _ _ _ (atStart (page .before) .pre) _ (page .put-page .ensures) (omega (arith, c .if1 .taken))
 
-array-share-prefix-page : tie.Need-array-share-prefix-page
-array-share-prefix-page c = search needs
-
 slice-aggregate-put-bytes : tie.Need-slice-aggregate-put-bytes
 slice-aggregate-put-bytes c = sym (front-long (atPage c .put-page .ensures))
 
 put-bytes-requires : tie.Need-put-bytes-requires
 put-bytes-requires c κs = omega (arith, front-long (atPage c .put-page .ensures), c .before .before .if1 .left)
-
-same-length : tie.Need-same-length
-same-length c = search needs
 
 returns-2 : tie.Need-returns-2
 returns-2 c =
@@ -46,13 +37,5 @@ returns-2 c =
 
 pub slip-in-spec : {M : Type 1} → statement M
 slip-in-spec =
-    tie.close
-    (tie.spec
-    slice-aggregate-put-page
-    put-page-requires
-    returns
-    array-share-prefix-page
-    slice-aggregate-put-bytes
-    put-bytes-requires
-    same-length
-    returns-2)
+    tie.close (tie.spec (λ c. search needs) put-page-requires returns (λ c. search needs) slice-aggregate-put-bytes
+    put-bytes-requires (λ c. search needs) returns-2)

@@ -4,9 +4,6 @@ use Rattle.state.proofs.Entries.{off-board, not-empty, shaped}
 use Rattle.state.proofs.entry_ok.Statement.{statement}
 use Rattle.state.proofs.entry_ok.Tie as tie
 
-box-ok-requires : tie.Need-box-ok-requires
-box-ok-requires c κs = search needs
-
 returns : tie.Need-returns
 returns c = off-board _ _ _ _ (c .before .box-ok .ensures) (c .if1 .taken)
 
@@ -19,4 +16,5 @@ returns-2 c =
     shaped _ _ _ _ (c .before .before .box-ok .ensures) _ (c .shape-ok .ensures) (c .before .if1 .left)
 
 pub entry-ok-spec : {M : Type 1} → statement M
-entry-ok-spec = tie.close (tie.spec box-ok-requires returns shape-ok-requires returns-2)
+entry-ok-spec =
+    tie.close (tie.spec (λ c κs. search needs) returns shape-ok-requires returns-2)

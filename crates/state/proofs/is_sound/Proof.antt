@@ -19,9 +19,6 @@ penAllowed c = c .before .before
 allowed : (c : tie.Else1) → penOk (pen (atStart c .args .board .half) (atStart c .args .board .gap)) ≡ true
 allowed c = sym (c .before .pen-ok .ensures) ∙ not-false _ (c .if1 .left)
 
-pen-ok-requires : tie.Need-pen-ok-requires
-pen-ok-requires c κs = search needs
-
 returns : tie.Need-returns
 returns c = bad-pen _ _ _ _ (c .before .pen-ok .ensures) (c .if1 .taken)
 
@@ -48,12 +45,5 @@ returns-3 c =
 
 pub is-sound-spec : {M : Type 1} → statement M
 is-sound-spec =
-    tie.close
-    (tie.spec
-    pen-ok-requires
-    returns
-    pen-rule-requires
-    keeps-rule-requires
-    returns-2
-    no-crossing-requires
-    returns-3)
+    tie.close (tie.spec (λ c κs. search needs) returns pen-rule-requires keeps-rule-requires returns-2
+    no-crossing-requires returns-3)

@@ -28,9 +28,6 @@ returns c = short-table _ _ _ _ _ _ _ (omega arith)
 returns-2 : tie.Need-returns-2
 returns-2 c = short-strips _ _ _ _ _ _ _ (omega arith)
 
-sizes-ok-requires : tie.Need-sizes-ok-requires
-sizes-ok-requires c κs = search needs
-
 returns-3 : tie.Need-returns-3
 returns-3 c = bad-sizes _ _ _ _ _ _ _ _ (c .before .sizes-ok .ensures) (c .if3 .taken)
 
@@ -68,16 +65,5 @@ returns-6 c =
 
 pub keeps-rule-spec : {M : Type 1} → statement M
 keeps-rule-spec =
-    tie.close
-    (tie.spec
-    returns
-    returns-2
-    sizes-ok-requires
-    returns-3
-    entries-ok-requires
-    returns-4
-    mul-zeros
-    zeros-requires
-    returns-5
-    strips-ok-requires
-    returns-6)
+    tie.close (tie.spec returns returns-2 (λ c κs. search needs) returns-3 entries-ok-requires returns-4 mul-zeros
+    zeros-requires returns-5 strips-ok-requires returns-6)

@@ -8,9 +8,6 @@ use borrow.Author.Needs.{needs}
 use Rattle.state.proofs.old_sound.Statement.{statement}
 use Rattle.state.proofs.old_sound.Tie as tie
 
-reach-ok-requires : tie.Need-reach-ok-requires
-reach-ok-requires c κs = search needs
-
 returns : tie.Need-returns
 returns c = bad-reach _ _ _ _ (c .before .reach-ok .ensures) (c .if1 .taken)
 
@@ -25,4 +22,5 @@ returns-2 c =
     old-rule _ _ _ _ (tested .before .reach-ok .ensures) (tested .if1 .left) _ (c .keeps-rule .ensures)
 
 pub old-sound-spec : {M : Type 1} → statement M
-old-sound-spec = tie.close (tie.spec reach-ok-requires returns keeps-rule-requires returns-2)
+old-sound-spec =
+    tie.close (tie.spec (λ c κs. search needs) returns keeps-rule-requires returns-2)

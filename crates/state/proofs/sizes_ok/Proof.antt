@@ -10,15 +10,9 @@ use Rattle.state.proofs.sizes_ok.Tie as tie
 abbrev afterSizeOk : tie.After-size-ok2 → tie.After-size-ok
 afterSizeOk c = c .before .before
 
-size-ok-requires : tie.Need-size-ok-requires
-size-ok-requires c κs = search needs
-
 returns : tie.Need-returns
 unfolding sizesOk
 returns c = simp (sym (c .before .size-ok .ensures) ∙ not-true _ (c .if1 .taken))
-
-size-ok-requires-2 : tie.Need-size-ok-requires-2
-size-ok-requires-2 c κs = search needs
 
 returns-2 : tie.Need-returns-2
 unfolding sizesOk
@@ -37,4 +31,5 @@ returns-3 c =
     )
 
 pub sizes-ok-spec : {M : Type 1} → statement M
-sizes-ok-spec = tie.close (tie.spec size-ok-requires returns size-ok-requires-2 returns-2 returns-3)
+sizes-ok-spec =
+    tie.close (tie.spec (λ c κs. search needs) returns (λ c κs. search needs) returns-2 returns-3)

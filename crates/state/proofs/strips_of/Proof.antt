@@ -8,21 +8,6 @@ use Rattle.state.proofs.strips_of.Tie as tie
 abbrev atZones : tie.After-rebuild → tie.After-zones
 atZones c = c .before .before .before .before
 
-slice-aggregate-zones : tie.Need-slice-aggregate-zones
-slice-aggregate-zones c = search needs
-
-zones-requires : tie.Need-zones-requires
-zones-requires c κs = search needs
-
-slice-aggregate-rebuild : tie.Need-slice-aggregate-rebuild
-slice-aggregate-rebuild c = search needs
-
-rebuild-requires : tie.Need-rebuild-requires
-rebuild-requires c κs = search needs
-
-same-length : tie.Need-same-length
-same-length c = search needs
-
 returns : tie.Need-returns
 unfolding stripsBy
 returns c =
@@ -31,5 +16,5 @@ returns c =
 
 pub strips-of-spec : {M : Type 1} → statement M
 strips-of-spec =
-    tie.close
-    (tie.spec slice-aggregate-zones zones-requires slice-aggregate-rebuild rebuild-requires same-length returns)
+    tie.close (tie.spec (λ c. search needs) (λ c κs. search needs) (λ c. search needs) (λ c κs. search needs)
+    (λ c. search needs) returns)

@@ -8,18 +8,6 @@ use Rattle.state.proofs.strips_ok.Tie as tie
 abbrev atStart : tie.After-strips-of → tie.Start
 atStart c = c .before .before .before .before
 
-slice-aggregate-strips-of : tie.Need-slice-aggregate-strips-of
-slice-aggregate-strips-of c = search needs
-
-strips-of-requires : tie.Need-strips-of-requires
-strips-of-requires c κs = search needs
-
-enum-known-built : tie.Need-enum-known-built
-enum-known-built c = search needs
-
-enum-told : tie.Need-enum-told
-enum-told c = search needs
-
 returns : tie.Need-returns
 returns c =
     too-many _ _ _ ((rw (c .enum-told .given .1) at (c .before .before .before .strips-of .ensures)) .0)
@@ -31,12 +19,6 @@ returns-2 c =
     let r = matched .before .before in
     let q = rw (known .built .given .1) at (r .strips-of .ensures) in
     miscounted _ _ _ _ (q .0) (c .if1 .taken)
-
-slice-aggregate-same-front : tie.Need-slice-aggregate-same-front
-slice-aggregate-same-front c = search needs
-
-same-front-requires : tie.Need-same-front-requires
-same-front-requires c κs = search needs
 
 returns-3 : tie.Need-returns-3
 returns-3 c =
@@ -50,14 +32,5 @@ returns-3 c =
 
 pub strips-ok-spec : {M : Type 1} → statement M
 strips-ok-spec =
-    tie.close
-    (tie.spec
-    slice-aggregate-strips-of
-    strips-of-requires
-    enum-known-built
-    enum-told
-    returns
-    returns-2
-    slice-aggregate-same-front
-    same-front-requires
-    returns-3)
+    tie.close (tie.spec (λ c. search needs) (λ c κs. search needs) (λ c. search needs) (λ c. search needs) returns
+    returns-2 (λ c. search needs) (λ c κs. search needs) returns-3)

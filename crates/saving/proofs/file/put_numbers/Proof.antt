@@ -28,20 +28,8 @@ atLoop c = c .before .before .before .before
 loop-holds : tie.Need-loop-holds Inv-loop μ-loop
 loop-holds c = (omega arith, put-none _ _ (omega arith), omega arith)
 
-mul-put-two-bytes : tie.Need-mul-put-two-bytes Inv-loop μ-loop
-mul-put-two-bytes c = omega arith
-
-shared-slice-read-put-two-bytes : tie.Need-shared-slice-read-put-two-bytes Inv-loop μ-loop
-shared-slice-read-put-two-bytes c = omega arith
-
 put-two-bytes-requires : tie.Need-put-two-bytes-requires Inv-loop μ-loop
 put-two-bytes-requires c κs = omega (arith, put-length (c .before .before .before .loop .inv .1))
-
-add-k : tie.Need-add-k Inv-loop μ-loop
-add-k c = omega arith
-
-loop-less : tie.Need-loop-less Inv-loop μ-loop
-loop-less c = omega arith
 
 loop-again : tie.Need-loop-again Inv-loop μ-loop
 loop-again c =
@@ -63,16 +51,5 @@ returns c =
 
 pub put-numbers-spec : {M : Type 1} → statement M
 put-numbers-spec =
-    tie.close
-    (tie.spec
-    Inv-loop
-    μ-loop
-    loop-holds
-    mul-put-two-bytes
-    shared-slice-read-put-two-bytes
-    put-two-bytes-requires
-    add-k
-    loop-less
-    loop-again
-    same-length
-    returns)
+    tie.close (tie.spec Inv-loop μ-loop loop-holds (λ c. omega arith) (λ c. omega arith) put-two-bytes-requires
+    (λ c. omega arith) (λ c. omega arith) loop-again same-length returns)

@@ -16,19 +16,10 @@ atBoard c = c .before .before .before
 abbrev atEntries : tie.After-put-bytes-arg2 → tie.After-put-entries
 atEntries c = c .before .before .before .before
 
-slice-aggregate-put-record : tie.Need-slice-aggregate-put-record
-slice-aggregate-put-record c = search needs
-
-put-record-requires : tie.Need-put-record-requires
-put-record-requires c κs = search needs
-
 put-entries-requires : tie.Need-put-entries-requires
 put-entries-requires c κs =
     let board = atBoard c .put-record .ensures in
     (omega (arith, board-next _ _ _ board, put-length board), omega arith)
-
-slice-aggregate-put-bytes : tie.Need-slice-aggregate-put-bytes
-slice-aggregate-put-bytes c = search needs
 
 put-bytes-requires : tie.Need-put-bytes-requires
 put-bytes-requires c κs =
@@ -44,9 +35,6 @@ put-bytes-requires c κs =
       entries-next (start .args .table .now) (start .args .board .entries) (entries .put-entries .ensures),
     )
 
-same-length : tie.Need-same-length
-same-length c = search needs
-
 returns : tie.Need-returns
 returns c =
     let mark = c .before .before in
@@ -56,12 +44,5 @@ returns c =
 
 pub write-file-spec : {M : Type 1} → statement M
 write-file-spec =
-    tie.close
-    (tie.spec
-    slice-aggregate-put-record
-    put-record-requires
-    put-entries-requires
-    slice-aggregate-put-bytes
-    put-bytes-requires
-    same-length
-    returns)
+    tie.close (tie.spec (λ c. search needs) (λ c κs. search needs) put-entries-requires (λ c. search needs)
+    put-bytes-requires (λ c. search needs) returns)

@@ -10,18 +10,6 @@ use Rattle.slips.proofs.put.put_column.Tie as tie
 abbrev atBlanks : tie.After-put-right → tie.After-put-bytes
 atBlanks c = c .before .before .before .before
 
-slice-aggregate-put-bytes : tie.Need-slice-aggregate-put-bytes
-slice-aggregate-put-bytes c = search needs
-
-put-bytes-requires : tie.Need-put-bytes-requires
-put-bytes-requires c κs = search needs
-
-put-right-requires : tie.Need-put-right-requires
-put-right-requires c κs = search needs
-
-same-length : tie.Need-same-length
-same-length c = search needs
-
 returns : tie.Need-returns
 unfolding column
 returns c =
@@ -30,5 +18,4 @@ returns c =
 
 pub put-column-spec : {M : Type 1} → statement M
 put-column-spec =
-    tie.close
-    (tie.spec slice-aggregate-put-bytes put-bytes-requires put-right-requires same-length returns)
+    tie.close (tie.spec (λ c. search needs) (λ c κs. search needs) (λ c κs. search needs) (λ c. search needs) returns)

@@ -25,36 +25,6 @@ atNet c = c .before .before .before .before
 abbrev atStart : tie.After-put-right → tie.Start
 atStart c = c .before .before .before
 
-put-right-requires : tie.Need-put-right-requires
-put-right-requires c κs = search needs
-
-cast-put-column : tie.Need-cast-put-column
-cast-put-column c = search needs
-
-put-column-requires : tie.Need-put-column-requires
-put-column-requires c κs = search needs
-
-cast-put-column-2 : tie.Need-cast-put-column-2
-cast-put-column-2 c = search needs
-
-put-column-requires-2 : tie.Need-put-column-requires-2
-put-column-requires-2 c κs = search needs
-
-cast-put-column-3 : tie.Need-cast-put-column-3
-cast-put-column-3 c = search needs
-
-put-column-requires-3 : tie.Need-put-column-requires-3
-put-column-requires-3 c κs = search needs
-
-cast-put-column-4 : tie.Need-cast-put-column-4
-cast-put-column-4 c = search needs
-
-put-column-requires-4 : tie.Need-put-column-requires-4
-put-column-requires-4 c κs = search needs
-
-slice-aggregate-put-bytes : tie.Need-slice-aggregate-put-bytes
-slice-aggregate-put-bytes c = search needs
-
 put-bytes-requires : tie.Need-put-bytes-requires
 put-bytes-requires c κs =
     let y = atY c in
@@ -77,9 +47,6 @@ put-bytes-requires c κs =
       put-length (y .put-column4 .ensures .0),
     )
 
-same-length : tie.Need-same-length
-same-length c = search needs
-
 returns : tie.Need-returns
 unfolding slipLine
 returns c =
@@ -99,18 +66,6 @@ returns c =
 
 pub put-line-spec : {M : Type 1} → statement M
 put-line-spec =
-    tie.close
-    (tie.spec
-    put-right-requires
-    cast-put-column
-    put-column-requires
-    cast-put-column-2
-    put-column-requires-2
-    cast-put-column-3
-    put-column-requires-3
-    cast-put-column-4
-    put-column-requires-4
-    slice-aggregate-put-bytes
-    put-bytes-requires
-    same-length
-    returns)
+    tie.close (tie.spec (λ c κs. search needs) (λ c. search needs) (λ c κs. search needs) (λ c. search needs)
+    (λ c κs. search needs) (λ c. search needs) (λ c κs. search needs) (λ c. search needs) (λ c κs. search needs)
+    (λ c. search needs) put-bytes-requires (λ c. search needs) returns)

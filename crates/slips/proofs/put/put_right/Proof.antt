@@ -24,14 +24,8 @@ atBlanks c = c .before .before .before .before
 few : (c : tie.After-decimal) → c .decimal .result ≤ atStart c .args .width
 few c = fewest-fits _ _ _ (atStart c .pre .0) (atStart c .pre .2) (c .decimal .ensures .1 .0)
 
-decimal-requires : tie.Need-decimal-requires
-decimal-requires c κs = search needs
-
 sub-before : tie.Need-sub-before
 sub-before c = few c
-
-array-share-prefix-blanks : tie.Need-array-share-prefix-blanks
-array-share-prefix-blanks c = search needs
 
 slice-aggregate-put-bytes : tie.Need-slice-aggregate-put-bytes
 slice-aggregate-put-bytes c = sym (blanks-long _ (omega arith))
@@ -41,12 +35,6 @@ put-bytes-requires c κs =
     let digits = atDigits c in
     let fit = few digits in
     omega (arith, blanks-long (atStart digits .args .width - digits .decimal .result) (omega arith))
-
-array-share-prefix-digits : tie.Need-array-share-prefix-digits
-array-share-prefix-digits c = search needs
-
-slice-aggregate-put-bytes-2 : tie.Need-slice-aggregate-put-bytes-2
-slice-aggregate-put-bytes-2 c = search needs
 
 put-bytes-requires-2 : tie.Need-put-bytes-requires-2
 put-bytes-requires-2 c κs =
@@ -59,9 +47,6 @@ put-bytes-requires-2 c κs =
       blanks .put-bytes .ensures .next,
       digits .decimal .ensures .0 .1,
     )
-
-same-length : tie.Need-same-length
-same-length c = search needs
 
 returns : tie.Need-returns
 returns c =
@@ -78,15 +63,5 @@ returns c =
 
 pub put-right-spec : {M : Type 1} → statement M
 put-right-spec =
-    tie.close
-    (tie.spec
-    decimal-requires
-    sub-before
-    array-share-prefix-blanks
-    slice-aggregate-put-bytes
-    put-bytes-requires
-    array-share-prefix-digits
-    slice-aggregate-put-bytes-2
-    put-bytes-requires-2
-    same-length
-    returns)
+    tie.close (tie.spec (λ c κs. search needs) sub-before (λ c. search needs) slice-aggregate-put-bytes
+    put-bytes-requires (λ c. search needs) (λ c. search needs) put-bytes-requires-2 (λ c. search needs) returns)

@@ -12,22 +12,13 @@ inElse1 c = c .before .before
 returns : tie.Need-returns
 returns c = patch-shape _ _ _ _ _ (c .if1 .taken)
 
-net-ok-requires : tie.Need-net-ok-requires
-net-ok-requires c κs = search needs
-
 returns-2 : tie.Need-returns-2
 returns-2 c = no-track _ _ _ _ _ _ (c .before .net-ok .ensures) (c .before .before .if1 .left) (c .if2 .taken)
-
-sub-if3 : tie.Need-sub-if3
-sub-if3 c = search needs
 
 returns-3 : tie.Need-returns-3
 returns-3 c = narrow-leg _ _ _ _ _ _ (c .before .before .net-ok .ensures) (inElse1 (c .before) .if1 .left)
     (c .before .if2 .left)
     (omega arith) (c .if3 .taken)
-
-sub-result : tie.Need-sub-result
-sub-result c = search needs
 
 returns-4 : tie.Need-returns-4
 returns-4 c = flat-leg _ _ _ _ _ _ (c .before .before .net-ok .ensures) (inElse1 (c .before) .if1 .left)
@@ -36,4 +27,5 @@ returns-4 c = flat-leg _ _ _ _ _ _ (c .before .before .net-ok .ensures) (inElse1
 
 pub shape-ok-spec : {M : Type 1} → statement M
 shape-ok-spec =
-    tie.close (tie.spec returns net-ok-requires returns-2 sub-if3 returns-3 sub-result returns-4)
+    tie.close (tie.spec returns (λ c κs. search needs) returns-2 (λ c. search needs) returns-3 (λ c. search needs)
+    returns-4)

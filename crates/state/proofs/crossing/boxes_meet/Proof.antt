@@ -4,14 +4,8 @@ use borrow.Author.Needs.{needs}
 use Rattle.state.proofs.crossing.boxes_meet.Statement.{statement}
 use Rattle.state.proofs.crossing.boxes_meet.Tie as tie
 
-comes-before-requires : tie.Need-comes-before-requires
-comes-before-requires c κs = search needs
-
 returns : tie.Need-returns
 returns c = right-of _ _ _ _ (c .before .comes-before .ensures) (c .if1 .taken)
-
-comes-before-requires-2 : tie.Need-comes-before-requires-2
-comes-before-requires-2 c κs = search needs
 
 returns-2 : tie.Need-returns-2
 returns-2 c =
@@ -19,18 +13,12 @@ returns-2 c =
     left-of _ _ _ _ (one .before .comes-before .ensures) (one .if1 .left) _ (c .before .comes-before2 .ensures)
     (c .if2 .taken)
 
-comes-before-requires-3 : tie.Need-comes-before-requires-3
-comes-before-requires-3 c κs = search needs
-
 returns-3 : tie.Need-returns-3
 returns-3 c =
     let two = c .before .before in
     let one = two .before .before in
     below _ _ _ _ (one .before .comes-before .ensures) (one .if1 .left) _ (two .before .comes-before2 .ensures)
     (two .if2 .left) _ (c .before .comes-before3 .ensures) (c .if3 .taken)
-
-comes-before-requires-4 : tie.Need-comes-before-requires-4
-comes-before-requires-4 c κs = search needs
 
 returns-4 : tie.Need-returns-4
 returns-4 c =
@@ -42,13 +30,5 @@ returns-4 c =
 
 pub boxes-meet-spec : {M : Type 1} → statement M
 boxes-meet-spec =
-    tie.close
-    (tie.spec
-    comes-before-requires
-    returns
-    comes-before-requires-2
-    returns-2
-    comes-before-requires-3
-    returns-3
-    comes-before-requires-4
-    returns-4)
+    tie.close (tie.spec (λ c κs. search needs) returns (λ c κs. search needs) returns-2 (λ c κs. search needs)
+    returns-3 (λ c κs. search needs) returns-4)

@@ -20,20 +20,11 @@ afterWithout c = c .before .before
 abbrev inLoop : tie.After-over-leg Inv-loop μ-loop → tie.In-loop Inv-loop μ-loop
 inLoop c = c .before .before .before
 
-slice-aggregate-without : tie.Need-slice-aggregate-without Inv-loop μ-loop
-slice-aggregate-without c = search needs
-
 without-requires : tie.Need-without-requires Inv-loop μ-loop
 without-requires c κs = (omega arith, omega arith, no-rows)
 
 loop-holds : tie.Need-loop-holds Inv-loop μ-loop
 loop-holds c = without-none _ _ _
-
-slice-aggregate-over-leg : tie.Need-slice-aggregate-over-leg Inv-loop μ-loop
-slice-aggregate-over-leg c = search needs
-
-entry-at-requires : tie.Need-entry-at-requires Inv-loop μ-loop
-entry-at-requires c κs = omega arith
 
 over-leg-requires : tie.Need-over-leg-requires Inv-loop μ-loop
 over-leg-requires c κs =
@@ -44,12 +35,6 @@ returns c =
     let l = inLoop (c .before) in
     clear-not _ _ _ _ _ (afterWithout (l .before) .without .ensures) _ (l .loop-test .taken) _
     (c .before .before .entry-at .ensures) _ (c .before .over-leg .ensures) (c .if1 .taken)
-
-add-i : tie.Need-add-i Inv-loop μ-loop
-add-i c = omega arith
-
-loop-less : tie.Need-loop-less Inv-loop μ-loop
-loop-less c = omega arith
 
 loop-again : tie.Need-loop-again Inv-loop μ-loop
 loop-again c =
@@ -63,18 +48,5 @@ returns-2 c =
 
 pub no-crossing-spec : {M : Type 1} → statement M
 no-crossing-spec =
-    tie.close
-    (tie.spec
-    Inv-loop
-    μ-loop
-    slice-aggregate-without
-    without-requires
-    loop-holds
-    slice-aggregate-over-leg
-    entry-at-requires
-    over-leg-requires
-    returns
-    add-i
-    loop-less
-    loop-again
-    returns-2)
+    tie.close (tie.spec Inv-loop μ-loop (λ c. search needs) without-requires loop-holds (λ c. search needs)
+    (λ c κs. omega arith) over-leg-requires returns (λ c. omega arith) (λ c. omega arith) loop-again returns-2)

@@ -21,22 +21,10 @@ returns c = leg-not-over _ _ _ (c .if1 .taken)
 loop-holds : tie.Need-loop-holds Inv-loop μ-loop
 loop-holds c = without-none _ _ _
 
-entry-at-requires : tie.Need-entry-at-requires Inv-loop μ-loop
-entry-at-requires c κs = omega arith
-
-crosses-leg-requires : tie.Need-crosses-leg-requires Inv-loop μ-loop
-crosses-leg-requires c κs = omega arith
-
 returns-2 : tie.Need-returns-2 Inv-loop μ-loop
 returns-2 c =
     over-yes _ _ _ _ _ (inLoop (c .before) .loop-test .taken) _ (c .before .before .entry-at .ensures) _
     (c .before .crosses-leg .ensures) (c .if2 .taken)
-
-add-k : tie.Need-add-k Inv-loop μ-loop
-add-k c = omega arith
-
-loop-less : tie.Need-loop-less Inv-loop μ-loop
-loop-less c = omega arith
 
 loop-again : tie.Need-loop-again Inv-loop μ-loop
 loop-again c =
@@ -49,16 +37,5 @@ returns-3 c = over-no _ _ _ _ _ (omega arith) (c .before .loop .inv)
 
 pub over-leg-spec : {M : Type 1} → statement M
 over-leg-spec =
-    tie.close
-    (tie.spec
-    Inv-loop
-    μ-loop
-    returns
-    loop-holds
-    entry-at-requires
-    crosses-leg-requires
-    returns-2
-    add-k
-    loop-less
-    loop-again
-    returns-3)
+    tie.close (tie.spec Inv-loop μ-loop returns loop-holds (λ c κs. omega arith) (λ c κs. omega arith) returns-2
+    (λ c. omega arith) (λ c. omega arith) loop-again returns-3)
