@@ -8,11 +8,6 @@ use Rattle.replay_test.proofs.replay_front.Tie as tie
 slice-aggregate-replay : tie.Need-slice-aggregate-replay
 slice-aggregate-replay c = simp length-take (omega arith)
 
-replay-requires : tie.Need-replay-requires
-replay-requires c κs = search needs
-
-returns : tie.Need-returns
-returns c = search needs
-
 pub replay-front-spec : {M : Type 1} → statement M
-replay-front-spec = tie.close (tie.spec slice-aggregate-replay replay-requires returns)
+replay-front-spec =
+    tie.close (tie.spec slice-aggregate-replay (λ c κs. search needs) (λ c. search needs))

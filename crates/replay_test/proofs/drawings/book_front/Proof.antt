@@ -8,11 +8,6 @@ use Rattle.replay_test.proofs.drawings.book_front.Tie as tie
 slice-aggregate-book : tie.Need-slice-aggregate-book
 slice-aggregate-book c = simp length-take (omega arith)
 
-book-requires : tie.Need-book-requires
-book-requires c κs = search needs
-
-returns : tie.Need-returns
-returns c = search needs
-
 pub book-front-spec : {M : Type 1} → statement M
-book-front-spec = tie.close (tie.spec slice-aggregate-book book-requires returns)
+book-front-spec =
+    tie.close (tie.spec slice-aggregate-book (λ c κs. search needs) (λ c. search needs))
