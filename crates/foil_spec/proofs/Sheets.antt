@@ -22,9 +22,10 @@ use Rattle.foil_spec.specs.Lent.{stripNumbers, written, boardOf, store, 
 use Rattle.foil_spec.specs.Lent.{sameNumbers, sound}
 use Rattle.foil_spec.specs.Sound.{today, stripsBy, keepsAsked, listedIn, soundBy}
 use Rattle.foil_spec.specs.Job.{number, fieldCount, mapByte, has, fieldsAt, recordEnd, field, stepAt, jobRoom}
-use Rattle.foil_spec.specs.Job.{stepsAt, steps, isEnd, recordChecks}
-use Rattle.foil_spec.specs.Calls.{Call, step, runRecord, layList, Reply, answered, ran, atEnd, endsJob, andThen}
-use Rattle.foil_spec.specs.Calls.{actAll, actRecord, actList, tooLarge, wholeRefusals, listRefusals, reply}
+use Rattle.foil_spec.specs.Job.{asStep, stepsAt, recordSteps, steps, isEnd, recordChecks}
+use Rattle.foil_spec.specs.Calls.{Call, step, runRecord, layList, Reply, answered, ran, atEnd, asReply, endsJob}
+use Rattle.foil_spec.specs.Calls.{andThen, actAll, actRecord, actList, tooLarge, wholeRefusals, listRefusals}
+use Rattle.foil_spec.specs.Calls.{reply}
 use Rattle.foil_spec.specs.Wishes.{tooMany}
 use Rattle.foil_spec.specs.Sheet.{total, reserved, eachFew, countsOk, limitOf, parts, joined, tableAt, SheetLent}
 use Rattle.foil_spec.specs.Sheet.{view, putBack, sheetRoom, counts, opening, sheetRefusal, unless, blank, rowStep}
@@ -119,8 +120,8 @@ unfolding rowsFrom roomAt begin
     after between levelFree uprightFree segment leads isPathTo isWay bends points goings stepsFrom shortest firstFrom
     firstPathTo stripsOf pathOf noPath cornersOf leg legsFrom legs ofNet inUse offFoil blocked
     short cornerRoom tooLong tooFine penOf clearanceRefusal next says first reads refusals afterLent settle refusalOf
-    jobRoom number fieldCount mapByte has fieldsAt recordEnd field stepAt stepsAt steps isEnd recordChecks
-    endsJob andThen actAll actRecord actList tooLarge tooMany wholeRefusals listRefusals reply xor
+    jobRoom number fieldCount mapByte has fieldsAt recordEnd field asStep stepAt stepsAt recordSteps steps isEnd
+    recordChecks asReply endsJob andThen actAll actRecord actList tooLarge tooMany wholeRefusals listRefusals reply xor
 eight-foils = refl
 
 -- ---- the refusals before the foil is looked at, in their order, where its counts are broken

@@ -25,12 +25,13 @@ use Rattle.foil_spec.specs.Ledger.{short, cornerRoom, tooLong, tooFine, 
 use Rattle.foil_spec.specs.Ledger.{reads, refusals, afterLent, settle, refusalOf, ledgerStep, penOf}
 use Rattle.foil_spec.specs.Ledger.{clearanceRefusal, freeFor, onLegs, onNet, joinOf, joinCorners}
 use Rattle.foil_spec.specs.Job.{number, fieldCount, mapByte, has, fieldsAt, recordEnd, field, stepAt, jobRoom}
-use Rattle.foil_spec.specs.Job.{stepsAt, steps, isEnd, recordChecks}
+use Rattle.foil_spec.specs.Job.{asStep, stepsAt, recordSteps, steps, isEnd, recordChecks}
 use Rattle.foil_spec.specs.Ohms.{whole, resistanceOk, widthOk, bendOk, inkOk, formula, ohmsRefusals, ohmsOf}
 use Rattle.foil_spec.specs.Lent.{overFront, outputAfter, numbersOut, roomLeft, roomIn}
 use Rattle.foil_spec.specs.Wishes.{wishAt, wishes, tooMany}
-use Rattle.foil_spec.specs.Calls.{laidAll, endsJob, andThen, actAll, actRecord, inFront, actEach, actList}
-use Rattle.foil_spec.specs.Calls.{tooLarge, wholeRefusals, ohmsReply, listRefusals, reply, ledgerCall, outputBy}
+use Rattle.foil_spec.specs.Calls.{laidAll, asReply, endsJob, andThen, actAll, actRecord, inFront, actEach}
+use Rattle.foil_spec.specs.Calls.{actList, tooLarge, wholeRefusals, ohmsReply, listRefusals, reply, ledgerCall}
+use Rattle.foil_spec.specs.Calls.{outputBy}
 use Rattle.foil_spec.specs.Sequence.{front, roomFor}
 use Rattle.foil_spec.specs.Starred.{threeAnswers, StarredHold, outcomeFrom, cases, jobBytes, crossingBytes}
 use Rattle.foil_spec.specs.Starred.{legJob, savedBytes, jobSlip, penJob, widePenJob, latePenJob, fourWishes}
@@ -53,8 +54,8 @@ unfolding outcomeFrom cases jobBytes crossingBytes legJob savedBytes jobSlip pen
     netsOf firstPoint digitsIn decimal setRight column slipLine netLine slipOf
     short cornerRoom tooLong tooFine beginningTooFine
     penOf clearanceRefusal next says first reads refusals afterLent settle refusalOf ledgerStep
-    jobRoom number fieldCount mapByte has fieldsAt recordEnd field stepAt stepsAt steps isEnd recordChecks
-    endsJob andThen actAll actRecord tooLarge wholeRefusals ohmsReply reply ledgerCall xor
+    jobRoom number fieldCount mapByte has fieldsAt recordEnd field asStep stepAt stepsAt recordSteps steps isEnd
+    recordChecks asReply endsJob andThen actAll actRecord tooLarge wholeRefusals ohmsReply reply ledgerCall xor
     wishAt wishes tooMany listRefusals overFront outputAfter numbersOut roomLeft pointNumbers inFront actEach actList
     legsOf legSteps stepsOf netLength netBends whole resistanceOk widthOk bendOk inkOk formula ohmsRefusals ohmsOf half
     bits ofInt ofBits add mul div lt le eq

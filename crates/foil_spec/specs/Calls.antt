@@ -25,14 +25,30 @@ pub data Call : Type 0 where
   ohms : ℕ → Ink → Call
   layList : List ℕ → ℕ → Call
 
--- the answer of a step or of a record as a whole, or a refusal; or each step's answer and the next place; or the end
--- mark; or the ohms; or the answer of each lay of a list
+-- what a record comes to: refused as a whole by a number; or each step's answer and the next place; or the end mark
+pub data RecordReply : Type 0 where
+  refusedWhole : ℕ → RecordReply
+  ranSteps : List Answer → Option ℕ → RecordReply
+  endMark : RecordReply
+
+-- the answer of a step, or the refusal of a call as a whole; of a record each step's answer and the next place, or the
+-- end mark; the ohms; or the answer of each lay of a list
 pub data Reply : Type 0 where
   answered : Answer → Reply
   ran : List Answer → Option ℕ → Reply
   atEnd : Reply
   measured : Float → Reply
   laidAll : List Answer → Reply
+
+-- what a record comes to, as the reply to a call
+unfoldable pub asReply : RecordReply → Reply
+asReply (refusedWhole n) = answered (refused n)
+asReply (ranSteps given place) = ran given place
+asReply endMark = atEnd
+
+-- the same with the state after it
+abbrev pub replied : {S : Type 0} → After RecordReply S → After Reply S
+replied a = record { answer = asReply (a .answer); state = a .state }
 
 -- a step refused by 1, 2 or 20 ends the job
 unfoldable pub endsJob : Answer → Bool
@@ -58,12 +74,12 @@ module _ {S : Type 0} (act : Step → S → After Answer S) where
   actAll (c ∷ cs) s = andThen (act c s) (actAll cs (act c s .state))
 
   -- refused as a whole, or the end mark, or the answers of the steps and the next place
-  unfoldable pub actRecord : Option ℕ → Bool → List Step → ℕ → S → After Reply S
-  actRecord (some n) end cs place s = record { answer = answered (refused n); state = s }
-  actRecord none true cs place s = record { answer = atEnd; state = s }
+  unfoldable pub actRecord : Option ℕ → Bool → List Step → ℕ → S → After RecordReply S
+  actRecord (some n) end cs place s = record { answer = refusedWhole n; state = s }
+  actRecord none true cs place s = record { answer = endMark; state = s }
   actRecord none false cs place s =
       record {
-        answer = ran (actAll cs s .answer) (cond (any endsJob (actAll cs s .answer)) none (some place));
+        answer = ranSteps (actAll cs s .answer) (cond (any endsJob (actAll cs s .answer)) none (some place));
         state = actAll cs s .state;
       }
 
@@ -91,6 +107,12 @@ tooLarge bs = ltb maxBytes (length bs)
 unfoldable pub wholeRefusals : Room → Bool → List ℕ → ℕ → List Refusal
 wholeRefusals r broken bs at = (tooLarge bs ⇒ 18) ∷ afterLent r (broken && not (eqb at 0)) (recordChecks bs at)
 
+-- the record at a place, on a state where `act` does a step in a room; `broken` says that the state breaks a rule
+abbrev pub recordBy :
+    {S : Type 0} → (Room → Step → S → After Answer S) → Room → Bool → List ℕ → ℕ → S → After RecordReply S
+recordBy act r broken bs at s =
+    actRecord (act r) (first (wholeRefusals r broken bs at)) (isEnd bs at) (steps bs at) (recordEnd bs at) s
+
 -- refused by a number, or the ohms
 unfoldable pub ohmsReply : Option ℕ → Float → Reply
 ohmsReply (some n) x = answered (refused n)
@@ -105,8 +127,7 @@ listRefusals r broken ws n = (tooMany ws n ⇒ 12) ∷ afterLent r broken []
 unfoldable pub reply :
     {S : Type 0} → (Room → Step → S → After Answer S) → Room → Bool → Call → Layout → S → After Reply S
 reply act r broken (step c) l s = record { answer = answered (act r c s .answer); state = act r c s .state }
-reply act r broken (runRecord bs at) l s =
-    actRecord (act r) (first (wholeRefusals r broken bs at)) (isEnd bs at) (steps bs at) (recordEnd bs at) s
+reply act r broken (runRecord bs at) l s = replied (recordBy act r broken bs at s)
 reply act r broken (ohms net i) l s =
     record { answer = ohmsReply (first (afterLent r broken (ohmsRefusals net i l))) (ohmsOf net i l); state = s }
 reply act r broken (layList ws n) l s = actList act (first (listRefusals r broken ws n)) r (wishes ws) s
@@ -118,6 +139,14 @@ ledgerCall r c l = reply ledgerStep r false c l l
 -- what a call does to what is lent
 unfoldable pub callOn : Room → Call → Lent → After Reply Lent
 callOn r c m = reply stepOn r (not (sound m)) c (held m) m
+
+-- what the record at a place comes to on the ledger
+unfoldable pub ledgerRecord : Room → List ℕ → ℕ → Layout → After RecordReply Layout
+ledgerRecord r bs at l = recordBy ledgerStep r false bs at l
+
+-- what it does to what is lent
+unfoldable pub recordOn : Room → List ℕ → ℕ → Lent → After RecordReply Lent
+recordOn r bs at m = recordBy stepOn r (not (sound m)) bs at m
 
 -- the answers in a reply
 unfoldable pub answersIn : Reply → List Answer
@@ -140,29 +169,25 @@ outputBy atEnd out = out
 outputBy (measured x) out = out
 outputBy (laidAll given) out = overFront (each numbersOut given) out
 
--- where a job goes on after a reply
-unfoldable pub placeAfter : Reply → Option ℕ
-placeAfter (answered a) = none
-placeAfter (ran given place) = place
-placeAfter atEnd = none
-placeAfter (measured x) = none
-placeAfter (laidAll given) = none
+-- where a job goes on after a record
+unfoldable pub placeAfter : RecordReply → Option ℕ
+placeAfter (refusedWhole n) = none
+placeAfter (ranSteps given place) = place
+placeAfter endMark = none
 
--- a job file on any state, where `call` does a call
-module _ {S : Type 0} (call : Call → S → After Reply S) where
-  -- the replies to its records from a place on, at most n of them, each on what the last one left
-  unfoldable pub readFrom : List ℕ → ℕ → Option ℕ → S → After (List Reply) S
+-- a job file on any state, where `run` runs the record at a place of its bytes
+module _ {S : Type 0} (run : List ℕ → ℕ → S → After RecordReply S) where
+  -- what its records come to from a place on, at most n of them, each on what the last one left
+  unfoldable pub readFrom : List ℕ → ℕ → Option ℕ → S → After (List RecordReply) S
   readFrom bs zero place s = record { answer = []; state = s }
   readFrom bs (suc n) none s = record { answer = []; state = s }
   readFrom bs (suc n) (some at) s =
       record {
         answer =
-            call (runRecord bs at) s .answer
-            ∷ readFrom bs n (placeAfter (call (runRecord bs at) s .answer)) (call (runRecord bs at) s .state) .answer;
-        state =
-            readFrom bs n (placeAfter (call (runRecord bs at) s .answer)) (call (runRecord bs at) s .state) .state;
+            run bs at s .answer ∷ readFrom bs n (placeAfter (run bs at s .answer)) (run bs at s .state) .answer;
+        state = readFrom bs n (placeAfter (run bs at s .answer)) (run bs at s .state) .state;
       }
 
   -- those of the whole file, which has no more records than bytes
-  unfoldable pub readJob : List ℕ → S → After (List Reply) S
+  unfoldable pub readJob : List ℕ → S → After (List RecordReply) S
   readJob bs s = readFrom bs (length bs) (some 0) s

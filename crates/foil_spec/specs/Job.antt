@@ -1,13 +1,14 @@
 -- The job file: the fields of a record, its steps, and its checks in order.
 use Prim.Native.Nat.{ℕ, zero, suc, _+_, _*_, _/_, _%_, _^_}
 use mathlib.Core.Bool.{Bool, cond, not, _&&_, _||_, xor}
-use mathlib.Core.List.{List, [], _∷_}
+use mathlib.Core.List.{List, [], _∷_, map}
 use lib.Dec.{leb, ltb, eqb}
 use lib.ListN.{length, getD}
 use Rattle.foil_spec.specs.Lists.{range, consIf}
 use Rattle.foil_spec.specs.Limits.{maxEntries, maxStrips, cornerPlaces}
-use Rattle.foil_spec.specs.Foil.{point, entry, pen}
-use Rattle.foil_spec.specs.Ledger.{Room, byPen, byReach, Step, newFoil, draw, lay, lift, putLeg, Refusal, _⇒_}
+use Rattle.foil_spec.specs.Foil.{Point, point, Entry, entry, pen}
+use Rattle.foil_spec.specs.Ledger.{Room, Clearance, byPen, byReach, Step, newFoil, draw, lay, lift, putLeg}
+use Rattle.foil_spec.specs.Ledger.{Refusal, _⇒_}
 
 -- the job program lends whole lists and all corner places
 unfoldable pub jobRoom : Room
@@ -31,6 +32,22 @@ mapBits = 6
 
 abbrev pub stepBits : ℕ
 stepBits = 5
+
+-- the steps that a record holds: it begins a foil, draws a patch, lays a track, lifts a net, puts a leg
+pub data RecordStep : Type 0 where
+  boardStep : ℕ → ℕ → Clearance → RecordStep
+  patchStep : ℕ → ℕ → ℕ → ℕ → RecordStep
+  trackStep : ℕ → Point → Point → RecordStep
+  liftStep : ℕ → RecordStep
+  legStep : Entry → RecordStep
+
+-- as steps of the ledger
+unfoldable pub asStep : RecordStep → Step
+asStep (boardStep W H c) = newFoil W H c
+asStep (patchStep x0 y0 x1 y1) = draw x0 y0 x1 y1
+asStep (trackStep net S T) = lay net S T
+asStep (liftStep net) = lift net
+asStep (legStep e) = putLeg e
 
 -- the record that begins at a place of the bytes
 module _ (bs : List ℕ) (at : ℕ) where
@@ -56,22 +73,26 @@ module _ (bs : List ℕ) (at : ℕ) where
   field k i = number bs (fieldsAt k + 2 * i)
 
   -- the step of bit k, by its fields
-  unfoldable pub stepAt : ℕ → Step
+  unfoldable pub stepAt : ℕ → RecordStep
   stepAt zero =
-      newFoil (field 0 0) (field 0 1) (cond (has 5) (byPen (pen (field 5 0) (field 5 1))) (byReach (field 0 2)))
-  stepAt (suc zero) = draw (field 1 0) (field 1 1) (field 1 2) (field 1 3)
-  stepAt (suc (suc zero)) = lay (field 2 0) (point (field 2 1) (field 2 2)) (point (field 2 3) (field 2 4))
-  stepAt (suc (suc (suc zero))) = lift (field 3 0)
-  stepAt (suc (suc (suc (suc k)))) = putLeg (entry (field 4 0) (field 4 1) (field 4 2) (field 4 3) (field 4 4))
+      boardStep (field 0 0) (field 0 1) (cond (has 5) (byPen (pen (field 5 0) (field 5 1))) (byReach (field 0 2)))
+  stepAt (suc zero) = patchStep (field 1 0) (field 1 1) (field 1 2) (field 1 3)
+  stepAt (suc (suc zero)) = trackStep (field 2 0) (point (field 2 1) (field 2 2)) (point (field 2 3) (field 2 4))
+  stepAt (suc (suc (suc zero))) = liftStep (field 3 0)
+  stepAt (suc (suc (suc (suc k)))) = legStep (entry (field 4 0) (field 4 1) (field 4 2) (field 4 3) (field 4 4))
 
   -- the steps of the bits of a list that are set, in its order
-  unfoldable pub stepsAt : List ℕ → List Step
+  unfoldable pub stepsAt : List ℕ → List RecordStep
   stepsAt [] = []
   stepsAt (k ∷ ks) = consIf (has k) (stepAt k) (stepsAt ks)
 
   -- the steps of the record, in bit order
+  unfoldable pub recordSteps : List RecordStep
+  recordSteps = stepsAt (range 0 stepBits)
+
+  -- the same as steps of the ledger
   unfoldable pub steps : List Step
-  steps = stepsAt (range 0 stepBits)
+  steps = map asStep recordSteps
 
   -- the end mark
   unfoldable pub isEnd : Bool

@@ -13,8 +13,8 @@ use Rattle.foil_spec.specs.Ledger.{stripsOf, Room, Step, newFoil, draw, 
 use Rattle.foil_spec.specs.Ledger.{book, slip, join, carry, Answer, refused, says, next, Refusal, _⇒_, first}
 use Rattle.foil_spec.specs.Ledger.{afterLent, After, settle, refusalOf}
 use Rattle.foil_spec.specs.Lent.{Lent, lent, stripNumbers, written, boardOf, store, held, sound}
-use Rattle.foil_spec.specs.Calls.{Call, step, runRecord, ohms, layList, Reply, answered, tooLarge, reply}
-use Rattle.foil_spec.specs.Calls.{outputBy}
+use Rattle.foil_spec.specs.Calls.{Call, step, runRecord, ohms, layList, RecordReply, refusedWhole, Reply}
+use Rattle.foil_spec.specs.Calls.{answered, tooLarge, recordBy, reply, outputBy}
 use Rattle.foil_spec.specs.Wishes.{tooMany}
 use Rattle.foil_spec.specs.declared.Board.{Board}
 
@@ -144,6 +144,17 @@ unfoldable pub sheetCall : Room → ℕ → Call → SheetLent → After Reply S
 sheetCall r k c m =
     unless (sheetRefusal r (not (countsOk (counts (m .boards)))) k c)
     (reply (sheetStep k) r (not (sound (view k m))) c (held (view k m)) m) m
+
+-- a record that is refused as a whole by a number, and the state stays as it is; or what the record gives
+unfoldable pub unlessWhole : {S : Type 0} → Option ℕ → After RecordReply S → S → After RecordReply S
+unlessWhole (some n) done old = record { answer = refusedWhole n; state = old }
+unlessWhole none done old = done
+
+-- what the record at a place does on foil k to what is lent
+unfoldable pub sheetRecord : Room → ℕ → List ℕ → ℕ → SheetLent → After RecordReply SheetLent
+sheetRecord r k bs at m =
+    unlessWhole (sheetRefusal r (not (countsOk (counts (m .boards)))) k (runRecord bs at))
+    (recordBy (sheetStep k) r (not (sound (view k m))) bs at m) m
 
 -- ---- the ledger, which keeps a row for each foil
 

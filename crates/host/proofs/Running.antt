@@ -7,10 +7,9 @@ use Rattle.foil_spec.specs.Limits.{sheetFoils, sheetSize}
 use Rattle.foil_spec.specs.Foil.{Entry}
 use Rattle.foil_spec.specs.Job.{has}
 use Rattle.foil_spec.specs.Calls.{runRecord, Reply, outputBy}
-use Rattle.job.specs.Contract.{replyOf}
 use Rattle.sheet_rows.specs.declared.Sheet.{Sheet}
 use Rattle.sheet_rows.specs.Rows.{sheetLent}
-use Rattle.sheet.specs.Contract.{SheetRecordDone}
+use Rattle.sheet.specs.Contract.{RecordTells, SheetRecordDone}
 use Rattle.sheet.specs.declared.SheetReplied.{SheetReplied}
 use Rattle.host.specs.declared.flat.Flat.{Flat}
 use Rattle.host.specs.declared.records.Ran.{Ran}
@@ -28,7 +27,7 @@ module _ (k : ℕ) (bs : List ℕ) (at : ℕ) (b : Sheet) (s ks : List ℕ) (r :
   runs-more eight t t′ rest full d =
       let l = call-longer rest k (runRecord bs at) (sheetLent (b .boards) t s) (length ks) full eight in
       record {
-        reply = d .reply ∙ ap (replyOf (has bs at)) (sym (l .answer));
+        tells = subst (λ (x : Reply). RecordTells (has bs at) x (r .reply)) (sym (l .answer)) (d .tells);
         state = ap (longer rest) (d .state) ∙ sym (l .state);
         output = d .output ∙ ap (λ (x : Reply). outputBy x ks) (sym (l .answer));
       }

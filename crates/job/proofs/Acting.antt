@@ -4,13 +4,13 @@ use native.Mathlib.Omega.{arith}
 use native.Mathlib.Numerals.{add-one}
 use mathlib.Core.Path.{_≡_, refl, sym, ap, _∙_}
 use mathlib.Core.Bool.{Bool, true, false}
-use mathlib.Core.List.{List, [], _∷_, _++_, append-nil}
+use mathlib.Core.List.{List, [], _∷_, _++_, map, append-nil}
 use lib.ListN.{length, drop, length-append, drop-of-length-le}
 use lib.Seq.{drop-at}
 use Rattle.foil_spec.specs.Lists.{range, consIf, any}
 use Rattle.foil_spec.specs.Ledger.{Step, Answer, Room, After}
 use Rattle.foil_spec.specs.Lent.{Lent, stepOn}
-use Rattle.foil_spec.specs.Job.{has, stepAt, stepsAt}
+use Rattle.foil_spec.specs.Job.{asStep, has, stepAt, stepsAt}
 use Rattle.foil_spec.specs.Calls.{endsJob, andThen, actAll}
 use Rattle.list_laws.proofs.Tests.{both, clash}
 use Rattle.job.specs.Contract.{setBelow}
@@ -74,21 +74,25 @@ pub range-split : (k j : ℕ) → range 0 (k + j) ≡ range 0 k ++ range k j
 range-split k j = range-append 0 k j ∙ ap (λ (i : ℕ). range 0 k ++ range i j) (let e : 0 + k ≡ k = omega arith in e)
 
 module _ (bs : List ℕ) (at : ℕ) where
-  steps-append : (js ks : List ℕ) → stepsAt bs at (js ++ ks) ≡ stepsAt bs at js ++ stepsAt bs at ks
+  -- the steps of some bits, as steps of the ledger
+  abbrev stepsOf : List ℕ → List Step
+  stepsOf ks = map asStep (stepsAt bs at ks)
+
+  steps-append : (js ks : List ℕ) → stepsOf (js ++ ks) ≡ stepsOf js ++ stepsOf ks
   unfolding stepsAt
   steps-append [] ks = refl
   steps-append (j ∷ js) ks = go (has bs at j) (steps-append js ks)
     where
-      go : (b : Bool) → stepsAt bs at (js ++ ks) ≡ stepsAt bs at js ++ stepsAt bs at ks
-          → consIf b (stepAt bs at j) (stepsAt bs at (js ++ ks))
-          ≡ consIf b (stepAt bs at j) (stepsAt bs at js) ++ stepsAt bs at ks
-      go true e = ap (λ (ss : List Step). stepAt bs at j ∷ ss) e
+      go : (b : Bool) → stepsOf (js ++ ks) ≡ stepsOf js ++ stepsOf ks
+          → map asStep (consIf b (stepAt bs at j) (stepsAt bs at (js ++ ks)))
+          ≡ map asStep (consIf b (stepAt bs at j) (stepsAt bs at js)) ++ stepsOf ks
+      go true e = ap (λ (ss : List Step). asStep (stepAt bs at j) ∷ ss) e
       go false e = e
 
-  steps-more : (k : ℕ) → stepsAt bs at (range 0 (suc k))
-      ≡ stepsAt bs at (range 0 k) ++ consIf (has bs at k) (stepAt bs at k) []
+  steps-more : (k : ℕ) → stepsOf (range 0 (suc k))
+      ≡ stepsOf (range 0 k) ++ map asStep (consIf (has bs at k) (stepAt bs at k) [])
   steps-more k =
-      ap (λ (n : ℕ). stepsAt bs at (range 0 n)) (sym (add-one k)) ∙ ap (stepsAt bs at) (range-split k 1)
+      ap (λ (n : ℕ). stepsOf (range 0 n)) (sym (add-one k)) ∙ ap (λ (ks : List ℕ). stepsOf ks) (range-split k 1)
       ∙ steps-append (range 0 k) (k ∷ []) ∙ unfold stepsAt in refl
 
   module _ (r : Room) (m : Lent) (k : ℕ) where
@@ -96,29 +100,30 @@ module _ (bs : List ℕ) (at : ℕ) where
     pub ran-unset : has bs at k ≡ false → ranTo r bs at (suc k) m ≡ ranTo r bs at k m
     ran-unset e =
         ap (λ (ss : List Step). actAll (stepOn r) ss m)
-        (steps-more k ∙ ap (λ (b : Bool). stepsAt bs at (range 0 k) ++ consIf b (stepAt bs at k) []) e
-        ∙ append-nil (stepsAt bs at (range 0 k)))
+        (steps-more k ∙ ap (λ (b : Bool). stepsOf (range 0 k) ++ map asStep (consIf b (stepAt bs at k) [])) e
+        ∙ append-nil (stepsOf (range 0 k)))
 
     -- the job has ended
     pub ran-ended : any endsJob (ranTo r bs at k m .answer) ≡ true → ranTo r bs at (suc k) m ≡ ranTo r bs at k m
     ran-ended e =
         ap (λ (ss : List Step). actAll (stepOn r) ss m) (steps-more k)
-        ∙ acts-ended (stepOn r) (stepsAt bs at (range 0 k)) _ m e
+        ∙ acts-ended (stepOn r) (stepsOf (range 0 k)) _ m e
 
     -- the bit's step is run
     pub ran-more : has bs at k ≡ true → any endsJob (ranTo r bs at k m .answer) ≡ false
         → ranTo r bs at (suc k) m
         ≡ record {
-          answer = ranTo r bs at k m .answer ++ (stepOn r (stepAt bs at k) (ranTo r bs at k m .state) .answer ∷ []);
-          state = stepOn r (stepAt bs at k) (ranTo r bs at k m .state) .state;
+          answer =
+              ranTo r bs at k m .answer ++ (stepOn r (asStep (stepAt bs at k)) (ranTo r bs at k m .state) .answer ∷ []);
+          state = stepOn r (asStep (stepAt bs at k)) (ranTo r bs at k m .state) .state;
         }
     ran-more e f =
         ap (λ (ss : List Step). actAll (stepOn r) ss m)
-        (steps-more k ∙ ap (λ (b : Bool). stepsAt bs at (range 0 k) ++ consIf b (stepAt bs at k) []) e)
-        ∙ acts-on (stepOn r) (stepsAt bs at (range 0 k)) (stepAt bs at k ∷ []) m f
+        (steps-more k ∙ ap (λ (b : Bool). stepsOf (range 0 k) ++ map asStep (consIf b (stepAt bs at k) [])) e)
+        ∙ acts-on (stepOn r) (stepsOf (range 0 k)) (asStep (stepAt bs at k) ∷ []) m f
         ∙ ap (λ (b : After (List Answer) Lent).
         record { answer = ranTo r bs at k m .answer ++ b .answer; state = b .state })
-        (acts-one (stepOn r) (stepAt bs at k) (ranTo r bs at k m .state))
+        (acts-one (stepOn r) (asStep (stepAt bs at k)) (ranTo r bs at k m .state))
 
   -- where the job has not ended, each bit that is set has its answer
   pub ran-length : (r : Room) (m : Lent) (k : ℕ) → any endsJob (ranTo r bs at k m .answer) ≡ false
@@ -150,13 +155,13 @@ module _ (bs : List ℕ) (at : ℕ) where
   pub ran-from : (r : Room) (m : Lent) (k j : ℕ) (x : Answer) (rest : List Answer)
       → drop (setBelow (has bs at) k) (ranTo r bs at (k + j) m .answer) ≡ x ∷ rest
       → (ranTo r bs at (k + j) m .answer ≡ ranTo r bs at k m .answer ++ (x ∷ rest))
-      × (actAll (stepOn r) (stepsAt bs at (range k j)) (ranTo r bs at k m .state) .answer ≡ x ∷ rest)
+      × (actAll (stepOn r) (map asStep (stepsAt bs at (range k j))) (ranTo r bs at k m .state) .answer ≡ x ∷ rest)
   ran-from r m k j x rest h =
-      let xs : List Step = stepsAt bs at (range 0 k) in
-      let ys : List Step = stepsAt bs at (range k j) in
+      let xs : List Step = stepsOf (range 0 k) in
+      let ys : List Step = stepsOf (range k j) in
       let split : ranTo r bs at (k + j) m ≡ actAll (stepOn r) (xs ++ ys) m =
       ap (λ (ss : List Step). actAll (stepOn r) ss m)
-      (ap (stepsAt bs at) (range-split k j) ∙ steps-append (range 0 k) (range k j)) in
+      (ap (λ (ks : List ℕ). stepsOf ks) (range-split k j) ∙ steps-append (range 0 k) (range k j)) in
       both (any endsJob (ranTo r bs at k m .answer))
       (λ e.
       let same = split ∙ acts-ended (stepOn r) xs ys m e in

@@ -4,7 +4,7 @@ use Prim.Native.Nat.{ℕ, zero, suc, _+_, _/_, _≤_}
 use native.Mathlib.Omega.{arith}
 use mathlib.Core.Path.{_≡_, refl, sym, ap, _∙_, subst}
 use mathlib.Core.Bool.{Bool, true, false, cond, not, _&&_, _||_, and-true, xor}
-use mathlib.Core.List.{List, [], _∷_, _++_}
+use mathlib.Core.List.{List, [], _∷_, _++_, map}
 use mathlib.Core.Logic.{_⊎_, inl, inr, ⊎-elim}
 use mathlib.Core.Option.{Option, none, some}
 use lib.Dec.{leb, ltb, eqb}
@@ -14,14 +14,13 @@ use borrow.Author.Tests.{ltb-false, leb-false}
 use Rattle.foil_spec.specs.Lists.{range}
 use Rattle.foil_spec.specs.Limits.{maxBytes}
 use Rattle.foil_spec.specs.Foil.{Point, Layout}
-use Rattle.foil_spec.specs.Ledger.{Step, lay, Answer, accepted, laid, booked, numberOf, says, first, After, settle}
+use Rattle.foil_spec.specs.Ledger.{Step, lay, Answer, accepted, laid, booked, says, first, After, settle}
 use Rattle.foil_spec.specs.Ledger.{Refusal, Room, cornerRoom, cornersOf, afterLent, refusals}
 use Rattle.foil_spec.specs.Corners.{cornersIn}
 use Rattle.foil_spec.specs.Lent.{Lent, held, sound, stepOn, overFront, outputAfter}
-use Rattle.foil_spec.specs.Job.{has, isEnd, recordEnd, stepAt, stepsAt, steps, recordChecks}
-use Rattle.foil_spec.specs.Calls.{Reply as Outcome, answered, ran, atEnd, measured, laidAll, runRecord, endsJob}
-use Rattle.foil_spec.specs.Calls.{andThen, actAll}
-use Rattle.foil_spec.specs.Calls.{actRecord, tooLarge, wholeRefusals, reply, callOn, outputAll, placeAfter}
+use Rattle.foil_spec.specs.Job.{asStep, has, isEnd, recordEnd, stepAt, stepsAt, steps, recordChecks}
+use Rattle.foil_spec.specs.Calls.{RecordReply, refusedWhole, ranSteps, endMark, endsJob, andThen, actAll, actRecord}
+use Rattle.foil_spec.specs.Calls.{tooLarge, wholeRefusals, recordOn, outputAll, placeAfter}
 use Rattle.list_laws.proofs.Tests.{both, or-l, not-ff}
 use Rattle.ledger_laws.proofs.Refusals.{none-applies, unrefused-own}
 use Rattle.ledger_laws.proofs.CornerLists.{corners-read}
@@ -40,34 +39,25 @@ use Rattle.job.proofs.Bits.{still-output}
 -- ---- which reply it is
 
 -- a refusal of the record as a whole
-pub record WasRefused (o : Outcome) (n : ℕ) : Type 0 where
-  pub answer : Answer
-  pub is : o ≡ answered answer
-  pub number : n ≡ numberOf answer
-
-pub was-refused : (on : ℕ → Bool) (o : Outcome) (n : ℕ) → Refused n ≡ replyOf on o → WasRefused o n
+pub was-refused : (on : ℕ → Bool) (o : RecordReply) (n : ℕ) → Refused n ≡ replyOf on o → o ≡ refusedWhole n
 unfolding replyOf
-was-refused on (answered a) n e = record { answer = a; is = refl; number = cc }
-was-refused on (ran given p) n e = absurd (let z : _≡_ {A = ℕ} 0 1 = cc in omega arith)
-was-refused on atEnd n e = absurd (let z : _≡_ {A = ℕ} 0 1 = cc in omega arith)
-was-refused on (measured x) n e = absurd (let z : _≡_ {A = ℕ} 0 1 = cc in omega arith)
-was-refused on (laidAll given) n e = absurd (let z : _≡_ {A = ℕ} 0 1 = cc in omega arith)
+was-refused on (refusedWhole k) n e = let same : k ≡ n = cc in ap refusedWhole same
+was-refused on (ranSteps given p) n e = absurd (let z : _≡_ {A = ℕ} 0 1 = cc in omega arith)
+was-refused on endMark n e = absurd (let z : _≡_ {A = ℕ} 0 1 = cc in omega arith)
 
 -- the answers of the steps
-pub record HasRun (on : ℕ → Bool) (o : Outcome) (a : Answers) (n : Next) : Type 0 where
+pub record HasRun (on : ℕ → Bool) (o : RecordReply) (a : Answers) (n : Next) : Type 0 where
   pub given : List Answer
   pub place : Option ℕ
-  pub is : o ≡ ran given place
+  pub is : o ≡ ranSteps given place
   pub answers : a ≡ answersOf on given
   pub next : n ≡ nextOf place
 
-pub has-run : (on : ℕ → Bool) (o : Outcome) (a : Answers) (n : Next) → Ran a n ≡ replyOf on o → HasRun on o a n
+pub has-run : (on : ℕ → Bool) (o : RecordReply) (a : Answers) (n : Next) → Ran a n ≡ replyOf on o → HasRun on o a n
 unfolding replyOf
-has-run on (answered x) a n e = absurd (let z : _≡_ {A = ℕ} 0 1 = cc in omega arith)
-has-run on (ran given p) a n e = record { given = given; place = p; is = refl; answers = cc; next = cc }
-has-run on atEnd a n e = absurd (let z : _≡_ {A = ℕ} 0 1 = cc in omega arith)
-has-run on (measured x) a n e = absurd (let z : _≡_ {A = ℕ} 0 1 = cc in omega arith)
-has-run on (laidAll given) a n e = absurd (let z : _≡_ {A = ℕ} 0 1 = cc in omega arith)
+has-run on (refusedWhole k) a n e = absurd (let z : _≡_ {A = ℕ} 0 1 = cc in omega arith)
+has-run on (ranSteps given p) a n e = record { given = given; place = p; is = refl; answers = cc; next = cc }
+has-run on endMark a n e = absurd (let z : _≡_ {A = ℕ} 0 1 = cc in omega arith)
 
 -- ---- where the job goes on
 
@@ -86,13 +76,11 @@ next-other (Refused n) other = refl
 next-other (Ran a n) other = absurd (other a n refl)
 next-other AtEnd other = refl
 
-pub next-is : (on : ℕ → Bool) (o : Outcome) → nextIn (replyOf on o) ≡ nextOf (placeAfter o)
+pub next-is : (on : ℕ → Bool) (o : RecordReply) → nextIn (replyOf on o) ≡ nextOf (placeAfter o)
 unfolding nextIn replyOf nextOf placeAfter
-next-is on (answered a) = refl
-next-is on (ran given place) = refl
-next-is on atEnd = refl
-next-is on (measured x) = refl
-next-is on (laidAll given) = refl
+next-is on (refusedWhole n) = refl
+next-is on (ranSteps given place) = refl
+next-is on endMark = refl
 
 -- ---- the checks that it has passed
 
@@ -104,7 +92,7 @@ module _ {S : Type 0} (act : Step → S → After Answer S) where
     pub answers : given ≡ actAll act ss s .answer
 
   pub ran-all : (o : Option ℕ) (e : Bool) (ss : List Step) (p : ℕ) (s : S) (given : List Answer) (n : Option ℕ)
-      → actRecord act o e ss p s .answer ≡ ran given n → RanAll o e ss s given
+      → actRecord act o e ss p s .answer ≡ ranSteps given n → RanAll o e ss s given
   unfolding actRecord
   ran-all (some k) e ss p s given n h = absurd (let z : _≡_ {A = ℕ} 0 1 = cc in omega arith)
   ran-all none true ss p s given n h = absurd (let z : _≡_ {A = ℕ} 0 1 = cc in omega arith)
@@ -126,7 +114,7 @@ module _ (r : Room) (bs : List ℕ) (at : ℕ) (m : Lent) where
   pub record Stepped (given : List Answer) : Type 0 where
     pub whole : Whole bs at
     pub answers : given ≡ actAll (stepOn r) (steps bs at) m .answer
-    pub state : callOn r (runRecord bs at) m .state ≡ actAll (stepOn r) (steps bs at) m .state
+    pub state : recordOn r bs at m .state ≡ actAll (stepOn r) (steps bs at) m .state
 
   whole-record : first checks ≡ none → isEnd bs at ≡ false → Whole bs at
   unfolding wholeRefusals afterLent recordChecks tooLarge
@@ -139,9 +127,8 @@ module _ (r : Room) (bs : List ℕ) (at : ℕ) (m : Lent) where
         ends = ltb-false (length bs) (recordEnd bs at) (rw f at ends);
       }
 
-  pub stepped : (given : List Answer) (n : Option ℕ) → callOn r (runRecord bs at) m .answer ≡ ran given n
-      → Stepped given
-  unfolding callOn reply actRecord
+  pub stepped : (given : List Answer) (n : Option ℕ) → recordOn r bs at m .answer ≡ ranSteps given n → Stepped given
+  unfolding recordOn actRecord
   stepped given n h =
       let a = ran-all (stepOn r) (first checks) (isEnd bs at) (steps bs at) (recordEnd bs at) m given n h in
       record {
@@ -152,9 +139,9 @@ module _ (r : Room) (bs : List ℕ) (at : ℕ) (m : Lent) where
 
   -- a place at which the end mark was met is not 0, so that 13 was tried, and nothing is changed
   pub record Ended : Type 0 where
-    pub answer : callOn r (runRecord bs at) m .answer ≡ atEnd
+    pub answer : recordOn r bs at m .answer ≡ endMark
     pub fine : sound m ≡ true
-    pub state : callOn r (runRecord bs at) m .state ≡ m
+    pub state : recordOn r bs at m .state ≡ m
 
   later-place : first (recordChecks bs at) ≡ none → isEnd bs at ≡ true → eqb at 0 ≡ false
   unfolding recordChecks xor
@@ -167,8 +154,8 @@ module _ (r : Room) (bs : List ℕ) (at : ℕ) (m : Lent) where
       go true q = q
       go false q = refl
 
-  pub ended : (on : ℕ → Bool) → AtEnd ≡ replyOf on (callOn r (runRecord bs at) m .answer) → Ended
-  unfolding callOn reply actRecord wholeRefusals afterLent
+  pub ended : (on : ℕ → Bool) → AtEnd ≡ replyOf on (recordOn r bs at m .answer) → Ended
+  unfolding recordOn actRecord wholeRefusals afterLent
   ended on h =
       let a = met-end (stepOn r) on (first checks) (isEnd bs at) (steps bs at) (recordEnd bs at) m h in
       let e = a .0 in
@@ -262,14 +249,14 @@ quiet-first r c ss m out same later = go (endsJob (stepOn r c m .answer))
     go false = ap (outputAll (rest .answer)) same ∙ later
 
 module _ (r : Room) (bs : List ℕ) (at : ℕ) where
-  stills : (i : ℕ) (l : Layout) → says (stepAt bs at (suc (suc (suc i)))) l ≡ accepted
-  unfolding stepAt says
+  stills : (i : ℕ) (l : Layout) → says (asStep (stepAt bs at (suc (suc (suc i))))) l ≡ accepted
+  unfolding stepAt asStep says
   stills zero l = refl
   stills (suc i) l = refl
 
   -- no bit is a booking
-  says-unbooked : (i : ℕ) (l : Layout) (k n : ℕ) → says (stepAt bs at i) l ≡ booked k n → ⊥
-  unfolding stepAt says
+  says-unbooked : (i : ℕ) (l : Layout) (k n : ℕ) → says (asStep (stepAt bs at i)) l ≡ booked k n → ⊥
+  unfolding stepAt asStep says
   says-unbooked zero l k n h = let z : _≡_ {A = ℕ} 0 1 = cc in omega arith
   says-unbooked (suc zero) l k n h = let z : _≡_ {A = ℕ} 0 1 = cc in omega arith
   says-unbooked (suc (suc zero)) l k n h = let z : _≡_ {A = ℕ} 0 1 = cc in omega arith
@@ -278,16 +265,16 @@ module _ (r : Room) (bs : List ℕ) (at : ℕ) where
 
   -- the bits after the track's write no corners
   quiet : (i j : ℕ) (m : Lent) (out : List ℕ)
-      → outputAll (actAll (stepOn r) (stepsAt bs at (range (suc (suc (suc i))) j)) m .answer) out ≡ out
+      → outputAll (actAll (stepOn r) (map asStep (stepsAt bs at (range (suc (suc (suc i))) j))) m .answer) out ≡ out
   unfolding stepsAt
   quiet i zero m out = unfold actAll outputAll in refl
   quiet i (suc j) m out =
-      let c : Step = stepAt bs at (suc (suc (suc i))) in
+      let c : Step = asStep (stepAt bs at (suc (suc (suc i)))) in
       both (has bs at (suc (suc (suc i))))
       (λ set.
       rw set
-      (quiet-first r c (stepsAt bs at (range (suc (suc (suc (suc i)))) j)) m out (still-same r c m out (stills i))
-      (quiet (suc i) j (stepOn r c m .state) out)))
+      (quiet-first r c (map asStep (stepsAt bs at (range (suc (suc (suc (suc i)))) j))) m out
+      (still-same r c m out (stills i)) (quiet (suc i) j (stepOn r c m .state) out)))
       (λ unset. rw unset (quiet (suc i) j m out))
 
   module _ (m : Lent) (out : List ℕ) (k j : ℕ) (x : Answer) (rest : List Answer) (set : has bs at k ≡ true)
@@ -296,7 +283,10 @@ module _ (r : Room) (bs : List ℕ) (at : ℕ) where
     before = ranTo r bs at k m .state
 
     abbrev later-steps : List Step
-    later-steps = stepsAt bs at (range (suc k) j)
+    later-steps = map asStep (stepsAt bs at (range (suc k) j))
+
+    abbrev this : Step
+    this = asStep (stepAt bs at k)
 
     abbrev Done : Type 0
     Done = Tracked x (r .output) (outputAll (ranTo r bs at (k + suc j) m .answer) out)
@@ -304,19 +294,19 @@ module _ (r : Room) (bs : List ℕ) (at : ℕ) where
     whole : ranTo r bs at (k + suc j) m .answer ≡ ranTo r bs at k m .answer ++ (x ∷ rest)
     whole = ran-from bs at r m k (suc j) x rest h .0
 
-    met : Heads r (stepAt bs at k) later-steps before x rest
+    met : Heads r this later-steps before x rest
     unfolding stepsAt
-    met = heads r (stepAt bs at k) later-steps before x rest (rw set at (ran-from bs at r m k (suc j) x rest h .1))
+    met = heads r this later-steps before x rest (rw set at (ran-from bs at r m k (suc j) x rest h .1))
 
     unbooked : (i n : ℕ) → x ≡ booked i n → ⊥
     unfolding stepOn
     unbooked i n e = settled-unbooked _ _ before (says-unbooked k (held before)) i n (met .is ∙ e)
 
-    still : ((l : Layout) → says (stepAt bs at k) l ≡ accepted) → Done
+    still : ((l : Layout) → says this l ≡ accepted) → Done
     still s =
         record {
-          fits = λ cs n e. absurd (still-laid r (stepAt bs at k) before s cs n (met .is ∙ e));
-          front = λ cs n e. absurd (still-laid r (stepAt bs at k) before s cs n (met .is ∙ e));
+          fits = λ cs n e. absurd (still-laid r this before s cs n (met .is ∙ e));
+          front = λ cs n e. absurd (still-laid r this before s cs n (met .is ∙ e));
           unbooked = unbooked;
         }
 
@@ -333,12 +323,12 @@ module _ (r : Room) (bs : List ℕ) (at : ℕ) where
         nothing o =
             ⊎-elim
             (λ (q : rest ≡ []). rw q (unfold outputAll in refl))
-            (λ (q : rest ≡ actAll (stepOn r) later-steps (stepOn r (stepAt bs at k) before .state) .answer).
+            (λ (q : rest ≡ actAll (stepOn r) later-steps (stepOn r this before .state) .answer).
             rw q
             (subst (λ (n : ℕ). outputAll
-            (actAll (stepOn r) (stepsAt bs at (range (suc n) j)) (stepOn r (stepAt bs at k) before .state) .answer) o
+            (actAll (stepOn r) (map asStep (stepsAt bs at (range (suc n) j))) (stepOn r this before .state) .answer) o
             ≡ o)
-            (sym e) (quiet i j (stepOn r (stepAt bs at k) before .state) o)))
+            (sym e) (quiet i j (stepOn r this before .state) o)))
             (met .later)
 
     lay-front : (i : ℕ) → k ≡ suc (suc i) → (cs : List Point) (n : ℕ) → x ≡ laid cs n
@@ -349,19 +339,19 @@ module _ (r : Room) (bs : List ℕ) (at : ℕ) where
         ∙ subst (λ (y : Answer). cornersIn (outputAfter y (outputAll (ranTo r bs at k m .answer) out)) (length cs) ≡ cs)
         (sym q) (corners-read cs _)
 
-    laid-bit : (c : Step) → stepAt bs at k ≡ c → (net : ℕ) (S T : Point) → c ≡ lay net S T → (cs : List Point) (n : ℕ)
+    laid-bit : (c : Step) → this ≡ c → (net : ℕ) (S T : Point) → c ≡ lay net S T → (cs : List Point) (n : ℕ)
         → x ≡ laid cs n → length cs ≤ r .output / 2
     laid-bit c e net S T f cs n q =
         lay-fits r before net S T cs n
         (ap (λ (s : Step). stepOn r s before .answer) (sym (e ∙ f)) ∙ met .is ∙ q)
 
     by-bit : (i : ℕ) → k ≡ i → Done
-    unfolding stepAt
+    unfolding stepAt asStep
     by-bit zero e = still (λ l. rw e (unfold says in refl))
     by-bit (suc zero) e = still (λ l. rw e (unfold says in refl))
     by-bit (suc (suc zero)) e =
         record {
-          fits = laid-bit (stepAt bs at 2) (ap (stepAt bs at) e) _ _ _ refl;
+          fits = laid-bit (asStep (stepAt bs at 2)) (ap (λ (n : ℕ). asStep (stepAt bs at n)) e) _ _ _ refl;
           front = lay-front 0 e;
           unbooked = unbooked;
         }

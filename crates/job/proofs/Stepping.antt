@@ -4,15 +4,16 @@ use native.Mathlib.Omega.{arith}
 use native.Mathlib.Numerals.{add-one}
 use mathlib.Core.Path.{_≡_, refl, sym, ap, _∙_, subst}
 use mathlib.Core.Bool.{Bool, true, false, cond, not, _&&_, _||_}
-use mathlib.Core.List.{List, [], _∷_, _++_}
+use mathlib.Core.List.{List, [], _∷_, _++_, map}
 use mathlib.Core.Option.{none, some}
 use borrow.Author.Tests.{not-true, not-false}
 use lib.ListN.{length}
 use Rattle.foil_spec.specs.Lists.{range, any}
 use Rattle.foil_spec.specs.Ledger.{Step, Answer, reads, Room, short}
 use Rattle.foil_spec.specs.Lent.{Lent, lent, sound, roomIn, stepOn, outputAfter}
-use Rattle.foil_spec.specs.Job.{mapBits, stepBits, has, fieldsAt, recordEnd, stepAt, stepsAt, steps}
-use Rattle.foil_spec.specs.Calls.{endsJob, actAll, actRecord, answersIn, outputAll, outputBy}
+use Rattle.foil_spec.specs.Job.{mapBits, stepBits, asStep, has, fieldsAt, recordEnd, stepAt, stepsAt, recordSteps}
+use Rattle.foil_spec.specs.Job.{steps}
+use Rattle.foil_spec.specs.Calls.{asReply, endsJob, actAll, actRecord, answersIn, outputAll, outputBy}
 use Rattle.foil_spec.specs.declared.Board.{Board}
 use Rattle.list_laws.proofs.Tests.{both, clash, and-l, and-r, any-append}
 use Rattle.foil.specs.Contract.{Wrote, OutputIn}
@@ -98,7 +99,7 @@ module _ (bs : List ℕ) (at k : ℕ) (ended go : Bool) (q : go ≡ (has bs at k
 module _ (limit : ℕ) (bs : List ℕ) (at k : ℕ) (d : Stepped) (t s out : List ℕ) (go : Bool)
     (q : go ≡ (has bs at k && not (d .ended))) (n : not go ≡ false) where
   pub bit-run : (done : Done) (t′ s′ out′ : List ℕ)
-      → OutputIn (stepAt bs at k) limit (lent (d .board) t s) out done t′ s′ out′
+      → OutputIn (asStep (stepAt bs at k)) limit (lent (d .board) t s) out done t′ s′ out′
       → (new : Answers) → ToldMore (d .answers) k (Said (done .answer)) new → (over : Bool) → Ends (done .answer) over
       → GoesOn limit bs at k d t s out (record { answers = new; ended = over; board = done .board }) t′ s′ out′
   bit-run done t′ s′ out′ step new told over ends =
@@ -107,9 +108,10 @@ module _ (limit : ℕ) (bs : List ℕ) (at k : ℕ) (d : Stepped) (t s out : Lis
             let given : List Answer = ranTo r bs at k m .answer in
             let set : has bs at k ≡ true = is-set bs at k (d .ended) go q n in
             let before : any endsJob given ≡ false = sym (j .ended) ∙ not-ended bs at k (d .ended) go q n in
-            let a : Answer = stepOn r (stepAt bs at k) (ranTo r bs at k m .state) .answer in
-            let w : Wrote (stepAt bs at k) r (ranTo r bs at k m .state) out done t′ s′ out′ =
-            subst (λ (x : Lent). Wrote (stepAt bs at k) r x out done t′ s′ out′) (j .state) (step r long few room) in
+            let a : Answer = stepOn r (asStep (stepAt bs at k)) (ranTo r bs at k m .state) .answer in
+            let w : Wrote (asStep (stepAt bs at k)) r (ranTo r bs at k m .state) out done t′ s′ out′ =
+            subst (λ (x : Lent). Wrote (asStep (stepAt bs at k)) r x out done t′ s′ out′) (j .state)
+            (step r long few room) in
             let more = ran-more bs at r m k set before in
             one-more (record {
               answers =
@@ -129,31 +131,31 @@ module _ (limit : ℕ) (bs : List ℕ) (at k : ℕ) (d : Stepped) (t s out : Lis
 
 -- ---- what a bit's step may count on
 
-reads-first : (bs : List ℕ) (at : ℕ) → reads (stepAt bs at 0) ≡ false
-unfolding stepAt reads
+reads-first : (bs : List ℕ) (at : ℕ) → reads (asStep (stepAt bs at 0)) ≡ false
+unfolding stepAt asStep reads
 reads-first bs at = refl
 
 -- before a step that reads the foil, it keeps the rules
 bits-sound : (r : Room) (bs : List ℕ) (at : ℕ) (m : Lent) → Ready bs at m → short r ≡ false → (k : ℕ)
-    → any endsJob (ranTo r bs at k m .answer) ≡ false → reads (stepAt bs at k) ≡ true
+    → any endsJob (ranTo r bs at k m .answer) ≡ false → reads (asStep (stepAt bs at k)) ≡ true
     → sound (ranTo r bs at k m .state) ≡ true
 bits-sound r bs at m y long zero h f = clash f (reads-first bs at)
 bits-sound r bs at m y long (suc k) h f =
     both (has bs at 0)
-    (λ set. opened (stepsAt bs at (range 0 (suc k))) (opens set) h)
-    (λ unset. steps-sound r (stepsAt bs at (range 0 (suc k))) m (y .fine unset))
+    (λ set. opened (map asStep (stepsAt bs at (range 0 (suc k)))) (opens set) h)
+    (λ unset. steps-sound r (map asStep (stepsAt bs at (range 0 (suc k)))) m (y .fine unset))
   where
-    new : List Step → List Step
-    new ss = stepAt bs at 0 ∷ ss
+    later : List Step
+    later = map asStep (stepsAt bs at (range 1 k))
 
-    opens : has bs at 0 ≡ true → stepsAt bs at (range 0 (suc k)) ≡ new (stepsAt bs at (range 1 k))
+    opens : has bs at 0 ≡ true → map asStep (stepsAt bs at (range 0 (suc k))) ≡ asStep (stepAt bs at 0) ∷ later
     opens set = unfold stepsAt in rw set refl
 
-    opened : (ss : List Step) → ss ≡ new (stepsAt bs at (range 1 k))
+    opened : (ss : List Step) → ss ≡ asStep (stepAt bs at 0) ∷ later
         → any endsJob (actAll (stepOn r) ss m .answer) ≡ false
         → sound (actAll (stepOn r) ss m .state) ≡ true
     opened ss e g =
-        rw e (unfold stepAt in first-sound r _ _ _ (stepsAt bs at (range 1 k)) m long (rw e at g))
+        rw e (unfold stepAt asStep in first-sound r _ _ _ later m long (rw e at g))
 
 ready-long : (bs : List ℕ) (at : ℕ) (m : Lent) → Ready bs at m → (limit n : ℕ) → short (roomIn limit m n) ≡ false
 ready-long bs at m y limit n = long-room m (record { table = y .table; strips = y .strips }) limit n
@@ -196,7 +198,7 @@ pub steps-done : (limit : ℕ) (bs : List ℕ) (at : ℕ) (m : Lent) (o : List �
     → RanTo (roomIn limit m (length o)) bs at k m o d t s out → k ≡ stepBits
     → (p : ℕ) → p ≡ fieldsAt bs at mapBits → (n : Next) → n ≡ nextOf (cond (d .ended) none (some p))
     → StepsDone limit bs at m o (record { reply = Ran (d .answers) n; board = d .board }) t s out
-unfolding actRecord replyOf steps recordEnd outputBy answersIn
+unfolding actRecord asReply replyOf steps recordSteps recordEnd outputBy answersIn
 steps-done limit bs at m o k d t s out j last p e n f =
     let a = subst (λ (i : ℕ). RanTo (roomIn limit m (length o)) bs at i m o d t s out) last j in
     record {

@@ -11,11 +11,11 @@ use lib.Dec.{leb, ltb, eqb}
 use lib.ListN.{length, getD}
 use borrow.Author.Tests.{le-ltb, ltb-false, leb-false, eq-eqb, ne-eqb}
 use Rattle.foil_spec.specs.Limits.{maxBytes}
-use Rattle.foil_spec.specs.Ledger.{first, numberOf, Room, afterLent}
+use Rattle.foil_spec.specs.Ledger.{first, Room, afterLent}
 use Rattle.foil_spec.specs.Lent.{Lent, lent, sound, roomIn, stepOn, outputAfter}
 use Rattle.foil_spec.specs.Job.{mapByte, has, isEnd, recordEnd, steps, recordChecks}
-use Rattle.foil_spec.specs.Calls.{actRecord, tooLarge, wholeRefusals, reply}
-use Rattle.foil_spec.specs.Calls.{callOn, answersIn, outputAll, outputBy}
+use Rattle.foil_spec.specs.Calls.{asReply, actRecord, tooLarge, wholeRefusals, recordOn, answersIn, outputAll}
+use Rattle.foil_spec.specs.Calls.{outputBy}
 use Rattle.foil_spec.specs.declared.Board.{Board}
 use Rattle.list_laws.proofs.Tests.{clash, or-l}
 use Rattle.ledger_laws.proofs.Refusals.{none-applies}
@@ -107,7 +107,7 @@ module _ (limit : ℕ) (bs : List ℕ) (at : ℕ) (b : Board) (t s out : List �
       → (r : Replied) (t′ s′ out′ : List ℕ)
       → Replies (has bs at) (actRecord (stepOn room) o (isEnd bs at) (steps bs at) (recordEnd bs at) m) out r t′ s′ out′
       → RecordIn limit bs at m out r t′ s′ out′
-  unfolding callOn reply
+  unfolding recordOn
   call-done o e r t′ s′ out′ d =
       subst (λ (x : Option ℕ).
       Replies (has bs at) (actRecord (stepOn room) x (isEnd bs at) (steps bs at) (recordEnd bs at) m) out r t′ s′ out′)
@@ -115,7 +115,7 @@ module _ (limit : ℕ) (bs : List ℕ) (at : ℕ) (b : Board) (t s out : List �
 
   refused-done : (n : ℕ) → first (wholeRefusals room (not (sound m)) bs at) ≡ some n → (r : Replied) → r ≡ refusedBy n b
       → RecordIn limit bs at m out r t s out
-  unfolding actRecord replyOf numberOf outputBy answersIn outputAll outputAfter
+  unfolding actRecord asReply replyOf outputBy answersIn outputAll outputAfter
   refused-done n e r q =
       call-done (some n) e r t s out
       (rw q (record { reply = refl; board = refl; table = refl; strips = refl; output = refl }))
@@ -139,7 +139,7 @@ module _ (limit : ℕ) (bs : List ℕ) (at : ℕ) (b : Board) (t s out : List �
 
       module _ (checked : q ≡ Passed) where
         pub at-end : getD bs at 0 ≡ 0 → RecordIn limit bs at m out (record { reply = AtEnd; board = b }) t s out
-        unfolding actRecord isEnd mapByte replyOf outputBy answersIn outputAll
+        unfolding actRecord asReply isEnd mapByte replyOf outputBy answersIn outputAll
         at-end z =
             call-done none (own-left ∙ passed bs at q q-is checked) _ t s out
             (rw (eq-eqb (getD bs at 0) 0 z)

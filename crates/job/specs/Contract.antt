@@ -5,11 +5,10 @@ use mathlib.Core.Bool.{Bool, cond}
 use mathlib.Core.List.{List, [], _∷_}
 use mathlib.Core.Option.{Option, none, some}
 use lib.ListN.{length}
-use Rattle.foil_spec.specs.Ledger.{Answer, numberOf, After}
+use Rattle.foil_spec.specs.Ledger.{Answer, After}
 use Rattle.foil_spec.specs.Lent.{Lent, roomIn}
 use Rattle.foil_spec.specs.Job.{has}
-use Rattle.foil_spec.specs.Calls.{runRecord, callOn, answered, ran, atEnd, measured, laidAll, outputBy}
-use Rattle.foil_spec.specs.Calls.{Reply as Outcome}
+use Rattle.foil_spec.specs.Calls.{RecordReply, refusedWhole, ranSteps, endMark, asReply, recordOn, outputBy}
 use Rattle.foil.specs.Contract.{answerOf}
 use Rattle.job.specs.declared.Told.{Told}
 use Rattle.job.specs.declared.Told.the-variants.{Nothing, Said}
@@ -62,25 +61,22 @@ nextIn (Refused n) = Nowhere
 nextIn (Ran a next) = next
 nextIn AtEnd = Nowhere
 
--- document 01's number and values for each case of a record's reply, which is never ohms nor a list's; `on` says which
--- bits are set
-unfoldable pub replyOf : (ℕ → Bool) → Outcome → Reply
-replyOf on (answered a) = Refused (numberOf a)
-replyOf on (ran given n) = Ran (answersOf on given) (nextOf n)
-replyOf on atEnd = AtEnd
-replyOf on (measured x) = AtEnd
-replyOf on (laidAll given) = AtEnd
+-- document 01's number and values for each case of what a record comes to; `on` says which bits are set
+unfoldable pub replyOf : (ℕ → Bool) → RecordReply → Reply
+replyOf on (refusedWhole n) = Refused n
+replyOf on (ranSteps given n) = Ran (answersOf on given) (nextOf n)
+replyOf on endMark = AtEnd
 
 -- the reply, the record, the table t and the strips s are those of a, and the output list is out after that reply
-pub record Replies (on : ℕ → Bool) (a : After Outcome Lent) (out : List ℕ) (r : Replied) (t s out′ : List ℕ)
+pub record Replies (on : ℕ → Bool) (a : After RecordReply Lent) (out : List ℕ) (r : Replied) (t s out′ : List ℕ)
     : Type 0 where
   pub reply : r .reply ≡ replyOf on (a .answer)
   pub board : r .board ≡ a .state .board
   pub table : t ≡ a .state .table
   pub strips : s ≡ a .state .strips
-  pub output : out′ ≡ outputBy (a .answer) out
+  pub output : out′ ≡ outputBy (asReply (a .answer)) out
 
 -- the record at a place was lent m and the corner list out, on a foil of so many entries at most
 abbrev pub RecordIn : ℕ → List ℕ → ℕ → Lent → List ℕ → Replied → List ℕ → List ℕ → List ℕ → Type 0
 RecordIn limit bs at m out r t s out′ =
-    Replies (has bs at) (callOn (roomIn limit m (length out)) (runRecord bs at) m) out r t s out′
+    Replies (has bs at) (recordOn (roomIn limit m (length out)) bs at m) out r t s out′

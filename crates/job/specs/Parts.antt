@@ -2,7 +2,7 @@
 use Prim.Native.Nat.{ℕ, _+_, _*_, _≤_, _<_}
 use mathlib.Core.Path.{_≡_}
 use mathlib.Core.Bool.{Bool, true, false, cond}
-use mathlib.Core.List.{List}
+use mathlib.Core.List.{List, map}
 use mathlib.Core.Option.{Option, none, some}
 use lib.Dec.{eqb}
 use lib.ListN.{length}
@@ -10,7 +10,7 @@ use Rattle.foil_spec.specs.Lists.{range, any}
 use Rattle.foil_spec.specs.Limits.{tableSize, stripsSize, maxBytes}
 use Rattle.foil_spec.specs.Ledger.{Answer, reads, Room, short, After}
 use Rattle.foil_spec.specs.Lent.{Lent, lent, sound, roomIn, stepOn}
-use Rattle.foil_spec.specs.Job.{mapBits, stepBits, has, fieldsAt, recordEnd, stepAt, stepsAt, steps}
+use Rattle.foil_spec.specs.Job.{mapBits, stepBits, asStep, has, fieldsAt, recordEnd, stepAt, stepsAt, steps}
 use Rattle.foil_spec.specs.Calls.{endsJob, actAll, actRecord, outputAll}
 use Rattle.foil_spec.specs.declared.Board.{Board}
 use Rattle.foil.specs.Contract.{answerOf}
@@ -78,7 +78,7 @@ pub record BitReady (bs : List ℕ) (at k : ℕ) (m : Lent) : Type 0 where
   pub set : has bs at k ≡ true
   pub table : tableSize ≤ length (m .table)
   pub strips : stripsSize ≤ length (m .strips)
-  pub fine : reads (stepAt bs at k) ≡ true → sound m ≡ true
+  pub fine : reads (asStep (stepAt bs at k)) ≡ true → sound m ≡ true
 
 -- the same if it is set and the job has not ended
 pub record MayRun (bs : List ℕ) (at k : ℕ) (ended : Bool) (m : Lent) : Type 0 where
@@ -88,7 +88,7 @@ pub record MayRun (bs : List ℕ) (at k : ℕ) (ended : Bool) (m : Lent) : Type 
 
 -- the steps of the bits below k, run in the room r on m
 abbrev pub ranTo : Room → List ℕ → ℕ → ℕ → Lent → After (List Answer) Lent
-ranTo r bs at k m = actAll (stepOn r) (stepsAt bs at (range 0 k)) m
+ranTo r bs at k m = actAll (stepOn r) (map asStep (stepsAt bs at (range 0 k))) m
 
 -- they were run, and m was lent with the output list out: they left d, the table t, the strips s and the output list
 -- out′

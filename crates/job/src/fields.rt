@@ -6,8 +6,8 @@ ghost use mathlib.Core.Path.{_≡_};
 ghost use mathlib.Core.Bool.{true, cond};
 ghost use Prim.Native.Nat.{_*_, _≤_, _<_};
 ghost use lib.ListN.{length};
-ghost use Rattle.foil_spec.specs.Ledger.{newFoil, putLeg};
-ghost use Rattle.foil_spec.specs.Job.{mapBits, fieldCount, has as hasBit, fieldsAt, field as fieldOf, stepAt};
+ghost use Rattle.foil_spec.specs.Job.{mapBits, boardStep, legStep, fieldCount, has as hasBit, fieldsAt};
+ghost use Rattle.foil_spec.specs.Job.{field as fieldOf, stepAt};
 ghost use Rattle.foil.specs.Contract.{clearanceOf};
 ghost use Rattle.job.specs.Parts.{Begun, Whole, Given};
 
@@ -61,7 +61,8 @@ pub(crate) fn field(bytes: &[u8], at: usize, k: usize, i: usize) -> u16
 // What the board of the record keeps clear: its pen by the fields of bit 5, or else its reach.
 pub(crate) fn clearance_of(bytes: &[u8], at: usize) -> Clearance
     requires { ⌜ Whole (now bytes) at × (hasBit (now bytes) at 0 ≡ true) ⌝ }
-    ensures { λ r. ⌜ newFoil (fieldOf (now (bytes .entry)) at 0 0) (fieldOf (now (bytes .entry)) at 0 1) (clearanceOf r)
+    ensures { λ r. ⌜ boardStep (fieldOf (now (bytes .entry)) at 0 0) (fieldOf (now (bytes .entry)) at 0 1)
+        (clearanceOf r)
         ≡ stepAt (now (bytes .entry)) at 0 ⌝ }
 {
     if has(bytes, at, 5) {
@@ -73,7 +74,7 @@ pub(crate) fn clearance_of(bytes: &[u8], at: usize) -> Clearance
 // The leg that the step of bit 4 puts, by its fields.
 pub(crate) fn leg_of(bytes: &[u8], at: usize) -> Entry
     requires { ⌜ Given (now bytes) at 4 4 ⌝ }
-    ensures { λ r. ⌜ putLeg r ≡ stepAt (now (bytes .entry)) at 4 ⌝ }
+    ensures { λ r. ⌜ legStep r ≡ stepAt (now (bytes .entry)) at 4 ⌝ }
 {
     Entry {
         net: field(bytes, at, 4, 0),

@@ -29,7 +29,7 @@ ghost use lib.Dec.{eqb};
 ghost use lib.ListN.{length};
 ghost use Rattle.foil_spec.specs.Limits.{maxEntries};
 ghost use Rattle.foil_spec.specs.Lent.{lent};
-ghost use Rattle.foil_spec.specs.Job.{mapBits, has as hasBit, stepAt};
+ghost use Rattle.foil_spec.specs.Job.{mapBits, asStep, has as hasBit, stepAt};
 ghost use Rattle.foil.specs.Contract.{OutputIn};
 ghost use Rattle.job.specs.Contract.{nextOf};
 ghost use Rattle.job.specs.Parts.{Ready, MayRun, BitReady, StepsDone, GoesOn, ToldMore, Ends};
@@ -126,7 +126,7 @@ fn step_of(
 ) -> Done
     requires { ⌜ BitReady (now bytes) at k (lent board (now table) (now strips)) ⌝ }
     requires { ⌜ limit ≤ maxEntries ⌝ }
-    ensures { λ r. ⌜ OutputIn (stepAt (now (bytes .entry)) at k) limit
+    ensures { λ r. ⌜ OutputIn (asStep (stepAt (now (bytes .entry)) at k)) limit
         (lent board (now (table .entry)) (now (strips .entry))) (now (corners .entry))
         r (now (table .exit)) (now (strips .exit)) (now (corners .exit)) ⌝ }
 {

@@ -18,7 +18,7 @@ use Rattle.foil_spec.specs.Lent.{held, overFront, outputAfter}
 use Rattle.foil_spec.specs.Saving.{jobOf}
 use Rattle.foil_spec.specs.Slip.{slipOf}
 use Rattle.foil_spec.specs.Job.{jobRoom}
-use Rattle.foil_spec.specs.Calls.{step, Reply, answered, ran, atEnd, measured, laidAll, reply, outputBy}
+use Rattle.foil_spec.specs.Calls.{step, RecordReply, refusedWhole, ranSteps, endMark, Reply, answered, reply, outputBy}
 use Rattle.foil_spec.specs.Sheet.{SheetLent, noBoard, counts, view, sheetRoom, sheetStep, unless, sheetCall}
 use Rattle.foil_spec.specs.declared.Board.{Board}
 use Rattle.foil.specs.Contract.{answerOf}
@@ -192,13 +192,11 @@ as-asked q q′ bs written e h = h ∙ ap (λ (x : Question). length (saidOf x b
 
 -- ---- how the job ended
 
-mark-board : (o : Reply) (b c : Board) → endedOf o b ≡ AtMark c → b ≡ c
+mark-board : (o : RecordReply) (b c : Board) → endedOf o b ≡ AtMark c → b ≡ c
 unfolding endedOf
-mark-board (answered a) b c e = absurd (let z : _≡_ {A = ℕ} 0 1 = cc in omega arith)
-mark-board (ran given place) b c e = absurd (let z : _≡_ {A = ℕ} 0 1 = cc in omega arith)
-mark-board atEnd b c e = cc
-mark-board (measured x) b c e = cc
-mark-board (laidAll given) b c e = cc
+mark-board (refusedWhole n) b c e = absurd (let z : _≡_ {A = ℕ} 0 1 = cc in omega arith)
+mark-board (ranSteps given place) b c e = absurd (let z : _≡_ {A = ℕ} 0 1 = cc in omega arith)
+mark-board endMark b c e = cc
 
 module _ (bs : List ℕ) (x : Ended) (t s : List ℕ) (left : JobLeft bs unused x t s) where
   pub end-is : endOf bs ≡ x

@@ -3,7 +3,7 @@ use Prim.Native.Nat.{ℕ, zero, suc}
 use native.Mathlib.Omega.{arith}
 use mathlib.Core.Path.{_≡_, refl, ap}
 use mathlib.Core.Bool.{Bool, true, false, cond, not, _||_, or-true}
-use mathlib.Core.List.{List, [], _∷_}
+use mathlib.Core.List.{List, [], _∷_, map}
 use mathlib.Core.Option.{Option, none, some}
 use Rattle.foil_spec.specs.Lists.{range, all, any}
 use Rattle.foil_spec.specs.Foil.{Layout}
@@ -11,11 +11,10 @@ use Rattle.foil_spec.specs.Ledger.{Step, newFoil, draw, lay, lift, lookUp, putL
 use Rattle.foil_spec.specs.Ledger.{Answer, refused, says, Refusal, Room, short, reads, refusals, afterLent, After}
 use Rattle.foil_spec.specs.Ledger.{settle, refusalOf}
 use Rattle.foil_spec.specs.Lent.{held, sound}
-use Rattle.foil_spec.specs.Job.{has, isEnd, stepAt, stepsAt, steps, recordEnd}
-use Rattle.foil_spec.specs.Calls.{Reply as Outcome, answered, ran, atEnd, measured, laidAll, runRecord, endsJob}
-use Rattle.foil_spec.specs.Calls.{andThen, actAll}
-use Rattle.foil_spec.specs.Calls.{actRecord, reply, placeAfter}
-use Rattle.foil_spec.specs.Sheet.{SheetLent, view, sheetStep, sheetCall}
+use Rattle.foil_spec.specs.Job.{asStep, has, isEnd, stepAt, stepsAt, recordSteps, steps, recordEnd}
+use Rattle.foil_spec.specs.Calls.{RecordReply, refusedWhole, ranSteps, endMark, endsJob, andThen, actAll, actRecord}
+use Rattle.foil_spec.specs.Calls.{recordBy, placeAfter}
+use Rattle.foil_spec.specs.Sheet.{SheetLent, view, sheetStep, sheetRecord}
 use Rattle.foil_spec.specs.declared.Board.{Board}
 use Rattle.list_laws.proofs.Tests.{both, clash, and-l, and-r, and-i, not-t}
 use Rattle.ledger_laws.proofs.Refusals.{first-passes}
@@ -99,24 +98,24 @@ module _ (r : Room) where
       (steps-on ss (sheetStep 0 r s m .state) (and-r (reads s) (all reads ss) h))
 
 module _ (bs : List ℕ) (at : ℕ) where
-  reads-at : (k : ℕ) → reads (stepAt bs at (suc k)) ≡ true
-  unfolding stepAt reads
+  reads-at : (k : ℕ) → reads (asStep (stepAt bs at (suc k))) ≡ true
+  unfolding stepAt asStep reads
   reads-at zero = refl
   reads-at (suc zero) = refl
   reads-at (suc (suc zero)) = refl
   reads-at (suc (suc (suc k))) = refl
 
-  reads-from : (k n : ℕ) → all reads (stepsAt bs at (range (suc k) n)) ≡ true
+  reads-from : (k n : ℕ) → all reads (map asStep (stepsAt bs at (range (suc k) n))) ≡ true
   unfolding stepsAt
   reads-from k zero = refl
   reads-from k (suc n) =
       both (has bs at (suc k))
-      (λ set. rw set (and-i {a = reads (stepAt bs at (suc k))} (reads-at k) (reads-from (suc k) n)))
+      (λ set. rw set (and-i {a = reads (asStep (stepAt bs at (suc k)))} (reads-at k) (reads-from (suc k) n)))
       (λ unset. rw unset (reads-from (suc k) n))
 
   -- a record without a board
   reads-all : has bs at 0 ≡ false → all reads (steps bs at) ≡ true
-  unfolding steps stepsAt
+  unfolding steps recordSteps stepsAt
   reads-all unset = rw unset (unfold stepsAt in reads-from 0 4)
 
 -- ---- how the job ended
@@ -128,7 +127,7 @@ told-first on (a ∷ given) set = rw set (number-in a)
 
 module _ {S : Type 0} (act : Step → S → After Answer S) where
   ended-by : (o : Option ℕ) (e : Bool) (ss : List Step) (p : ℕ) (s : S) (given : List Answer)
-      → actRecord act o e ss p s .answer ≡ ran given none → any endsJob (actAll act ss s .answer) ≡ true
+      → actRecord act o e ss p s .answer ≡ ranSteps given none → any endsJob (actAll act ss s .answer) ≡ true
   unfolding actRecord
   ended-by (some n) e ss p s given h = absurd (let z : _≡_ {A = ℕ} 0 1 = cc in omega arith)
   ended-by none true ss p s given h = absurd (let z : _≡_ {A = ℕ} 0 1 = cc in omega arith)
@@ -140,19 +139,18 @@ module _ {S : Type 0} (act : Step → S → After Answer S) where
 
 module _ (r : Room) (bs : List ℕ) (at : ℕ) (m : SheetLent) where
   -- past the refusals that the call begins with
-  abbrev called : After Outcome SheetLent
-  called = reply (sheetStep 0) r (not (sound (view 0 m))) (runRecord bs at) (held (view 0 m)) m
+  abbrev called : After RecordReply SheetLent
+  called = recordBy (sheetStep 0) r (not (sound (view 0 m))) bs at m
 
-  called-ran : (given : List Answer) → sheetCall r 0 (runRecord bs at) m .answer ≡ ran given none
-      → called .answer ≡ ran given none
-  unfolding sheetCall
-  called-ran given h = past-opening (λ o. o ≡ ran given none) never _ called m h
+  called-ran : (given : List Answer) → sheetRecord r 0 bs at m .answer ≡ ranSteps given none
+      → called .answer ≡ ranSteps given none
+  unfolding sheetRecord
+  called-ran given h = past-opening (λ o. o ≡ ranSteps given none) never _ called m h
     where
-      never : (n : ℕ) → answered (refused n) ≡ ran given none → ⊥
+      never : (n : ℕ) → refusedWhole n ≡ ranSteps given none → ⊥
       never n e = let z : _≡_ {A = ℕ} 0 1 = cc in omega arith
 
-  has-board : (given : List Answer) → sheetCall r 0 (runRecord bs at) m .answer ≡ ran given none → has bs at 0 ≡ true
-  unfolding reply
+  has-board : (given : List Answer) → sheetRecord r 0 bs at m .answer ≡ ranSteps given none → has bs at 0 ≡ true
   has-board given h =
       both (has bs at 0) (λ set. set)
       (λ unset.
@@ -161,13 +159,11 @@ module _ (r : Room) (bs : List ℕ) (at : ℕ) (m : SheetLent) where
       (steps-on r (steps bs at) m (reads-all bs at unset)))
 
   -- the code's way and that of the definitions
-  pub same-end : (o : Outcome) (b : Board) → sheetCall r 0 (runRecord bs at) m .answer ≡ o → placeAfter o ≡ none
+  pub same-end : (o : RecordReply) (b : Board) → sheetRecord r 0 bs at m .answer ≡ o → placeAfter o ≡ none
       → endedBy (replyOf (has bs at) o) b ≡ endedOf o b
   unfolding replyOf endedBy endedOf placeAfter answersOf byBit
-  same-end (answered a) b h e = refl
-  same-end (ran given none) b h e =
+  same-end (refusedWhole n) b h e = refl
+  same-end (ranSteps given none) b h e =
       ap {A = ℕ} {B = Ended} ByBoard (told-first (has bs at) given (has-board given h))
-  same-end (ran given (some n)) b h e = absurd (let z : _≡_ {A = ℕ} 0 1 = cc in omega arith)
-  same-end atEnd b h e = refl
-  same-end (measured x) b h e = refl
-  same-end (laidAll given) b h e = refl
+  same-end (ranSteps given (some n)) b h e = absurd (let z : _≡_ {A = ℕ} 0 1 = cc in omega arith)
+  same-end endMark b h e = refl

@@ -8,7 +8,7 @@ use lib.ListN.{length}
 use Rattle.foil_spec.specs.Limits.{maxBytes}
 use Rattle.foil_spec.specs.Ledger.{After}
 use Rattle.foil_spec.specs.Job.{jobRoom, has}
-use Rattle.foil_spec.specs.Calls.{Reply as Outcome, atEnd, placeAfter}
+use Rattle.foil_spec.specs.Calls.{RecordReply, endMark, placeAfter}
 use Rattle.foil_spec.specs.Sheet.{SheetLent, noBoard, view}
 use Rattle.foil_spec.specs.declared.Board.{Board}
 use Rattle.job.specs.Contract.{nextOf, nextIn}
@@ -31,7 +31,7 @@ pub record ToCome (bs : List ℕ) (m₀ : SheetLent) (count at : ℕ) (m : Sheet
   pub more : ℕ
   pub counted : more + count ≡ maxBytes
   pub enough : length bs ≤ maxBytes → length bs ≤ at + more
-  pub comes : (a : Outcome) → lastOf a (from bs (suc more) (some at) m) ≡ jobEnd bs m₀
+  pub comes : (a : RecordReply) → lastOf a (from bs (suc more) (some at) m) ≡ jobEnd bs m₀
 
 pub all-to-come : (bs t s : List ℕ) (b : Board) → b ≡ noBoard
     → ToCome bs (onlyFoil0 noBoard t s) 0 0 (onlyFoil0 b t s)
@@ -40,7 +40,7 @@ all-to-come bs t s b e =
     (record { more = maxBytes; counted = refl; enough = λ h. omega arith; comes = whole bs t s })
 
 module _ (bs : List ℕ) (m₀ : SheetLent) (count at : ℕ) (m : SheetLent) (now : ToCome bs m₀ count at m) where
-  abbrev done : After Outcome SheetLent
+  abbrev done : After RecordReply SheetLent
   done = ranRecord bs at m
 
   going : (p : ℕ) → placeAfter (done .answer) ≡ some p → ToCome bs m₀ (count + 1) p (done .state)
@@ -50,7 +50,7 @@ module _ (bs : List ℕ) (m₀ : SheetLent) (count at : ℕ) (m : SheetLent) (no
       later = call-later jobRoom bs m at p e
 
       go : (n : ℕ) → n + count ≡ maxBytes → (length bs ≤ maxBytes → length bs ≤ at + n)
-          → ((a : Outcome) → lastOf a (from bs (suc n) (some at) m) ≡ jobEnd bs m₀)
+          → ((a : RecordReply) → lastOf a (from bs (suc n) (some at) m) ≡ jobEnd bs m₀)
           → ToCome bs m₀ (count + 1) p (done .state)
       go zero q f g = absurd (omega (arith, later .after, later .within, f (later .few)))
       go (suc n) q f g =
@@ -62,7 +62,7 @@ module _ (bs : List ℕ) (m₀ : SheetLent) (count at : ℕ) (m : SheetLent) (no
           }
 
   over : placeAfter (done .answer) ≡ none → done ≡ jobEnd bs m₀
-  over e = sym (last-one bs (now .more) at m atEnd e) ∙ now .comes atEnd
+  over e = sym (last-one bs (now .more) at m endMark e) ∙ now .comes endMark
 
   -- a record that was run, and its reply
   module _ (out : List ℕ) (d : Replied) (t s out′ : List ℕ) (run : RecordRan bs at m out d t s out′)
@@ -79,7 +79,7 @@ module _ (bs : List ℕ) (m₀ : SheetLent) (count at : ℕ) (m : SheetLent) (no
       no-place = nowhere _ (sym place-is ∙ e)
 
       left-is : onlyFoil0 (d .board) t s ≡ jobEnd bs m₀ .state
-      left-is = run .state ∙ ap (λ (y : After Outcome SheetLent). y .state) (over no-place)
+      left-is = run .state ∙ ap (λ (y : After RecordReply SheetLent). y .state) (over no-place)
 
       board-is : d .board ≡ boardLeft bs m₀
       unfolding view
@@ -91,7 +91,7 @@ module _ (bs : List ℕ) (m₀ : SheetLent) (count at : ℕ) (m : SheetLent) (no
             ended =
                 q ∙ ap (λ y. endedBy y (d .board)) (run .reply)
                 ∙ same-end jobRoom bs at m (done .answer) (d .board) refl no-place
-                ∙ ap (λ (y : After Outcome SheetLent). endedOf (y .answer) (d .board)) (over no-place)
+                ∙ ap (λ (y : After RecordReply SheetLent). endedOf (y .answer) (d .board)) (over no-place)
                 ∙ ap (endedOf (jobEnd bs m₀ .answer)) board-is;
             state = ap (λ (c : Board). onlyFoil0 c t s) (sym board-is) ∙ left-is;
           }

@@ -7,12 +7,12 @@ use mathlib.Core.List.{List, [], _∷_}
 use mathlib.Core.Option.{Option, none, some}
 use lib.ListN.{length}
 use Rattle.foil_spec.specs.Limits.{maxBytes}
-use Rattle.foil_spec.specs.Ledger.{refused, first, After, short, afterLent}
+use Rattle.foil_spec.specs.Ledger.{first, After, short, afterLent}
 use Rattle.foil_spec.specs.Lent.{sound}
 use Rattle.foil_spec.specs.Job.{jobRoom, recordChecks}
-use Rattle.foil_spec.specs.Calls.{Reply, answered, actRecord, tooLarge, wholeRefusals, reply}
-use Rattle.foil_spec.specs.Calls.{placeAfter, readFrom, readJob}
-use Rattle.foil_spec.specs.Sheet.{SheetLent, noBoard, counts, view, opening, sheetRefusal, unless, sheetCall}
+use Rattle.foil_spec.specs.Calls.{RecordReply, refusedWhole, actRecord, tooLarge, wholeRefusals, placeAfter, readFrom}
+use Rattle.foil_spec.specs.Calls.{readJob}
+use Rattle.foil_spec.specs.Sheet.{SheetLent, noBoard, counts, view, opening, sheetRefusal, unlessWhole, sheetRecord}
 use Rattle.sheet_laws.specs.Jobs.{onlyFoil0}
 use Rattle.sheet_laws.proofs.Starting.{one-foil}
 use Rattle.job_report.specs.Report.{ranRecord}
@@ -20,17 +20,17 @@ use Rattle.job_report.proofs.Places.{call-later, first-later}
 use Rattle.job_end.specs.Left.{lastReply, jobEnd}
 
 -- the last reply of some and what they left, or a if there is none
-abbrev pub lastOf : Reply → After (List Reply) SheetLent → After Reply SheetLent
+abbrev pub lastOf : RecordReply → After (List RecordReply) SheetLent → After RecordReply SheetLent
 lastOf a x = record { answer = lastReply a (x .answer); state = x .state }
 
 -- a reply in front of others
-abbrev before : Reply → After (List Reply) SheetLent → After (List Reply) SheetLent
+abbrev before : RecordReply → After (List RecordReply) SheetLent → After (List RecordReply) SheetLent
 before a x = record { answer = a ∷ x .answer; state = x .state }
 
 module _ (bs : List ℕ) where
   -- from a place on, at most n
-  abbrev pub from : ℕ → Option ℕ → SheetLent → After (List Reply) SheetLent
-  from n o m = readFrom (sheetCall jobRoom 0) bs n o m
+  abbrev pub from : ℕ → Option ℕ → SheetLent → After (List RecordReply) SheetLent
+  from n o m = readFrom (sheetRecord jobRoom 0) bs n o m
 
   no-more : (n : ℕ) (m : SheetLent) → from n none m ≡ record { answer = []; state = m }
   unfolding readFrom
@@ -63,24 +63,24 @@ module _ (bs : List ℕ) where
       enough k j p (ranRecord bs at m .state) (l .within) (omega (arith, l .after)) (omega (arith, l .after)))
 
 -- the last reply, and one that others come after
-module _ (bs : List ℕ) (n at : ℕ) (m : SheetLent) (a : Reply) where
+module _ (bs : List ℕ) (n at : ℕ) (m : SheetLent) (a : RecordReply) where
   pub last-one : placeAfter (ranRecord bs at m .answer) ≡ none
       → lastOf a (from bs (suc n) (some at) m) ≡ ranRecord bs at m
   unfolding readFrom lastReply
   last-one e =
-      let x : After Reply SheetLent = ranRecord bs at m in
+      let x : After RecordReply SheetLent = ranRecord bs at m in
       ap (λ (o : Option ℕ). lastOf (x .answer) (from bs n o (x .state))) e
       ∙ ap (lastOf (x .answer)) (no-more bs n (x .state))
 
-  pub one-more : (p : ℕ) (b : Reply) → placeAfter (ranRecord bs at m .answer) ≡ some p
+  pub one-more : (p : ℕ) (b : RecordReply) → placeAfter (ranRecord bs at m .answer) ≡ some p
       → lastOf a (from bs (suc (suc n)) (some at) m) ≡ lastOf b (from bs (suc n) (some p) (ranRecord bs at m .state))
   unfolding readFrom lastReply
   one-more p b e =
-      let x : After Reply SheetLent = ranRecord bs at m in
+      let x : After RecordReply SheetLent = ranRecord bs at m in
       ap (λ (o : Option ℕ). lastOf (x .answer) (from bs (suc n) o (x .state))) e
 
 -- where there is a reply, it does not matter what stands for none
-any-last : (bs : List ℕ) (n at : ℕ) (m : SheetLent) (a b : Reply)
+any-last : (bs : List ℕ) (n at : ℕ) (m : SheetLent) (a b : RecordReply)
     → lastOf a (from bs (suc n) (some at) m) ≡ lastOf b (from bs (suc n) (some at) m)
 unfolding readFrom lastReply
 any-last bs n at m a b = refl
@@ -90,21 +90,21 @@ module _ (t s : List ℕ) where
   abbrev unused : SheetLent
   unused = onlyFoil0 noBoard t s
 
-  empty-file : ranRecord [] 0 unused ≡ record { answer = answered (refused 14); state = unused }
-  unfolding sheetCall sheetRefusal opening unless counts reply actRecord wholeRefusals tooLarge afterLent short jobRoom
+  empty-file : ranRecord [] 0 unused ≡ record { answer = refusedWhole 14; state = unused }
+  unfolding sheetRecord sheetRefusal opening unlessWhole counts actRecord wholeRefusals tooLarge afterLent short jobRoom
       recordChecks first
   empty-file = rw (one-foil 0 (omega arith), and-false (not (sound (view 0 unused)))) refl
 
-  empty-end : record { answer = answered (refused 14); state = unused } ≡ jobEnd [] unused
+  empty-end : record { answer = refusedWhole 14; state = unused } ≡ jobEnd [] unused
   unfolding readJob readFrom lastReply
   empty-end = refl
 
   empty-over : placeAfter (ranRecord [] 0 unused .answer) ≡ none
   unfolding placeAfter
-  empty-over = ap (λ (x : After Reply SheetLent). placeAfter (x .answer)) empty-file
+  empty-over = ap (λ (x : After RecordReply SheetLent). placeAfter (x .answer)) empty-file
 
 -- as many records as a file can have that is not too long, and one more
-pub whole : (bs t s : List ℕ) (a : Reply)
+pub whole : (bs t s : List ℕ) (a : RecordReply)
     → lastOf a (from bs (suc maxBytes) (some 0) (onlyFoil0 noBoard t s)) ≡ jobEnd bs (onlyFoil0 noBoard t s)
 whole [] t s a = last-one [] maxBytes 0 (unused t s) a (empty-over t s) ∙ empty-file t s ∙ empty-end t s
 whole (b ∷ bs) t s a =
@@ -114,4 +114,4 @@ whole (b ∷ bs) t s a =
     let l = call-later jobRoom (b ∷ bs) m 0 p q in
     let f = first-later jobRoom (b ∷ bs) m p q in
     enough (b ∷ bs) maxBytes (length bs) p _ (l .within) (omega (arith, f, l .few, l .within)) (omega (arith, f))) in
-    ap (lastOf a) same ∙ any-last (b ∷ bs) (length bs) 0 m a (answered (refused 14))
+    ap (lastOf a) same ∙ any-last (b ∷ bs) (length bs) 0 m a (refusedWhole 14)

@@ -2,10 +2,10 @@
 use Prim.Native.Nat.{ℕ}
 use mathlib.Core.Path.{_≡_}
 use mathlib.Core.List.{List, [], _∷_}
-use Rattle.foil_spec.specs.Ledger.{Answer, refused, numberOf, After}
+use Rattle.foil_spec.specs.Ledger.{Answer, numberOf, After}
 use Rattle.foil_spec.specs.Job.{jobRoom}
-use Rattle.foil_spec.specs.Calls.{Reply, answered, ran, atEnd, measured, laidAll, readJob}
-use Rattle.foil_spec.specs.Sheet.{SheetLent, view, sheetCall}
+use Rattle.foil_spec.specs.Calls.{RecordReply, refusedWhole, ranSteps, endMark, readJob}
+use Rattle.foil_spec.specs.Sheet.{SheetLent, view, sheetRecord}
 use Rattle.foil_spec.specs.declared.Board.{Board}
 use Rattle.sheet_laws.specs.Jobs.{onlyFoil0}
 use Rattle.job_end.specs.declared.Ended.{Ended}
@@ -16,26 +16,23 @@ unfoldable pub firstNumber : List Answer → ℕ
 firstNumber [] = 0
 firstNumber (a ∷ given) = numberOf a
 
--- how a job ended by its last reply, which is never ohms nor a list's, and by the board's record then; a board's answer
--- is the first
-unfoldable pub endedOf : Reply → Board → Ended
-endedOf (answered a) b = ByFile (numberOf a)
-endedOf (ran given place) b = ByBoard (firstNumber given)
-endedOf atEnd b = AtMark b
-endedOf (measured x) b = AtMark b
-endedOf (laidAll given) b = AtMark b
+-- how a job ended by what its last record came to, and by the board's record then; a board's answer is the first
+unfoldable pub endedOf : RecordReply → Board → Ended
+endedOf (refusedWhole n) b = ByFile n
+endedOf (ranSteps given place) b = ByBoard (firstNumber given)
+endedOf endMark b = AtMark b
 
 -- the last of some replies, or a if there is none
-unfoldable pub lastReply : Reply → List Reply → Reply
+unfoldable pub lastReply : RecordReply → List RecordReply → RecordReply
 lastReply a [] = a
 lastReply a (b ∷ given) = lastReply b given
 
 -- the last reply to a job file's records, and what they leave of m; a file of no bytes is refused by 14
-abbrev pub jobEnd : List ℕ → SheetLent → After Reply SheetLent
+abbrev pub jobEnd : List ℕ → SheetLent → After RecordReply SheetLent
 jobEnd bs m =
     record {
-      answer = lastReply (answered (refused 14)) (readJob (sheetCall jobRoom 0) bs m .answer);
-      state = readJob (sheetCall jobRoom 0) bs m .state;
+      answer = lastReply (refusedWhole 14) (readJob (sheetRecord jobRoom 0) bs m .answer);
+      state = readJob (sheetRecord jobRoom 0) bs m .state;
     }
 
 -- foil 0's record after them

@@ -3,7 +3,7 @@ use Prim.Native.Nat.{ℕ, zero, suc, _≤_}
 use native.Mathlib.Omega.{arith}
 use mathlib.Core.Path.{_≡_, refl, sym, ap, _∙_}
 use mathlib.Core.Bool.{Bool, true, false, or-true}
-use mathlib.Core.List.{List, [], _∷_, _++_, append-nil}
+use mathlib.Core.List.{List, [], _∷_, _++_, map, append-nil}
 use mathlib.Core.Option.{Option, none, some}
 use lib.ListN.{length}
 use borrow.Author.Tests.{le-leb, eq-eqb}
@@ -13,11 +13,12 @@ use Rattle.foil_spec.specs.Foil.{Point, Layout, noFoil, free}
 use Rattle.foil_spec.specs.Strips.{Strip}
 use Rattle.foil_spec.specs.Paths.{at, bends}
 use Rattle.foil_spec.specs.Ledger.{stripsOf, cornersOf, short, cornerRoom, withOutput, next, says, first}
-use Rattle.foil_spec.specs.Ledger.{Step, newFoil, draw, lay, lift, lookUp, putLeg, save, find, book, slip, join, carry}
-use Rattle.foil_spec.specs.Ledger.{Answer, numberOf}
+use Rattle.foil_spec.specs.Ledger.{Step, newFoil, draw, lay, lift, putLeg, Answer, numberOf}
 use Rattle.foil_spec.specs.Ledger.{refusals, afterLent, After, settle, refusalOf, ledgerStep}
-use Rattle.foil_spec.specs.Job.{jobRoom, steps, isEnd, recordEnd, recordChecks}
+use Rattle.foil_spec.specs.Job.{jobRoom, RecordStep, boardStep, patchStep, trackStep, liftStep, legStep, asStep}
+use Rattle.foil_spec.specs.Job.{recordSteps, steps, isEnd, recordEnd, recordChecks}
 use Rattle.foil_spec.specs.Calls.{runRecord, endsJob, andThen, actAll, actRecord, wholeRefusals, reply, ledgerCall}
+use Rattle.foil_spec.specs.Calls.{ledgerRecord}
 use Rattle.list_laws.proofs.Tests.{both, and-i, all-append}
 use Rattle.list_laws.proofs.Members.{each-append}
 use Rattle.path_laws.proofs.FirstPath.{of-path}
@@ -31,7 +32,7 @@ use Rattle.ledger_laws.proofs.Numbers.{answer-passes}
 use Rattle.bend_laws.specs.Room.{asksFew}
 use Rattle.bend_laws.proofs.Room.{corners-few, step-passes, Fine, small, fine-kept, no-foil-fine}
 use Rattle.lines.specs.Lines.{stripLine}
-use Rattle.lines.specs.Output.{trackLine, stepLine, stepLines, replyLines, outputFrom, output}
+use Rattle.lines.specs.Output.{trackIn, trackLine, stepLine, stepLines, replyLines, outputFrom, output}
 use Rattle.job_laws.specs.JobLines.{PrintedLine, board, patch, refusedTrack, laidTrack, lifted, leg, strip, file}
 use Rattle.job_laws.specs.JobLines.{bytesOf, possible, InLines, WritesLines}
 
@@ -87,51 +88,46 @@ laid-possible l net S T fine e =
 module _ (l : Layout) (fine : Fine l) where
   -- the line of a lay that is refused by one of its own numbers, or accepted
   lay-line : (net : ℕ) (S T : Point) (o : Option ℕ) → refusalOf jobRoom false (lay net S T) l ≡ o
-      → InLines (trackLine net
+      → InLines (stepLine (trackStep net S T)
       (settle o (record { answer = says (lay net S T) l; state = next (lay net S T) l }) l .answer))
-  unfolding settle says trackLine bytesOf possible among ownNumbers numbersFrom but refusals asksFew
+  unfolding settle says stepLine trackIn trackLine numberOf bytesOf possible among ownNumbers numbersFrom but
+      refusals asksFew
   lay-line net S T none e = one-line (laidTrack net _ _) (laid-possible l net S T fine e)
   lay-line net S T (some n) e =
       one-line (refusedTrack net n)
       (step-passes jobRoom job-room job-long (λ k. possible (refusedTrack net k)) (lay net S T) refl refl l fine n e)
 
-  step-line : (s : Step) → InLines (stepLine s (ledgerStep jobRoom s l .answer))
-  unfolding stepLine bytesOf possible among ownNumbers numbersFrom but refusals asksFew
-  step-line (newFoil W H c) =
+  step-line : (s : RecordStep) → InLines (stepLine s (ledgerStep jobRoom (asStep s) l .answer))
+  unfolding asStep stepLine bytesOf possible among ownNumbers numbersFrom but refusals asksFew
+  step-line (boardStep W H c) =
       one-line (board _)
       (number-passes (λ n. possible (board n)) (newFoil W H c) refl l fine refl
       (clearance-number (λ n. all (λ k. possible (board k)) (keep (but 12) (1 ∷ n ∷ []))) c refl refl))
-  step-line (draw x0 y0 x1 y1) =
+  step-line (patchStep x0 y0 x1 y1) =
       one-line (patch _) (number-passes (λ n. possible (patch n)) (draw x0 y0 x1 y1) refl l fine refl refl)
-  step-line (lay net S T) = unfold ledgerStep in lay-line net S T (refusalOf jobRoom false (lay net S T) l) refl
-  step-line (lift net) =
+  step-line (trackStep net S T) = unfold ledgerStep in lay-line net S T (refusalOf jobRoom false (lay net S T) l) refl
+  step-line (liftStep net) =
       one-line (lifted net _) (number-passes (λ n. possible (lifted net n)) (lift net) refl l fine refl refl)
-  step-line (lookUp p) = no-line
-  step-line (putLeg e) =
+  step-line (legStep e) =
       one-line (leg (e .net) _) (number-passes (λ n. possible (leg (e .net) n)) (putLeg e) refl l fine refl refl)
-  step-line save = no-line
-  step-line (find S T) = no-line
-  step-line (book net ks) = no-line
-  step-line slip = no-line
-  step-line (join net S) = no-line
-  step-line (carry o) = no-line
 
 -- ---- a record's lines
 
-then-lines : (s : Step) (ss : List Step) (a : After Answer Layout) (b : After (List Answer) Layout)
+then-lines : (s : RecordStep) (ss : List RecordStep) (a : After Answer Layout) (b : After (List Answer) Layout)
     → InLines (stepLine s (a .answer)) → InLines (stepLines ss (b .answer))
     → InLines (stepLines (s ∷ ss) (andThen a b .answer))
 unfolding andThen stepLines
 then-lines s ss a b h k =
     both (endsJob (a .answer)) (λ t. rw t (more-lines h no-line)) (λ t. rw t (more-lines h k))
 
-step-lines : (ss : List Step) (l : Layout) → Fine l
-    → InLines (stepLines ss (actAll (ledgerStep jobRoom) ss l .answer))
+step-lines : (ss : List RecordStep) (l : Layout) → Fine l
+    → InLines (stepLines ss (actAll (ledgerStep jobRoom) (map asStep ss) l .answer))
 unfolding actAll stepLines
 step-lines [] l fine = no-line
 step-lines (s ∷ ss) l fine =
-    then-lines s ss (ledgerStep jobRoom s l) _ (step-line l fine s)
-    (step-lines ss (ledgerStep jobRoom s l .state) (step-keeps Fine jobRoom (fine-kept jobRoom) s l fine))
+    then-lines s ss (ledgerStep jobRoom (asStep s) l) _ (step-line l fine s)
+    (step-lines ss (ledgerStep jobRoom (asStep s) l .state)
+    (step-keeps Fine jobRoom (fine-kept jobRoom) (asStep s) l fine))
 
 strip-lines : (ss : List Strip) → InLines (each stripLine ss)
 unfolding bytesOf possible
@@ -139,15 +135,15 @@ strip-lines [] = no-line
 strip-lines (s ∷ ss) = more-lines (one-line (strip s) refl) (strip-lines ss)
 
 -- a record's reply, where what follows it is lines
-reply-lines : (o : Option ℕ) (e : Bool) (ss : List Step) (place : ℕ) (l : Layout) (rest : ℕ → List ℕ)
+reply-lines : (o : Option ℕ) (e : Bool) (ss : List RecordStep) (place : ℕ) (l : Layout) (rest : ℕ → List ℕ)
     → Fine l → ((n : ℕ) → o ≡ some n → possible (file n) ≡ true) → ((n : ℕ) → InLines (rest n))
-    → InLines (replyLines ss (actRecord (ledgerStep jobRoom) o e ss place l .answer)
-    (actRecord (ledgerStep jobRoom) o e ss place l .state) rest)
-unfolding actRecord replyLines numberOf bytesOf
+    → InLines (replyLines ss (actRecord (ledgerStep jobRoom) o e (map asStep ss) place l .answer)
+    (actRecord (ledgerStep jobRoom) o e (map asStep ss) place l .state) rest)
+unfolding actRecord replyLines bytesOf
 reply-lines (some n) e ss place l rest fine h k = one-line (file n) (h n refl)
 reply-lines none true ss place l rest fine h k = strip-lines (stripsOf l)
 reply-lines none false ss place l rest fine h k =
-    both (any endsJob (actAll (ledgerStep jobRoom) ss l .answer))
+    both (any endsJob (actAll (ledgerStep jobRoom) (map asStep ss) l .answer))
     (λ t. rw t (step-lines ss l fine))
     (λ t. rw t (more-lines (step-lines ss l fine) (k place)))
 
@@ -159,10 +155,10 @@ file-possible bs at = first-passes (λ k. possible (file k)) _ (simp (job-long, 
 -- ---- the whole output
 
 output-lines : (most : ℕ) (bs : List ℕ) (at : ℕ) (l : Layout) → Fine l → InLines (outputFrom most bs at l)
-unfolding outputFrom ledgerCall reply
+unfolding outputFrom ledgerRecord ledgerCall reply steps
 output-lines zero bs at l fine = no-line
 output-lines (suc most) bs at l fine =
-    reply-lines (first (wholeRefusals jobRoom false bs at)) (isEnd bs at) (steps bs at) (recordEnd bs at) l _ fine
+    reply-lines (first (wholeRefusals jobRoom false bs at)) (isEnd bs at) (recordSteps bs at) (recordEnd bs at) l _ fine
     (file-possible bs at)
     (λ n.
     output-lines most bs n _

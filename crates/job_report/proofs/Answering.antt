@@ -1,18 +1,19 @@
 -- The lines of a record's steps by the answers of the code are those by the answers of the definitions.
 use Prim.Native.Nat.{ℕ, zero, suc, _+_, _-_, _*_, _/_, _≤_}
 use native.Mathlib.Omega.{arith}
-use mathlib.Core.Path.{_≡_, refl, sym, ap, _∙_}
+use mathlib.Core.Path.{_≡_, refl, sym, ap, ap₂, _∙_}
 use mathlib.Core.Bool.{true}
 use mathlib.Core.List.{List, [], _∷_, _++_}
+use mathlib.Core.Option.{some}
 use lib.ListN.{length, drop}
 use lib.Seq.{drop-drop}
 use Rattle.foil_spec.specs.Lists.{range, each}
 use Rattle.foil_spec.specs.Limits.{maxStrips, cornerPlaces}
-use Rattle.foil_spec.specs.Ledger.{Step, newFoil, draw, lay, lift, lookUp, putLeg, save, find, book, slip, join, carry}
-use Rattle.foil_spec.specs.Ledger.{stripsOf}
-use Rattle.foil_spec.specs.Ledger.{Answer, refused, accepted, laid, found, wrote, booked, numberOf}
+use Rattle.foil_spec.specs.Foil.{Point}
+use Rattle.foil_spec.specs.Ledger.{stripsOf, Answer, refused, accepted, laid, found, wrote, booked, numberOf}
 use Rattle.foil_spec.specs.Lent.{Lent, held}
-use Rattle.foil_spec.specs.Job.{stepBits, has, stepAt, stepsAt, steps}
+use Rattle.foil_spec.specs.Job.{stepBits, RecordStep, boardStep, patchStep, trackStep, liftStep, legStep, has, stepAt}
+use Rattle.foil_spec.specs.Job.{stepsAt, recordSteps}
 use Rattle.list_laws.proofs.Tests.{both}
 use Rattle.ledger_laws.proofs.Stored.{strips-fit, length-strips}
 use Rattle.ledger_laws.proofs.Sound.{Sound}
@@ -24,9 +25,9 @@ use Rattle.job.specs.Parts.{Whole}
 use Rattle.job.specs.declared.Told.the-variants.{Said}
 use Rattle.job.proofs.ByBit.{said-none, said-here, SaidBy, told-by, told-in}
 use Rattle.job.proofs.Replies.{Tracked}
-use Rattle.lines.specs.Lines.{boardLine, patchLine, trackLaid, liftLine, legLine}
-use Rattle.lines.specs.Output.{trackLine, stepLine, stepLines}
-use Rattle.job_report.specs.Told.{numberIn, layLine, lineOf, toldLine, linesOf, answerLines, FromBits}
+use Rattle.lines.specs.Lines.{boardLine, patchLine, liftLine, legLine}
+use Rattle.lines.specs.Output.{trackIn, trackLine, stepLine, stepLines}
+use Rattle.job_report.specs.Told.{numberIn, trackOf, lineOf, toldLine, linesOf, answerLines, FromBits}
 
 -- ---- the line of a step
 
@@ -39,31 +40,24 @@ number-in (found n) = refl
 number-in (wrote bs) = refl
 number-in (booked k n) = refl
 
-track-read : (net room : ℕ) (ks : List ℕ) (a : Answer) → Tracked a room ks
-    → layLine net ks (answerOf a) ≡ trackLine net a
-unfolding trackLine layLine answerOf
-track-read net room ks (refused n) t = refl
-track-read net room ks accepted t = refl
-track-read net room ks (laid cs n) t = ap (trackLaid net n) (t .front cs n refl)
-track-read net room ks (found n) t = refl
-track-read net room ks (wrote bs) t = refl
-track-read net room ks (booked k n) t = absurd (t .unbooked k n refl)
+track-read : (room : ℕ) (ks : List ℕ) (a : Answer) → Tracked a room ks → trackOf ks (answerOf a) ≡ trackIn a
+unfolding trackOf trackIn answerOf
+track-read room ks (refused n) t = refl
+track-read room ks accepted t = refl
+track-read room ks (laid cs n) t =
+    ap (λ (x : List Point). some (record { bends = n; corners = x })) (t .front cs n refl)
+track-read room ks (found n) t = refl
+track-read room ks (wrote bs) t = refl
+track-read room ks (booked k n) t = absurd (t .unbooked k n refl)
 
-step-read : (s : Step) (room : ℕ) (ks : List ℕ) (a : Answer) → Tracked a room ks
+step-read : (s : RecordStep) (room : ℕ) (ks : List ℕ) (a : Answer) → Tracked a room ks
     → lineOf s ks (answerOf a) ≡ stepLine s a
 unfolding lineOf stepLine
-step-read (newFoil W H d) room ks a t = ap boardLine (number-in a)
-step-read (draw x0 y0 x1 y1) room ks a t = ap patchLine (number-in a)
-step-read (lay net S T) room ks a t = track-read net room ks a t
-step-read (lift net) room ks a t = ap (liftLine net) (number-in a)
-step-read (lookUp p) room ks a t = refl
-step-read (putLeg e) room ks a t = ap (legLine (e .net)) (number-in a)
-step-read save room ks a t = refl
-step-read (find S T) room ks a t = refl
-step-read (book net js) room ks a t = refl
-step-read slip room ks a t = refl
-step-read (join net S) room ks a t = refl
-step-read (carry o) room ks a t = refl
+step-read (boardStep W H d) room ks a t = ap boardLine (number-in a)
+step-read (patchStep x0 y0 x1 y1) room ks a t = ap patchLine (number-in a)
+step-read (trackStep net S T) room ks a t = ap₂ (trackLine net) (number-in a) (track-read room ks a t)
+step-read (liftStep net) room ks a t = ap (liftLine net) (number-in a)
+step-read (legStep e) room ks a t = ap (legLine (e .net)) (number-in a)
 
 laid-few : (room : ℕ) (ks : List ℕ) (a : Answer) (k n : ℕ) → Tracked a room ks → answerOf a ≡ Laid k n → k ≤ room / 2
 unfolding answerOf
@@ -76,7 +70,7 @@ laid-few room ks (booked j n) k i t e = absurd (t .unbooked j n refl)
 
 -- ---- the lines of the steps, bit by bit
 
-no-lines : (ss : List Step) → stepLines ss [] ≡ []
+no-lines : (ss : List RecordStep) → stepLines ss [] ≡ []
 unfolding stepLines
 no-lines [] = refl
 no-lines (s ∷ ss) = refl
@@ -102,7 +96,7 @@ module _ (bs : List ℕ) (at : ℕ) (ks : List ℕ) (room : ℕ) (given : List A
 
   module _ (tracked : AllTracked) where
     -- a bit that is set: its line, and those of the bits after it
-    set-lines : (k n : ℕ) → k + suc n ≡ stepBits → has bs at k ≡ true → (ss : List Step) (later : List ℕ)
+    set-lines : (k n : ℕ) → k + suc n ≡ stepBits → has bs at k ≡ true → (ss : List RecordStep) (later : List ℕ)
         → later ≡ stepLines ss (drop (setBelow (has bs at) k + 1) given) → (left : List Answer)
         → drop (setBelow (has bs at) k) given ≡ left
         → line k ++ later ≡ stepLines (stepAt bs at k ∷ ss) left
@@ -149,8 +143,8 @@ module _ (bs : List ℕ) (at : ℕ) (ks : List ℕ) (room : ℕ) (given : List A
         (ap (λ (l : List ℕ). l ++ each line (range (suc k) n)) none
         ∙ later ∙ ap (λ (i : ℕ). stepLines (stepsAt bs at (range (suc k) n)) (drop i given)) next))
 
-    pub answers-lines : answerLines bs at ks (answersOf (has bs at) given) ≡ stepLines (steps bs at) given
-    unfolding linesOf steps
+    pub answers-lines : answerLines bs at ks (answersOf (has bs at) given) ≡ stepLines (recordSteps bs at) given
+    unfolding linesOf recordSteps
     answers-lines =
         lines-from 0 stepBits refl
         ∙ ap (λ (l : List Answer). stepLines (stepsAt bs at (range 0 stepBits)) l) (unfold setBelow in refl)

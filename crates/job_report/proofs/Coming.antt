@@ -10,11 +10,10 @@ use lib.Dec.{eqb}
 use lib.ListN.{length, replicate}
 use borrow.Author.Tests.{ne-eqb}
 use Rattle.foil_spec.specs.Limits.{sheetSize}
-use Rattle.foil_spec.specs.Ledger.{Room, short, refused, first, After, afterLent}
+use Rattle.foil_spec.specs.Ledger.{Room, short, first, After, afterLent}
 use Rattle.foil_spec.specs.Lent.{Lent, sound, stepOn}
 use Rattle.foil_spec.specs.Job.{jobRoom, has, steps, recordChecks}
-use Rattle.foil_spec.specs.Calls.{runRecord, Reply, answered, actAll, actRecord, wholeRefusals, reply, callOn}
-use Rattle.foil_spec.specs.Calls.{placeAfter}
+use Rattle.foil_spec.specs.Calls.{RecordReply, refusedWhole, actAll, actRecord, wholeRefusals, recordOn, placeAfter}
 use Rattle.foil_spec.specs.Sheet.{SheetLent, noBoard, view}
 use Rattle.foil_spec.specs.declared.Board.{Board}
 use Rattle.list_laws.proofs.Tests.{not-ff}
@@ -59,18 +58,18 @@ module _ (r : Room) (long : short r ≡ false) (bs : List ℕ) (at : ℕ) (m : L
       steps-sound r (steps bs at) m
       (not-ff (sound m) (rw (ne-eqb at 0 ne, and-true (not (sound m))) at broken))
 
-  left-sound : sound (callOn r (runRecord bs at) m .state) ≡ true
-  unfolding callOn reply actRecord
+  left-sound : sound (recordOn r bs at m .state) ≡ true
+  unfolding recordOn actRecord
   left-sound = rw (g .unrefused, g .not-end) (by-cases (ℕ-discrete at 0) first-left later-left)
 
 sound-after : (bs : List ℕ) (at : ℕ) (m : Lent) (n : ℕ)
-    → placeAfter (callOn jobRoom (runRecord bs at) m .answer) ≡ some n
-    → sound (callOn jobRoom (runRecord bs at) m .state) ≡ true
+    → placeAfter (recordOn jobRoom bs at m .answer) ≡ some n
+    → sound (recordOn jobRoom bs at m .state) ≡ true
 sound-after bs at m n h = left-sound jobRoom long-room bs at m n (met h)
   where
-    met : placeAfter (callOn jobRoom (runRecord bs at) m .answer) ≡ some n
+    met : placeAfter (recordOn jobRoom bs at m .answer) ≡ some n
         → Goes (stepOn jobRoom) jobRoom (not (sound m)) bs at m n
-    met q = unfold callOn reply in goes (stepOn jobRoom) jobRoom (not (sound m)) bs at m n q
+    met q = unfold recordOn in goes (stepOn jobRoom) jobRoom (not (sound m)) bs at m n q
 
 -- ---- on foil 0 of a sheet else empty
 
@@ -86,7 +85,7 @@ module _ (bs : List ℕ) (at : ℕ) (b₀ : Board) (t₀ s₀ : List ℕ) where
   abbrev m : SheetLent
   m = onlyFoil0 b₀ t₀ s₀
 
-  no-place : (n k : ℕ) → placeAfter (answered (refused k)) ≡ some n → ⊥
+  no-place : (n k : ℕ) → placeAfter (refusedWhole k) ≡ some n → ⊥
   unfolding placeAfter
   no-place n k h = Option·none-ne-some n h
 
@@ -95,8 +94,8 @@ module _ (bs : List ℕ) (at : ℕ) (b₀ : Board) (t₀ s₀ : List ℕ) where
   unfolding shownBy
   sound-left long n h =
       let alone = unrefused-alone bs at b₀ t₀ s₀ long (λ a. placeAfter a ≡ some n) (no-place n) h in
-      ap (λ (a : After Reply Lent). sound (a .state)) (sym alone)
-      ∙ sound-after bs at (view 0 m) n (ap (λ (a : After Reply Lent). placeAfter (a .answer)) alone ∙ h)
+      ap (λ (a : After RecordReply Lent). sound (a .state)) (sym alone)
+      ∙ sound-after bs at (view 0 m) n (ap (λ (a : After RecordReply Lent). placeAfter (a .answer)) alone ∙ h)
 
   next-comes : sheetSize ≤ length t₀ → (b : Board) (t s : List ℕ) → onlyFoil0 b t s ≡ ranRecord bs at m .state
       → (p : ℕ) → nextOf (placeAfter (ranRecord bs at m .answer)) ≡ At p → MayCome p b t s

@@ -9,15 +9,15 @@ use mathlib.Core.Option.{none, some}
 use lib.ListN.{length}
 use Rattle.foil_spec.specs.Limits.{maxBytes}
 use Rattle.foil_spec.specs.Foil.{Layout, noFoil}
-use Rattle.foil_spec.specs.Ledger.{Step, short, After}
+use Rattle.foil_spec.specs.Ledger.{short, After}
 use Rattle.foil_spec.specs.Lent.{Lent, store, held, layoutOk}
-use Rattle.foil_spec.specs.Job.{jobRoom, steps}
-use Rattle.foil_spec.specs.Calls.{runRecord, Reply, answered, ran, atEnd, measured, laidAll, ledgerCall, callOn}
-use Rattle.foil_spec.specs.Calls.{placeAfter}
+use Rattle.foil_spec.specs.Job.{jobRoom, RecordStep, recordSteps}
+use Rattle.foil_spec.specs.Calls.{runRecord, RecordReply, refusedWhole, ranSteps, endMark, reply, ledgerCall}
+use Rattle.foil_spec.specs.Calls.{ledgerRecord, recordOn, placeAfter}
 use Rattle.foil_spec.specs.Sheet.{SheetLent, view}
 use Rattle.ledger_laws.proofs.Stored.{held-store}
 use Rattle.ledger_laws.proofs.Kept.{call-kept}
-use Rattle.ledger_laws.proofs.Steps.{shown, call-is}
+use Rattle.ledger_laws.proofs.Steps.{shown, call-is, record-as}
 use Rattle.ledger_laws.proofs.Opening.{Over, Opening, over, begins, opening}
 use Rattle.ledger_laws.proofs.Replies.{shownBy}
 use Rattle.lines.specs.Output.{stepLines, replyLines, outputFrom, output}
@@ -29,35 +29,29 @@ use Rattle.job_report.proofs.Places.{ledger-later}
 
 -- ---- the lines of a record, and those from the next place on
 
-lines-part : (ss : List Step) (a : Reply) (l : Layout) (rest : ℕ → List ℕ)
+lines-part : (ss : List RecordStep) (a : RecordReply) (l : Layout) (rest : ℕ → List ℕ)
     → replyLines ss a l (λ (n : ℕ). []) ++ onward (placeAfter a) rest ≡ replyLines ss a l rest
 unfolding replyLines onward placeAfter
-lines-part ss (answered a) l rest = append-nil _
-lines-part ss (ran given none) l rest = append-nil _
-lines-part ss (ran given (some n)) l rest = ap (λ (x : List ℕ). x ++ rest n) (append-nil (stepLines ss given))
-lines-part ss atEnd l rest = append-nil _
-lines-part ss (measured x) l rest = refl
-lines-part ss (laidAll given) l rest = refl
+lines-part ss (refusedWhole k) l rest = append-nil _
+lines-part ss (ranSteps given none) l rest = append-nil _
+lines-part ss (ranSteps given (some n)) l rest = ap (λ (x : List ℕ). x ++ rest n) (append-nil (stepLines ss given))
+lines-part ss endMark l rest = append-nil _
 
-lines-over : (ss : List Step) (a : Reply) → Over a → (l l′ : Layout) (rest rest′ : ℕ → List ℕ)
+lines-over : (ss : List RecordStep) (a : RecordReply) → Over a → (l l′ : Layout) (rest rest′ : ℕ → List ℕ)
     → replyLines ss a l rest ≡ replyLines ss a l′ rest′
 unfolding replyLines
-lines-over ss (answered a) o l l′ rest rest′ = refl
-lines-over ss (ran given none) o l l′ rest rest′ = refl
-lines-over ss (ran given (some n)) o l l′ rest rest′ = absurd o
-lines-over ss atEnd o l l′ rest rest′ = absurd o
-lines-over ss (measured x) o l l′ rest rest′ = absurd o
-lines-over ss (laidAll given) o l l′ rest rest′ = absurd o
+lines-over ss (refusedWhole k) o l l′ rest rest′ = refl
+lines-over ss (ranSteps given none) o l l′ rest rest′ = refl
+lines-over ss (ranSteps given (some n)) o l l′ rest rest′ = absurd o
+lines-over ss endMark o l l′ rest rest′ = absurd o
 
-lines-rest : (ss : List Step) (a : Reply) (l : Layout) (rest rest′ : ℕ → List ℕ)
+lines-rest : (ss : List RecordStep) (a : RecordReply) (l : Layout) (rest rest′ : ℕ → List ℕ)
     → ((n : ℕ) → placeAfter a ≡ some n → rest n ≡ rest′ n) → replyLines ss a l rest ≡ replyLines ss a l rest′
 unfolding replyLines placeAfter
-lines-rest ss (answered a) l rest rest′ h = refl
-lines-rest ss (ran given none) l rest rest′ h = refl
-lines-rest ss (ran given (some n)) l rest rest′ h = ap (λ (x : List ℕ). stepLines ss given ++ x) (h n refl)
-lines-rest ss atEnd l rest rest′ h = refl
-lines-rest ss (measured x) l rest rest′ h = refl
-lines-rest ss (laidAll given) l rest rest′ h = refl
+lines-rest ss (refusedWhole k) l rest rest′ h = refl
+lines-rest ss (ranSteps given none) l rest rest′ h = refl
+lines-rest ss (ranSteps given (some n)) l rest rest′ h = ap (λ (x : List ℕ). stepLines ss given ++ x) (h n refl)
+lines-rest ss endMark l rest rest′ h = refl
 
 -- ---- as many records as the file can have
 
@@ -67,16 +61,16 @@ unfolding outputFrom
 fuel zero j bs at l h e f = absurd (omega arith)
 fuel (suc k) zero bs at l h e f = absurd (omega arith)
 fuel (suc k) (suc j) bs at l h e f =
-    let t : After Reply Layout = ledgerCall jobRoom (runRecord bs at) l in
-    lines-rest (steps bs at) (t .answer) (t .state) _ _ (λ n q.
+    let t : After RecordReply Layout = ledgerRecord jobRoom bs at l in
+    lines-rest (recordSteps bs at) (t .answer) (t .state) _ _ (λ n q.
     let p = ledger-later jobRoom bs at l n q in
     fuel k j bs n (t .state) (p .within) (omega (arith, p .after)) (omega (arith, p .after)))
 
 -- ---- a record on a sheet whose foil 0 holds what the ledger holds
 
 -- one that gives y on the foil alone
-module _ (k : ℕ) (bs : List ℕ) (at : ℕ) (x : SheetLent) (w : Stands jobRoom 0 x) (y : After Reply Lent)
-    (is : callOn jobRoom (runRecord bs at) (view 0 x) ≡ y) where
+module _ (k : ℕ) (bs : List ℕ) (at : ℕ) (x : SheetLent) (w : Stands jobRoom 0 x) (y : After RecordReply Lent)
+    (is : recordOn jobRoom bs at (view 0 x) ≡ y) where
   given : shownBy (view 0) (ranRecord bs at x) ≡ y
   given = sym (as-alone bs at x w .is) ∙ is
 
@@ -84,32 +78,32 @@ module _ (k : ℕ) (bs : List ℕ) (at : ℕ) (x : SheetLent) (w : Stands jobRoo
   abbrev later : ℕ → List ℕ
   later n = reportFrom k bs n (ranRecord bs at x .state)
 
-  one-record : reportFrom (suc k) bs at x ≡ replyLines (steps bs at) (y .answer) (held (y .state)) later
+  one-record : reportFrom (suc k) bs at x ≡ replyLines (recordSteps bs at) (y .answer) (held (y .state)) later
   unfolding reportFrom recordLines shownBy
   one-record =
-      lines-part (steps bs at) (ranRecord bs at x .answer) (held (view 0 (ranRecord bs at x .state))) later
-      ∙ ap (λ (z : After Reply Lent). replyLines (steps bs at) (z .answer) (held (z .state)) later) given
+      lines-part (recordSteps bs at) (ranRecord bs at x .answer) (held (view 0 (ranRecord bs at x .state))) later
+      ∙ ap (λ (z : After RecordReply Lent). replyLines (recordSteps bs at) (z .answer) (held (z .state)) later) given
 
   one-left : view 0 (ranRecord bs at x .state) ≡ y .state
   unfolding shownBy
-  one-left = ap (λ (z : After Reply Lent). z .state) given
+  one-left = ap (λ (z : After RecordReply Lent). z .state) given
 
 -- one that goes as on the ledger
 module _ (k : ℕ) (bs : List ℕ) (at : ℕ) (l : Layout) (m : Lent) (x : SheetLent) (w : Stands jobRoom 0 x) where
-  abbrev line : After Reply Layout
-  line = ledgerCall jobRoom (runRecord bs at) l
+  abbrev line : After RecordReply Layout
+  line = ledgerRecord jobRoom bs at l
 
-  shown-record : callOn jobRoom (runRecord bs at) (view 0 x) ≡ shown m line
+  shown-record : recordOn jobRoom bs at (view 0 x) ≡ shown m line
       → ((p : ℕ) → view 0 (ranRecord bs at x .state) ≡ store (line .state) m
       → reportFrom k bs p (ranRecord bs at x .state) ≡ outputFrom k bs p (line .state))
       → reportFrom (suc k) bs at x
-      ≡ replyLines (steps bs at) (line .answer) (line .state) (λ (p : ℕ). outputFrom k bs p (line .state))
+      ≡ replyLines (recordSteps bs at) (line .answer) (line .state) (λ (p : ℕ). outputFrom k bs p (line .state))
   unfolding shown
   shown-record e next =
       one-record k bs at x w (shown m line) e
-      ∙ ap (λ (s : Layout). replyLines (steps bs at) (line .answer) s
+      ∙ ap (λ (s : Layout). replyLines (recordSteps bs at) (line .answer) s
       (λ (p : ℕ). reportFrom k bs p (ranRecord bs at x .state))) (held-store (line .state) m)
-      ∙ lines-rest (steps bs at) (line .answer) (line .state) _ _
+      ∙ lines-rest (recordSteps bs at) (line .answer) (line .state) _ _
       (λ p q. next p (one-left k bs at x w (shown m line) e))
 
 stored : (k : ℕ) (bs : List ℕ) (at : ℕ) (l : Layout) (m : Lent) (x : SheetLent) → Stands jobRoom 0 x
@@ -118,10 +112,12 @@ unfolding reportFrom outputFrom
 stored zero bs at l m x w v g = refl
 stored (suc k) bs at l m x w v g =
     shown-record k bs at l m x w
-    (ap (callOn jobRoom (runRecord bs at)) v ∙ call-is jobRoom (runRecord bs at) l m g)
+    (ap (recordOn jobRoom bs at) v
+    ∙ record-as jobRoom bs at l m (store l m) (call-is jobRoom (runRecord bs at) l m g))
     (λ p u.
-    stored k bs p (ledgerCall jobRoom (runRecord bs at) l .state) m (ranRecord bs at x .state)
-    (as-alone bs at x w .stands) u (call-kept jobRoom (runRecord bs at) l g))
+    stored k bs p (ledgerRecord jobRoom bs at l .state) m (ranRecord bs at x .state)
+    (as-alone bs at x w .stands) u
+    (unfold ledgerCall reply ledgerRecord in call-kept jobRoom (runRecord bs at) l g))
 
 -- ---- the first record
 
@@ -133,8 +129,8 @@ module _ (bs : List ℕ) (x : SheetLent) (w : Stands jobRoom 0 x) where
   abbrev m : Lent
   m = view 0 x
 
-  abbrev first-line : After Reply Layout
-  first-line = ledgerCall jobRoom (runRecord bs 0) noFoil
+  abbrev first-line : After RecordReply Layout
+  first-line = ledgerRecord jobRoom bs 0 noFoil
 
   -- the lines from the next place on, as they are told and as they are wanted
   abbrev told : ℕ → List ℕ
@@ -146,16 +142,17 @@ module _ (bs : List ℕ) (x : SheetLent) (w : Stands jobRoom 0 x) where
   from-first : Opening jobRoom bs noFoil m → reportFrom (suc maxBytes) bs 0 x ≡ outputFrom (suc (length bs)) bs 0 noFoil
   unfolding outputFrom
   from-first (over a e f o) =
-      one-record maxBytes bs 0 x w (callOn jobRoom (runRecord bs 0) m) refl
+      one-record maxBytes bs 0 x w (recordOn jobRoom bs 0 m) refl
       ∙ ap
-      (λ (y : Reply). replyLines (steps bs 0) y (held (callOn jobRoom (runRecord bs 0) m .state)) told) e
-      ∙ lines-over (steps bs 0) a o (held (callOn jobRoom (runRecord bs 0) m .state)) (first-line .state) told wanted
-      ∙ ap (λ (y : Reply). replyLines (steps bs 0) y (first-line .state) wanted) (sym f)
+      (λ (y : RecordReply). replyLines (recordSteps bs 0) y (held (recordOn jobRoom bs 0 m .state)) told) e
+      ∙ lines-over (recordSteps bs 0) a o (held (recordOn jobRoom bs 0 m .state)) (first-line .state) told wanted
+      ∙ ap (λ (y : RecordReply). replyLines (recordSteps bs 0) y (first-line .state) wanted) (sym f)
   from-first (begins b) =
-      shown-record maxBytes bs 0 noFoil m x w (b .is)
+      shown-record maxBytes bs 0 noFoil m x w (record-as jobRoom bs 0 noFoil m m (b .is))
       (λ p u.
-      stored maxBytes bs p (first-line .state) m (ranRecord bs 0 x .state) (as-alone bs 0 x w .stands) u (b .kept))
-      ∙ lines-rest (steps bs 0) (first-line .answer) (first-line .state)
+      stored maxBytes bs p (first-line .state) m (ranRecord bs 0 x .state) (as-alone bs 0 x w .stands) u
+      (unfold ledgerCall reply ledgerRecord in b .kept))
+      ∙ lines-rest (recordSteps bs 0) (first-line .answer) (first-line .state)
       (λ (n : ℕ). outputFrom maxBytes bs n (first-line .state)) wanted
       (λ n q.
       let p = ledger-later jobRoom bs 0 noFoil n q in

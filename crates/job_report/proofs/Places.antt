@@ -11,12 +11,12 @@ use borrow.Author.Tests.{ltb-false}
 use Rattle.foil_spec.specs.Lists.{any}
 use Rattle.foil_spec.specs.Limits.{maxBytes}
 use Rattle.foil_spec.specs.Foil.{Layout}
-use Rattle.foil_spec.specs.Ledger.{Step, Answer, refused, first, Room, After, afterLent, ledgerStep}
-use Rattle.foil_spec.specs.Lent.{held, sound}
+use Rattle.foil_spec.specs.Ledger.{Step, Answer, first, Room, After, afterLent, ledgerStep}
+use Rattle.foil_spec.specs.Lent.{sound}
 use Rattle.foil_spec.specs.Job.{mapBits, fieldCount, has, fieldsAt, recordEnd, steps, isEnd, recordChecks}
-use Rattle.foil_spec.specs.Calls.{runRecord, Reply, answered, endsJob, actAll, actRecord, tooLarge, wholeRefusals}
-use Rattle.foil_spec.specs.Calls.{reply, ledgerCall, placeAfter}
-use Rattle.foil_spec.specs.Sheet.{SheetLent, view, sheetStep, unless, sheetCall}
+use Rattle.foil_spec.specs.Calls.{RecordReply, refusedWhole, endsJob, actAll, actRecord, tooLarge, wholeRefusals}
+use Rattle.foil_spec.specs.Calls.{recordBy, ledgerRecord, placeAfter}
+use Rattle.foil_spec.specs.Sheet.{SheetLent, view, sheetStep, unlessWhole, sheetRecord}
 use Rattle.ledger_laws.proofs.Refusals.{none-applies}
 use Rattle.ledger_laws.proofs.Lending.{board-first, own-checks}
 use Rattle.job.specs.Contract.{nextOf}
@@ -81,15 +81,15 @@ module _ {S : Type 0} (act : Step → S → After Answer S) (r : Room) (broken :
 
 -- on the ledger
 pub ledger-later : (r : Room) (bs : List ℕ) (at : ℕ) (l : Layout) (n : ℕ)
-    → placeAfter (ledgerCall r (runRecord bs at) l .answer) ≡ some n → Later bs at n
-unfolding ledgerCall reply
+    → placeAfter (ledgerRecord r bs at l .answer) ≡ some n → Later bs at n
+unfolding ledgerRecord
 ledger-later r bs at l n h =
     later (ledgerStep r) r false bs at l n (goes (ledgerStep r) r false bs at l n h)
 
 -- what holds of a reply on a sheet, and of no refusal, holds of the reply past the refusals that the call begins with
-pub past-opening : (P : Reply → Type 0) → ((n : ℕ) → P (answered (refused n)) → ⊥) → (o : Option ℕ)
-    (a : After Reply SheetLent) (x : SheetLent) → P (unless o a x .answer) → P (a .answer)
-unfolding unless
+pub past-opening : (P : RecordReply → Type 0) → ((n : ℕ) → P (refusedWhole n) → ⊥) → (o : Option ℕ)
+    (a : After RecordReply SheetLent) (x : SheetLent) → P (unlessWhole o a x .answer) → P (a .answer)
+unfolding unlessWhole
 past-opening P never (some n) a x h = absurd (never n h)
 past-opening P never none a x h = h
 
@@ -98,23 +98,23 @@ module _ (r : Room) (bs : List ℕ) (x : SheetLent) where
   abbrev broken : Bool
   broken = not (sound (view 0 x))
 
-  no-place : (n k : ℕ) → placeAfter (answered (refused k)) ≡ some n → ⊥
+  no-place : (n k : ℕ) → placeAfter (refusedWhole k) ≡ some n → ⊥
   unfolding placeAfter
   no-place n k h = Option·none-ne-some n h
 
-  sheet-goes : (at n : ℕ) → placeAfter (sheetCall r 0 (runRecord bs at) x .answer) ≡ some n
+  sheet-goes : (at n : ℕ) → placeAfter (sheetRecord r 0 bs at x .answer) ≡ some n
       → Goes (sheetStep 0 r) r broken bs at x n
-  unfolding sheetCall reply
+  unfolding sheetRecord
   sheet-goes at n h =
       goes (sheetStep 0 r) r broken bs at x n
       (past-opening (λ a. placeAfter a ≡ some n) (no-place n) _
-      (reply (sheetStep 0) r broken (runRecord bs at) (held (view 0 x)) x) x h)
+      (recordBy (sheetStep 0) r broken bs at x) x h)
 
-  pub call-later : (at n : ℕ) → placeAfter (sheetCall r 0 (runRecord bs at) x .answer) ≡ some n → Later bs at n
+  pub call-later : (at n : ℕ) → placeAfter (sheetRecord r 0 bs at x .answer) ≡ some n → Later bs at n
   call-later at n h = later (sheetStep 0 r) r broken bs at x n (sheet-goes at n h)
 
   -- the first record has a board
-  pub first-later : (n : ℕ) → placeAfter (sheetCall r 0 (runRecord bs 0) x .answer) ≡ some n → 6 < n
+  pub first-later : (n : ℕ) → placeAfter (sheetRecord r 0 bs 0 x .answer) ≡ some n → 6 < n
   unfolding recordEnd
   first-later n h =
       let g = sheet-goes 0 n h in

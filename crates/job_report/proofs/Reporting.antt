@@ -8,11 +8,11 @@ use mathlib.Core.Option.{Option, none, some}
 use lib.ListN.{length, drop}
 use Rattle.foil_spec.specs.Lists.{each}
 use Rattle.foil_spec.specs.Limits.{maxStrips, cornerPlaces}
-use Rattle.foil_spec.specs.Ledger.{Answer, refused, After, stripsOf}
+use Rattle.foil_spec.specs.Ledger.{Answer, After, stripsOf}
 use Rattle.foil_spec.specs.Lent.{Lent, held, sound, listedStrips}
-use Rattle.foil_spec.specs.Job.{jobRoom, stepBits, has, steps}
-use Rattle.foil_spec.specs.Calls.{runRecord, Reply as Outcome, answered, ran, atEnd, callOn, answersIn, outputAll}
-use Rattle.foil_spec.specs.Calls.{outputBy, placeAfter}
+use Rattle.foil_spec.specs.Job.{jobRoom, stepBits, has, recordSteps, steps}
+use Rattle.foil_spec.specs.Calls.{RecordReply, refusedWhole, ranSteps, endMark, asReply, recordOn, answersIn}
+use Rattle.foil_spec.specs.Calls.{outputAll, outputBy, placeAfter}
 use Rattle.foil_spec.specs.Sheet.{SheetLent, view}
 use Rattle.foil_spec.specs.declared.Board.{Board}
 use Rattle.ledger_laws.proofs.Replies.{shownBy}
@@ -40,7 +40,7 @@ module _ (bs : List ℕ) (at : ℕ) (b : Board) (t₀ s₀ out : List ℕ) (d : 
   abbrev m : SheetLent
   m = onlyFoil0 b t₀ s₀
 
-  abbrev reply : Outcome
+  abbrev reply : RecordReply
   reply = ranRecord bs at m .answer
 
   -- the foil after it
@@ -48,20 +48,20 @@ module _ (bs : List ℕ) (at : ℕ) (b : Board) (t₀ s₀ out : List ℕ) (d : 
   after = view 0 (ranRecord bs at m .state)
 
   -- the lines of a record by its reply
-  lines-by : (o : Outcome) → reply ≡ o
-      → recordLines bs at m ≡ replyLines (steps bs at) o (held after) (λ (n : ℕ). [])
+  lines-by : (o : RecordReply) → reply ≡ o
+      → recordLines bs at m ≡ replyLines (recordSteps bs at) o (held after) (λ (n : ℕ). [])
   unfolding recordLines
-  lines-by o e = ap (λ (x : Outcome). replyLines (steps bs at) x (held after) (λ (n : ℕ). [])) e
+  lines-by o e = ap (λ (x : RecordReply). replyLines (recordSteps bs at) x (held after) (λ (n : ℕ). [])) e
 
   -- the bytes are the record's lines, and the next place is the reply's
-  reported : (old new : List ℕ) (r : Reported) (o : Outcome) (lines : List ℕ) → reply ≡ o
+  reported : (old new : List ℕ) (r : Reported) (o : RecordReply) (lines : List ℕ) → reply ≡ o
       → recordLines bs at m ≡ lines → Put old 0 lines new (r .size) → r .next ≡ nextOf (placeAfter o)
       → r .board ≡ d .board → RecordReported bs at m out old new r t s out′
   reported old new r o lines e f p n c =
       record {
         places = done .places;
         lines = subst (λ (x : List ℕ). Put old 0 x new (r .size)) (sym f) p;
-        next = n ∙ ap (λ (x : Outcome). nextOf (placeAfter x)) (sym e);
+        next = n ∙ ap (λ (x : RecordReply). nextOf (placeAfter x)) (sym e);
         state = ap (λ (x : Board). onlyFoil0 x t s) c ∙ done .state;
         output = done .output;
       }
@@ -73,10 +73,9 @@ module _ (bs : List ℕ) (at : ℕ) (b : Board) (t₀ s₀ out : List ℕ) (d : 
       → RecordReported bs at m out old new r t s out′
   unfolding replyLines placeAfter nextOf
   file-reported n e old new size p r q =
-      let w = was-refused (has bs at) reply n (sym e ∙ done .reply) in
+      let is = was-refused (has bs at) reply n (sym e ∙ done .reply) in
       subst (λ (x : Reported). RecordReported bs at m out old new x t s out′) (sym q)
-      (reported old new _ (answered (w .answer)) (fileLine n) (w .is)
-      (lines-by _ (w .is) ∙ ap fileLine (sym (w .number))) p refl refl)
+      (reported old new _ (refusedWhole n) (fileLine n) is (lines-by _ is) p refl refl)
 
   -- ---- the steps
 
@@ -91,26 +90,26 @@ module _ (bs : List ℕ) (at : ℕ) (b : Board) (t₀ s₀ out : List ℕ) (d : 
     abbrev v : Lent
     v = view 0 m
 
-    alone-ran : callOn jobRoom (runRecord bs at) v .answer ≡ ran given (run .place)
+    alone-ran : recordOn jobRoom bs at v .answer ≡ ranSteps given (run .place)
     unfolding shownBy
     alone-ran =
-        ap (λ (x : After Outcome Lent). x .answer)
-        (unrefused-alone bs at b t₀ s₀ (done .places) (λ x. x ≡ ran given (run .place)) never (run .is))
+        ap (λ (x : After RecordReply Lent). x .answer)
+        (unrefused-alone bs at b t₀ s₀ (done .places) (λ x. x ≡ ranSteps given (run .place)) never (run .is))
         ∙ run .is
       where
-        never : (n : ℕ) → answered (refused n) ≡ ran given (run .place) → ⊥
+        never : (n : ℕ) → refusedWhole n ≡ ranSteps given (run .place) → ⊥
         never n h = let z : _≡_ {A = ℕ} 0 1 = cc in omega arith
 
     steps-run : Stepped jobRoom bs at v given
     steps-run = stepped jobRoom bs at v given (run .place) alone-ran
 
     given-is : given ≡ ranTo jobRoom bs at stepBits v .answer
-    unfolding steps
+    unfolding steps recordSteps
     given-is = steps-run .answers
 
     corners-are : out′ ≡ outputAll given out
-    unfolding outputBy answersIn
-    corners-are = done .output ∙ ap (λ (x : Outcome). outputBy x out) (run .is)
+    unfolding asReply outputBy answersIn
+    corners-are = done .output ∙ ap (λ (x : RecordReply). outputBy (asReply x) out) (run .is)
 
     tracked : (k j : ℕ) → k + suc j ≡ stepBits → (x : Answer) (rest : List Answer) → has bs at k ≡ true
         → drop (setBelow (has bs at) k) given ≡ x ∷ rest → Tracked x (jobRoom .output) out′
@@ -135,36 +134,37 @@ module _ (bs : List ℕ) (at : ℕ) (b : Board) (t₀ s₀ out : List ℕ) (d : 
         → RecordReported bs at m out old new (record { size = size; next = next; board = d .board }) t s out′
     unfolding replyLines placeAfter
     steps-reported old new size p =
-        reported old new _ (ran given (run .place)) (answerLines bs at out′ a) (run .is)
+        reported old new _ (ranSteps given (run .place)) (answerLines bs at out′ a) (run .is)
         (lines-by _ (run .is) ∙ by-place (run .place)
         ∙ sym (ap (answerLines bs at out′) (run .answers)
         ∙ answers-lines bs at out′ (jobRoom .output) given tracked)) p (run .next) refl
       where
         by-place : (n : Option ℕ)
-            → replyLines (steps bs at) (ran given n) (held after) (λ (k : ℕ). []) ≡ stepLines (steps bs at) given
+            → replyLines (recordSteps bs at) (ranSteps given n) (held after) (λ (k : ℕ). [])
+            ≡ stepLines (recordSteps bs at) given
         by-place none = refl
-        by-place (some n) = append-nil (stepLines (steps bs at) given)
+        by-place (some n) = append-nil (stepLines (recordSteps bs at) given)
 
   -- ---- the end mark
 
   module _ (e : d .reply ≡ AtEnd) where
-    alone-is : callOn jobRoom (runRecord bs at) (view 0 m) ≡ shownBy (view 0) (ranRecord bs at m)
+    alone-is : recordOn jobRoom bs at (view 0 m) ≡ shownBy (view 0) (ranRecord bs at m)
     unfolding replyOf
     alone-is =
         unrefused-alone bs at b t₀ s₀ (done .places) (λ x. AtEnd ≡ replyOf (has bs at) x) never (sym e ∙ done .reply)
       where
-        never : (n : ℕ) → AtEnd ≡ replyOf (has bs at) (answered (refused n)) → ⊥
+        never : (n : ℕ) → AtEnd ≡ replyOf (has bs at) (refusedWhole n) → ⊥
         never n h = let z : _≡_ {A = ℕ} 0 1 = cc in omega arith
 
     end : Ended jobRoom bs at (view 0 m)
     unfolding shownBy
     end =
         ended jobRoom bs at (view 0 m) (has bs at)
-        (sym e ∙ done .reply ∙ ap (λ (x : After Outcome Lent). replyOf (has bs at) (x .answer)) (sym alone-is))
+        (sym e ∙ done .reply ∙ ap (λ (x : After RecordReply Lent). replyOf (has bs at) (x .answer)) (sym alone-is))
 
-    at-end : reply ≡ atEnd
+    at-end : reply ≡ endMark
     unfolding shownBy
-    at-end = ap (λ (x : After Outcome Lent). x .answer) (sym alone-is) ∙ end .answer
+    at-end = ap (λ (x : After RecordReply Lent). x .answer) (sym alone-is) ∙ end .answer
 
     -- the foil keeps the rules, and is the one that was left
     abbrev left : Lent
@@ -177,7 +177,7 @@ module _ (bs : List ℕ) (at : ℕ) (b : Board) (t₀ s₀ out : List ℕ) (d : 
     unfolding shownBy
     fine =
         of-sound left
-        (ap sound (left-is ∙ ap (λ (x : After Outcome Lent). x .state) (sym alone-is) ∙ end .state) ∙ end .fine)
+        (ap sound (left-is ∙ ap (λ (x : After RecordReply Lent). x .state) (sym alone-is) ∙ end .state) ∙ end .fine)
 
     pub count-few : d .board .strips ≤ maxStrips
     unfolding view
@@ -190,7 +190,7 @@ module _ (bs : List ℕ) (at : ℕ) (b : Board) (t₀ s₀ out : List ℕ) (d : 
     unfolding replyLines placeAfter nextOf view
     strips-reported old new size p r q =
         subst (λ (x : Reported). RecordReported bs at m out old new x t s out′) (sym q)
-        (reported old new _ atEnd (each stripLine (listedStrips s (d .board .strips))) at-end
-        (lines-by atEnd at-end
+        (reported old new _ endMark (each stripLine (listedStrips s (d .board .strips))) at-end
+        (lines-by endMark at-end
         ∙ ap (each stripLine) (ap (λ (x : Lent). stripsOf (held x)) (sym left-is) ∙ sym (strips-listed left fine)))
         p refl refl)

@@ -4,6 +4,7 @@ use native.Mathlib.Omega.{arith}
 use mathlib.Core.Path.{_≡_, refl, sym, ap, _∙_, subst}
 use mathlib.Core.Logic.{inl, inr}
 use mathlib.Core.List.{List, [], _∷_, _++_, append-nil}
+use mathlib.Core.Option.{none}
 use lib.ListN.{length}
 use types.Run.{OneOf}
 use Rattle.foil_spec.specs.Lists.{range, each}
@@ -20,9 +21,10 @@ use Rattle.job.specs.declared.Answers.{Answers}
 use Rattle.job.proofs.Places.{field-given}
 use Rattle.job.proofs.Acting.{range-split}
 use Rattle.lines.specs.Lines.{boardLine, patchLine, trackRefused, trackLaid, liftLine, legLine}
+use Rattle.lines.specs.Output.{trackLine}
 use Rattle.putting.specs.Put.{Put}
 use Rattle.putting.proofs.Putting.{put-none, put-then}
-use Rattle.job_report.specs.Told.{numberIn, layLine, lineOf, toldLine, linesOf, bytesBelow, FromBit}
+use Rattle.job_report.specs.Told.{numberIn, trackOf, layLine, lineOf, toldLine, linesOf, bytesBelow, FromBit}
 
 -- ---- the number
 
@@ -50,22 +52,21 @@ no-laid (inr (inr (inr e))) = omega arith
 module _ (net : ℕ) (ks : List ℕ) {a : Answer} {o : List ℕ} {at : ℕ} where
   pub laid-line : {o′ : List ℕ} {r k n : ℕ} → a ≡ Laid k n → Put o at (trackLaid net n (cornersIn ks k)) o′ r
       → Put o at (layLine net ks a) o′ r
-  unfolding layLine
+  unfolding trackOf trackLine
   laid-line e p = rw e p
 
-  pub refused-line : {o′ : List ℕ} {r n : ℕ} → a ≡ Refused n → Put o at (trackRefused net n) o′ r
-      → Put o at (layLine net ks a) o′ r
-  unfolding layLine
-  refused-line e p = rw e p
+no-track : (ks : List ℕ) (a : Answer) → ((k n : ℕ) → a ≡ Laid k n → ⊥) → trackOf ks a ≡ none
+unfolding trackOf
+no-track ks (Refused n) h = refl
+no-track ks Accepted h = refl
+no-track ks (Laid k n) h = absurd (h k n refl)
+no-track ks (Found k) h = refl
+no-track ks (Wrote k) h = refl
 
-pub other-line : (net : ℕ) (ks : List ℕ) (a : Answer) {o : List ℕ} {at : ℕ} → ((k n : ℕ) → a ≡ Laid k n → ⊥)
-    → ((n : ℕ) → a ≡ Refused n → ⊥) → at ≤ length o → Put o at (layLine net ks a) o at
-unfolding layLine
-other-line net ks (Refused n) f g l = absurd (g n refl)
-other-line net ks Accepted {o} {at} f g l = put-none o at l
-other-line net ks (Laid k n) f g l = absurd (f k n refl)
-other-line net ks (Found k) {o} {at} f g l = put-none o at l
-other-line net ks (Wrote k) {o} {at} f g l = put-none o at l
+pub refused-line : (net : ℕ) (ks : List ℕ) (a : Answer) {o o′ : List ℕ} {at r n : ℕ} → ((k i : ℕ) → a ≡ Laid k i → ⊥)
+    → n ≡ numberIn a → Put o at (trackRefused net n) o′ r → Put o at (layLine net ks a) o′ r
+unfolding trackLine
+refused-line net ks a h e p = rw (no-track ks a h, ← e) p
 
 -- ---- the net of a step that was run
 

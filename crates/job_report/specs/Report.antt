@@ -8,9 +8,9 @@ use lib.ListN.{length}
 use Rattle.foil_spec.specs.Limits.{maxEntries, maxBytes, sheetSize}
 use Rattle.foil_spec.specs.Ledger.{After}
 use Rattle.foil_spec.specs.Lent.{held}
-use Rattle.foil_spec.specs.Job.{jobRoom, has, steps}
-use Rattle.foil_spec.specs.Calls.{runRecord, Reply, outputBy, placeAfter}
-use Rattle.foil_spec.specs.Sheet.{SheetLent, view, sheetCall}
+use Rattle.foil_spec.specs.Job.{jobRoom, has, recordSteps}
+use Rattle.foil_spec.specs.Calls.{RecordReply, asReply, outputBy, placeAfter}
+use Rattle.foil_spec.specs.Sheet.{SheetLent, view, sheetRecord}
 use Rattle.foil_spec.specs.declared.Board.{Board}
 use Rattle.job.specs.Contract.{nextOf, replyOf}
 use Rattle.job.specs.declared.Replied.{Replied}
@@ -21,8 +21,8 @@ use Rattle.sheet_laws.specs.Jobs.{onlyFoil0}
 use Rattle.job_report.specs.declared.Reported.{Reported}
 
 -- the record at a place, run on foil 0 of a sheet in the room of a job
-abbrev pub ranRecord : List ℕ → ℕ → SheetLent → After Reply SheetLent
-ranRecord bs at m = sheetCall jobRoom 0 (runRecord bs at) m
+abbrev pub ranRecord : List ℕ → ℕ → SheetLent → After RecordReply SheetLent
+ranRecord bs at m = sheetRecord jobRoom 0 bs at m
 
 -- the record at a place may be run on a sheet else empty, where foil 0 has the record b, the sheet the table t and the
 -- foil the strips s: it is at place 0, or the foil keeps the rules
@@ -36,12 +36,13 @@ pub record RecordRan (bs : List ℕ) (at : ℕ) (m : SheetLent) (out : List ℕ)
   pub places : sheetSize ≤ length (m .table)
   pub reply : r .reply ≡ replyOf (has bs at) (ranRecord bs at m .answer)
   pub state : onlyFoil0 (r .board) t s ≡ ranRecord bs at m .state
-  pub output : out′ ≡ outputBy (ranRecord bs at m .answer) out
+  pub output : out′ ≡ outputBy (asReply (ranRecord bs at m .answer)) out
 
 -- its lines
 unfoldable pub recordLines : List ℕ → ℕ → SheetLent → List ℕ
 recordLines bs at m =
-    replyLines (steps bs at) (ranRecord bs at m .answer) (held (view 0 (ranRecord bs at m .state))) (λ (n : ℕ). [])
+    replyLines (recordSteps bs at) (ranRecord bs at m .answer) (held (view 0 (ranRecord bs at m .state)))
+    (λ (n : ℕ). [])
 
 -- it was lent the byte list `old` as well: it left its lines at the front of that list, which is now `new`, and
 -- answered r; all else is left so
@@ -51,7 +52,7 @@ pub record RecordReported (bs : List ℕ) (at : ℕ) (m : SheetLent) (out old ne
   pub lines : Put old 0 (recordLines bs at m) new (r .size)
   pub next : r .next ≡ nextOf (placeAfter (ranRecord bs at m .answer))
   pub state : onlyFoil0 (r .board) t s ≡ ranRecord bs at m .state
-  pub output : out′ ≡ outputBy (ranRecord bs at m .answer) out
+  pub output : out′ ≡ outputBy (asReply (ranRecord bs at m .answer)) out
 
 -- what comes from the next place on, if there is one
 unfoldable pub onward : Option ℕ → (ℕ → List ℕ) → List ℕ

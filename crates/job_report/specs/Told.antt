@@ -3,12 +3,12 @@ use Prim.Native.Nat.{ℕ, _*_, _≤_, _<_}
 use mathlib.Core.Path.{_≡_}
 use mathlib.Core.Bool.{true}
 use mathlib.Core.List.{List, [], _∷_}
+use mathlib.Core.Option.{Option, none, some}
 use lib.ListN.{length, getD}
 use Rattle.foil_spec.specs.Lists.{range, each}
 use Rattle.foil_spec.specs.Limits.{cornerPlaces}
-use Rattle.foil_spec.specs.Ledger.{Step, newFoil, draw, lay, lift, lookUp, putLeg, save, find, book, slip, join, carry}
 use Rattle.foil_spec.specs.Corners.{cornersIn}
-use Rattle.foil_spec.specs.Job.{stepBits, has, stepAt}
+use Rattle.foil_spec.specs.Job.{stepBits, RecordStep, boardStep, patchStep, trackStep, liftStep, legStep, has, stepAt}
 use Rattle.foil.specs.declared.Answer.{Answer}
 use Rattle.foil.specs.declared.Answer.the-variants.{Refused, Accepted, Laid, Found, Wrote}
 use Rattle.job.specs.Contract.{toldIn}
@@ -16,7 +16,8 @@ use Rattle.job.specs.Parts.{Whole}
 use Rattle.job.specs.declared.Told.{Told}
 use Rattle.job.specs.declared.Told.the-variants.{Nothing, Said}
 use Rattle.job.specs.declared.Answers.{Answers}
-use Rattle.lines.specs.Lines.{boardLine, patchLine, trackRefused, trackLaid, liftLine, legLine}
+use Rattle.lines.specs.Lines.{boardLine, patchLine, liftLine, legLine}
+use Rattle.lines.specs.Output.{Track, trackLine}
 
 -- the refusal number, 0 if accepted
 unfoldable pub numberIn : Answer → ℕ
@@ -26,32 +27,28 @@ numberIn (Laid k n) = 0
 numberIn (Found k) = 0
 numberIn (Wrote k) = 0
 
--- the line of a lay that was answered, whose corners are the first of the list ks
-unfoldable pub layLine : ℕ → List ℕ → Answer → List ℕ
-layLine net ks (Refused n) = trackRefused net n
-layLine net ks Accepted = []
-layLine net ks (Laid k n) = trackLaid net n (cornersIn ks k)
-layLine net ks (Found k) = []
-layLine net ks (Wrote k) = []
+-- the track that an answer has, if it has one; its corners are the first of the list ks
+unfoldable pub trackOf : List ℕ → Answer → Option Track
+trackOf ks (Refused n) = none
+trackOf ks Accepted = none
+trackOf ks (Laid k n) = some (record { bends = n; corners = cornersIn ks k })
+trackOf ks (Found k) = none
+trackOf ks (Wrote k) = none
 
--- the line of a step that was answered; no record holds a look up, a save, a find, a booking, a slip, a join or a
--- carry
-unfoldable pub lineOf : Step → List ℕ → Answer → List ℕ
-lineOf (newFoil W H d) ks a = boardLine (numberIn a)
-lineOf (draw x0 y0 x1 y1) ks a = patchLine (numberIn a)
-lineOf (lay net S T) ks a = layLine net ks a
-lineOf (lift net) ks a = liftLine net (numberIn a)
-lineOf (lookUp p) ks a = []
-lineOf (putLeg e) ks a = legLine (e .net) (numberIn a)
-lineOf save ks a = []
-lineOf (find S T) ks a = []
-lineOf (book net js) ks a = []
-lineOf slip ks a = []
-lineOf (join net S) ks a = []
-lineOf (carry o) ks a = []
+-- the line of a lay that was answered
+abbrev pub layLine : ℕ → List ℕ → Answer → List ℕ
+layLine net ks a = trackLine net (numberIn a) (trackOf ks a)
+
+-- the line of a step that was answered
+unfoldable pub lineOf : RecordStep → List ℕ → Answer → List ℕ
+lineOf (boardStep W H d) ks a = boardLine (numberIn a)
+lineOf (patchStep x0 y0 x1 y1) ks a = patchLine (numberIn a)
+lineOf (trackStep net S T) ks a = layLine net ks a
+lineOf (liftStep net) ks a = liftLine net (numberIn a)
+lineOf (legStep e) ks a = legLine (e .net) (numberIn a)
 
 -- the line of a step, if it was run
-unfoldable pub toldLine : Step → List ℕ → Told → List ℕ
+unfoldable pub toldLine : RecordStep → List ℕ → Told → List ℕ
 toldLine s ks Nothing = []
 toldLine s ks (Said a) = lineOf s ks a
 

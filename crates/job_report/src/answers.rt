@@ -96,11 +96,8 @@ fn put_track(out: &mut [u8], at: usize, answer: Answer, net: u16, corners: &[u16
     ensures { λ r. ⌜ Put (now (out .entry)) at (layLine net (now (corners .entry)) answer) (now (out .exit)) r ⌝ }
     ensures { λ r. ⌜ r ≤ at + 98368 ⌝ }
 {
-    if let Answer::Laid(count, bends) = answer {
-        return track_laid(out, at, net, bends, corners, count);
-    }
-    let Answer::Refused(number) = answer else {
-        return at;
+    let Answer::Laid(count, bends) = answer else {
+        return track_refused(out, at, net, number_of(answer));
     };
-    track_refused(out, at, net, number)
+    track_laid(out, at, net, bends, corners, count)
 }

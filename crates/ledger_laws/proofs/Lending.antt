@@ -3,7 +3,7 @@ use Prim.Native.Nat.{ℕ, _/_, _≤_, min}
 use native.Mathlib.Omega.{arith}
 use mathlib.Core.Path.{_≡_, refl, sym, ap, ap₂, _∙_, subst, subst₂}
 use mathlib.Core.Bool.{Bool, true, false, not, cond, _&&_, xor, and-false, or-true}
-use mathlib.Core.List.{List, [], _∷_}
+use mathlib.Core.List.{List, [], _∷_, map}
 use mathlib.Core.Option.{Option, none, some}
 use mathlib.Core.Logic.{inl, inr}
 use lib.Dec.{ltb, eqb}
@@ -17,11 +17,12 @@ use Rattle.foil_spec.specs.Carrying.{Old}
 use Rattle.foil_spec.specs.Ledger.{After, settle, refusalOf, ledgerStep, Clearance, byPen, Step, newFoil, carry}
 use Rattle.foil_spec.specs.Ledger.{Answer, refused, accepted, wrote}
 use Rattle.foil_spec.specs.Lent.{Lent, lent, stripNumbers, store, held, layoutOk, sound, roomIn, stepOn}
-use Rattle.foil_spec.specs.Job.{has, stepAt, stepsAt, steps, isEnd, recordEnd, recordChecks}
+use Rattle.foil_spec.specs.Job.{RecordStep, boardStep, asStep, has, stepAt, stepsAt, recordSteps, steps, isEnd}
+use Rattle.foil_spec.specs.Job.{recordEnd, recordChecks}
 use Rattle.foil_spec.specs.Wishes.{tooMany}
-use Rattle.foil_spec.specs.Calls.{Call, step, runRecord, ohms, layList, Reply, answered, ran, endsJob, andThen, actAll}
-use Rattle.foil_spec.specs.Calls.{actRecord, actList, tooLarge, wholeRefusals, listRefusals, ohmsReply, reply}
-use Rattle.foil_spec.specs.Calls.{ledgerCall, callOn}
+use Rattle.foil_spec.specs.Calls.{Call, step, runRecord, ohms, layList, RecordReply, ranSteps, Reply, answered, ran}
+use Rattle.foil_spec.specs.Calls.{asReply, replied, endsJob, andThen, actAll, actRecord, actList, tooLarge}
+use Rattle.foil_spec.specs.Calls.{wholeRefusals, listRefusals, ohmsReply, reply, ledgerCall, callOn, ledgerRecord}
 use Rattle.foil_spec.specs.Sequence.{Lending, front, roomFor, back, lend, told, Begins}
 use Rattle.foil_spec.proofs.Written.{length-written}
 use Rattle.list_laws.proofs.Tests.{clash, both, or-l, parts}
@@ -30,7 +31,7 @@ use Rattle.ledger_laws.proofs.Refusals.{no-more, none-applies, first-pa
 use Rattle.ledger_laws.proofs.Refusals.{unrefused-long, unrefused-own}
 use Rattle.ledger_laws.proofs.Stored.{Long, entries-fit, strips-fit, front-store, back-new, back-store}
 use Rattle.ledger_laws.proofs.Line.{clearance-number, line}
-use Rattle.ledger_laws.proofs.Replies.{shownBy, cons-shown, ran-shown, steps-shown}
+use Rattle.ledger_laws.proofs.Replies.{shownBy, cons-shown, ran-shown, steps-shown, as-reply-is}
 use Rattle.ledger_laws.proofs.Kept.{call-kept}
 use Rattle.ledger_laws.proofs.Steps.{shown, ShownIn, step-shown, call-is}
 
@@ -67,7 +68,7 @@ always-12 false = refl
 reply-short : {S : Type 0} (act : Room → Step → S → After Answer S) (r : Room) (b : Bool) (c : Call) (l : Layout)
     (x : S) → short r ≡ true → ((s : Step) → act r s x ≡ record { answer = refused 12; state = x })
     → reply act r b c l x ≡ record { answer = answered (refused (shortNumber c)); state = x }
-unfolding reply shortNumber actRecord actList wholeRefusals listRefusals afterLent first ohmsReply
+unfolding reply shortNumber actRecord asReply actList wholeRefusals listRefusals afterLent first ohmsReply
 reply-short act r b (step s) l x e h = rw (h s) refl
 reply-short act r b (runRecord bs at) l x e h =
     rw (short-second (tooLarge bs) (short r) 18 ((b && not (eqb at 0) ⇒ 13) ∷ recordChecks bs at) e) refl
@@ -286,7 +287,7 @@ record RanFirst (o : Option ℕ) (e : Bool) (r : Room) (ss : List Step) (l : Lay
   are : actAll (ledgerStep r) ss l .answer ≡ x ∷ answers
 
 of-ran : (o : Option ℕ) (e : Bool) (r : Room) (ss : List Step) (p : ℕ) (l : Layout) (x : Answer) (xs : List Answer)
-    (n : Option ℕ) → actRecord (ledgerStep r) o e ss p l .answer ≡ ran (x ∷ xs) n → RanFirst o e r ss l x
+    (n : Option ℕ) → actRecord (ledgerStep r) o e ss p l .answer ≡ ranSteps (x ∷ xs) n → RanFirst o e r ss l x
 unfolding actRecord
 of-ran (some k) e r ss p l x xs n h = absurd (let z : _≡_ {A = ℕ} 0 1 = cc in omega arith)
 of-ran none true r ss p l x xs n h = absurd (let z : _≡_ {A = ℕ} 0 1 = cc in omega arith)
@@ -313,8 +314,10 @@ pub record Opens (ss : List Step) : Type 0 where
   pub later : List Step
   pub is : ss ≡ newFoil W H d ∷ later
 
-opens-with : (t : Bool) (W H : ℕ) (d : Clearance) (ss : List Step) → t ≡ true → Opens (consIf t (newFoil W H d) ss)
-opens-with true W H d ss e = record { W = W; H = H; d = d; later = ss; is = refl }
+opens-with : (t : Bool) (W H : ℕ) (d : Clearance) (ss : List RecordStep) → t ≡ true
+    → Opens (map asStep (consIf t (boardStep W H d) ss))
+opens-with true W H d ss e =
+    record { W = W; H = H; d = d; later = map asStep ss; is = unfold asStep in refl }
 opens-with false W H d ss e = clash e refl
 
 only-true : (t : Bool) → xor true t ≡ false → t ≡ true
@@ -329,7 +332,7 @@ board-first bs h =
     only-true (has bs 0 0) (or-l (xor true (has bs 0 0)) (has bs 0 5 && not (has bs 0 0)) (search none-applies))
 
 pub opens : (bs : List ℕ) → first (recordChecks bs 0) ≡ none → Opens (steps bs 0)
-unfolding steps stepsAt stepAt
+unfolding steps recordSteps stepsAt stepAt
 opens bs h = opens-with (has bs 0 0) _ _ _ _ (board-first bs h)
 
 -- a record that passes the checks as a whole passes its own
@@ -353,8 +356,8 @@ record Opened (r : Room) (bs : List ℕ) (l : Layout) : Type 0 where
   taken : refusalOf r false (newFoil (board .W) (board .H) (board .d)) l ≡ none
 
 opened : (r : Room) (bs : List ℕ) (xs : List Answer) (n : Option ℕ) (l : Layout)
-    → ledgerCall r (runRecord bs 0) l .answer ≡ ran (accepted ∷ xs) n → Opened r bs l
-unfolding ledgerCall reply
+    → ledgerRecord r bs 0 l .answer ≡ ranSteps (accepted ∷ xs) n → Opened r bs l
+unfolding ledgerRecord
 opened r bs xs n l e =
     let o : Option ℕ = first (wholeRefusals r false bs 0) in
     let a = of-ran o (isEnd bs 0) r (steps bs 0) (recordEnd bs 0) l accepted xs n e in
@@ -368,9 +371,16 @@ opened r bs xs n l e =
       taken = step-taken r (newFoil (b .W) (b .H) (b .d)) l accepted no-accepted h;
     }
 
+-- the reply of a record whose board is accepted
+pub ran-accepted : (r : Room) (bs : List ℕ) (xs : List Answer) (n : Option ℕ) (l : Layout)
+    → ledgerCall r (runRecord bs 0) l .answer ≡ ran (accepted ∷ xs) n
+    → ledgerRecord r bs 0 l .answer ≡ ranSteps (accepted ∷ xs) n
+unfolding ledgerCall reply ledgerRecord asReply
+ran-accepted r bs xs n l e = as-reply-is (ledgerRecord r bs 0 l .answer) (ranSteps (accepted ∷ xs) n) e
+
 pub begun-record : (r : Room) (bs : List ℕ) (xs : List Answer) (n : Option ℕ) (l : Layout) (m : Lent)
-    → ledgerCall r (runRecord bs 0) l .answer ≡ ran (accepted ∷ xs) n → Begun r (runRecord bs 0) l m
-unfolding ledgerCall callOn reply actRecord stepsRun shown shownBy
+    → ledgerRecord r bs 0 l .answer ≡ ranSteps (accepted ∷ xs) n → Begun r (runRecord bs 0) l m
+unfolding ledgerCall callOn reply ledgerRecord actRecord asReply stepsRun shown shownBy
 begun-record r bs xs n l m e =
     let a = opened r bs xs n l e in
     let b = a .board in
@@ -390,12 +400,14 @@ begun-record r bs xs n l m e =
     record {
       long = unrefused-long r new l false u;
       kept = ran .kept;
-      is = rw (whole-at-0 r (not (sound m)) bs) (ran .is);
+      is =
+          rw (whole-at-0 r (not (sound m)) bs)
+          (ap (λ (z : After RecordReply Lent). replied z) (ran .is));
       opening = new;
       blind = blind;
       later = b .later;
       no-list = unfold isList in refl;
-      runs = ap (stepsRun (runRecord bs 0)) e ∙ b .is;
+      runs = ap (λ (a : RecordReply). stepsRun (runRecord bs 0) (asReply a)) e ∙ b .is;
       unrefused = u;
       ends = rw (a .unrefused, a .not-end, b .is) refl;
     }
@@ -420,7 +432,7 @@ pub begun : (r : Room) (c : Call) (l : Layout) (m : Lent) → Begins c (ledgerCa
 begun r c l m b =
     by-begins (λ x a. ledgerCall r x l .answer ≡ a → Begun r x l m)
     (λ s blind a never e. begun-call s blind r l (call-taken r l s a never e) m)
-    (λ bs xs n. begun-record r bs xs n l m) c (ledgerCall r c l .answer) b refl
+    (λ bs xs n e. begun-record r bs xs n l m (ran-accepted r bs xs n l e)) c (ledgerCall r c l .answer) b refl
 
 pub lend-begun : (c : Lending) (l : Layout) (m : Lent) → Begun (roomFor c m) (c .call) l (front c m)
     → lend c m ≡ shown m (told m c l)
@@ -444,7 +456,7 @@ module _ (r : Room) (l l′ : Layout) where
       → ledgerCall r (runRecord bs 0) l ≡ ledgerCall r (runRecord bs 0) l′
   unfolding ledgerCall reply actAll actRecord
   record-anew bs xs n e =
-      let a = opened r bs xs n l e in
+      let a = opened r bs xs n l (ran-accepted r bs xs n l e) in
       let b = a .board in
       let new = blind-anew (newFoil (b .W) (b .H) (b .d)) (new-blind (b .W) (b .H) (b .d)) r l (a .taken) l′ in
       rw (a .unrefused, a .not-end, b .is, new) refl

@@ -12,8 +12,8 @@ use Rattle.foil_spec.specs.Ledger.{Step, Answer, Room, short, reads, After, ref
 use Rattle.foil_spec.specs.Lent.{Lent, store, held, layoutOk, sound, stepOn, outputAfter, numbersOut, roomLeft}
 use Rattle.foil_spec.specs.Wishes.{wishes}
 use Rattle.foil_spec.specs.Job.{steps}
-use Rattle.foil_spec.specs.Calls.{Call, step, runRecord, ohms, layList, Reply, endsJob, andThen, actAll, actRecord}
-use Rattle.foil_spec.specs.Calls.{inFront, actEach, actList, reply, ledgerCall}
+use Rattle.foil_spec.specs.Calls.{Call, step, runRecord, ohms, layList, Reply, asReply, endsJob, andThen, actAll}
+use Rattle.foil_spec.specs.Calls.{actRecord, inFront, actEach, actList, reply, ledgerCall}
 use Rattle.foil_spec.specs.Sequence.{Lending, front, roomFor, back, lend, told}
 use Rattle.list_laws.proofs.Tests.{both}
 use Rattle.ledger_laws.specs.Moments.{Moment, momentOf, momentsOf, momentsEach, stepsRun, isList, momentsBy}
@@ -136,10 +136,10 @@ module _ (c : Lending) (n m : Lent)
   -- the steps that a record runs, by its checks
   record-chain : (o : Option ℕ) (e : Bool) (bs : List ℕ) (at p : ℕ) (l : Layout) (out : List ℕ) → layoutOk l ≡ true
       → Chain m l
-      (momentsOf c n (stepsRun (runRecord bs at) (actRecord (ledgerStep r) o e (steps bs at) p l .answer))
+      (momentsOf c n (stepsRun (runRecord bs at) (asReply (actRecord (ledgerStep r) o e (steps bs at) p l .answer)))
       (store l (front c m)) out l)
       (actRecord (ledgerStep r) o e (steps bs at) p l .state)
-  unfolding actRecord stepsRun
+  unfolding actRecord asReply stepsRun
   record-chain (some k) e bs at p l out g = unfold momentsOf in refl
   record-chain none true bs at p l out g = unfold momentsOf in refl
   record-chain none false bs at p l out g = chain (steps bs at) l out g

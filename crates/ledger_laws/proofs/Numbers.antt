@@ -16,9 +16,10 @@ use Rattle.foil_spec.specs.Ledger.{Room, short, Step, Answer, numberOf, says, n
 use Rattle.foil_spec.specs.Ledger.{After, settle, refusalOf, ledgerStep}
 use Rattle.foil_spec.specs.Lent.{Lent, roomLeft}
 use Rattle.foil_spec.specs.Wishes.{wishAt, wishes}
-use Rattle.foil_spec.specs.Job.{has, stepBits, stepAt, stepsAt, steps, isEnd, recordEnd, recordChecks}
-use Rattle.foil_spec.specs.Calls.{Call, step, runRecord, ohms, layList, endsJob, andThen, actAll, actRecord, inFront}
-use Rattle.foil_spec.specs.Calls.{actEach, actList, wholeRefusals, listRefusals, ohmsReply, reply, ledgerCall}
+use Rattle.foil_spec.specs.Job.{RecordStep, asStep, has, stepBits, stepAt, stepsAt, recordSteps, steps, isEnd}
+use Rattle.foil_spec.specs.Job.{recordEnd, recordChecks}
+use Rattle.foil_spec.specs.Calls.{Call, step, runRecord, ohms, layList, asReply, endsJob, andThen, actAll, actRecord}
+use Rattle.foil_spec.specs.Calls.{inFront, actEach, actList, wholeRefusals, listRefusals, ohmsReply, reply, ledgerCall}
 use Rattle.foil_spec.specs.Calls.{answersIn}
 use Rattle.foil_spec.specs.Ohms.{ohmsRefusals}
 use Rattle.foil_spec.specs.declared.Ink.{Ink}
@@ -97,8 +98,8 @@ module _ (p : ℕ → Bool) (zero-passes : p 0 ≡ true) (kind : Step → Bool) 
 
   record-passes : (o : Option ℕ) (e : Bool) (ss : List Step) (place : ℕ) → all kind ss ≡ true → (l : Layout) → Q l
       → ((n : ℕ) → o ≡ some n → p n ≡ true)
-      → all p (numbersIn (actRecord (ledgerStep r) o e ss place l .answer)) ≡ true
-  unfolding actRecord numbersIn answersIn numberOf
+      → all p (numbersIn (asReply (actRecord (ledgerStep r) o e ss place l .answer))) ≡ true
+  unfolding actRecord asReply numbersIn answersIn numberOf
   record-passes (some n) e ss place k l g h = and-i {a = p n} (h n refl) refl
   record-passes none true ss place k l g h = refl
   record-passes none false ss place k l g h = steps-pass ss k l g
@@ -185,21 +186,22 @@ unfolding afterLent ohmsRefusals but
 ohms-but-13 r net i l = first-passes (but 13) _ (simp or-true)
 
 -- a test that the step of each bit of a record passes
-pub steps-all : (p : Step → Bool) (bs : List ℕ) (at : ℕ) → ((k : ℕ) → p (stepAt bs at k) ≡ true)
+pub steps-all : (p : Step → Bool) (bs : List ℕ) (at : ℕ) → ((k : ℕ) → p (asStep (stepAt bs at k)) ≡ true)
     → all p (steps bs at) ≡ true
-unfolding steps stepsAt
+unfolding steps recordSteps stepsAt
 steps-all p bs at passes = go (range 0 stepBits)
   where
-    put : (b : Bool) (s : Step) (ss : List Step) → p s ≡ true → all p ss ≡ true → all p (consIf b s ss) ≡ true
-    put true s ss e h = and-i {a = p s} e h
+    put : (b : Bool) (s : RecordStep) (ss : List RecordStep) → p (asStep s) ≡ true → all p (map asStep ss) ≡ true
+        → all p (map asStep (consIf b s ss)) ≡ true
+    put true s ss e h = and-i {a = p (asStep s)} e h
     put false s ss e h = h
 
-    go : (ks : List ℕ) → all p (stepsAt bs at ks) ≡ true
+    go : (ks : List ℕ) → all p (map asStep (stepsAt bs at ks)) ≡ true
     go [] = refl
     go (k ∷ ks) = put (has bs at k) (stepAt bs at k) (stepsAt bs at ks) (passes k) (go ks)
 
-no-carry-at : (bs : List ℕ) (at k : ℕ) → noCarry (stepAt bs at k) ≡ true
-unfolding stepAt noCarry
+no-carry-at : (bs : List ℕ) (at k : ℕ) → noCarry (asStep (stepAt bs at k)) ≡ true
+unfolding stepAt asStep noCarry
 no-carry-at bs at zero = refl
 no-carry-at bs at (suc zero) = refl
 no-carry-at bs at (suc (suc zero)) = refl

@@ -12,8 +12,9 @@ use Rattle.foil_spec.specs.Ledger.{Clearance, Step, newFoil, Answer, refused, f
 use Rattle.foil_spec.specs.Ledger.{refusalOf, ledgerStep, reads, accepted, says}
 use Rattle.foil_spec.specs.Lent.{Lent, held, sound, stepOn}
 use Rattle.foil_spec.specs.Job.{mapByte, has, isEnd, steps, recordEnd, recordChecks}
-use Rattle.foil_spec.specs.Calls.{Call, step, runRecord, Reply, answered, ran, atEnd, measured, laidAll, endsJob}
-use Rattle.foil_spec.specs.Calls.{andThen, actAll, actRecord, wholeRefusals, reply, ledgerCall, callOn}
+use Rattle.foil_spec.specs.Calls.{Call, step, runRecord, RecordReply, refusedWhole, ranSteps, endMark, Reply}
+use Rattle.foil_spec.specs.Calls.{answered, ran, asReply, endsJob, andThen, actAll, actRecord, wholeRefusals, reply}
+use Rattle.foil_spec.specs.Calls.{ledgerCall, callOn, ledgerRecord, recordOn}
 use Rattle.foil_spec.specs.Sequence.{Begins}
 use Rattle.list_laws.proofs.Tests.{both, clash}
 use Rattle.ledger_laws.proofs.Line.{line}
@@ -23,18 +24,16 @@ use Rattle.ledger_laws.proofs.Lending.{shortNumber, call-short, whole-a
 use Rattle.ledger_laws.proofs.Lending.{by-begins, blind-refusal, blind-answer, taken-on}
 
 -- a reply after which there is no next place, and no strip is told
-abbrev pub Over : Reply → Type 0
-Over (answered a) = Unit {0}
-Over (ran given none) = Unit {0}
-Over (ran given (some n)) = ⊥
-Over atEnd = ⊥
-Over (measured x) = ⊥
-Over (laidAll given) = ⊥
+abbrev pub Over : RecordReply → Type 0
+Over (refusedWhole n) = Unit {0}
+Over (ranSteps given none) = Unit {0}
+Over (ranSteps given (some n)) = ⊥
+Over endMark = ⊥
 
 -- how a record at place 0 goes on lists that hold anything
 pub data Opening (r : Room) (bs : List ℕ) (l : Layout) (m : Lent) : Type 0 where
-  over : (a : Reply) → callOn r (runRecord bs 0) m .answer ≡ a
-      → ledgerCall r (runRecord bs 0) l .answer ≡ a → Over a → Opening r bs l m
+  over : (a : RecordReply) → recordOn r bs 0 m .answer ≡ a → ledgerRecord r bs 0 l .answer ≡ a → Over a
+      → Opening r bs l m
   begins : Begun r (runRecord bs 0) l m → Opening r bs l m
 
 -- the end mark has no board
@@ -53,7 +52,7 @@ module _ {S : Type 0} (act : Step → S → After Answer S) where
   ends-first c cs s k e f = rw (e, f) refl
 
   ends-record : (ss : List Step) (p : ℕ) (s : S) (k : ℕ) → actAll act ss s .answer ≡ refused k ∷ []
-      → endsJob (refused k) ≡ true → actRecord act none false ss p s .answer ≡ ran (refused k ∷ []) none
+      → endsJob (refused k) ≡ true → actRecord act none false ss p s .answer ≡ ranSteps (refused k ∷ []) none
   unfolding actRecord
   ends-record ss p s k e f = rw (e, f) refl
 
@@ -79,7 +78,7 @@ module _ (W H : ℕ) (d : Clearance) (r : Room) (l : Layout) where
 
   accepts : (ss : List Step) (p : ℕ) → refusalOf r false (newFoil W H d) l ≡ none
       → actRecord (ledgerStep r) none false (newFoil W H d ∷ ss) p l .answer
-      ≡ ran (accepted ∷ later ss) (cond (any endsJob (later ss)) none (some p))
+      ≡ ranSteps (accepted ∷ later ss) (cond (any endsJob (later ss)) none (some p))
   unfolding actRecord actAll andThen endsJob
   accepts ss p e = rw (on-ledger-accepted e) refl
 
@@ -88,16 +87,16 @@ module _ (r : Room) (bs : List ℕ) (l : Layout) (m : Lent) (long : short r ≡ 
   refusal = first (wholeRefusals r false bs 0)
 
   call-at-0 : (o : Option ℕ) (e : Bool) → refusal ≡ o → isEnd bs 0 ≡ e
-      → (callOn r (runRecord bs 0) m ≡ actRecord (stepOn r) o e (steps bs 0) (recordEnd bs 0) m)
-      × (ledgerCall r (runRecord bs 0) l ≡ actRecord (ledgerStep r) o e (steps bs 0) (recordEnd bs 0) l)
-  unfolding callOn ledgerCall reply
+      → (recordOn r bs 0 m ≡ actRecord (stepOn r) o e (steps bs 0) (recordEnd bs 0) m)
+      × (ledgerRecord r bs 0 l ≡ actRecord (ledgerStep r) o e (steps bs 0) (recordEnd bs 0) l)
+  unfolding recordOn ledgerRecord
   call-at-0 o e f g = (rw (whole-at-0 r (not (sound m)) bs, f, g) refl, rw (f, g) refl)
 
   refused-whole : (n : ℕ) → refusal ≡ some n → Opening r bs l m
   unfolding actRecord
   refused-whole n e =
       let both-are = call-at-0 (some n) (isEnd bs 0) e refl in
-      over (answered (refused n))
+      over (refusedWhole n)
       (ap (λ a. a .answer) (both-are .0)) (ap (λ a. a .answer) (both-are .1)) tt
 
   module _ (passed : refusal ≡ none) (b : Opens (steps bs 0)) (goes-on : isEnd bs 0 ≡ false) where
@@ -108,7 +107,7 @@ module _ (r : Room) (bs : List ℕ) (l : Layout) (m : Lent) (long : short r ≡ 
     board-refused k e =
         let both-are = call-at-0 none false passed goes-on in
         let f = new-ends (b .W) (b .H) (b .d) r l k e long in
-        over (ran (refused k ∷ []) none)
+        over (ranSteps (refused k ∷ []) none)
         (ap (λ a. a .answer) (both-are .0)
         ∙ ends-record (stepOn r) (steps bs 0) (recordEnd bs 0) m k
         (ap (λ (ss : List Step). actAll (stepOn r) ss m .answer) (b .is)
@@ -163,8 +162,8 @@ module _ (r : Room) (l : Layout) (m : Lent) where
 
   same-opening : (bs : List ℕ) → Opening r bs l m
       → callOn r (runRecord bs 0) m .answer ≡ ledgerCall r (runRecord bs 0) l .answer
-  unfolding shown
-  same-opening bs (over a e f o) = e ∙ sym f
+  unfolding shown callOn ledgerCall reply recordOn ledgerRecord
+  same-opening bs (over a e f o) = ap asReply (e ∙ sym f)
   same-opening bs (begins b) = ap (λ (z : After Reply Lent). z .answer) (b .is)
 
   -- steps are run only on lists that are long enough

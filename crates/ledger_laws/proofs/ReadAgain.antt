@@ -16,11 +16,11 @@ use Rattle.foil_spec.specs.Saving.{twoBytes, boardBytes, entryBytes, jobOf}
 use Rattle.foil_spec.specs.Ledger.{withEntries, tooLong, tooFine, beginningTooFine, Room, short, Answer, refused}
 use Rattle.foil_spec.specs.Ledger.{accepted, numberOf, After}
 use Rattle.foil_spec.specs.Lent.{Lent, store, layoutOk}
-use Rattle.foil_spec.specs.Calls.{runRecord, Reply, ran, atEnd, tooLarge, callOn, answersIn, placeAfter, readFrom}
-use Rattle.foil_spec.specs.Calls.{readJob}
+use Rattle.foil_spec.specs.Calls.{RecordReply, ranSteps, endMark, asReply, tooLarge, recordOn, answersIn, placeAfter}
+use Rattle.foil_spec.specs.Calls.{readFrom, readJob}
 use Rattle.list_laws.proofs.Tests.{clash, both, or-l, or-r}
 use Rattle.list_laws.proofs.Members.{in-left, in-right, of-all, to-all}
-use Rattle.ledger_laws.specs.Saved.{entryReplies, allAccepted, lastPlace, refusal}
+use Rattle.ledger_laws.specs.Saved.{entryReplies, allAccepted, lastPlace, refusal, recordAnswers}
 use Rattle.ledger_laws.proofs.Crossing.{front-uncrossed}
 use Rattle.ledger_laws.proofs.Rules.{of-ok, to-ok}
 use Rattle.ledger_laws.proofs.Line.{new-fine}
@@ -40,39 +40,40 @@ pub ends-last : (l : Layout) → lastPlace 0 (allAccepted l) + 1 ≡ length (job
 unfolding lastPlace allAccepted placeAfter boardBytes twoBytes
 ends-last l = omega (arith, last-place (l .entries) 11, file-size l)
 
-none-refused : (es : List Entry) (at : ℕ) → any refusal (each answersIn (entryReplies at es)) ≡ false
-unfolding entryReplies answersIn refusal numberOf
+none-refused : (es : List Entry) (at : ℕ) → any refusal (each recordAnswers (entryReplies at es)) ≡ false
+unfolding entryReplies asReply answersIn refusal numberOf
 none-refused [] at = refl
 none-refused (e ∷ es) at = none-refused es (at + length (entryBytes e))
 
-pub all-accepted : (l : Layout) → any refusal (each answersIn (allAccepted l)) ≡ false
-unfolding allAccepted answersIn refusal numberOf
+pub all-accepted : (l : Layout) → any refusal (each recordAnswers (allAccepted l)) ≡ false
+unfolding allAccepted asReply answersIn refusal numberOf
 all-accepted l = none-refused (l .entries) (length (boardBytes l))
 
 -- ---- one reply after the other
 
 module _ (r : Room) (bs : List ℕ) where
   read-more : (n at p : ℕ) (m m′ : Lent) (given : List Answer)
-      → callOn r (runRecord bs at) m ≡ record { answer = ran given (some p); state = m′ }
-      → readFrom (callOn r) bs (suc n) (some at) m
+      → recordOn r bs at m ≡ record { answer = ranSteps given (some p); state = m′ }
+      → readFrom (recordOn r) bs (suc n) (some at) m
       ≡ record {
-        answer = ran given (some p) ∷ readFrom (callOn r) bs n (some p) m′ .answer;
-        state = readFrom (callOn r) bs n (some p) m′ .state;
+        answer = ranSteps given (some p) ∷ readFrom (recordOn r) bs n (some p) m′ .answer;
+        state = readFrom (recordOn r) bs n (some p) m′ .state;
       }
   unfolding readFrom placeAfter
   read-more n at p m m′ given e = rw e refl
 
-  read-none : (n : ℕ) (m : Lent) → readFrom (callOn r) bs n none m ≡ record { answer = []; state = m }
+  read-none : (n : ℕ) (m : Lent) → readFrom (recordOn r) bs n none m ≡ record { answer = []; state = m }
   unfolding readFrom
   read-none zero m = refl
   read-none (suc n) m = refl
 
-  read-mark : (n at : ℕ) (m : Lent) → callOn r (runRecord bs at) m ≡ record { answer = atEnd; state = m }
-      → readFrom (callOn r) bs (suc n) (some at) m ≡ record { answer = atEnd ∷ []; state = m }
+  read-mark : (n at : ℕ) (m : Lent) → recordOn r bs at m ≡ record { answer = endMark; state = m }
+      → readFrom (recordOn r) bs (suc n) (some at) m ≡ record { answer = endMark ∷ []; state = m }
   unfolding readFrom placeAfter
   read-mark n at m e =
       rw e
-      (ap (λ (a : After (List Reply) Lent). record { answer = atEnd ∷ a .answer; state = a .state }) (read-none n m))
+      (ap (λ (a : After (List RecordReply) Lent). record { answer = endMark ∷ a .answer; state = a .state })
+      (read-none n m))
 
 -- each entry has a byte at least
 entries-count : (es : List Entry) → length es ≤ length (each entryBytes es)
@@ -150,15 +151,15 @@ module _ (r : Room) (long : short r ≡ false) (l : Layout) (g : layoutOk l ≡ 
         }
 
     stage-call : (t : Bool) → tooFine (part (front ++ e ∷ [])) ≡ t
-        → callOn r (runRecord (jobOf l) (length done)) (store (part front) m)
+        → recordOn r (jobOf l) (length done) (store (part front) m)
         ≡ record {
-          answer = ran (saidOf t ∷ []) (some (length done + length (entryBytes e)));
+          answer = ranSteps (saidOf t ∷ []) (some (length done + length (entryBytes e)));
           state = store (leftOf t (part front) e) m;
         }
     stage-call t fine =
         let is : Entry → Bool = entryOk (l .width) (l .height) in
         let rest : List ℕ = each entryBytes es ++ (0 ∷ []) in
-        ap (λ (bs : List ℕ). callOn r (runRecord bs (length done)) (store (part front) m)) bytes-here
+        ap (λ (bs : List ℕ). recordOn r bs (length done) (store (part front) m)) bytes-here
         ∙ entry-call r long m done rest (part front) e t (s .later) (stage-ok done front (e ∷ es) s)
         (of-all is e (front ++ e ∷ es) (subst (λ (u : List Entry). all is u ≡ true) (s .entries) (of-ok l g .entries))
         (in-right e front (e ∷ es) (inl refl)))
@@ -187,15 +188,15 @@ module _ (r : Room) (long : short r ≡ false) (l : Layout) (g : layoutOk l ≡ 
 
     -- what is read after an entry that is accepted
     read-on : (n : ℕ) → tooFine (part (front ++ e ∷ [])) ≡ false
-        → readFrom (callOn r) (jobOf l) (suc n) (some (length done)) (store (part front) m)
+        → readFrom (recordOn r) (jobOf l) (suc n) (some (length done)) (store (part front) m)
         ≡ record {
           answer =
-              ran (accepted ∷ []) (some (length done + length (entryBytes e)))
-              ∷ readFrom (callOn r) (jobOf l) n (some (length (done ++ entryBytes e)))
+              ranSteps (accepted ∷ []) (some (length done + length (entryBytes e)))
+              ∷ readFrom (recordOn r) (jobOf l) n (some (length (done ++ entryBytes e)))
               (store (part (front ++ e ∷ [])) m)
               .answer;
           state =
-              readFrom (callOn r) (jobOf l) n (some (length (done ++ entryBytes e)))
+              readFrom (recordOn r) (jobOf l) n (some (length (done ++ entryBytes e)))
               (store (part (front ++ e ∷ [])) m) .state;
         }
     read-on n fine =
@@ -206,31 +207,31 @@ module _ (r : Room) (long : short r ≡ false) (l : Layout) (g : layoutOk l ≡ 
   -- every beginning is fine
   read-all : (es front : List Entry) (done : List ℕ) (n : ℕ) → Stage done front es → length es ≤ n
       → any over (range (suc (length front)) (length es)) ≡ false
-      → readFrom (callOn r) (jobOf l) (suc n) (some (length done)) (store (part front) m)
+      → readFrom (recordOn r) (jobOf l) (suc n) (some (length done)) (store (part front) m)
       ≡ record { answer = entryReplies (length done) es; state = store l m }
   unfolding entryReplies
   read-all [] front done n s h fine =
       let whole : front ≡ l .entries = sym (s .entries ∙ append-nil front) in
       read-mark r (jobOf l) n (length done) (store (part front) m)
-      (ap (λ (bs : List ℕ). callOn r (runRecord bs (length done)) (store (part front) m)) (s .bytes)
+      (ap (λ (bs : List ℕ). recordOn r bs (length done) (store (part front) m)) (s .bytes)
       ∙ mark-call r long m done (part front) (s .later) (stage-ok done front [] s)
       (subst (λ (bs : List ℕ). tooLarge bs ≡ false) (s .bytes) not-large))
-      ∙ ap (λ (u : List Entry). record { answer = atEnd ∷ []; state = store (part u) m }) whole
+      ∙ ap (λ (u : List Entry). record { answer = endMark ∷ []; state = store (part u) m }) whole
   read-all (e ∷ es) front done zero s h fine = absurd (omega arith)
   read-all (e ∷ es) front done (suc n) s h fine =
       let later : List ℕ = done ++ entryBytes e in
       let here = sym (over-here done front es e s) ∙ or-l (over (suc (length front))) _ fine in
       let longer = over-later done front es e s false (or-r (over (suc (length front))) _ fine) in
       read-on done front es e s (suc n) here
-      ∙ ap (λ (a : After (List Reply) Lent).
+      ∙ ap (λ (a : After (List RecordReply) Lent).
       record {
-        answer = ran (accepted ∷ []) (some (length done + length (entryBytes e))) ∷ a .answer;
+        answer = ranSteps (accepted ∷ []) (some (length done + length (entryBytes e))) ∷ a .answer;
         state = a .state;
       })
       (read-all es (front ++ e ∷ []) later n (stage-next done front es e s here) (omega arith) longer)
       ∙ ap (λ (p : ℕ).
       record {
-        answer = ran (accepted ∷ []) (some (length done + length (entryBytes e))) ∷ entryReplies p es;
+        answer = ranSteps (accepted ∷ []) (some (length done + length (entryBytes e))) ∷ entryReplies p es;
         state = store l m;
       })
       (length-append done (entryBytes e))
@@ -239,9 +240,9 @@ module _ (r : Room) (long : short r ≡ false) (l : Layout) (g : layoutOk l ≡ 
   read-11 : (es front : List Entry) (done : List ℕ) (n : ℕ) → Stage done front es → length es ≤ n
       → any over (range (suc (length front)) (length es)) ≡ true
       → any refusal
-      (each answersIn (readFrom (callOn r) (jobOf l) (suc n) (some (length done)) (store (part front) m) .answer))
+      (each recordAnswers (readFrom (recordOn r) (jobOf l) (suc n) (some (length done)) (store (part front) m) .answer))
       ≡ true
-  unfolding answersIn refusal numberOf
+  unfolding asReply answersIn refusal numberOf
   read-11 [] front done n s h fine = clash fine refl
   read-11 (e ∷ es) front done zero s h fine = absurd (omega arith)
   read-11 (e ∷ es) front done (suc n) s h fine =
@@ -271,17 +272,17 @@ module _ (r : Room) (long : short r ≡ false) (l : Layout) (g : layoutOk l ≡ 
   abbrev more : ℕ
   more = length (each entryBytes (l .entries)) + 10
 
-  after-board : readJob (callOn r) (jobOf l) m
+  after-board : readJob (recordOn r) (jobOf l) m
       ≡ record {
         answer =
-            ran (accepted ∷ []) (some (length (boardBytes l)))
-            ∷ readFrom (callOn r) (jobOf l) (suc more) (some (length (boardBytes l))) (store (part []) m) .answer;
-        state = readFrom (callOn r) (jobOf l) (suc more) (some (length (boardBytes l))) (store (part []) m) .state;
+            ranSteps (accepted ∷ []) (some (length (boardBytes l)))
+            ∷ readFrom (recordOn r) (jobOf l) (suc more) (some (length (boardBytes l))) (store (part []) m) .answer;
+        state = readFrom (recordOn r) (jobOf l) (suc more) (some (length (boardBytes l))) (store (part []) m) .state;
       }
   unfolding readJob jobOf
   after-board =
       let count : length (jobOf l) ≡ suc (suc more) = omega (arith, file-size l) in
-      ap (λ (n : ℕ). readFrom (callOn r) (jobOf l) n (some 0) m) count
+      ap (λ (n : ℕ). readFrom (recordOn r) (jobOf l) n (some 0) m) count
       ∙ read-more r (jobOf l) (suc more) 0 (length (boardBytes l)) m (store (part []) m) (accepted ∷ [])
       (board-call r long m (each entryBytes (l .entries) ++ (0 ∷ [])) l g not-large)
 
@@ -291,17 +292,17 @@ module _ (r : Room) (long : short r ≡ false) (l : Layout) (g : layoutOk l ≡ 
   from-one = rw (start .fine) refl
 
   pub reads-all : beginningTooFine l ≡ false
-      → readJob (callOn r) (jobOf l) m ≡ record { answer = allAccepted l; state = store l m }
+      → readJob (recordOn r) (jobOf l) m ≡ record { answer = allAccepted l; state = store l m }
   unfolding allAccepted
   reads-all b =
       after-board
-      ∙ ap (λ (a : After (List Reply) Lent).
-      record { answer = ran (accepted ∷ []) (some (length (boardBytes l))) ∷ a .answer; state = a .state })
+      ∙ ap (λ (a : After (List RecordReply) Lent).
+      record { answer = ranSteps (accepted ∷ []) (some (length (boardBytes l))) ∷ a .answer; state = a .state })
       (read-all (l .entries) [] (boardBytes l) more start (omega (arith, entries-count (l .entries))) (from-one ∙ b))
 
   -- a step of the file is refused exactly when some beginning is too fine
-  pub refuses : any refusal (each answersIn (readJob (callOn r) (jobOf l) m .answer)) ≡ beginningTooFine l
-  unfolding answersIn refusal numberOf
+  pub refuses : any refusal (each recordAnswers (readJob (recordOn r) (jobOf l) m .answer)) ≡ beginningTooFine l
+  unfolding asReply answersIn refusal numberOf
   refuses =
       both (beginningTooFine l)
       (λ b.

@@ -14,7 +14,7 @@ use Rattle.foil_spec.specs.Foil.{Entry, entry, entryNumbers, pen, Layout}
 use Rattle.foil_spec.specs.Saving.{twoBytes, boardBytes, patchBytes, legBytes, entryBytes}
 use Rattle.foil_spec.specs.Ledger.{byPen, Step, newFoil, draw, putLeg, first}
 use Rattle.foil_spec.specs.Job.{number, fieldCount, mapBits, mapByte, has, fieldsAt, recordEnd, field, stepAt, stepsAt}
-use Rattle.foil_spec.specs.Job.{steps, isEnd, recordChecks}
+use Rattle.foil_spec.specs.Job.{asStep, recordSteps, steps, isEnd, recordChecks}
 
 -- ---- a record after other bytes
 
@@ -57,7 +57,7 @@ module _ (done bs : List ℕ) where
   end-moved = fields-moved mapBits
 
   steps-moved : steps (done ++ bs) (length done) ≡ steps bs 0
-  unfolding steps stepsAt stepAt
+  unfolding steps recordSteps stepsAt stepAt asStep
   steps-moved = simp (has-moved, field-moved)
 
 -- ---- what the bytes of a board, a patch and a leg are read as
@@ -80,7 +80,8 @@ module _ (rest : List ℕ) where
   pub board-begins : (l : Layout)
       → OneStep (boardBytes l ++ rest) true (newFoil (l .width) (l .height) (byPen (l .pen)))
       (length (boardBytes l))
-  unfolding boardBytes twoBytes mapByte has isEnd steps stepsAt stepAt fieldsAt field number recordEnd fieldCount
+  unfolding boardBytes twoBytes mapByte has isEnd steps recordSteps stepsAt stepAt asStep fieldsAt field number
+      recordEnd fieldCount
   board-begins l =
       record {
         known = omega arith;
@@ -98,7 +99,8 @@ module _ (rest : List ℕ) where
 
   patch-begins : (e : Entry)
       → OneStep (patchBytes e ++ rest) false (draw (e .x0) (e .y0) (e .x1) (e .y1)) (length (patchBytes e))
-  unfolding patchBytes twoBytes mapByte has isEnd steps stepsAt stepAt fieldsAt field number recordEnd fieldCount
+  unfolding patchBytes twoBytes mapByte has isEnd steps recordSteps stepsAt stepAt asStep fieldsAt field number
+      recordEnd fieldCount
   patch-begins e =
       record {
         known = omega arith;
@@ -112,8 +114,8 @@ module _ (rest : List ℕ) where
       }
 
   leg-begins : (e : Entry) → OneStep (legBytes e ++ rest) false (putLeg e) (length (legBytes e))
-  unfolding legBytes entryNumbers twoBytes mapByte has isEnd steps stepsAt stepAt fieldsAt field number recordEnd
-      fieldCount
+  unfolding legBytes entryNumbers twoBytes mapByte has isEnd steps recordSteps stepsAt stepAt asStep fieldsAt field
+      number recordEnd fieldCount
   leg-begins e =
       record {
         known = omega arith;

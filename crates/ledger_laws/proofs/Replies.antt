@@ -2,7 +2,8 @@
 -- it, and keeps Q, so does every call, and every job file. What every step keeps, every call keeps: each state is then
 -- shown by itself.
 use Prim.Native.Nat.{ℕ, zero, suc, _-_}
-use mathlib.Core.Path.{_≡_, refl}
+use native.Mathlib.Omega.{arith}
+use mathlib.Core.Path.{_≡_, refl, ap}
 use mathlib.Core.Bool.{Bool, true, false}
 use mathlib.Core.List.{List, [], _∷_}
 use mathlib.Core.Option.{Option, none, some}
@@ -10,8 +11,9 @@ use lib.ListN.{length}
 use Rattle.foil_spec.specs.Foil.{Layout}
 use Rattle.foil_spec.specs.Ledger.{Room, withOutput, Step, Answer, After}
 use Rattle.foil_spec.specs.Lent.{numbersOut, roomLeft}
-use Rattle.foil_spec.specs.Calls.{Call, step, runRecord, ohms, layList, Reply, endsJob, andThen, actAll, actRecord}
-use Rattle.foil_spec.specs.Calls.{inFront, actEach, actList, reply, placeAfter, readFrom, readJob}
+use Rattle.foil_spec.specs.Calls.{Call, step, runRecord, ohms, layList, RecordReply, refusedWhole, ranSteps, endMark}
+use Rattle.foil_spec.specs.Calls.{Reply, asReply, replied, endsJob, andThen, actAll, actRecord, inFront}
+use Rattle.foil_spec.specs.Calls.{actEach, actList, reply, placeAfter, readFrom, readJob}
 use Rattle.list_laws.proofs.Tests.{both}
 
 -- an answer, and the state after it as `put` gives it
@@ -70,6 +72,12 @@ module _ {S T : Type 0} (put : T → S) (Q : T → Type 0) where
       record-shown none true ss p x g = unfold actRecord in unchanged _ x g
       record-shown none false ss p x g = ran-shown ss p x (put x) (steps-shown ss x g)
 
+  -- what it comes to, as the reply to its call
+  replied-shown : (a : After RecordReply T) (b : After RecordReply S) → Shown put Q a b
+      → Shown put Q (replied a) (replied b)
+  unfolding shownBy
+  replied-shown a b h = record { is = ap (λ (x : After RecordReply S). replied x) (h .is); kept = h .kept }
+
   -- ---- every call, in the room r with any number of output
 
   module _ (tell : Room → Step → T → After Answer T) (act : Room → Step → S → After Answer S) (r : Room)
@@ -99,28 +107,49 @@ module _ {S T : Type 0} (put : T → S) (Q : T → Type 0) where
     reply-shown b (step s) l x g =
         let h = shows (r .output) s x g in
         rw (h .is) (unchanged _ (tell r s x .state) (h .kept))
-    reply-shown b (runRecord bs at) l x g = record-shown (tell r) (act r) (shows (r .output)) _ _ _ _ x g
+    reply-shown b (runRecord bs at) l x g =
+        replied-shown _ _ (record-shown (tell r) (act r) (shows (r .output)) _ _ _ _ x g)
     reply-shown b (ohms net i) l x g = unchanged _ x g
     reply-shown b (layList ws n) l x g = list-shown _ _ x g
 
   -- ---- every job file
 
-  module _ (tell : Call → T → After Reply T) (act : Call → S → After Reply S)
-      (shows : (c : Call) (x : T) → Q x → Shown put Q (tell c x) (act c (put x))) where
+  module _ (tell : List ℕ → ℕ → T → After RecordReply T) (act : List ℕ → ℕ → S → After RecordReply S)
+      (shows : (bs : List ℕ) (at : ℕ) (x : T) → Q x → Shown put Q (tell bs at x) (act bs at (put x))) where
     read-from : (bs : List ℕ) (n : ℕ) (place : Option ℕ) (x : T) → Q x
         → Shown put Q (readFrom tell bs n place x) (readFrom act bs n place (put x))
     unfolding readFrom shownBy
     read-from bs zero place x g = unchanged [] x g
     read-from bs (suc n) none x g = unchanged [] x g
     read-from bs (suc n) (some at) x g =
-        let a : After Reply T = tell (runRecord bs at) x in
-        let h = shows (runRecord bs at) x g in
+        let a : After RecordReply T = tell bs at x in
+        let h = shows bs at x g in
         let k = read-from bs n (placeAfter (a .answer)) (a .state) (h .kept) in
         rw (h .is, k .is) (unchanged _ _ (k .kept))
 
     pub read-shown : (bs : List ℕ) (x : T) → Q x → Shown put Q (readJob tell bs x) (readJob act bs (put x))
     unfolding readJob
     read-shown bs x g = read-from bs (length bs) (some 0) x g
+
+-- ---- what a record comes to, by the reply to its call
+
+pub as-reply-is : (a b : RecordReply) → asReply a ≡ asReply b → a ≡ b
+unfolding asReply
+as-reply-is (refusedWhole n) (refusedWhole k) e = cc
+as-reply-is (refusedWhole n) (ranSteps given p) e = absurd (let z : _≡_ {A = ℕ} 0 1 = cc in omega arith)
+as-reply-is (refusedWhole n) endMark e = absurd (let z : _≡_ {A = ℕ} 0 1 = cc in omega arith)
+as-reply-is (ranSteps given p) (refusedWhole n) e = absurd (let z : _≡_ {A = ℕ} 0 1 = cc in omega arith)
+as-reply-is (ranSteps given p) (ranSteps given′ p′) e = cc
+as-reply-is (ranSteps given p) endMark e = absurd (let z : _≡_ {A = ℕ} 0 1 = cc in omega arith)
+as-reply-is endMark (refusedWhole n) e = absurd (let z : _≡_ {A = ℕ} 0 1 = cc in omega arith)
+as-reply-is endMark (ranSteps given p) e = absurd (let z : _≡_ {A = ℕ} 0 1 = cc in omega arith)
+as-reply-is endMark endMark e = refl
+
+pub of-replied : {S : Type 0} (a b : After RecordReply S) → replied a ≡ replied b → a ≡ b
+of-replied a b e =
+    let answers = as-reply-is (a .answer) (b .answer) (ap (λ (x : After Reply _). x .answer) e) in
+    let states : a .state ≡ b .state = ap (λ (x : After Reply _). x .state) e in
+    λ i. record { answer = answers i; state = states i }
 
 -- ---- what every step keeps
 

@@ -14,7 +14,7 @@ use Rattle.foil_spec.specs.Saving.{jobOf}
 use Rattle.foil_spec.specs.Ledger.{stripsOf, beginningTooFine, Room, short, save, refused, wrote, says, first, reads}
 use Rattle.foil_spec.specs.Ledger.{refusals, After, settle, refusalOf}
 use Rattle.foil_spec.specs.Lent.{Lent, stripNumbers, written, store, layoutOf, held, layoutOk, sound, stepOn}
-use Rattle.foil_spec.specs.Calls.{Reply, callOn, readJob}
+use Rattle.foil_spec.specs.Calls.{RecordReply, recordOn, readJob}
 use Rattle.list_laws.proofs.Tests.{both, clash, not-ff}
 use Rattle.ledger_laws.specs.Line.{but}
 use Rattle.ledger_laws.specs.Saved.{lastPlace, SameFoil, ReadsBack, RefusesUnreadable}
@@ -75,16 +75,16 @@ reads-back r r′ m m′ bs e long fits =
     let w = wrote-file r m bs e in
     let l : Layout = held m in
     let k = of-sound m (w .unbroken) in
-    let read : readJob (callOn r′) bs m′ ≡ _ =
-    ap (λ (xs : List ℕ). readJob (callOn r′) xs m′) (w .bytes)
+    let read : readJob (recordOn r′) bs m′ ≡ _ =
+    ap (λ (xs : List ℕ). readJob (recordOn r′) xs m′) (w .bytes)
     ∙ reads-all r′ long l (k .kept) (omega (arith, fits, counted m)) m′ (w .beginnings) in
-    let replies = ap (λ (a : After (List Reply) Lent). a .answer) read in
+    let replies = ap (λ (a : After (List RecordReply) Lent). a .answer) read in
     record {
       replies = replies;
-      ends = ap (λ (rs : List Reply). lastPlace 0 rs + 1) replies ∙ ends-last l ∙ sym (ap length (w .bytes));
+      ends = ap (λ (rs : List RecordReply). lastPlace 0 rs + 1) replies ∙ ends-last l ∙ sym (ap length (w .bytes));
       small = omega (arith, ap length (w .bytes), file-small l (omega (arith, k .few, counted m)));
       same =
-          subst (λ (x : Lent). SameFoil m x) (sym (ap (λ (a : After (List Reply) Lent). a .state) read))
+          subst (λ (x : Lent). SameFoil m x) (sym (ap (λ (a : After (List RecordReply) Lent). a .state) read))
           (subst (λ (x : Lent). SameFoil x (store l m′)) (sound-store-is m k) (same-stored l m m′ (k .kept)));
     }
 

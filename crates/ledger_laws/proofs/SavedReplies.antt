@@ -15,13 +15,13 @@ use Rattle.foil_spec.specs.Ledger.{withEntries, tooLong, tooFine, next, says, f
 use Rattle.foil_spec.specs.Ledger.{byPen, Step, newFoil, draw, putLeg, Answer, refused, accepted, After, settle}
 use Rattle.foil_spec.specs.Ledger.{ledgerStep, penOf, clearanceRefusal}
 use Rattle.foil_spec.specs.Lent.{Lent, store, layoutOk}
-use Rattle.foil_spec.specs.Calls.{runRecord, Reply, ran, atEnd, endsJob, andThen, actAll, actRecord, tooLarge}
-use Rattle.foil_spec.specs.Calls.{wholeRefusals, reply, ledgerCall, callOn}
+use Rattle.foil_spec.specs.Calls.{runRecord, RecordReply, ranSteps, endMark, endsJob, andThen, actAll, actRecord}
+use Rattle.foil_spec.specs.Calls.{tooLarge, wholeRefusals, ledgerRecord, recordOn}
 use Rattle.list_laws.proofs.Tests.{both, and-l, and-r, parts}
 use Rattle.ledger_laws.proofs.Crossing.{last-over, last-under}
 use Rattle.ledger_laws.proofs.Rules.{of-ok}
 use Rattle.ledger_laws.proofs.Refusals.{own-refused}
-use Rattle.ledger_laws.proofs.Steps.{shown, call-is}
+use Rattle.ledger_laws.proofs.Steps.{shown, call-is, record-as}
 use Rattle.ledger_laws.proofs.Lending.{begun-record}
 use Rattle.ledger_laws.proofs.RecordBytes.{OneStep, stepOf, board-begins, entry-begins, passes-there}
 use Rattle.ledger_laws.proofs.RecordBytes.{goes-on-there, does-there, ends-there, mark-passes, mark-there}
@@ -126,9 +126,9 @@ module _ (r : Room) (long : short r ≡ false) where
   one-step : (done bs : List ℕ) (board : Bool) (s : Step) (size : ℕ) → OneStep bs board s size
       → (l l′ : Layout) (a : Answer) → tooLarge (done ++ bs) ≡ false → xor (eqb (length done) 0) board ≡ false
       → ledgerStep r s l ≡ record { answer = a; state = l′ } → endsJob a ≡ false
-      → ledgerCall r (runRecord (done ++ bs) (length done)) l
-      ≡ record { answer = ran (a ∷ []) (some (length done + size)); state = l′ }
-  unfolding ledgerCall reply wholeRefusals afterLent first actRecord actAll andThen
+      → ledgerRecord r (done ++ bs) (length done) l
+      ≡ record { answer = ranSteps (a ∷ []) (some (length done + size)); state = l′ }
+  unfolding ledgerRecord wholeRefusals afterLent first actRecord actAll andThen
   one-step done bs board s size b l l′ a large right e goes =
       rw (
         large,
@@ -142,7 +142,7 @@ module _ (r : Room) (long : short r ≡ false) where
       )
       (ap
       (λ (b : Bool).
-      record { answer = ran (a ∷ []) (cond (b || false) none (some (length done + size))); state = l′ }) goes)
+      record { answer = ranSteps (a ∷ []) (cond (b || false) none (some (length done + size))); state = l′ }) goes)
 
   ends-not : (t : Bool) → endsJob (saidOf t) ≡ false
   unfolding endsJob
@@ -154,30 +154,35 @@ module _ (r : Room) (long : short r ≡ false) where
   module _ (m : Lent) where
     -- the board's record on lists that hold anything
     pub board-call : (rest : List ℕ) (l : Layout) → layoutOk l ≡ true → tooLarge (boardBytes l ++ rest) ≡ false
-        → callOn r (runRecord (boardBytes l ++ rest) 0) m
-        ≡ record { answer = ran (accepted ∷ []) (some (length (boardBytes l))); state = store (withEntries l []) m }
+        → recordOn r (boardBytes l ++ rest) 0 m
+        ≡ record {
+          answer = ranSteps (accepted ∷ []) (some (length (boardBytes l)));
+          state = store (withEntries l []) m;
+        }
     unfolding shown boardBytes twoBytes
     board-call rest l g large =
         let bs : List ℕ = boardBytes l ++ rest in
         let new = one-step [] bs true (newFoil (l .width) (l .height) (byPen (l .pen))) (length (boardBytes l))
         (board-begins rest l) l (withEntries l []) accepted large (unfold xor in refl) (new-step l g)
         (unfold endsJob in refl) in
-        begun-record r bs [] (some (length (boardBytes l))) l m (ap (λ (a : After Reply Layout). a .answer) new) .is
+        record-as r bs 0 l m m
+        (begun-record r bs [] (some (length (boardBytes l))) l m (ap (λ (a : After RecordReply Layout). a .answer) new)
+        .is)
         ∙ ap (shown m) new
 
     -- an entry's record where a layout is stored
     pub entry-call : (done rest : List ℕ) (l : Layout) (e : Entry) (t : Bool) → 0 < length done → layoutOk l ≡ true
         → entryOk (l .width) (l .height) e ≡ true → Clear l e → tooLong r (plus l e) ≡ false → tooFine (plus l e) ≡ t
         → tooLarge (done ++ (entryBytes e ++ rest)) ≡ false
-        → callOn r (runRecord (done ++ (entryBytes e ++ rest)) (length done)) (store l m)
+        → recordOn r (done ++ (entryBytes e ++ rest)) (length done) (store l m)
         ≡ record {
-          answer = ran (saidOf t ∷ []) (some (length done + length (entryBytes e)));
+          answer = ranSteps (saidOf t ∷ []) (some (length done + length (entryBytes e)));
           state = store (leftOf t l e) m;
         }
     unfolding shown xor
     entry-call done rest l e t later g ok clear few fine large =
         let bs : List ℕ = entryBytes e ++ rest in
-        call-is r (runRecord (done ++ bs) (length done)) l m g
+        record-as r (done ++ bs) (length done) l m (store l m) (call-is r (runRecord (done ++ bs) (length done)) l m g)
         ∙ ap (shown m)
         (one-step done bs false (stepOf e) (length (entryBytes e)) (entry-begins e rest) l (leftOf t l e)
         (saidOf t) large (rw (ne-eqb (length done) 0 (λ z. omega arith)) refl)
@@ -186,9 +191,9 @@ module _ (r : Room) (long : short r ≡ false) where
     -- the end mark there
     pub mark-call : (done : List ℕ) (l : Layout) → 0 < length done → layoutOk l ≡ true
         → tooLarge (done ++ (0 ∷ [])) ≡ false
-        → callOn r (runRecord (done ++ (0 ∷ [])) (length done)) (store l m)
-        ≡ record { answer = atEnd; state = store l m }
-    unfolding shown ledgerCall reply wholeRefusals afterLent first actRecord
+        → recordOn r (done ++ (0 ∷ [])) (length done) (store l m) ≡ record { answer = endMark; state = store l m }
+    unfolding shown ledgerRecord wholeRefusals afterLent first actRecord
     mark-call done l later g large =
-        call-is r (runRecord (done ++ (0 ∷ [])) (length done)) l m g
+        record-as r (done ++ (0 ∷ [])) (length done) l m (store l m)
+        (call-is r (runRecord (done ++ (0 ∷ [])) (length done)) l m g)
         ∙ ap (shown m) (rw (large, long, mark-passes done later, mark-there done later) refl)

@@ -2,13 +2,14 @@
 use Prim.Native.Nat.{ℕ}
 use mathlib.Core.Path.{_≡_, refl, ap}
 use mathlib.Core.Bool.{true, false}
+use mathlib.Core.List.{List}
 use mathlib.Core.Option.{Option, none, some}
 use Rattle.foil_spec.specs.Foil.{Layout}
 use Rattle.foil_spec.specs.Ledger.{Room, withOutput, Step, Answer, says, next, After, settle, refusalOf, ledgerStep}
 use Rattle.foil_spec.specs.Lent.{Lent, store, layoutOk, stepOn}
-use Rattle.foil_spec.specs.Calls.{Call, ledgerCall, callOn}
+use Rattle.foil_spec.specs.Calls.{Call, runRecord, reply, ledgerCall, callOn, ledgerRecord, recordOn}
 use Rattle.ledger_laws.proofs.Stored.{held-store, store-again, sound-store}
-use Rattle.ledger_laws.proofs.Replies.{shownBy, Shown, reply-shown}
+use Rattle.ledger_laws.proofs.Replies.{shownBy, Shown, reply-shown, of-replied}
 use Rattle.ledger_laws.proofs.Kept.{step-kept}
 
 -- what the ledger answers and holds, stored in what is lent
@@ -47,3 +48,10 @@ call-is r c l m g =
     rw (held-store l m, sound-store l m g)
     (reply-shown (λ (x : Layout). store x m) (λ (x : Layout). layoutOk x ≡ true) ledgerStep stepOn r
     (λ n s x. step-shown (withOutput r n) s x m) false c l l g .is)
+
+-- a record goes as on the ledger where its call does
+pub record-as : (r : Room) (bs : List ℕ) (at : ℕ) (l : Layout) (m n : Lent)
+    → callOn r (runRecord bs at) n ≡ shown m (ledgerCall r (runRecord bs at) l)
+    → recordOn r bs at n ≡ shown m (ledgerRecord r bs at l)
+unfolding callOn ledgerCall reply recordOn ledgerRecord shown
+record-as r bs at l m n e = of-replied (recordOn r bs at n) (shown m (ledgerRecord r bs at l)) e

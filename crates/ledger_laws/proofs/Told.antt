@@ -11,8 +11,8 @@ use Rattle.foil_spec.specs.Ledger.{Room, Step, Answer}
 use Rattle.foil_spec.specs.Lent.{Lent, stepOn}
 use Rattle.foil_spec.specs.Job.{steps}
 use Rattle.foil_spec.specs.Wishes.{wishes}
-use Rattle.foil_spec.specs.Calls.{Call, step, runRecord, ohms, layList, ran, laidAll, ohmsReply, endsJob, andThen}
-use Rattle.foil_spec.specs.Calls.{actAll, actRecord, inFront, actEach, actList, reply, callOn, answersIn}
+use Rattle.foil_spec.specs.Calls.{Call, step, runRecord, ohms, layList, ran, laidAll, asReply, ohmsReply, endsJob}
+use Rattle.foil_spec.specs.Calls.{andThen, actAll, actRecord, inFront, actEach, actList, reply, callOn, answersIn}
 use Rattle.foil_spec.specs.Sequence.{Lending, front, roomFor, lend}
 use Rattle.list_laws.proofs.Tests.{both}
 use Rattle.ledger_laws.specs.Moments.{momentOf, momentsOf, momentsEach, stepsRun, isList, momentsBy}
@@ -49,11 +49,12 @@ module _ (c : Lending) (m : Lent) where
     of-step s = both (endsJob (stepOn r s n .answer)) (λ t. rw t refl) (λ t. rw t refl)
 
     of-record : (o : Option ℕ) (e : Bool) (bs : List ℕ) (at p : ℕ) (given : List Answer) (place : Option ℕ)
-        → actRecord (stepOn r) o e (steps bs at) p n .answer ≡ ran given place
+        → asReply (actRecord (stepOn r) o e (steps bs at) p n .answer) ≡ ran given place
         → answersAt
-        (momentsOf c m (stepsRun (runRecord bs at) (actRecord (stepOn r) o e (steps bs at) p n .answer)) n out l)
+        (momentsOf c m (stepsRun (runRecord bs at) (asReply (actRecord (stepOn r) o e (steps bs at) p n .answer))) n out
+        l)
         ≡ given
-    unfolding actRecord stepsRun
+    unfolding actRecord asReply stepsRun
     of-record (some j) e bs at p given place h = absurd (let z : _≡_ {A = ℕ} 0 1 = cc in omega arith)
     of-record none true bs at p given place h = absurd (let z : _≡_ {A = ℕ} 0 1 = cc in omega arith)
     of-record none false bs at p given place h =

@@ -9,7 +9,7 @@ use lib.ListN.{length}
 use Rattle.foil_spec.specs.Lists.{all}
 use Rattle.foil_spec.specs.Foil.{Entry, Pen, pen, Layout, sizeOk, blocks, reachRule, nearEdge, freeBy, free}
 use Rattle.foil_spec.specs.Ledger.{Room, byPen, byReach, Step, newFoil, next, refused, Refusal, _⇒_, refusals}
-use Rattle.foil_spec.specs.Job.{mapByte, has, fieldsAt, recordEnd, field, stepAt, isEnd, recordChecks}
+use Rattle.foil_spec.specs.Job.{boardStep, mapByte, has, fieldsAt, recordEnd, field, stepAt, isEnd, recordChecks}
 use Rattle.foil_spec.specs.Calls.{endsJob}
 use Rattle.ledger_laws.specs.Line.{ownNumbers}
 use Rattle.ledger_laws.specs.Numbers.{among}
@@ -29,7 +29,7 @@ oldChecks bs at =
 pub record ReadAsBefore (bs : List ℕ) (at : ℕ) : Type 0 where
   pub checks : recordChecks bs at ≡ oldChecks bs at
   pub ends : recordEnd bs at ≡ fieldsAt bs at 5
-  pub board : stepAt bs at 0 ≡ newFoil (field bs at 0 0) (field bs at 0 1) (byReach (field bs at 0 2))
+  pub board : stepAt bs at 0 ≡ boardStep (field bs at 0 0) (field bs at 0 1) (byReach (field bs at 0 2))
 
 -- so is every record without bit 5
 abbrev pub OldRecords : Type 0

@@ -11,13 +11,13 @@ use Rattle.foil_spec.specs.Ledger.{stripsOf, pathOf, noPath, cornersOf, leg, le
 use Rattle.foil_spec.specs.Ledger.{cornerRoom, tooLong, tooFine, next, says, first, reads, penOf, clearanceRefusal}
 use Rattle.foil_spec.specs.Ledger.{refusals, afterLent, settle, refusalOf, numberOf, ledgerStep}
 use Rattle.foil_spec.specs.Job.{jobRoom, number, fieldCount, mapByte, has, fieldsAt, recordEnd, field, stepAt, stepsAt}
-use Rattle.foil_spec.specs.Job.{steps, isEnd, recordChecks}
-use Rattle.foil_spec.specs.Calls.{endsJob, andThen, actAll, actRecord, tooLarge, wholeRefusals, reply, ledgerCall}
+use Rattle.foil_spec.specs.Job.{asStep, recordSteps, steps, isEnd, recordChecks}
+use Rattle.foil_spec.specs.Calls.{endsJob, andThen, actAll, actRecord, tooLarge, wholeRefusals, ledgerRecord}
 use Rattle.foil_spec.specs.Starred.{jobBytes, crossingBytes}
 use Rattle.foil_spec.specs.Text.{digitsIn, decimal}
 use Rattle.lines.specs.Lines.{item, cornerItem, boardLine, patchLine, trackRefused, trackLaid, liftLine, legLine}
 use Rattle.lines.specs.Lines.{stripLine, fileLine}
-use Rattle.lines.specs.Output.{trackLine, stepLine, stepLines, replyLines, outputFrom, output}
+use Rattle.lines.specs.Output.{trackIn, trackLine, stepLine, stepLines, replyLines, outputFrom, output}
 use Rattle.lines.specs.Jobs.{cutBytes, jobs, JobsWritten}
 
 jobs-written : JobsWritten
@@ -29,8 +29,9 @@ unfolding jobs jobBytes crossingBytes cutBytes
     stripsOf pathOf noPath cornersOf leg legsFrom legs ofNet inUse offFoil blocked
     short cornerRoom tooLong tooFine penOf next says first reads clearanceRefusal refusals afterLent settle refusalOf
     ledgerStep
-    jobRoom number fieldCount mapByte has fieldsAt recordEnd field stepAt stepsAt steps isEnd recordChecks
-    endsJob andThen actAll actRecord tooLarge wholeRefusals reply ledgerCall xor
+    jobRoom number fieldCount mapByte has fieldsAt recordEnd field asStep stepAt stepsAt recordSteps steps isEnd
+    recordChecks
+    endsJob andThen actAll actRecord tooLarge wholeRefusals ledgerRecord xor
     digitsIn decimal item cornerItem boardLine patchLine trackRefused trackLaid liftLine legLine stripLine fileLine
-    numberOf trackLine stepLine stepLines replyLines outputFrom output
+    numberOf trackIn trackLine stepLine stepLines replyLines outputFrom output
 jobs-written = refl

@@ -9,10 +9,9 @@ use Rattle.foil_spec.specs.Sheet.{SheetLent, Sheet, SheetLending, sheetFront, s
 use Rattle.foil_spec.specs.Sheet.{SheetLeft, leavesSheet, runSheet}
 use Rattle.foil_spec.specs.Job.{has}
 use Rattle.foil.specs.declared.Answer.{Answer}
-use Rattle.job.specs.Contract.{replyOf}
 use Rattle.ohms.specs.Contract.{resistanceOf}
 use Rattle.sheet_laws.proofs.Lending.{back-front}
-use Rattle.sheet.specs.Contract.{onSheet, Tells, ListTells}
+use Rattle.sheet.specs.Contract.{onSheet, Tells, RecordTells, ListTells}
 use Rattle.sheet.specs.Listed.{Holds, ListedBy, CallsListed}
 
 tells-same : (a b : Reply) (r : Answer) → a ≡ b → Tells b r → Tells a r
@@ -77,7 +76,8 @@ module _ (c : SheetLending) (x : Sheet) (o : SheetLeft)
             );
         by-record = λ bs at r t s out′ is h.
             let n : ℕ = length (c .output) in (
-              h .reply ∙ ap (replyOf (has bs at)) (sym (reply-is (runRecord bs at) n is refl)),
+              subst (λ (z : Reply). RecordTells (has bs at) z (r .reply))
+                  (sym (reply-is (runRecord bs at) n is refl)) (h .tells),
               holds (runRecord bs at) n is refl _ out′ (h .state) (h .output),
             );
         by-list = λ ws ans d t s out′ ans′ is h.

@@ -10,11 +10,11 @@ use lib.Seq.{take-all}
 use borrow.Author.Tests.{lt-ltb, le-ltb, ltb-false, ne-eqb}
 use Rattle.foil_spec.specs.Lists.{any}
 use Rattle.foil_spec.specs.Limits.{tableSize, maxBytes, sheetFoils}
-use Rattle.foil_spec.specs.Ledger.{Room, short, Answer, numberOf, first, afterLent, After}
+use Rattle.foil_spec.specs.Ledger.{Room, short, Answer, first, afterLent, After}
 use Rattle.foil_spec.specs.Lent.{Lent, lent, sound, roomIn, stepOn, outputAfter}
-use Rattle.foil_spec.specs.Job.{stepBits, has, steps, isEnd, recordEnd, recordChecks}
-use Rattle.foil_spec.specs.Calls.{runRecord, Reply, tooLarge, actAll, actRecord, wholeRefusals, reply, callOn}
-use Rattle.foil_spec.specs.Calls.{answersIn, outputAll, outputBy}
+use Rattle.foil_spec.specs.Job.{stepBits, has, recordSteps, steps, isEnd, recordEnd, recordChecks}
+use Rattle.foil_spec.specs.Calls.{runRecord, RecordReply, refusedWhole, Reply, asReply, tooLarge, actAll, actRecord}
+use Rattle.foil_spec.specs.Calls.{wholeRefusals, reply, callOn, recordOn, answersIn, outputAll, outputBy}
 use Rattle.foil_spec.specs.Sheet.{countsOk, limitOf, SheetLent, noBoard, counts, view, sheetRoom, opening}
 use Rattle.foil_spec.specs.Sheet.{sheetRefusal, unless, sheetCall}
 use Rattle.foil_spec.specs.declared.Board.{Board}
@@ -101,7 +101,7 @@ module _ (k : ℕ) (m : SheetLent) (bs rows : List ℕ) (o : TakenOut k m rows) 
 
   own-refused : (at : ℕ) → (at ≡ 0 → ⊥) → (n : ℕ) → LentChecked (view k m) (checked.Refused n)
       → RecordChecked k m bs at (checked.Refused n)
-  unfolding sheetCall unless reply actRecord wholeRefusals first
+  unfolding sheetCall unless reply actRecord asReply wholeRefusals first
   own-refused at later n h output =
       rw (
         o .eight-foils .limits,
@@ -205,20 +205,20 @@ module _ (on : ℕ → Bool) (given : List Answer) where
 module _ (r : Room) (bs : List ℕ) (at : ℕ) (v : Lent) where
   ran-took : someTook (answersOf (has bs at) (actAll (stepOn r) (steps bs at) v .answer))
       ≡ any taken (actAll (stepOn r) (steps bs at) v .answer)
-  unfolding steps
+  unfolding steps recordSteps
   ran-took = some-taken (has bs at) (ranTo r bs at stepBits v .answer) (ran-few bs at r v stepBits)
 
   took-whole : (o : Option ℕ) (e : Bool) (p : ℕ)
       → tookAny (replyOf (has bs at) (actRecord (stepOn r) o e (steps bs at) p v .answer))
-      ≡ any taken (answersIn (actRecord (stepOn r) o e (steps bs at) p v .answer))
-  unfolding actRecord replyOf tookAny answersIn taken
+      ≡ any taken (answersIn (asReply (actRecord (stepOn r) o e (steps bs at) p v .answer)))
+  unfolding actRecord asReply replyOf tookAny answersIn taken
   took-whole (some n) e p = refl
   took-whole none true p = refl
   took-whole none false p = ran-took
 
-  record-took : tookAny (replyOf (has bs at) (callOn r (runRecord bs at) v .answer))
+  record-took : tookAny (replyOf (has bs at) (recordOn r bs at v .answer))
       ≡ rewrote (runRecord bs at) (callOn r (runRecord bs at) v .answer)
-  unfolding callOn reply rewrote writing
+  unfolding callOn reply recordOn rewrote writing
   record-took = took-whole (first (wholeRefusals r (not (sound v)) bs at)) (isEnd bs at) (recordEnd bs at)
 
 -- ---- the end
@@ -232,11 +232,11 @@ module _ (k : ℕ) (sheet : Sheet) (t s bs : List ℕ) (at : ℕ) (out : List �
 
   pub record-refused : (i : ℕ) (r : SheetReplied) → r ≡ refusedRecord i sheet
       → onSheet k (runRecord bs at) m n ≡ refusedOn i m → SheetRecordDone k bs at m out r t s out
-  unfolding replyOf numberOf outputBy answersIn outputAll outputAfter
+  unfolding asReply replyOf outputBy answersIn outputAll outputAfter
   record-refused i r q e =
       rw q
       (record {
-        reply = rw e refl;
+        tells = record { cameTo = refusedWhole i; is = rw e refl; reply = refl };
         state = rw e refl;
         output = rw e refl;
       })
@@ -249,21 +249,26 @@ module _ (k : ℕ) (sheet : Sheet) (t s bs : List ℕ) (at : ℕ) (out : List �
     goes = record-goes k m bs rows o few at n
 
     -- what it does to the foil alone
-    abbrev alone : After Reply Lent
-    alone = callOn (room k m n) (runRecord bs at) (view k m)
+    abbrev alone : After RecordReply Lent
+    alone = recordOn (room k m n) bs at (view k m)
+
+    -- its call's reply
+    abbrev called : After Reply Lent
+    called = callOn (room k m n) (runRecord bs at) (view k m)
 
     on-view : Replies (has bs at) alone out d rows′ s′ out′
     on-view =
-        subst (λ (r : Room). Replies (has bs at) (callOn r (runRecord bs at) (view k m)) out d rows′ s′ out′)
+        subst (λ (r : Room). Replies (has bs at) (recordOn r bs at (view k m)) out d rows′ s′ out′)
         (ap (λ (i : ℕ). roomIn i (view k m) n) most ∙ sym (room-view k m n (o .eight-foils) (o .here)))
         (subst
-        (λ (v : Lent). Replies (has bs at) (callOn (roomIn limit v n) (runRecord bs at) v) out d rows′ s′ out′)
+        (λ (v : Lent). Replies (has bs at) (recordOn (roomIn limit v n) bs at v) out d rows′ s′ out′)
         (foil-is k m rows o b is) e)
 
-    did-is : tookAny (d .reply) ≡ rewrote (runRecord bs at) (alone .answer)
+    did-is : tookAny (d .reply) ≡ rewrote (runRecord bs at) (called .answer)
     did-is = ap tookAny (on-view .reply) ∙ record-took (room k m n) bs at (view k m)
 
-    left-is : lent (d .board) rows′ s′ ≡ alone .state
+    left-is : lent (d .board) rows′ s′ ≡ called .state
+    unfolding callOn reply recordOn
     left-is = rw (on-view .board, on-view .table, on-view .strips) refl
 
     module _ (did : Bool) (f : did ≡ tookAny (d .reply)) where
@@ -274,12 +279,14 @@ module _ (k : ℕ) (sheet : Sheet) (t s bs : List ℕ) (at : ℕ) (out : List �
       pub record-done : (r : SheetReplied) (t′ : List ℕ) → r .reply ≡ d .reply
           → Closed k (sheet .boards) t rows′ (d .board) did (r .sheet .boards) t′
           → SheetRecordDone k bs at m out r t′ s′ out′
+      unfolding callOn reply recordOn
       record-done r t′ q z =
-          let told = sym (answers k m rows o (runRecord bs at) n goes) in
+          let told : onSheet k (runRecord bs at) m n .answer ≡ asReply (alone .answer) =
+          answers k m rows o (runRecord bs at) n goes in
           record {
-            reply = q ∙ on-view .reply ∙ ap (replyOf (has bs at)) told;
+            tells = record { cameTo = alone .answer; is = told; reply = q ∙ on-view .reply };
             state =
                 leaves k m rows o (runRecord bs at) n goes did (f ∙ did-is) (d .board) rows′ s′ left-is
                 (r .sheet .boards) t′ z;
-            output = on-view .output ∙ ap (λ (a : Reply). outputBy a out) told;
+            output = on-view .output ∙ ap (λ (a : Reply). outputBy a out) (sym told);
           }

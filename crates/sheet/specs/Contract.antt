@@ -1,7 +1,7 @@
 -- What the contracts of the calls on a foil of a sheet say: answer, records and lists are what the definitions give.
 use Prim.Native.Nat.{ℕ, _/_}
 use mathlib.Core.Path.{_≡_}
-use mathlib.Core.Bool.{true}
+use mathlib.Core.Bool.{Bool, true}
 use mathlib.Core.List.{List}
 use lib.ListN.{length}
 use Rattle.foil_spec.specs.Lists.{each}
@@ -9,13 +9,15 @@ use Rattle.foil_spec.specs.Ledger.{Step, refused, After}
 use Rattle.foil_spec.specs.Ledger.{Answer as Outcome}
 use Rattle.foil_spec.specs.Lent.{sound, overFront}
 use Rattle.foil_spec.specs.Job.{has}
-use Rattle.foil_spec.specs.Calls.{Call, step, runRecord, ohms, layList, Reply, answered, laidAll, outputBy}
+use Rattle.foil_spec.specs.Calls.{Call, step, runRecord, ohms, layList, RecordReply, Reply, answered, laidAll}
+use Rattle.foil_spec.specs.Calls.{asReply, outputBy}
 use Rattle.foil_spec.specs.Sheet.{SheetLent, counts, view, sheetRoom, sheetCall}
 use Rattle.foil_spec.specs.declared.Ink.{Ink}
 use Rattle.foil.specs.Contract.{answerOf}
 use Rattle.foil.specs.declared.Answer.{Answer}
 use Rattle.foil.specs.declared.Answer.the-variants.{Refused, Accepted}
 use Rattle.job.specs.Contract.{replyOf}
+use Rattle.job.specs.declared.Reply.{Reply as JobReply}
 use Rattle.listing.specs.Contract.{answerNumbers}
 use Rattle.ohms.specs.Contract.{resistanceOf}
 use Rattle.ohms.specs.declared.Resistance.{Resistance}
@@ -65,10 +67,16 @@ pub record SheetOhmsDone (k net : ℕ) (i : Ink) (m : SheetLent) (r : Resistance
 pub record Continues (k at : ℕ) (m : SheetLent) : Type 0 where
   pub fine : (at ≡ 0 → ⊥) → sound (view k m) ≡ true
 
+-- a reply to a record is what the record came to, and r tells that; `on` says which bits are set
+pub record RecordTells (on : ℕ → Bool) (a : Reply) (r : JobReply) : Type 0 where
+  pub cameTo : RecordReply
+  pub is : a ≡ asReply cameTo
+  pub reply : r ≡ replyOf on cameTo
+
 -- the record at a place of the bytes bs was run on foil k, lent m and the corner list out
 pub record SheetRecordDone (k : ℕ) (bs : List ℕ) (at : ℕ) (m : SheetLent) (out : List ℕ) (r : SheetReplied)
     (t s out′ : List ℕ) : Type 0 where
-  pub reply : r .reply ≡ replyOf (has bs at) (onSheet k (runRecord bs at) m (length out) .answer)
+  pub tells : RecordTells (has bs at) (onSheet k (runRecord bs at) m (length out) .answer) (r .reply)
   pub state : sheetLent (r .sheet .boards) t s ≡ onSheet k (runRecord bs at) m (length out) .state
   pub output : out′ ≡ outputBy (onSheet k (runRecord bs at) m (length out) .answer) out
 

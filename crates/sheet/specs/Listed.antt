@@ -9,12 +9,11 @@ use Rattle.foil_spec.specs.Calls.{step, runRecord, ohms, layList}
 use Rattle.foil_spec.specs.Sheet.{Sheet, SheetLending, sheetFront, sheetBack, SheetLeft, runSheet}
 use Rattle.foil_spec.specs.declared.Ink.{Ink}
 use Rattle.foil.specs.declared.Answer.{Answer}
-use Rattle.job.specs.Contract.{replyOf}
 use Rattle.ohms.specs.Contract.{resistanceOf}
 use Rattle.ohms.specs.declared.Resistance.{Resistance}
 use Rattle.sheet_rows.specs.Rows.{sheetLent}
 use Rattle.sheet.specs.Contract.{Tells, SheetStepDone, SheetOutputDone, SheetReadDone, SheetOhmsDone}
-use Rattle.sheet.specs.Contract.{SheetRecordDone, ListTells, SheetListDone}
+use Rattle.sheet.specs.Contract.{RecordTells, SheetRecordDone, ListTells, SheetListDone}
 use Rattle.sheet.specs.declared.SheetDone.{SheetDone}
 use Rattle.sheet.specs.declared.SheetReplied.{SheetReplied}
 
@@ -42,7 +41,8 @@ pub record ListedBy (c : SheetLending) (x : Sheet) (o : SheetLeft) : Type 0 wher
       → (r ≡ resistanceOf (o .reply)) × (o .sheet ≡ x)
   pub by-record : (bs : List ℕ) (at : ℕ) (r : SheetReplied) (t s out′ : List ℕ) → c .call ≡ runRecord bs at
       → SheetRecordDone (c .foil) bs at (sheetFront c x) (c .output) r t s out′
-      → (r .reply ≡ replyOf (has bs at) (o .reply)) × Holds o (sheetBack c x (sheetLent (r .sheet .boards) t s)) out′
+      → RecordTells (has bs at) (o .reply) (r .reply)
+      × Holds o (sheetBack c x (sheetLent (r .sheet .boards) t s)) out′
   pub by-list : (ws ans : List ℕ) (d : SheetDone) (t s out′ ans′ : List ℕ) → c .call ≡ layList ws (length ans / 3)
       → SheetListDone (c .foil) ws (sheetFront c x) (c .output) ans d t s out′ ans′
       → ListTells (o .reply) (d .answer) ans ans′ × Holds o (sheetBack c x (sheetLent (d .sheet .boards) t s)) out′

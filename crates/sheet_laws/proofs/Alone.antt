@@ -16,7 +16,7 @@ use Rattle.foil_spec.specs.Lent.{Lent, lent, written, held, sound, roomIn}
 use Rattle.foil_spec.specs.Wishes.{tooMany}
 use Rattle.foil_spec.specs.Job.{recordChecks}
 use Rattle.foil_spec.specs.Calls.{Call, step, runRecord, ohms, layList, Reply, answered, tooLarge, actRecord, actList}
-use Rattle.foil_spec.specs.Calls.{wholeRefusals, listRefusals, ohmsReply, reply, callOn, outputBy}
+use Rattle.foil_spec.specs.Calls.{asReply, wholeRefusals, listRefusals, ohmsReply, reply, callOn, outputBy}
 use Rattle.foil_spec.specs.Sequence.{Lending, front, roomFor, back, lend, told, Left, leaves, runLent, Begins}
 use Rattle.foil_spec.specs.Sheet.{countsOk, limitOf, SheetLent, noBoard, counts, tableAt, view, sheetRoom, sheetStep}
 use Rattle.foil_spec.specs.Sheet.{opening, sheetRefusal, unless, sheetCall, Sheet, SheetLending, sheetFront, sheetBack}
@@ -131,7 +131,7 @@ opened-refused r (step s) m n e =
     let (t, q) = only-short r n e in
     rw (step-short r s m t, q) refl
 opened-refused r (runRecord bs at) m n e =
-    unfold actRecord in rw (large-first r (not (sound m)) bs at n e) refl
+    unfold actRecord asReply in rw (large-first r (not (sound m)) bs at n e) refl
 opened-refused r (ohms net i) m n e = unfold ohmsReply in rw (short-first r (not (sound m)) _ n e) refl
 opened-refused r (layList ws k) m n e = unfold actList in rw (many-first r (not (sound m)) ws k n e) refl
 

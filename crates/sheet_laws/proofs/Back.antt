@@ -12,9 +12,9 @@ use Rattle.foil_spec.specs.Foil.{Layout}
 use Rattle.foil_spec.specs.Ledger.{Room, withOutput, Step, save, Answer, says, next, After, settle, refusalOf}
 use Rattle.foil_spec.specs.Lent.{Lent, boardOf, store, held, layoutOk, sound, stepOn, numbersOut, roomLeft}
 use Rattle.foil_spec.specs.Wishes.{wishAt, wishes}
-use Rattle.foil_spec.specs.Job.{stepAt, steps, isEnd, recordEnd}
-use Rattle.foil_spec.specs.Calls.{Call, step, runRecord, ohms, layList, Reply, endsJob, andThen, actAll, actRecord}
-use Rattle.foil_spec.specs.Calls.{inFront, actEach, actList, reply, callOn, answersIn}
+use Rattle.foil_spec.specs.Job.{asStep, stepAt, steps, isEnd, recordEnd}
+use Rattle.foil_spec.specs.Calls.{Call, step, runRecord, ohms, layList, Reply, asReply, endsJob, andThen, actAll}
+use Rattle.foil_spec.specs.Calls.{actRecord, inFront, actEach, actList, reply, callOn, answersIn}
 use Rattle.foil_spec.specs.Sheet.{total, limitOf, SheetLent, counts, view, putBack, writes, sheetStep, sheetRefusal}
 use Rattle.foil_spec.specs.Sheet.{unless, sheetCall}
 use Rattle.list_laws.proofs.Tests.{both, clash, not-ff, and-l, and-r}
@@ -34,8 +34,8 @@ use Rattle.sheet_laws.proofs.Views.{Stands, stands-in, own-count, in-co
 
 -- ---- every step of a record writes
 
-step-writes : (bs : List ℕ) (at k : ℕ) → writes (stepAt bs at k) ≡ true
-unfolding stepAt writes
+step-writes : (bs : List ℕ) (at k : ℕ) → writes (asStep (stepAt bs at k)) ≡ true
+unfolding stepAt asStep writes
 step-writes bs at zero = refl
 step-writes bs at (suc zero) = refl
 step-writes bs at (suc (suc zero)) = refl
@@ -232,8 +232,8 @@ module _ (r : Room) (k : ℕ) (m : SheetLent) (w : Stands r k m) (here : k < she
 
   record-wrote : (o : Option ℕ) (e : Bool) (ss : List Step) (p : ℕ) → all writes ss ≡ true
       → isSome (actRecord (tell r) o e ss p none .state)
-      ≡ any taken (answersIn (actRecord (tell r) o e ss p none .answer))
-  unfolding actRecord answersIn isSome taken
+      ≡ any taken (answersIn (asReply (actRecord (tell r) o e ss p none .answer)))
+  unfolding actRecord asReply answersIn isSome taken
   record-wrote (some n) e ss p h = refl
   record-wrote none true ss p h = refl
   record-wrote none false ss p h = steps-wrote ss none tt h

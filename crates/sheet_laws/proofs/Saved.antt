@@ -9,15 +9,30 @@ use lib.ListN.{length, getD}
 use Rattle.foil_spec.specs.Limits.{sheetFoils}
 use Rattle.foil_spec.specs.Ledger.{Room, save, wrote, After}
 use Rattle.foil_spec.specs.Lent.{Lent, held, sound, stepOn}
-use Rattle.foil_spec.specs.Calls.{Call, step, Reply, answered, reply, callOn, readJob}
-use Rattle.foil_spec.specs.Sheet.{SheetLent, counts, view, sheetStep, sheetRefusal, unless, sheetCall}
+use Rattle.foil_spec.specs.Calls.{Call, step, runRecord, RecordReply, Reply, answered, asReply, replied, reply, callOn}
+use Rattle.foil_spec.specs.Calls.{recordOn, readJob}
+use Rattle.foil_spec.specs.Sheet.{SheetLent, counts, view, sheetStep, sheetRefusal, unless, sheetCall, unlessWhole}
+use Rattle.foil_spec.specs.Sheet.{sheetRecord}
 use Rattle.ledger_laws.specs.Saved.{lastPlace, SameFoil}
-use Rattle.ledger_laws.proofs.Replies.{shownBy, Shown, read-shown}
+use Rattle.ledger_laws.proofs.Replies.{shownBy, Shown, read-shown, of-replied}
 use Rattle.ledger_laws.proofs.Saved.{reads-back}
 use Rattle.sheet_laws.specs.Alone.{RoomOn}
+use Rattle.sheet_laws.specs.Jobs.{RecordsAsCalls}
 use Rattle.sheet_laws.specs.Saved.{SheetReadsBack}
 use Rattle.sheet_laws.proofs.Views.{Stands, stands-in, counts-at, call-view, call-others}
 use Rattle.sheet_laws.proofs.Alone.{opened-refused, opens-with}
+
+-- ---- a record on a sheet, and its call
+
+unless-replied : {S : Type 0} (o : Option ℕ) (a : After RecordReply S) (x : S)
+    → unless o (replied a) x ≡ replied (unlessWhole o a x)
+unfolding unless unlessWhole asReply
+unless-replied (some n) a x = refl
+unless-replied none a x = refl
+
+pub records-as-calls : RecordsAsCalls
+unfolding sheetCall sheetRecord reply
+records-as-calls r k bs at m = unless-replied _ _ m
 
 -- ---- the whole call on a sheet, and on the foil alone
 
@@ -39,12 +54,30 @@ module _ (r : Room) (k : ℕ) (here : k < sheetFoils) where
       → callOn r c (view k x) ≡ shownBy (view k) (sheetCall r k c x)
   sheet-view c x w = sheet-shown c x w .is
 
-  pub sheet-stands : (c : Call) (x : SheetLent) → Stands r k x → Stands r k (sheetCall r k c x .state)
-  sheet-stands c x w = sheet-shown c x w .kept
+  record-shown : (bs : List ℕ) (at : ℕ) (x : SheetLent) → Stands r k x
+      → Shown (view k) (Stands r k) (sheetRecord r k bs at x) (recordOn r bs at (view k x))
+  unfolding callOn reply recordOn shownBy
+  record-shown bs at x w =
+      let h = sheet-shown (runRecord bs at) x w in
+      let same = records-as-calls r k bs at x in
+      record {
+        is =
+            of-replied (recordOn r bs at (view k x)) (shownBy (view k) (sheetRecord r k bs at x))
+            (h .is ∙ ap (shownBy (view k)) same);
+        kept = subst (λ (a : After Reply SheetLent). Stands r k (a .state)) same (h .kept);
+      }
+
+  pub record-view : (bs : List ℕ) (at : ℕ) (x : SheetLent) → Stands r k x
+      → recordOn r bs at (view k x) ≡ shownBy (view k) (sheetRecord r k bs at x)
+  record-view bs at x w = record-shown bs at x w .is
+
+  pub record-stands : (bs : List ℕ) (at : ℕ) (x : SheetLent) → Stands r k x
+      → Stands r k (sheetRecord r k bs at x .state)
+  record-stands bs at x w = record-shown bs at x w .kept
 
   read-view : (bs : List ℕ) (x : SheetLent) → Stands r k x
-      → readJob (callOn r) bs (view k x) ≡ shownBy (view k) (readJob (sheetCall r k) bs x)
-  read-view bs x w = read-shown (view k) (Stands r k) (sheetCall r k) (callOn r) sheet-shown bs x w .is
+      → readJob (recordOn r) bs (view k x) ≡ shownBy (view k) (readJob (sheetRecord r k) bs x)
+  read-view bs x w = read-shown (view k) (Stands r k) (sheetRecord r k) (recordOn r) record-shown bs x w .is
 
 -- ---- saved, and read back
 
@@ -60,14 +93,15 @@ saved-alone r k m bs o e =
     answer-alone r (view k m) bs (q ∙ unfold shownBy in e)
 
 module _ (r : Room) (j : ℕ) (x : SheetLent) (o : RoomOn r j x) (bs : List ℕ) where
-  pub replies-alone : readJob (sheetCall r j) bs x .answer ≡ readJob (callOn r) bs (view j x) .answer
+  pub replies-alone : readJob (sheetRecord r j) bs x .answer ≡ readJob (recordOn r) bs (view j x) .answer
   unfolding shownBy
   replies-alone =
-      ap (λ (a : After (List Reply) Lent). a .answer) (sym (read-view r j (o .here) bs x (stands-in r j x o)))
+      ap (λ (a : After (List RecordReply) Lent). a .answer) (sym (read-view r j (o .here) bs x (stands-in r j x o)))
 
-  pub state-alone : view j (readJob (sheetCall r j) bs x .state) ≡ readJob (callOn r) bs (view j x) .state
+  pub state-alone : view j (readJob (sheetRecord r j) bs x .state) ≡ readJob (recordOn r) bs (view j x) .state
   unfolding shownBy
-  state-alone = ap (λ (a : After (List Reply) Lent). a .state) (sym (read-view r j (o .here) bs x (stands-in r j x o)))
+  state-alone =
+      ap (λ (a : After (List RecordReply) Lent). a .state) (sym (read-view r j (o .here) bs x (stands-in r j x o)))
 
 own-entries : (k : ℕ) (m : SheetLent) → view k m .board .entries ≡ getD (counts (m .boards)) k 0
 unfolding view
@@ -79,7 +113,9 @@ sheet-reads-back r r′ k j m x bs o q long e few =
     reads-back r r′ (view k m) (view j x) bs (saved-alone r k m bs o e) long (omega (arith, own-entries k m)) in
     record {
       replies = replies-alone r′ j x q bs ∙ b .replies;
-      ends = subst (λ (rs : List Reply). lastPlace 0 rs + 1 ≡ length bs) (sym (replies-alone r′ j x q bs)) (b .ends);
+      ends =
+          subst (λ (rs : List RecordReply). lastPlace 0 rs + 1 ≡ length bs) (sym (replies-alone r′ j x q bs))
+          (b .ends);
       small = b .small;
       same = subst (λ (v : Lent). SameFoil (view k m) v) (sym (state-alone r′ j x q bs)) (b .same);
     }

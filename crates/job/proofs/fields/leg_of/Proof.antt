@@ -1,7 +1,6 @@
 -- The five numbers, one after the other.
 use Rattle.foil_spec.specs.Foil.{entry}
-use Rattle.foil_spec.specs.Ledger.{putLeg}
-use Rattle.foil_spec.specs.Job.{stepAt}
+use Rattle.foil_spec.specs.Job.{legStep, stepAt}
 use borrow.Author.Needs.{needs}
 use Rattle.job.proofs.fields.leg_of.Statement.{statement}
 use Rattle.job.proofs.fields.leg_of.Tie as tie
@@ -29,7 +28,7 @@ returns : tie.Need-returns
 unfolding stepAt
 returns c =
     let third = afterField3 c in
-    λ i. putLeg (entry (third .before .before .field .ensures i) (third .before .field2 .ensures i)
+    λ i. legStep (entry (third .before .before .field .ensures i) (third .before .field2 .ensures i)
     (third .field3 .ensures i) (c .before .field4 .ensures i) (c .field5 .ensures i))
 
 pub leg-of-spec : {M : Type 1} → statement M

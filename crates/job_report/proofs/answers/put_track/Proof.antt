@@ -1,23 +1,43 @@
--- The track is laid or refused; a lay has no other answer, and any other has no line.
+-- The track is laid, or the lay has the line of a refusal.
 use native.Mathlib.Omega.{arith}
-use Rattle.job.proofs.Ending.{no-refusal}
-use Rattle.job_report.proofs.Telling.{no-laid, laid-line, refused-line, other-line}
+use Rattle.job_report.proofs.Telling.{no-laid, laid-line, refused-line}
 use borrow.Author.Needs.{needs}
 use Rattle.job_report.proofs.answers.put_track.Statement.{statement}
 use Rattle.job_report.proofs.answers.put_track.Tie as tie
 
--- back to the start, answer and answer2
+-- back to the start and to where the answer is known
 abbrev atStart : tie.After-answer → tie.Start
 atStart c = c .before .before .before .before
 
-abbrev afterAnswer : tie.After-slice-known2 → tie.After-answer
+abbrev afterAnswer : tie.After-slice-known3 → tie.After-answer
 afterAnswer c = c .before .before .before .before .before
 
-abbrev afterAnswer2 : tie.After-slice-known3 → tie.After-answer2
-afterAnswer2 c = c .before .before .before .before .before
+-- back to the line of the refusal, and to where the answer is no track
+abbrev afterRefused : tie.After-slice-known2 → tie.After-track-refused
+afterRefused c = c .before .before
+
+abbrev atNoTrack : tie.After-number-of → tie.At-match-keys2
+atNoTrack c = c .before .before
 
 enum-known-answer : tie.Need-enum-known-answer
 enum-known-answer c = search needs
+
+number-of-requires : tie.Need-number-of-requires
+number-of-requires c κs = search needs
+
+track-refused-requires : tie.Need-track-refused-requires
+track-refused-requires c κs = search needs
+
+same-length : tie.Need-same-length
+same-length c = search needs
+
+returns : tie.Need-returns
+returns c =
+    let numbered = afterRefused c .before in (
+      refused-line _ _ _ (λ k n e. no-laid (rw e at (atNoTrack numbered .match .keys2)))
+          (numbered .number-of .ensures) (afterRefused c .track-refused .ensures .0),
+      omega (arith, afterRefused c .track-refused .ensures .1),
+    )
 
 track-laid-requires : tie.Need-track-laid-requires
 track-laid-requires c κs = (
@@ -25,11 +45,11 @@ track-laid-requires c κs = (
   atStart (c .before .before) .pre .1 .there _ _ (c .before .before .answer .given .1),
 )
 
-same-length : tie.Need-same-length
-same-length c = search needs
+same-length-2 : tie.Need-same-length-2
+same-length-2 c = search needs
 
-returns : tie.Need-returns
-returns c = (
+returns-2 : tie.Need-returns-2
+returns-2 c = (
   laid-line _ _ (afterAnswer c .answer .given .1) (c .before .before .track-laid .ensures .0),
   omega (
     arith,
@@ -38,30 +58,7 @@ returns c = (
   ),
 )
 
-enum-known-answer-2 : tie.Need-enum-known-answer-2
-enum-known-answer-2 c = search needs
-
-returns-2 : tie.Need-returns-2
-returns-2 c = (
-  other-line _ _ _ (λ k n e. no-laid (rw e at (c .before .match .keys2)))
-      (λ n e. no-refusal (rw e at (c .match2 .keys2)))
-      (omega arith),
-  omega arith,
-)
-
-track-refused-requires : tie.Need-track-refused-requires
-track-refused-requires c κs = search needs
-
-same-length-2 : tie.Need-same-length-2
-same-length-2 c = search needs
-
-returns-3 : tie.Need-returns-3
-returns-3 c = (
-  refused-line _ _ (afterAnswer2 c .answer2 .given .1) (c .before .before .track-refused .ensures .0),
-  omega arith,
-)
-
 pub put-track-spec : {M : Type 1} → statement M
 put-track-spec =
-    tie.close (tie.spec enum-known-answer track-laid-requires same-length returns enum-known-answer-2 returns-2
-    track-refused-requires same-length-2 returns-3)
+    tie.close (tie.spec enum-known-answer number-of-requires track-refused-requires same-length returns
+    track-laid-requires same-length-2 returns-2)
