@@ -2,10 +2,10 @@
 // that no point is walked over, and any number may stand in the list.
 use foil_spec::Entry;
 use foil_spec::Point;
-use foil_spec::corner_at;
-use foil_spec::entry_at;
-use foil_spec::larger;
-use foil_spec::smaller;
+use places::corner_at;
+use places::entry_at;
+use places::larger;
+use places::smaller;
 ghost use mathlib.Core.Path.{_≡_};
 ghost use Prim.Native.Nat.{_*_, _≤_};
 ghost use lib.ListN.{length};

@@ -1,6 +1,6 @@
 // The lines of the strips that are left at the end of a job.
-use foil_spec::strip_at;
 use lines::strip_line;
+use places::strip_at;
 ghost use Prim.Native.Nat.{_*_, _≤_};
 ghost use lib.ListN.{length};
 ghost use Rattle.foil_spec.specs.Lists.{each};

@@ -7,9 +7,9 @@
 // other one. Where both directions meet, `il` and `iu` are the level and the upright inks, `kl` and `ku` the links, and
 // `ml` and `mu` the marks: where, on each line, the labels of the round before are.
 use foil_spec::Point;
-use foil_spec::larger;
-use foil_spec::put_corner;
 use grid::STRIDE;
+use places::larger;
+use places::put_corner;
 use runs::ahead_of;
 use runs::behind_of;
 use runs::first_stop;

@@ -1,6 +1,6 @@
 // Numbers and corners written at a place of a lent list. Each function answers the place after them.
 use foil_spec::Point;
-use foil_spec::corner_at;
+use places::corner_at;
 use putting::put_bytes;
 use putting::put_number;
 ghost use Prim.Native.Nat.{_+_, _*_, _≤_};

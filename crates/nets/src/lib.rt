@@ -1,6 +1,6 @@
 // A net's legs in a table: how many there are, and how long they are together.
 use foil_spec::Entry;
-use foil_spec::entry_at;
+use places::entry_at;
 ghost use mathlib.Core.Path.{_≡_};
 ghost use Prim.Native.Nat.{_+_, _*_, _<_, _≤_};
 ghost use lib.ListN.{length};

@@ -1,7 +1,7 @@
 // Patches across legs, point by point.
 use crate::Foil;
 use foil_spec::Entry;
-use foil_spec::entry_at;
+use places::entry_at;
 use plain::within;
 ghost use Prim.Native.Nat.{_≤_};
 

@@ -2,10 +2,10 @@
 use foil_spec::CORNERS_SIZE;
 use foil_spec::INPUT_SIZE;
 use foil_spec::STRIPS_SIZE;
-use foil_spec::no_board;
 use job::Next;
 use job_report::OUT_SIZE;
 use job_report::report_record;
+use places::no_board;
 use putting::put_bytes;
 use sheet_rows::SHEET_SIZE;
 ghost use Prim.Native.Nat.{_+_, _≤_};

@@ -1,7 +1,7 @@
 // The bytes of the file, put at a place of a list. Each function answers the place after them.
 use foil_spec::Board;
 use foil_spec::Entry;
-use foil_spec::entry_at;
+use places::entry_at;
 use putting::put_bytes;
 ghost use Prim.Native.Nat.{_+_, _*_, _≤_};
 ghost use mathlib.Core.List.{_∷_, map};

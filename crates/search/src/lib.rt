@@ -5,7 +5,6 @@
 // directions, `il` and `iu` for their inks, `kl` and `ku` for the level and the upright links between crossings (STRIDE
 // places for each line that there may be), and `cols` and `rows` for the lines of the grid (STRIDE places).
 use foil_spec::Point;
-use foil_spec::put_corner;
 use grid::AREA;
 use grid::STRIDE;
 use grid::axis;
@@ -13,6 +12,7 @@ use grid::links;
 use labels::Walker;
 use labels::rounds;
 use labels::walk_on;
+use places::put_corner;
 use runs::next_stop;
 use sowing::is_boxed;
 use sowing::sow_targets;

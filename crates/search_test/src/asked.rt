@@ -2,7 +2,7 @@
 use boards::Made;
 use foil_spec::Board;
 use foil_spec::Pen;
-use foil_spec::entry_at;
+use places::entry_at;
 use zones::BOXES_SIZE;
 use zones::pen_zones;
 ghost use mathlib.Core.Path.{_≡_};

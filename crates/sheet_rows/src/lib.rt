@@ -4,9 +4,9 @@ mod limits;
 mod table;
 
 use foil_spec::Board;
-use foil_spec::no_board;
 pub use limits::counts_ok;
 pub use limits::limit;
+use places::no_board;
 pub use table::places_lent;
 pub use table::put_back;
 pub use table::take_out;

@@ -2,10 +2,10 @@
 // target is a point in one of the first k target boxes that the first n boxes leave free. Each function serves both
 // directions, as in `grid` and `labels`.
 use foil_spec::Entry;
-use foil_spec::entry_at;
 use grid::STRIDE;
 use grid::extent_of;
 use grid::first_from;
+use places::entry_at;
 ghost use mathlib.Core.Path.{_≡_};
 ghost use mathlib.Core.Bool.{true};
 ghost use Prim.Native.Nat.{_+_, _*_, _≤_};

@@ -2,7 +2,7 @@
 use foil_spec::Board;
 use foil_spec::Entry;
 use foil_spec::TABLE_SIZE;
-use foil_spec::entry_at;
+use places::entry_at;
 use tables::without;
 ghost use mathlib.Core.Path.{_≡_};
 ghost use Prim.Native.Nat.{_+_, _*_, _≤_};

@@ -19,7 +19,7 @@ use foil_spec::OldBoard;
 use foil_spec::Rule;
 use foil_spec::STRIPS_SIZE;
 use foil_spec::TABLE_SIZE;
-use foil_spec::entry_at;
+use places::entry_at;
 use strips::Built;
 use strips::rebuild;
 use zones::BOXES_SIZE;

@@ -7,7 +7,7 @@ mod sweep;
 use foil_spec::MAX_SIDE;
 use foil_spec::MAX_STRIPS;
 use foil_spec::STRIPS_SIZE;
-use foil_spec::strip_at;
+use places::strip_at;
 use zones::MAX_BOXES;
 ghost use mathlib.Core.Path.{_≡_};
 ghost use Prim.Native.Nat.{_*_, _-_, _+_, _≤_};

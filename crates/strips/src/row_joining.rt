@@ -19,8 +19,8 @@ use crate::sweep::Swept;
 use crate::sweep::sweep;
 use foil_spec::MAX_STRIPS;
 use foil_spec::Strip;
-use foil_spec::put_strip;
-use foil_spec::strip_at;
+use places::put_strip;
+use places::strip_at;
 
 // Whether place k of the list is below count and has a strip from a up to b that goes as far as y.
 fn is_open(out: &[u16], k: usize, count: usize, a: u16, b: u16, y: u16) -> bool

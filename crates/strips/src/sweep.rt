@@ -1,6 +1,6 @@
 // The runs of a row, by one sweep of its boxes from the last place of their list on: there stands the one that begins
 // first.
-use foil_spec::entry_at;
+use places::entry_at;
 ghost use Prim.Native.Nat.{_≤_, _<_};
 ghost use Rattle.zones.specs.Boxes.{Boxes};
 ghost use Rattle.strips.specs.RowBoxes.{OnRow};

@@ -1,9 +1,9 @@
 // The legs of a path as entries.
 use foil_spec::Entry;
-use foil_spec::corner_at;
-use foil_spec::larger;
-use foil_spec::put_entry;
-use foil_spec::smaller;
+use places::corner_at;
+use places::larger;
+use places::put_entry;
+use places::smaller;
 ghost use mathlib.Core.Path.{_≡_};
 ghost use Prim.Native.Nat.{suc, _+_, _-_, _*_, _≤_, _<_, max};
 ghost use lib.ListN.{length};

@@ -1,6 +1,6 @@
 // The rows of a table in the making: 128 places of five numbers, unused ones zero.
-use foil_spec::entry_at;
-use foil_spec::put_entry;
+use places::entry_at;
+use places::put_entry;
 ghost use mathlib.Core.Path.{_≡_};
 ghost use Prim.Native.Nat.{_+_, _*_, _<_, _≤_};
 ghost use mathlib.Core.List.{[], map};

@@ -2,9 +2,9 @@
 use foil_spec::Board;
 use foil_spec::Entry;
 use foil_spec::Rule;
-use foil_spec::entry_at;
-use foil_spec::put_entry;
-use foil_spec::smaller;
+use places::entry_at;
+use places::put_entry;
+use places::smaller;
 ghost use mathlib.Core.Path.{_≡_};
 ghost use Prim.Native.Nat.{ℕ, _+_, _*_, _-_, _≤_, _<_};
 ghost use mathlib.Core.List.{map};

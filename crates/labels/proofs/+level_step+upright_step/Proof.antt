@@ -15,7 +15,7 @@ use Rattle.labels.proofs.upright_step.Reads as upright-step
 use Rattle.labels.proofs.upright_step.Kinds as upright-step-kinds
 use Rattle.labels.proofs.+level_step+upright_step.Lts-upright_step as upright-lts
 use Rattle.runs.proofs.next_stop.Reads as next-stop-reads
-use Rattle.foil_spec.proofs.put_corner.Reads as put-corner-reads
+use Rattle.places.proofs.put_corner.Reads as put-corner-reads
 use Rattle.labels.proofs.+level_step+upright_step.{statement}
 use Rattle.labels.proofs.+level_step+upright_step.Tie.{close}
 

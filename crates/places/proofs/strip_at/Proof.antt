@@ -1,9 +1,9 @@
--- `foil_spec::strip_at` reads the numbers that `listedStrip` names.
+-- `places::strip_at` reads the numbers that `listedStrip` names.
 use mathlib.Core.Path.{refl}
 use borrow.Author.Needs.{needs}
 use Rattle.foil_spec.specs.Lent.{listedStrip}
-use Rattle.foil_spec.proofs.strip_at.Statement.{statement}
-use Rattle.foil_spec.proofs.strip_at.Tie as tie
+use Rattle.places.proofs.strip_at.Statement.{statement}
+use Rattle.places.proofs.strip_at.Tie as tie
 
 mul-t3 : tie.Need-mul-t3
 mul-t3 c = search needs

@@ -1,9 +1,9 @@
--- `foil_spec::corner_at` reads the numbers that `cornerAt` names.
+-- `places::corner_at` reads the numbers that `cornerAt` names.
 use mathlib.Core.Path.{refl}
 use borrow.Author.Needs.{needs}
 use Rattle.foil_spec.specs.Corners.{cornerAt}
-use Rattle.foil_spec.proofs.corner_at.Statement.{statement}
-use Rattle.foil_spec.proofs.corner_at.Tie as tie
+use Rattle.places.proofs.corner_at.Statement.{statement}
+use Rattle.places.proofs.corner_at.Tie as tie
 
 mul-t3 : tie.Need-mul-t3
 mul-t3 c = search needs

@@ -1,9 +1,9 @@
--- `foil_spec::entry_at` reads the numbers that `entryAt` names.
+-- `places::entry_at` reads the numbers that `entryAt` names.
 use mathlib.Core.Path.{refl}
 use borrow.Author.Needs.{needs}
 use Rattle.foil_spec.specs.Lent.{entryAt}
-use Rattle.foil_spec.proofs.entry_at.Statement.{statement}
-use Rattle.foil_spec.proofs.entry_at.Tie as tie
+use Rattle.places.proofs.entry_at.Statement.{statement}
+use Rattle.places.proofs.entry_at.Tie as tie
 
 mul-t3 : tie.Need-mul-t3
 mul-t3 c = search needs

@@ -1,12 +1,12 @@
--- `foil_spec::put_entry` stores the five numbers of the place.
+-- `places::put_entry` stores the five numbers of the place.
 use native.Mathlib.Omega.{arith}
 use native.Mathlib.Numerals.{add-one, add-two, add-three, add-four}
 use mathlib.Core.Path.{refl}
 use lib.ListN.{length-set}
 use borrow.Author.Needs.{needs}
 use Rattle.foil_spec.specs.Foil.{entryNumbers}
-use Rattle.foil_spec.proofs.put_entry.Statement.{statement}
-use Rattle.foil_spec.proofs.put_entry.Tie as tie
+use Rattle.places.proofs.put_entry.Statement.{statement}
+use Rattle.places.proofs.put_entry.Tie as tie
 
 mul-table : tie.Need-mul-table
 mul-table c = search needs

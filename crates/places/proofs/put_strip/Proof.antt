@@ -1,12 +1,12 @@
--- `foil_spec::put_strip` stores the four numbers of the place.
+-- `places::put_strip` stores the four numbers of the place.
 use native.Mathlib.Omega.{arith}
 use native.Mathlib.Numerals.{add-one, add-two, add-three}
 use mathlib.Core.Path.{refl}
 use lib.ListN.{length-set}
 use borrow.Author.Needs.{needs}
 use Rattle.foil_spec.specs.Lent.{stripNumbers}
-use Rattle.foil_spec.proofs.put_strip.Statement.{statement}
-use Rattle.foil_spec.proofs.put_strip.Tie as tie
+use Rattle.places.proofs.put_strip.Statement.{statement}
+use Rattle.places.proofs.put_strip.Tie as tie
 
 mul-list : tie.Need-mul-list
 mul-list c = search needs

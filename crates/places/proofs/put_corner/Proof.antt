@@ -1,12 +1,12 @@
--- `foil_spec::put_corner` stores the two numbers of the place.
+-- `places::put_corner` stores the two numbers of the place.
 use native.Mathlib.Omega.{arith}
 use native.Mathlib.Numerals.{add-one}
 use mathlib.Core.Path.{refl}
 use lib.ListN.{length-set}
 use borrow.Author.Needs.{needs}
 use Rattle.foil_spec.specs.Corners.{pointNumbers}
-use Rattle.foil_spec.proofs.put_corner.Statement.{statement}
-use Rattle.foil_spec.proofs.put_corner.Tie as tie
+use Rattle.places.proofs.put_corner.Statement.{statement}
+use Rattle.places.proofs.put_corner.Tie as tie
 
 mul-list : tie.Need-mul-list
 mul-list c = search needs
