@@ -16,29 +16,17 @@ atEnds c = c .before .before .before
 abbrev atSearch : tie.Else1 → tie.After-path-between
 atSearch c = c .before .before .before
 
-points-refusal-requires : tie.Need-points-refusal-requires
-points-refusal-requires c κs = search needs
-
-enum-known-checked : tie.Need-enum-known-checked
-enum-known-checked c = search needs
-
 returns : tie.Need-returns
 returns c =
     let ends = c .before .before .before in
     ends-refused _ _ _ _ _ _ (atStart ends .pre) _
     (ends-told _ _ _ _ _ (c .before .checked .given .1) (ends .points-refusal .ensures))
 
-enum-told : tie.Need-enum-told
-enum-told c = search needs
-
 path-between-requires : tie.Need-path-between-requires
 path-between-requires c κs =
     let ends = atEnds c in
     posed _ _ _ _ _ (atStart ends .pre)
     (ends-told _ _ _ _ _ (c .before .enum-told .given .1) (ends .points-refusal .ensures))
-
-same-length : tie.Need-same-length
-same-length c = search needs
 
 returns-2 : tie.Need-returns-2
 returns-2 c =
@@ -48,9 +36,6 @@ returns-2 c =
     (ends-told _ _ _ _ _ (searched .before .before .enum-told .given .1) (ends .points-refusal .ensures)) _ _
     (searched .path-between .ensures) (c .if1 .taken)
 
-same-length-2 : tie.Need-same-length-2
-same-length-2 c = search needs
-
 returns-3 : tie.Need-returns-3
 returns-3 c =
     let searched = atSearch (c .before) in
@@ -59,12 +44,6 @@ returns-3 c =
     (ends-told _ _ _ _ _ (searched .before .before .enum-told .given .1) (ends .points-refusal .ensures)) _ _
     (searched .path-between .ensures) (c .before .if1 .left)
     (omega (arith, c .if2 .taken, searched .path-between .kept .0))
-
-bend-count-requires : tie.Need-bend-count-requires
-bend-count-requires c κs = search needs
-
-same-length-3 : tie.Need-same-length-3
-same-length-3 c = search needs
 
 returns-4 : tie.Need-returns-4
 returns-4 c =
@@ -77,5 +56,5 @@ returns-4 c =
 
 pub find-in-spec : {M : Type 1} → statement M
 find-in-spec =
-    tie.close (tie.spec points-refusal-requires enum-known-checked returns enum-told path-between-requires same-length
-    returns-2 same-length-2 returns-3 bend-count-requires same-length-3 returns-4)
+    tie.close (tie.spec (λ c κs. search needs) (λ c. search needs) returns (λ c. search needs) path-between-requires
+    (λ c. search needs) returns-2 (λ c. search needs) returns-3 (λ c κs. search needs) (λ c. search needs) returns-4)

@@ -18,12 +18,6 @@ locate-requires c κs = (
   by-row-of _ (of-sound _ (c .before .before .pre .0)),
 )
 
-enum-told : tie.Need-enum-told
-enum-told c = search needs
-
-enum-told-2 : tie.Need-enum-told-2
-enum-told-2 c = search needs
-
 returns : tie.Need-returns
 returns c = nowhere-blocked _ _ _ _ (atStart (c .before .before) .pre .0)
     (atStart (c .before .before) .pre .1 .0) (atStart (c .before .before) .pre .1 .1)
@@ -35,4 +29,5 @@ returns-2 c = somewhere-free _ _ _ _ (atStart (c .before .before) .pre .0)
     (sym (c .before .before .locate .ensures) ∙ c .enum-told .given .1)
 
 pub is-blocked-spec : {M : Type 1} → statement M
-is-blocked-spec = tie.close (tie.spec locate-requires enum-told enum-told-2 returns returns-2)
+is-blocked-spec =
+    tie.close (tie.spec locate-requires (λ c. search needs) (λ c. search needs) returns returns-2)

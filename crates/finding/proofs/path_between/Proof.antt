@@ -15,20 +15,11 @@ atZones c = c .before .before .before
 abbrev atSearch : tie.After-slice-known2 → tie.After-first-path
 atSearch c = c .before .before
 
-slice-aggregate-pen-zones : tie.Need-slice-aggregate-pen-zones
-slice-aggregate-pen-zones c = search needs
-
 pen-zones-requires : tie.Need-pen-zones-requires
 pen-zones-requires c κs = (atStart c .pre .table, omega arith)
 
-slice-aggregate-first-path : tie.Need-slice-aggregate-first-path
-slice-aggregate-first-path c = search needs
-
 first-path-requires : tie.Need-first-path-requires
 first-path-requires c κs = boxes-posed (atStart (atZones c .before) .pre) (atZones c .pen-zones .ensures)
-
-same-length : tie.Need-same-length
-same-length c = search needs
 
 returns : tie.Need-returns
 returns c =
@@ -38,5 +29,5 @@ returns c =
 
 pub path-between-spec : {M : Type 1} → statement M
 path-between-spec =
-    tie.close (tie.spec slice-aggregate-pen-zones pen-zones-requires slice-aggregate-first-path first-path-requires
-    same-length returns)
+    tie.close (tie.spec (λ c. search needs) pen-zones-requires (λ c. search needs) first-path-requires
+    (λ c. search needs) returns)

@@ -17,14 +17,8 @@ tOff c = c .before .before
 abbrev sBlocked : tie.After-is-blocked2 → tie.After-is-blocked
 sBlocked c = c .before .before
 
-off-foil-requires : tie.Need-off-foil-requires
-off-foil-requires c κs = search needs
-
 returns : tie.Need-returns
 returns c = s-off _ _ _ _ _ _ (c .before .off-foil .ensures) (c .if1 .taken)
-
-off-foil-requires-2 : tie.Need-off-foil-requires-2
-off-foil-requires-2 c κs = search needs
 
 returns-2 : tie.Need-returns-2
 returns-2 c =
@@ -70,5 +64,5 @@ returns-5 c =
 
 pub points-refusal-spec : {M : Type 1} → statement M
 points-refusal-spec =
-    tie.close (tie.spec off-foil-requires returns off-foil-requires-2 returns-2 is-blocked-requires returns-3
+    tie.close (tie.spec (λ c κs. search needs) returns (λ c κs. search needs) returns-2 is-blocked-requires returns-3
     is-blocked-requires-2 returns-4 returns-5)

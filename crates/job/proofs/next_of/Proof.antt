@@ -4,9 +4,6 @@ use Rattle.job.proofs.Replies.{not-run, next-run, next-other}
 use Rattle.job.proofs.next_of.Statement.{statement}
 use Rattle.job.proofs.next_of.Tie as tie
 
-enum-known-reply : tie.Need-enum-known-reply
-enum-known-reply c = search needs
-
 returns : tie.Need-returns
 returns c = next-other _ (λ a n e. not-run (rw e at (c .match .keys2)))
 
@@ -14,4 +11,5 @@ returns-2 : tie.Need-returns-2
 returns-2 c = next-run _ _ _ (c .before .reply .given .1)
 
 pub next-of-spec : {M : Type 1} → statement M
-next-of-spec = tie.close (tie.spec enum-known-reply returns returns-2)
+next-of-spec =
+    tie.close (tie.spec (λ c. search needs) returns returns-2)

@@ -27,20 +27,11 @@ afterSteps c = c .before .before .before .before .before .before
 record-refusal-requires : tie.Need-record-refusal-requires
 record-refusal-requires c κs = c .before .before .before .before .pre .0 .few
 
-enum-known-checked : tie.Need-enum-known-checked
-enum-known-checked c = search needs
-
-refuse-requires : tie.Need-refuse-requires
-refuse-requires c κs = search needs
-
 returns : tie.Need-returns
 returns c =
     let checks = atRefused c in
     record-refused _ _ _ _ _ _ _ (atStart checks .pre .0) _ (checks .record-refusal .ensures) _
     (c .before .before .checked .given .1) _ (c .refuse .ensures)
-
-enum-told : tie.Need-enum-told
-enum-told c = search needs
 
 shared-slice-read-if1 : tie.Need-shared-slice-read-if1
 shared-slice-read-if1 c =
@@ -64,15 +55,6 @@ run-steps-requires c κs =
       atStart checks .pre .1,
     )
 
-same-length : tie.Need-same-length
-same-length c = search needs
-
-same-length-2 : tie.Need-same-length-2
-same-length-2 c = search needs
-
-same-length-3 : tie.Need-same-length-3
-same-length-3 c = search needs
-
 returns-3 : tie.Need-returns-3
 returns-3 c =
     let ran = afterSteps c in
@@ -84,17 +66,6 @@ returns-3 c =
 
 pub run-record-in-spec : {M : Type 1} → statement M
 run-record-in-spec =
-    tie.close
-    (tie.spec
-    record-refusal-requires
-    enum-known-checked
-    refuse-requires
-    returns
-    enum-told
-    shared-slice-read-if1
-    returns-2
-    run-steps-requires
-    same-length
-    same-length-2
-    same-length-3
+    tie.close (tie.spec record-refusal-requires (λ c. search needs) (λ c κs. search needs) returns (λ c. search needs)
+    shared-slice-read-if1 returns-2 run-steps-requires (λ c. search needs) (λ c. search needs) (λ c. search needs)
     returns-3)

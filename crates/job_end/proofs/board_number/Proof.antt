@@ -13,17 +13,8 @@ otherTold c = c .before .before
 abbrev refusedTold : tie.After-known-told2 → tie.After-told
 refusedTold c = c .before .before .before .before
 
-enum-known-told : tie.Need-enum-known-told
-enum-known-told c = search needs
-
-enum-told : tie.Need-enum-told
-enum-told c = search needs
-
 returns : tie.Need-returns
 returns c = told-nothing _ (c .enum-told .given .1)
-
-enum-known-answer : tie.Need-enum-known-answer
-enum-known-answer c = search needs
 
 returns-2 : tie.Need-returns-2
 returns-2 c =
@@ -37,4 +28,4 @@ returns-3 c =
 
 pub board-number-spec : {M : Type 1} → statement M
 board-number-spec =
-    tie.close (tie.spec enum-known-told enum-told returns enum-known-answer returns-2 returns-3)
+    tie.close (tie.spec (λ c. search needs) (λ c. search needs) returns (λ c. search needs) returns-2 returns-3)

@@ -4,18 +4,6 @@ use Rattle.job_end.proofs.Telling.{by-file, by-board, at-mark}
 use Rattle.job_end.proofs.how_ended.Statement.{statement}
 use Rattle.job_end.proofs.how_ended.Tie as tie
 
-enum-known-reply : tie.Need-enum-known-reply
-enum-known-reply c = search needs
-
-enum-known-reply-2 : tie.Need-enum-known-reply-2
-enum-known-reply-2 c = search needs
-
-board-number-requires : tie.Need-board-number-requires
-board-number-requires c κs = search needs
-
-enum-told : tie.Need-enum-told
-enum-told c = search needs
-
 returns : tie.Need-returns
 returns c = by-file _ _ _ (c .before .reply .given .1)
 
@@ -27,4 +15,5 @@ returns-3 c = at-mark _ _ (c .enum-told .given .1)
 
 pub how-ended-spec : {M : Type 1} → statement M
 how-ended-spec =
-    tie.close (tie.spec enum-known-reply enum-known-reply-2 board-number-requires enum-told returns returns-2 returns-3)
+    tie.close (tie.spec (λ c. search needs) (λ c. search needs) (λ c κs. search needs) (λ c. search needs) returns
+    returns-2 returns-3)

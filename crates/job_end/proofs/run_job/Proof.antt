@@ -33,38 +33,14 @@ afterRunOne c = c .before
 abbrev atLoop : tie.After-next-of Inv-loop μ-loop → tie.At-loop Inv-loop μ-loop
 atLoop c = afterRunOne c .before .before .before .before .before
 
-no-board-requires : tie.Need-no-board-requires Inv-loop μ-loop
-no-board-requires c κs = search needs
-
 loop-holds : tie.Need-loop-holds Inv-loop μ-loop
 loop-holds c = (omega arith, all-to-come _ _ _ _ (c .no-board .ensures), first-comes _ _ _)
-
-run-one-requires : tie.Need-run-one-requires Inv-loop μ-loop
-run-one-requires c κs = search needs
-
-next-of-requires : tie.Need-next-of-requires Inv-loop μ-loop
-next-of-requires c κs = search needs
-
-enum-known-next : tie.Need-enum-known-next Inv-loop μ-loop
-enum-known-next c = search needs
-
-enum-told : tie.Need-enum-told Inv-loop μ-loop
-enum-told c = search needs
-
-how-ended-requires : tie.Need-how-ended-requires Inv-loop μ-loop
-how-ended-requires c κs = search needs
 
 returns : tie.Need-returns Inv-loop μ-loop
 returns c =
     let met = lastNext c in
     stops _ _ _ _ _ (atLoop met .loop .inv .1) _ _ _ _ _ (afterRunOne met .run-one .ensures) _ (met .next-of .ensures)
     (c .before .enum-told .given .1) _ (c .how-ended .ensures)
-
-add-counter : tie.Need-add-counter Inv-loop μ-loop
-add-counter c = search needs
-
-loop-less : tie.Need-loop-less Inv-loop μ-loop
-loop-less c = search needs
 
 loop-again : tie.Need-loop-again Inv-loop μ-loop
 loop-again c =
@@ -81,5 +57,6 @@ returns-2 c = absurd (omega (arith, c .before .loop .inv .1 .counted))
 
 pub run-job-spec : {M : Type 1} → statement M
 run-job-spec =
-    tie.close (tie.spec Inv-loop μ-loop no-board-requires loop-holds run-one-requires next-of-requires enum-known-next
-    enum-told how-ended-requires returns add-counter loop-less loop-again returns-2)
+    tie.close (tie.spec Inv-loop μ-loop (λ c κs. search needs) loop-holds (λ c κs. search needs)
+    (λ c κs. search needs) (λ c. search needs) (λ c. search needs) (λ c κs. search needs) returns (λ c. search needs)
+    (λ c. search needs) loop-again returns-2)

@@ -26,21 +26,6 @@ afterReply2 c = c .before .before .before .before
 abbrev afterEnumTold : tie.After-put-strips-arg3 → tie.After-enum-told
 afterEnumTold c = c .before .before .before
 
-run-one-requires : tie.Need-run-one-requires
-run-one-requires c κs = search needs
-
-enum-known-reply : tie.Need-enum-known-reply
-enum-known-reply c = search needs
-
-file-line-requires : tie.Need-file-line-requires
-file-line-requires c κs = search needs
-
-ended-requires : tie.Need-ended-requires
-ended-requires c κs = search needs
-
-enum-known-reply-2 : tie.Need-enum-known-reply-2
-enum-known-reply-2 c = search needs
-
 put-answers-requires : tie.Need-put-answers-requires
 put-answers-requires c κs = (
   omega arith,
@@ -48,16 +33,10 @@ put-answers-requires c κs = (
       (afterReply2 c .reply2 .given .1) (omega arith),
 )
 
-enum-told : tie.Need-enum-told
-enum-told c = search needs
-
 put-strips-requires : tie.Need-put-strips-requires
 put-strips-requires c κs =
     let few = count-few _ _ _ _ _ _ _ _ _ _ (afterRunOne c .run-one .ensures) (afterEnumTold c .enum-told .given .1) in
     (few, omega arith, omega (arith, few))
-
-ended-requires-2 : tie.Need-ended-requires-2
-ended-requires-2 c κs = search needs
 
 returns : tie.Need-returns
 returns c =
@@ -80,5 +59,6 @@ returns-3 c =
 
 pub report-record-spec : {M : Type 1} → statement M
 report-record-spec =
-    tie.close (tie.spec run-one-requires enum-known-reply file-line-requires ended-requires enum-known-reply-2
-    put-answers-requires enum-told put-strips-requires ended-requires-2 returns returns-2 returns-3)
+    tie.close (tie.spec (λ c κs. search needs) (λ c. search needs) (λ c κs. search needs) (λ c κs. search needs)
+    (λ c. search needs) put-answers-requires (λ c. search needs) put-strips-requires (λ c κs. search needs) returns
+    returns-2 returns-3)

@@ -11,14 +11,8 @@ use Rattle.job_report.proofs.run_one.Tie as tie
 abbrev atStart : tie.After-only-foil-0 → tie.Start
 atStart c = c .before .before .before .before .before
 
-only-foil-0-requires : tie.Need-only-foil-0-requires
-only-foil-0-requires c κs = search needs
-
 continue-job-requires : tie.Need-continue-job-requires
 continue-job-requires c κs = may-continue _ _ _ _ (atStart c .pre) _ (c .only-foil-0 .ensures)
-
-board-at-requires : tie.Need-board-at-requires
-board-at-requires c κs = omega arith
 
 returns : tie.Need-returns
 returns c =
@@ -28,4 +22,4 @@ returns c =
 
 pub run-one-spec : {M : Type 1} → statement M
 run-one-spec =
-    tie.close (tie.spec only-foil-0-requires continue-job-requires board-at-requires returns)
+    tie.close (tie.spec (λ c κs. search needs) continue-job-requires (λ c κs. omega arith) returns)

@@ -25,12 +25,6 @@ onFoil c = c .before .before
 abbrev joined : tie.After-slice-known6 → tie.After-join-from
 joined c = c .before .before .before .before .before .before
 
-net-ok-requires : tie.Need-net-ok-requires
-net-ok-requires c κs = search needs
-
-refuse-requires : tie.Need-refuse-requires
-refuse-requires c κs = search needs
-
 returns : tie.Need-returns
 returns c =
     let net = c .before .before in
@@ -39,12 +33,6 @@ returns c =
 in-use-requires : tie.Need-in-use-requires
 in-use-requires c κs = held-table _ _ _ (atStart (c .before .before) .pre .0) .len
 
-refuse-requires-2 : tie.Need-refuse-requires-2
-refuse-requires-2 c κs = search needs
-
-same-length : tie.Need-same-length
-same-length c = search needs
-
 returns-2 : tie.Need-returns-2
 returns-2 c =
     let nets = c .before .before in
@@ -52,24 +40,12 @@ returns-2 c =
     not-there _ _ _ _ _ (atStart (net .before) .pre .0) _ (net .before .net-ok .ensures) (net .if1 .left) _
     (nets .in-use .ensures) _ _ (c .before .if2 .taken) _ (c .refuse2 .ensures)
 
-refuse-requires-3 : tie.Need-refuse-requires-3
-refuse-requires-3 c κs = search needs
-
-same-length-2 : tie.Need-same-length-2
-same-length-2 c = search needs
-
 returns-3 : tie.Need-returns-3
 returns-3 c =
     let used = inX (c .before .before) in
     let net = netOk (used .before) in
     right _ _ _ _ _ (atStart (net .before) .pre .0) _ (net .before .net-ok .ensures) (net .if1 .left) _
     (used .before .in-use .ensures) (used .if2 .left) _ _ (c .before .if3 .taken) _ (c .refuse3 .ensures)
-
-refuse-requires-4 : tie.Need-refuse-requires-4
-refuse-requires-4 c κs = search needs
-
-same-length-3 : tie.Need-same-length-3
-same-length-3 c = search needs
 
 returns-4 : tie.Need-returns-4
 returns-4 c =
@@ -85,12 +61,6 @@ clear-for-requires c κs =
     let wide = inY (c .before .before) in
     let net = netOk (inX (wide .before) .before) in
     known _ _ _ (atStart (net .before) .pre .0)
-
-refuse-requires-5 : tie.Need-refuse-requires-5
-refuse-requires-5 c κs = search needs
-
-same-length-4 : tie.Need-same-length-4
-same-length-4 c = search needs
 
 returns-5 : tie.Need-returns-5
 returns-5 c =
@@ -118,20 +88,12 @@ join-from-requires c κs =
       pre .1,
     )
 
-same-length-5 : tie.Need-same-length-5
-same-length-5 c = search needs
-
-same-length-6 : tie.Need-same-length-6
-same-length-6 c = search needs
-
-same-length-7 : tie.Need-same-length-7
-same-length-7 c = search needs
-
 returns-6 : tie.Need-returns-6
 returns-6 c = joined c .join-from .ensures
 
 pub join-in-spec : {M : Type 1} → statement M
 join-in-spec =
-    tie.close (tie.spec net-ok-requires refuse-requires returns in-use-requires refuse-requires-2 same-length
-    returns-2 refuse-requires-3 same-length-2 returns-3 refuse-requires-4 same-length-3 returns-4 clear-for-requires
-    refuse-requires-5 same-length-4 returns-5 join-from-requires same-length-5 same-length-6 same-length-7 returns-6)
+    tie.close (tie.spec (λ c κs. search needs) (λ c κs. search needs) returns in-use-requires (λ c κs. search needs)
+    (λ c. search needs) returns-2 (λ c κs. search needs) (λ c. search needs) returns-3 (λ c κs. search needs)
+    (λ c. search needs) returns-4 clear-for-requires (λ c κs. search needs) (λ c. search needs) returns-5
+    join-from-requires (λ c. search needs) (λ c. search needs) (λ c. search needs) returns-6)

@@ -17,9 +17,6 @@ afterEntryAt c = c .before .before .before
 abbrev atOwn : tie.After-slice-known2 → tie.Else1
 atOwn c = c .before .before .before .before
 
-entry-at-requires : tie.Need-entry-at-requires
-entry-at-requires c κs = search needs
-
 returns : tie.Need-returns
 returns c =
     own-skip _ _ _ _ (c .before .before .entry-at .ensures) _ _ (atStart (c .before .before) .pre .2) (c .if1 .taken)
@@ -28,12 +25,6 @@ put-entry-requires : tie.Need-put-entry-requires
 put-entry-requires c κs =
     let p = atStart (afterEntryAt c) .pre in
     omega (arith, p .2 .few, own-long _ _ _ _ _ (omega arith) (p .2))
-
-add-result : tie.Need-add-result
-add-result c = search needs
-
-same-length : tie.Need-same-length
-same-length c = search needs
 
 returns-2 : tie.Need-returns-2
 returns-2 c =
@@ -45,4 +36,5 @@ returns-2 c =
 
 pub keep-own-spec : {M : Type 1} → statement M
 keep-own-spec =
-    tie.close (tie.spec entry-at-requires returns put-entry-requires add-result same-length returns-2)
+    tie.close (tie.spec (λ c κs. search needs) returns put-entry-requires (λ c. search needs) (λ c. search needs)
+    returns-2)

@@ -24,12 +24,6 @@ loop-holds c = (omega arith, own-none _ _ _ (c .before .before .pre .2), refl)
 keep-own-requires : tie.Need-keep-own-requires Inv-loop μ-loop
 keep-own-requires c κs = (omega arith, omega arith, c .before .before .loop .inv .1)
 
-add-k : tie.Need-add-k Inv-loop μ-loop
-add-k c = omega arith
-
-loop-less : tie.Need-loop-less Inv-loop μ-loop
-loop-less c = omega arith
-
 loop-again : tie.Need-loop-again Inv-loop μ-loop
 loop-again c = (
   omega arith,
@@ -45,14 +39,5 @@ returns c = own-done _ _ _ _ _ _ (omega arith) (c .before .loop .inv .0) (c .bef
 
 pub own-legs-spec : {M : Type 1} → statement M
 own-legs-spec =
-    tie.close
-    (tie.spec
-    Inv-loop
-    μ-loop
-    loop-holds
-    keep-own-requires
-    add-k
-    loop-less
-    loop-again
-    same-length
-    returns)
+    tie.close (tie.spec Inv-loop μ-loop loop-holds keep-own-requires (λ c. omega arith) (λ c. omega arith) loop-again
+    same-length returns)

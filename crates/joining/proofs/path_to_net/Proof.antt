@@ -22,16 +22,10 @@ atRule c = c .before .before
 abbrev atZones : tie.After-legs3 → tie.After-zones
 atZones c = c .before .before .before .before
 
-slice-aggregate-without : tie.Need-slice-aggregate-without
-slice-aggregate-without c = search needs
-
 without-requires : tie.Need-without-requires
 without-requires c κs =
     let table = atStart c .pre .known .table in
     (table .few, table .len, no-rows)
-
-slice-aggregate-own-legs : tie.Need-slice-aggregate-own-legs
-slice-aggregate-own-legs c = search needs
 
 own-legs-requires : tie.Need-own-legs-requires
 own-legs-requires c κs =
@@ -41,12 +35,6 @@ own-legs-requires c κs =
 pen-rule-requires : tie.Need-pen-rule-requires
 pen-rule-requires c κs = atStart (atOthers (atLegs c .before) .before) .pre .known .table .small
 
-slice-aggregate-zones : tie.Need-slice-aggregate-zones
-slice-aggregate-zones c = search needs
-
-slice-aggregate-zones-2 : tie.Need-slice-aggregate-zones-2
-slice-aggregate-zones-2 c = search needs
-
 zones-requires : tie.Need-zones-requires
 zones-requires c κs =
     let rule = atRule c in
@@ -54,12 +42,6 @@ zones-requires c κs =
       rw (rule .pen-rule .ensures) (others-table (atStart (others .before) .pre .known) (others .without .ensures)),
       omega arith,
     )
-
-slice-aggregate-first-path-to : tie.Need-slice-aggregate-first-path-to
-slice-aggregate-first-path-to c = search needs
-
-slice-aggregate-first-path-to-2 : tie.Need-slice-aggregate-first-path-to-2
-slice-aggregate-first-path-to-2 c = search needs
 
 first-path-to-requires : tie.Need-first-path-to-requires
 first-path-to-requires c κs =
@@ -70,9 +52,6 @@ first-path-to-requires c κs =
     let asked = atStart (others .before) .pre in
     net-aimed (asked .known) (others .without .ensures) (legs .own-legs .ensures) (rule .pen-rule .ensures)
     (zones .zones .ensures .0) (zones .zones .ensures .1) (asked .s-free)
-
-same-length : tie.Need-same-length
-same-length c = search needs
 
 returns : tie.Need-returns
 returns c =
@@ -87,6 +66,6 @@ returns c =
 
 pub path-to-net-spec : {M : Type 1} → statement M
 path-to-net-spec =
-    tie.close (tie.spec slice-aggregate-without without-requires slice-aggregate-own-legs own-legs-requires
-    pen-rule-requires slice-aggregate-zones slice-aggregate-zones-2 zones-requires slice-aggregate-first-path-to
-    slice-aggregate-first-path-to-2 first-path-to-requires same-length returns)
+    tie.close (tie.spec (λ c. search needs) without-requires (λ c. search needs) own-legs-requires pen-rule-requires
+    (λ c. search needs) (λ c. search needs) zones-requires (λ c. search needs) (λ c. search needs)
+    first-path-to-requires (λ c. search needs) returns)

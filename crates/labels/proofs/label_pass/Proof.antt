@@ -58,9 +58,6 @@ abbrev atWiden : tie.After-slice-known10 Inv-loop2 μ-loop2 Inv-loop μ-loop
     → tie.After-widen Inv-loop2 μ-loop2 Inv-loop μ-loop
 atWiden c = c .before .before
 
-floor-of-requires : tie.Need-floor-of-requires Inv-loop2 μ-loop2 Inv-loop μ-loop
-floor-of-requires c κs = search needs
-
 loop-holds : tie.Need-loop-holds Inv-loop2 μ-loop2 Inv-loop μ-loop
 loop-holds c =
     let pre = beforeLoop c .pre in
@@ -270,7 +267,7 @@ returns c = passing-at (omega (arith, c .before .loop .inv .0, c .loop-test)) (c
 
 pub label-pass-spec : {M : Type 1} → statement M
 label-pass-spec =
-    tie.close (tie.spec Inv-loop2 μ-loop2 Inv-loop μ-loop floor-of-requires loop-holds mul-first mul-first-2
+    tie.close (tie.spec Inv-loop2 μ-loop2 Inv-loop μ-loop (λ c κs. search needs) loop-holds mul-first mul-first-2
     shared-slice-read-first cast-first sub-first mul-end add-end mul-end-2 shared-slice-read-end cast-end
     next-new-requires loop2-holds visit-requires add-new widen-requires add-next-new next-new-requires-2 loop2-less
     loop2-again add-k loop-less loop-again same-length same-length-2 same-length-3 same-length-4 same-length-5 returns)

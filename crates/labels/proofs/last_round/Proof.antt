@@ -47,18 +47,6 @@ label-alone-requires-2 c κs =
       try .j-in,
     )
 
-same-length : tie.Need-same-length
-same-length c = search needs
-
-same-length-2 : tie.Need-same-length-2
-same-length-2 c = search needs
-
-same-length-3 : tie.Need-same-length-3
-same-length-3 c = search needs
-
-same-length-4 : tie.Need-same-length-4
-same-length-4 c = search needs
-
 returns : tie.Need-returns
 returns c =
     let upright = atUpright (c .before) in
@@ -68,18 +56,6 @@ returns c =
     (sized-same (pre .0) (level .label-alone .kept .0) (upright .label-alone2 .kept .0)
     (level .label-alone .kept .1 .0) (upright .label-alone2 .kept .1 .0))
     (pre .1 .i-in) (pre .1 .j-in) (level .label-alone .ensures) (upright .label-alone2 .ensures) (c .if1 .taken)
-
-same-length-5 : tie.Need-same-length-5
-same-length-5 c = search needs
-
-same-length-6 : tie.Need-same-length-6
-same-length-6 c = search needs
-
-same-length-7 : tie.Need-same-length-7
-same-length-7 c = search needs
-
-same-length-8 : tie.Need-same-length-8
-same-length-8 c = search needs
 
 returns-2 : tie.Need-returns-2
 returns-2 c =
@@ -93,5 +69,6 @@ returns-2 c =
 
 pub last-round-spec : {M : Type 1} → statement M
 last-round-spec =
-    tie.close (tie.spec label-alone-requires label-alone-requires-2 same-length same-length-2 same-length-3
-    same-length-4 returns same-length-5 same-length-6 same-length-7 same-length-8 returns-2)
+    tie.close (tie.spec label-alone-requires label-alone-requires-2 (λ c. search needs) (λ c. search needs)
+    (λ c. search needs) (λ c. search needs) returns (λ c. search needs) (λ c. search needs) (λ c. search needs)
+    (λ c. search needs) returns-2)

@@ -39,9 +39,6 @@ sum-of-requires c κs =
       pre .1 .0 .le line (omega (arith, c .loop-test)),
     )
 
-cast-t11 : tie.Need-cast-t11 Inv-loop μ-loop
-cast-t11 c = search needs
-
 widen-requires : tie.Need-widen-requires Inv-loop μ-loop
 widen-requires c κs =
     let turn = inLoop c in
@@ -77,5 +74,5 @@ returns c = marked-done (omega (arith, c .before .loop .inv .0, c .loop-test)) (
 
 pub mark-targets-spec : {M : Type 1} → statement M
 mark-targets-spec =
-    tie.close (tie.spec Inv-loop μ-loop loop-holds sum-of-requires cast-t11 widen-requires add-line loop-less loop-again
-    same-length returns)
+    tie.close (tie.spec Inv-loop μ-loop loop-holds sum-of-requires (λ c. search needs) widen-requires add-line
+    loop-less loop-again same-length returns)

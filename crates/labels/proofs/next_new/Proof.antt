@@ -8,13 +8,11 @@ use Rattle.labels.proofs.next_new.Tie as tie
 scan-new-requires : tie.Need-scan-new-requires
 scan-new-requires c κs = c .before .pre
 
-nearer-requires : tie.Need-nearer-requires
-nearer-requires c κs = search needs
-
 returns : tie.Need-returns
 returns c =
     let scanned = c .before .scan-new .ensures in
     next-same (omega (arith, c .nearer .ensures, scanned .le)) scanned
 
 pub next-new-spec : {M : Type 1} → statement M
-next-new-spec = tie.close (tie.spec scan-new-requires nearer-requires returns)
+next-new-spec =
+    tie.close (tie.spec scan-new-requires (λ c κs. search needs) returns)

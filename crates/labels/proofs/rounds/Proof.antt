@@ -58,9 +58,6 @@ atSecond c = c .before .before .before .before .before .before .before
 abbrev inRound : tie.After-behind4 Inv-loop μ-loop → tie.Else1 Inv-loop μ-loop
 inRound c = notLast (atFirst (atSecond c .before) .before)
 
-slice-aggregate-mark-targets : tie.Need-slice-aggregate-mark-targets Inv-loop μ-loop
-slice-aggregate-mark-targets c = search needs
-
 mark-targets-requires : tie.Need-mark-targets-requires Inv-loop μ-loop
 mark-targets-requires c κs =
     let pre = atStart c .pre in
@@ -68,9 +65,6 @@ mark-targets-requires c κs =
       (sized .row-lines .few, sized .column-lines .few, sized .level, omega arith),
       (pre .1 .0 .level-low, no-marks 538 _),
     )
-
-slice-aggregate-mark-targets-2 : tie.Need-slice-aggregate-mark-targets-2 Inv-loop μ-loop
-slice-aggregate-mark-targets-2 c = search needs
 
 mark-targets-requires-2 : tie.Need-mark-targets-requires-2 Inv-loop μ-loop
 mark-targets-requires-2 c κs =
@@ -132,18 +126,6 @@ returns c =
     let going = atLoop (last .before) .loop .inv .8 in
     tried-last (last .last-round .ensures) (c .if1 .taken) (omega (arith, going .top)) (going .rounds)
 
-slice-aggregate-label-pass : tie.Need-slice-aggregate-label-pass Inv-loop μ-loop
-slice-aggregate-label-pass c = search needs
-
-slice-aggregate-label-pass-2 : tie.Need-slice-aggregate-label-pass-2 Inv-loop μ-loop
-slice-aggregate-label-pass-2 c = search needs
-
-slice-aggregate-label-pass-3 : tie.Need-slice-aggregate-label-pass-3 Inv-loop μ-loop
-slice-aggregate-label-pass-3 c = search needs
-
-slice-aggregate-label-pass-4 : tie.Need-slice-aggregate-label-pass-4 Inv-loop μ-loop
-slice-aggregate-label-pass-4 c = search needs
-
 label-pass-requires : tie.Need-label-pass-requires Inv-loop μ-loop
 label-pass-requires c κs =
     let last = atLast (notLast c .before) in
@@ -169,15 +151,6 @@ label-pass-requires c κs =
         behind-room = omega (arith, inv .7);
       },
     )
-
-slice-aggregate-label-pass-5 : tie.Need-slice-aggregate-label-pass-5 Inv-loop μ-loop
-slice-aggregate-label-pass-5 c = search needs
-
-slice-aggregate-label-pass-6 : tie.Need-slice-aggregate-label-pass-6 Inv-loop μ-loop
-slice-aggregate-label-pass-6 c = search needs
-
-slice-aggregate-label-pass-7 : tie.Need-slice-aggregate-label-pass-7 Inv-loop μ-loop
-slice-aggregate-label-pass-7 c = search needs
 
 slice-aggregate-label-pass-8 : tie.Need-slice-aggregate-label-pass-8 Inv-loop μ-loop
 slice-aggregate-label-pass-8 c =
@@ -296,9 +269,8 @@ loop-again c =
 
 pub rounds-spec : {M : Type 1} → statement M
 rounds-spec =
-    tie.close (tie.spec Inv-loop μ-loop slice-aggregate-mark-targets mark-targets-requires
-    slice-aggregate-mark-targets-2 mark-targets-requires-2 loop-holds last-round-requires same-length same-length-2
-    same-length-3 same-length-4 returns slice-aggregate-label-pass slice-aggregate-label-pass-2
-    slice-aggregate-label-pass-3 slice-aggregate-label-pass-4 label-pass-requires slice-aggregate-label-pass-5
-    slice-aggregate-label-pass-6 slice-aggregate-label-pass-7 slice-aggregate-label-pass-8 label-pass-requires-2 add-if2
-    same-length-5 same-length-6 same-length-7 same-length-8 returns-2 add-v loop-less loop-again)
+    tie.close (tie.spec Inv-loop μ-loop (λ c. search needs) mark-targets-requires (λ c. search needs)
+    mark-targets-requires-2 loop-holds last-round-requires same-length same-length-2 same-length-3 same-length-4
+    returns (λ c. search needs) (λ c. search needs) (λ c. search needs) (λ c. search needs) label-pass-requires
+    (λ c. search needs) (λ c. search needs) (λ c. search needs) slice-aggregate-label-pass-8 label-pass-requires-2
+    add-if2 same-length-5 same-length-6 same-length-7 same-length-8 returns-2 add-v loop-less loop-again)

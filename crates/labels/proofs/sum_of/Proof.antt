@@ -19,18 +19,6 @@ atLoop c = c .before .before
 loop-holds : tie.Need-loop-holds Inv-loop μ-loop
 loop-holds c = (omega arith, summed-none _ _)
 
-mul-sum : tie.Need-mul-sum Inv-loop μ-loop
-mul-sum c = omega arith
-
-add-sum : tie.Need-add-sum Inv-loop μ-loop
-add-sum c = omega arith
-
-mul-sum-2 : tie.Need-mul-sum-2 Inv-loop μ-loop
-mul-sum-2 c = omega arith
-
-shared-slice-read-sum : tie.Need-shared-slice-read-sum Inv-loop μ-loop
-shared-slice-read-sum c = omega arith
-
 add-sum-2 : tie.Need-add-sum-2 Inv-loop μ-loop
 add-sum-2 c =
     let at-loop = atLoop c in
@@ -42,12 +30,6 @@ add-sum-2 c =
       pre .1,
       at-loop .loop .inv .0,
     )
-
-add-k : tie.Need-add-k Inv-loop μ-loop
-add-k c = omega arith
-
-loop-less : tie.Need-loop-less Inv-loop μ-loop
-loop-less c = omega arith
 
 loop-again : tie.Need-loop-again Inv-loop μ-loop
 loop-again c =
@@ -63,5 +45,5 @@ returns c = summed-done (omega (arith, c .before .loop .inv .0, c .loop-test)) (
 
 pub sum-of-spec : {M : Type 1} → statement M
 sum-of-spec =
-    tie.close (tie.spec Inv-loop μ-loop loop-holds mul-sum add-sum mul-sum-2 shared-slice-read-sum add-sum-2 add-k
-    loop-less loop-again returns)
+    tie.close (tie.spec Inv-loop μ-loop loop-holds (λ c. omega arith) (λ c. omega arith) (λ c. omega arith)
+    (λ c. omega arith) add-sum-2 (λ c. omega arith) (λ c. omega arith) loop-again returns)

@@ -34,18 +34,6 @@ atInked c = c .before .before .before
 abbrev atFilled : tie.After-slice-known9 → tie.After-fill-run
 atFilled c = c .before .before
 
-mul-if1 : tie.Need-mul-if1
-mul-if1 c = omega arith
-
-add-if1 : tie.Need-add-if1
-add-if1 c = omega arith
-
-mul-if1-2 : tie.Need-mul-if1-2
-mul-if1-2 c = omega arith
-
-slice-read-if1 : tie.Need-slice-read-if1
-slice-read-if1 c = omega arith
-
 returns : tie.Need-returns
 returns c = visit-passed (atStart (c .before) .pre .2 .low-is) (c .if1 .taken)
 
@@ -116,18 +104,6 @@ fill-run-requires c κs =
       blank-run (pre .2) (atElse at-start .if1 .left) start end,
     )
 
-same-length : tie.Need-same-length
-same-length c = search needs
-
-same-length-2 : tie.Need-same-length-2
-same-length-2 c = search needs
-
-same-length-3 : tie.Need-same-length-3
-same-length-3 c = search needs
-
-same-length-4 : tie.Need-same-length-4
-same-length-4 c = search needs
-
 returns-3 : tie.Need-returns-3
 returns-3 c =
     let at-inked = atInked (atFilled c .before) in
@@ -137,6 +113,7 @@ returns-3 c =
 
 pub visit-spec : {M : Type 1} → statement M
 visit-spec =
-    tie.close (tie.spec mul-if1 add-if1 mul-if1-2 slice-read-if1 returns is-left-requires returns-2 run-start-requires
-    run-end-requires ahead-of-requires behind-of-requires ink-run-requires fill-run-requires same-length same-length-2
-    same-length-3 same-length-4 returns-3)
+    tie.close (tie.spec (λ c. omega arith) (λ c. omega arith) (λ c. omega arith) (λ c. omega arith) returns
+    is-left-requires returns-2 run-start-requires run-end-requires ahead-of-requires behind-of-requires
+    ink-run-requires fill-run-requires (λ c. search needs) (λ c. search needs) (λ c. search needs) (λ c. search needs)
+    returns-3)

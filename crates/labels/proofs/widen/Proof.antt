@@ -16,65 +16,8 @@ atFirst c = c .before .before .before
 returns : tie.Need-returns
 returns c = widened-not _ _ _ _ _ (c .if1 .taken)
 
-mul-larger : tie.Need-mul-larger
-mul-larger c = search needs
-
-mul-larger-2 : tie.Need-mul-larger-2
-mul-larger-2 c = search needs
-
-slice-read-larger : tie.Need-slice-read-larger
-slice-read-larger c = search needs
-
-sub-larger : tie.Need-sub-larger
-sub-larger c = search needs
-
-cast-larger : tie.Need-cast-larger
-cast-larger c = search needs
-
-larger-requires : tie.Need-larger-requires
-larger-requires c κs = search needs
-
-mul-larger-3 : tie.Need-mul-larger-3
-mul-larger-3 c = search needs
-
-add-larger : tie.Need-add-larger
-add-larger c = search needs
-
-mul-larger-4 : tie.Need-mul-larger-4
-mul-larger-4 c = search needs
-
-slice-read-larger-2 : tie.Need-slice-read-larger-2
-slice-read-larger-2 c = search needs
-
-cast-larger-2 : tie.Need-cast-larger-2
-cast-larger-2 c = search needs
-
-larger-requires-2 : tie.Need-larger-requires-2
-larger-requires-2 c κs = search needs
-
-mul-marks : tie.Need-mul-marks
-mul-marks c = search needs
-
-mul-marks-2 : tie.Need-mul-marks-2
-mul-marks-2 c = search needs
-
-slice-write-marks : tie.Need-slice-write-marks
-slice-write-marks c = search needs
-
-mul-marks-3 : tie.Need-mul-marks-3
-mul-marks-3 c = search needs
-
-add-marks : tie.Need-add-marks
-add-marks c = search needs
-
-mul-marks-4 : tie.Need-mul-marks-4
-mul-marks-4 c = search needs
-
 slice-write-marks-2 : tie.Need-slice-write-marks-2
 slice-write-marks-2 c = simp length-set (omega (arith, atStart (atFirst c) .pre .0, atStart (atFirst c) .pre .1))
-
-same-length : tie.Need-same-length
-same-length c = search needs
 
 returns-2 : tie.Need-returns-2
 returns-2 c =
@@ -83,6 +26,8 @@ returns-2 c =
 
 pub widen-spec : {M : Type 1} → statement M
 widen-spec =
-    tie.close (tie.spec returns mul-larger mul-larger-2 slice-read-larger sub-larger cast-larger larger-requires
-    mul-larger-3 add-larger mul-larger-4 slice-read-larger-2 cast-larger-2 larger-requires-2 mul-marks mul-marks-2
-    slice-write-marks mul-marks-3 add-marks mul-marks-4 slice-write-marks-2 same-length returns-2)
+    tie.close (tie.spec returns (λ c. search needs) (λ c. search needs) (λ c. search needs) (λ c. search needs)
+    (λ c. search needs) (λ c κs. search needs) (λ c. search needs) (λ c. search needs) (λ c. search needs)
+    (λ c. search needs) (λ c. search needs) (λ c κs. search needs) (λ c. search needs) (λ c. search needs)
+    (λ c. search needs) (λ c. search needs) (λ c. search needs) (λ c. search needs) slice-write-marks-2
+    (λ c. search needs) returns-2)

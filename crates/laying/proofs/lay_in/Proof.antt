@@ -26,12 +26,6 @@ left c = c .before .before .before .before
 abbrev laid : tie.After-slice-known6 → tie.After-lay-between
 laid c = left c .before .before
 
-net-ok-requires : tie.Need-net-ok-requires
-net-ok-requires c κs = search needs
-
-refuse-requires : tie.Need-refuse-requires
-refuse-requires c κs = search needs
-
 returns : tie.Need-returns
 returns c =
     let net = c .before .before in
@@ -40,33 +34,12 @@ returns c =
 in-use-requires : tie.Need-in-use-requires
 in-use-requires c κs = held-table _ _ _ (atStart (c .before .before) .pre .0) .len
 
-refuse-requires-2 : tie.Need-refuse-requires-2
-refuse-requires-2 c κs = search needs
-
-same-length : tie.Need-same-length
-same-length c = search needs
-
 returns-2 : tie.Need-returns-2
 returns-2 c =
     let nets = c .before .before in
     let net = netOk nets in
     used _ _ _ _ _ _ (atStart (net .before) .pre .0) _ (net .before .net-ok .ensures) (net .if1 .left) _
     (nets .in-use .ensures) _ _ (c .before .if2 .taken) _ (c .refuse2 .ensures)
-
-points-refusal-requires : tie.Need-points-refusal-requires
-points-refusal-requires c κs = search needs
-
-enum-known-checked : tie.Need-enum-known-checked
-enum-known-checked c = search needs
-
-refuse-requires-3 : tie.Need-refuse-requires-3
-refuse-requires-3 c κs = search needs
-
-same-length-2 : tie.Need-same-length-2
-same-length-2 c = search needs
-
-same-length-3 : tie.Need-same-length-3
-same-length-3 c = search needs
 
 returns-3 : tie.Need-returns-3
 returns-3 c =
@@ -77,9 +50,6 @@ returns-3 c =
     ends-refused _ _ _ _ _ _ (atStart (net .before) .pre .0) _ (net .before .net-ok .ensures) (net .if1 .left) _
     (nets .before .in-use .ensures) (nets .if2 .left) _ _ _
     (ends-told _ _ _ _ _ (told .checked .given .1) (ends .points-refusal .ensures)) _ (c .refuse3 .ensures)
-
-enum-told : tie.Need-enum-told
-enum-told c = search needs
 
 lay-between-requires : tie.Need-lay-between-requires
 lay-between-requires c κs =
@@ -94,20 +64,12 @@ lay-between-requires c κs =
       pre .1,
     )
 
-same-length-4 : tie.Need-same-length-4
-same-length-4 c = search needs
-
-same-length-5 : tie.Need-same-length-5
-same-length-5 c = search needs
-
-same-length-6 : tie.Need-same-length-6
-same-length-6 c = search needs
-
 returns-4 : tie.Need-returns-4
 returns-4 c = laid c .lay-between .ensures
 
 pub lay-in-spec : {M : Type 1} → statement M
 lay-in-spec =
-    tie.close (tie.spec net-ok-requires refuse-requires returns in-use-requires refuse-requires-2 same-length
-    returns-2 points-refusal-requires enum-known-checked refuse-requires-3 same-length-2 same-length-3 returns-3
-    enum-told lay-between-requires same-length-4 same-length-5 same-length-6 returns-4)
+    tie.close (tie.spec (λ c κs. search needs) (λ c κs. search needs) returns in-use-requires (λ c κs. search needs)
+    (λ c. search needs) returns-2 (λ c κs. search needs) (λ c. search needs) (λ c κs. search needs)
+    (λ c. search needs) (λ c. search needs) returns-3 (λ c. search needs) lay-between-requires (λ c. search needs)
+    (λ c. search needs) (λ c. search needs) returns-4)

@@ -5,18 +5,10 @@ use Rattle.lines.specs.Lines.{boardLine}
 use Rattle.lines.proofs.board_line.Statement.{statement}
 use Rattle.lines.proofs.board_line.Tie as tie
 
-slice-aggregate-number-line : tie.Need-slice-aggregate-number-line
-slice-aggregate-number-line c = search needs
-
-number-line-requires : tie.Need-number-line-requires
-number-line-requires c κs = omega arith
-
-same-length : tie.Need-same-length
-same-length c = omega arith
-
 returns : tie.Need-returns
 unfolding boardLine
 returns c = (c .before .before .number-line .ensures .0, omega arith)
 
 pub board-line-spec : {M : Type 1} → statement M
-board-line-spec = tie.close (tie.spec slice-aggregate-number-line number-line-requires same-length returns)
+board-line-spec =
+    tie.close (tie.spec (λ c. search needs) (λ c κs. omega arith) (λ c. omega arith) returns)

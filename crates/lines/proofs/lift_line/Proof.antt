@@ -5,18 +5,10 @@ use Rattle.lines.specs.Lines.{liftLine}
 use Rattle.lines.proofs.lift_line.Statement.{statement}
 use Rattle.lines.proofs.lift_line.Tie as tie
 
-slice-aggregate-net-line : tie.Need-slice-aggregate-net-line
-slice-aggregate-net-line c = search needs
-
-net-line-requires : tie.Need-net-line-requires
-net-line-requires c κs = omega arith
-
-same-length : tie.Need-same-length
-same-length c = omega arith
-
 returns : tie.Need-returns
 unfolding liftLine
 returns c = (c .before .before .net-line .ensures .0, omega arith)
 
 pub lift-line-spec : {M : Type 1} → statement M
-lift-line-spec = tie.close (tie.spec slice-aggregate-net-line net-line-requires same-length returns)
+lift-line-spec =
+    tie.close (tie.spec (λ c. search needs) (λ c κs. omega arith) (λ c. omega arith) returns)

@@ -15,24 +15,6 @@ atNet c = atNumber c .before .before .before .before
 abbrev atWord : tie.After-slice-known5 → tie.After-put-bytes
 atWord c = atNet c .before .before .before .before
 
-put-bytes-requires : tie.Need-put-bytes-requires
-put-bytes-requires c κs = omega arith
-
-put-item-requires : tie.Need-put-item-requires
-put-item-requires c κs = omega arith
-
-put-item-requires-2 : tie.Need-put-item-requires-2
-put-item-requires-2 c κs = omega arith
-
-slice-aggregate-put-bytes : tie.Need-slice-aggregate-put-bytes
-slice-aggregate-put-bytes c = search needs
-
-put-bytes-requires-2 : tie.Need-put-bytes-requires-2
-put-bytes-requires-2 c κs = omega arith
-
-same-length : tie.Need-same-length
-same-length c = omega arith
-
 returns : tie.Need-returns
 returns c = (
   put-then
@@ -44,5 +26,5 @@ returns c = (
 
 pub net-line-spec : {M : Type 1} → statement M
 net-line-spec =
-    tie.close (tie.spec put-bytes-requires put-item-requires put-item-requires-2 slice-aggregate-put-bytes
-    put-bytes-requires-2 same-length returns)
+    tie.close (tie.spec (λ c κs. omega arith) (λ c κs. omega arith) (λ c κs. omega arith) (λ c. search needs)
+    (λ c κs. omega arith) (λ c. omega arith) returns)

@@ -12,21 +12,6 @@ atNumber c = c .before .before .before .before .before .before .before
 abbrev atWord : tie.After-slice-known4 → tie.After-put-bytes
 atWord c = atNumber c .before .before .before .before
 
-put-bytes-requires : tie.Need-put-bytes-requires
-put-bytes-requires c κs = omega arith
-
-put-item-requires : tie.Need-put-item-requires
-put-item-requires c κs = omega arith
-
-slice-aggregate-put-bytes : tie.Need-slice-aggregate-put-bytes
-slice-aggregate-put-bytes c = search needs
-
-put-bytes-requires-2 : tie.Need-put-bytes-requires-2
-put-bytes-requires-2 c κs = omega arith
-
-same-length : tie.Need-same-length
-same-length c = omega arith
-
 returns : tie.Need-returns
 returns c = (
   put-then (put-then (atWord c .put-bytes .ensures) (atNumber c .put-item .ensures .0))
@@ -36,5 +21,5 @@ returns c = (
 
 pub number-line-spec : {M : Type 1} → statement M
 number-line-spec =
-    tie.close (tie.spec put-bytes-requires put-item-requires slice-aggregate-put-bytes put-bytes-requires-2
-    same-length returns)
+    tie.close (tie.spec (λ c κs. omega arith) (λ c κs. omega arith) (λ c. search needs) (λ c κs. omega arith)
+    (λ c. omega arith) returns)

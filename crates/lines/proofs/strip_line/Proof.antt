@@ -22,33 +22,6 @@ atFirst c = atSecond c .before .before .before .before
 abbrev atWord : tie.After-slice-known7 → tie.After-put-bytes
 atWord c = atFirst c .before .before .before .before
 
-slice-aggregate-put-bytes : tie.Need-slice-aggregate-put-bytes
-slice-aggregate-put-bytes c = search needs
-
-put-bytes-requires : tie.Need-put-bytes-requires
-put-bytes-requires c κs = omega arith
-
-put-item-requires : tie.Need-put-item-requires
-put-item-requires c κs = omega arith
-
-put-item-requires-2 : tie.Need-put-item-requires-2
-put-item-requires-2 c κs = omega arith
-
-put-item-requires-3 : tie.Need-put-item-requires-3
-put-item-requires-3 c κs = omega arith
-
-put-item-requires-4 : tie.Need-put-item-requires-4
-put-item-requires-4 c κs = omega arith
-
-slice-aggregate-put-bytes-2 : tie.Need-slice-aggregate-put-bytes-2
-slice-aggregate-put-bytes-2 c = search needs
-
-put-bytes-requires-2 : tie.Need-put-bytes-requires-2
-put-bytes-requires-2 c κs = omega arith
-
-same-length : tie.Need-same-length
-same-length c = omega arith
-
 returns : tie.Need-returns
 unfolding stripLine
 returns c = (
@@ -65,5 +38,5 @@ returns c = (
 
 pub strip-line-spec : {M : Type 1} → statement M
 strip-line-spec =
-    tie.close (tie.spec slice-aggregate-put-bytes put-bytes-requires put-item-requires put-item-requires-2
-    put-item-requires-3 put-item-requires-4 slice-aggregate-put-bytes-2 put-bytes-requires-2 same-length returns)
+    tie.close (tie.spec (λ c. search needs) (λ c κs. omega arith) (λ c κs. omega arith) (λ c κs. omega arith)
+    (λ c κs. omega arith) (λ c κs. omega arith) (λ c. search needs) (λ c κs. omega arith) (λ c. omega arith) returns)

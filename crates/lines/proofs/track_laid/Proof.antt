@@ -25,39 +25,6 @@ atNet c = atZero c .before .before .before .before
 abbrev atWord : tie.After-slice-known8 → tie.After-put-bytes
 atWord c = atNet c .before .before .before .before
 
-slice-aggregate-put-bytes : tie.Need-slice-aggregate-put-bytes
-slice-aggregate-put-bytes c = search needs
-
-put-bytes-requires : tie.Need-put-bytes-requires
-put-bytes-requires c κs = omega arith
-
-put-item-requires : tie.Need-put-item-requires
-put-item-requires c κs = omega arith
-
-put-item-requires-2 : tie.Need-put-item-requires-2
-put-item-requires-2 c κs = omega arith
-
-slice-aggregate-put-bytes-2 : tie.Need-slice-aggregate-put-bytes-2
-slice-aggregate-put-bytes-2 c = search needs
-
-put-bytes-requires-2 : tie.Need-put-bytes-requires-2
-put-bytes-requires-2 c κs = omega arith
-
-put-number-requires : tie.Need-put-number-requires
-put-number-requires c κs = omega arith
-
-put-corners-requires : tie.Need-put-corners-requires
-put-corners-requires c κs = omega arith
-
-slice-aggregate-put-bytes-3 : tie.Need-slice-aggregate-put-bytes-3
-slice-aggregate-put-bytes-3 c = search needs
-
-put-bytes-requires-3 : tie.Need-put-bytes-requires-3
-put-bytes-requires-3 c κs = omega arith
-
-same-length : tie.Need-same-length
-same-length c = omega arith
-
 returns : tie.Need-returns
 unfolding trackLaid item
 returns c = (
@@ -74,6 +41,6 @@ returns c = (
 
 pub track-laid-spec : {M : Type 1} → statement M
 track-laid-spec =
-    tie.close (tie.spec slice-aggregate-put-bytes put-bytes-requires put-item-requires put-item-requires-2
-    slice-aggregate-put-bytes-2 put-bytes-requires-2 put-number-requires put-corners-requires
-    slice-aggregate-put-bytes-3 put-bytes-requires-3 same-length returns)
+    tie.close (tie.spec (λ c. search needs) (λ c κs. omega arith) (λ c κs. omega arith) (λ c κs. omega arith)
+    (λ c. search needs) (λ c κs. omega arith) (λ c κs. omega arith) (λ c κs. omega arith) (λ c. search needs)
+    (λ c κs. omega arith) (λ c. omega arith) returns)

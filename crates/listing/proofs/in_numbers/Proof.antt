@@ -5,21 +5,6 @@ use Rattle.listing.specs.Contract.{inNumbers}
 use Rattle.listing.proofs.in_numbers.Statement.{statement}
 use Rattle.listing.proofs.in_numbers.Tie as tie
 
-enum-known-answer : tie.Need-enum-known-answer
-enum-known-answer c = search needs
-
-enum-told : tie.Need-enum-told
-enum-told c = search needs
-
-enum-known-answer-2 : tie.Need-enum-known-answer-2
-enum-known-answer-2 c = search needs
-
-enum-told-2 : tie.Need-enum-told-2
-enum-told-2 c = search needs
-
-enum-told-3 : tie.Need-enum-told-3
-enum-told-3 c = search needs
-
 returns : tie.Need-returns
 unfolding inNumbers
 returns c = sym (ap inNumbers (c .before .answer .given .1))
@@ -42,6 +27,5 @@ returns-5 c = sym (ap inNumbers (c .enum-told3 .given .1))
 
 pub in-numbers-spec : {M : Type 1} → statement M
 in-numbers-spec =
-    tie.close
-    (tie.spec enum-known-answer enum-told enum-known-answer-2 enum-told-2 enum-told-3 returns returns-2 returns-3
-    returns-4 returns-5)
+    tie.close (tie.spec (λ c. search needs) (λ c. search needs) (λ c. search needs) (λ c. search needs)
+    (λ c. search needs) returns returns-2 returns-3 returns-4 returns-5)

@@ -45,12 +45,6 @@ lay-next-requires c κs =
     may-lay _ _ _ _ _ (pre .0) _ _ _ _ _ _ (inv .6) (pre .1 .0) (inv .5) (omega arith)
     (omega (arith, pre .1 .1, inv .4))
 
-add-i : tie.Need-add-i Inv-loop μ-loop
-add-i c = omega arith
-
-loop-less : tie.Need-loop-less Inv-loop μ-loop
-loop-less c = omega arith
-
 loop-again : tie.Need-loop-again Inv-loop μ-loop
 loop-again c =
     let laid = afterNext c in
@@ -88,6 +82,5 @@ returns c =
 
 pub lay-list-in-spec : {M : Type 1} → statement M
 lay-list-in-spec =
-    tie.close
-    (tie.spec Inv-loop μ-loop loop-holds lay-next-requires add-i loop-less loop-again same-length same-length-2
-    same-length-3 same-length-4 returns)
+    tie.close (tie.spec Inv-loop μ-loop loop-holds lay-next-requires (λ c. omega arith) (λ c. omega arith) loop-again
+    same-length same-length-2 same-length-3 same-length-4 returns)

@@ -19,27 +19,6 @@ atLay c = c .before .before .before .before .before .before .before .before
 abbrev atNumbers : tie.After-struct-known → tie.After-in-numbers
 atNumbers c = c .before .before .before .before .before
 
-wish-at-requires : tie.Need-wish-at-requires
-wish-at-requires c κs = search needs
-
-mul-lay-in : tie.Need-mul-lay-in
-mul-lay-in c = search needs
-
-sub-lay-in : tie.Need-sub-lay-in
-sub-lay-in c = search needs
-
-part-lay-in-start : tie.Need-part-lay-in-start
-part-lay-in-start c = search needs
-
-part-lay-in-end : tie.Need-part-lay-in-end
-part-lay-in-end c = search needs
-
-lay-in-requires : tie.Need-lay-in-requires
-lay-in-requires c κs = search needs
-
-in-numbers-requires : tie.Need-in-numbers-requires
-in-numbers-requires c κs = search needs
-
 put-answer-requires : tie.Need-put-answer-requires
 put-answer-requires c κs =
     let told = c .before in
@@ -69,21 +48,6 @@ add-t21 c =
     let corners = atStart (atWish laid) .good .1 .1 in
     omega (arith, fits, corners .0 .0)
 
-either-requires : tie.Need-either-requires
-either-requires c κs = search needs
-
-same-length : tie.Need-same-length
-same-length c = search needs
-
-same-length-2 : tie.Need-same-length-2
-same-length-2 c = search needs
-
-same-length-3 : tie.Need-same-length-3
-same-length-3 c = search needs
-
-same-length-4 : tie.Need-same-length-4
-same-length-4 c = search needs
-
 returns : tie.Need-returns
 returns c =
     let told = atNumbers (c .before) in
@@ -98,7 +62,6 @@ returns c =
 
 pub lay-next-spec : {M : Type 1} → statement M
 lay-next-spec =
-    tie.close
-    (tie.spec wish-at-requires mul-lay-in sub-lay-in part-lay-in-start part-lay-in-end lay-in-requires
-    in-numbers-requires put-answer-requires mul-t19 add-t21 either-requires same-length same-length-2 same-length-3
-    same-length-4 returns)
+    tie.close (tie.spec (λ c κs. search needs) (λ c. search needs) (λ c. search needs) (λ c. search needs)
+    (λ c. search needs) (λ c κs. search needs) (λ c κs. search needs) put-answer-requires mul-t19 add-t21
+    (λ c κs. search needs) (λ c. search needs) (λ c. search needs) (λ c. search needs) (λ c. search needs) returns)

@@ -6,57 +6,18 @@ use borrow.Author.Needs.{needs}
 use Rattle.listing.proofs.put_answer.Statement.{statement}
 use Rattle.listing.proofs.put_answer.Tie as tie
 
-cast-answers : tie.Need-cast-answers
-cast-answers c = search needs
-
-mul-answers : tie.Need-mul-answers
-mul-answers c = search needs
-
-mul-answers-2 : tie.Need-mul-answers-2
-mul-answers-2 c = search needs
-
-slice-write-answers : tie.Need-slice-write-answers
-slice-write-answers c = search needs
-
-cast-answers-2 : tie.Need-cast-answers-2
-cast-answers-2 c = search needs
-
-mul-answers-3 : tie.Need-mul-answers-3
-mul-answers-3 c = search needs
-
-add-answers : tie.Need-add-answers
-add-answers c = search needs
-
-mul-answers-4 : tie.Need-mul-answers-4
-mul-answers-4 c = search needs
-
 slice-write-answers-2 : tie.Need-slice-write-answers-2
 slice-write-answers-2 c = simp length-set (omega arith)
 
-cast-answers-3 : tie.Need-cast-answers-3
-cast-answers-3 c = search needs
-
-mul-answers-5 : tie.Need-mul-answers-5
-mul-answers-5 c = search needs
-
-add-answers-2 : tie.Need-add-answers-2
-add-answers-2 c = search needs
-
-mul-answers-6 : tie.Need-mul-answers-6
-mul-answers-6 c = search needs
-
 slice-write-answers-3 : tie.Need-slice-write-answers-3
 slice-write-answers-3 c = simp length-set (omega arith)
-
-same-length : tie.Need-same-length
-same-length c = search needs
 
 returns : tie.Need-returns
 returns c = put-at _ _ _ (omega arith)
 
 pub put-answer-spec : {M : Type 1} → statement M
 put-answer-spec =
-    tie.close
-    (tie.spec cast-answers mul-answers mul-answers-2 slice-write-answers cast-answers-2 mul-answers-3 add-answers
-    mul-answers-4 slice-write-answers-2 cast-answers-3 mul-answers-5 add-answers-2 mul-answers-6 slice-write-answers-3
-    same-length returns)
+    tie.close (tie.spec (λ c. search needs) (λ c. search needs) (λ c. search needs) (λ c. search needs)
+    (λ c. search needs) (λ c. search needs) (λ c. search needs) (λ c. search needs) slice-write-answers-2
+    (λ c. search needs) (λ c. search needs) (λ c. search needs) (λ c. search needs) slice-write-answers-3
+    (λ c. search needs) returns)

@@ -12,23 +12,11 @@ atStart c = c .before .before .before
 abbrev atDigits : tie.After-slice-known2 → tie.After-decimal
 atDigits c = c .before .before .before .before .before
 
-decimal-requires : tie.Need-decimal-requires
-decimal-requires c κs = search needs
-
-array-share-prefix-text : tie.Need-array-share-prefix-text
-array-share-prefix-text c = search needs
-
-slice-aggregate-put-bytes : tie.Need-slice-aggregate-put-bytes
-slice-aggregate-put-bytes c = search needs
-
 put-bytes-requires : tie.Need-put-bytes-requires
 put-bytes-requires c κs =
     let digits = c .before .before in
     let short = fewest-short _ _ (atStart digits .fits .n .fits) (digits .decimal .ensures .1 .0) in
     omega (arith, digits .decimal .ensures .0 .1)
-
-same-length : tie.Need-same-length
-same-length c = omega arith
 
 returns : tie.Need-returns
 returns c =
@@ -41,5 +29,5 @@ returns c =
 
 pub put-number-spec : {M : Type 1} → statement M
 put-number-spec =
-    tie.close (tie.spec decimal-requires array-share-prefix-text slice-aggregate-put-bytes put-bytes-requires
-    same-length returns)
+    tie.close (tie.spec (λ c κs. search needs) (λ c. search needs) (λ c. search needs) put-bytes-requires
+    (λ c. omega arith) returns)

@@ -24,35 +24,8 @@ beforeLoop c = c .before .before .before .before .before
 abbrev atLoop : tie.After-carry Inv-loop μ-loop → tie.At-loop Inv-loop μ-loop
 atLoop c = c .before .before .before
 
-sub-top : tie.Need-sub-top Inv-loop μ-loop
-sub-top c = omega arith
-
-mul-top : tie.Need-mul-top Inv-loop μ-loop
-mul-top c = omega arith
-
-shared-slice-read-top : tie.Need-shared-slice-read-top Inv-loop μ-loop
-shared-slice-read-top c = omega arith
-
 cast-top : tie.Need-cast-top Inv-loop μ-loop
 cast-top c = omega (arith, atStart c .pre .0 .crossings .below (atStart c .args .hi - 1) (omega arith))
-
-mul-best : tie.Need-mul-best Inv-loop μ-loop
-mul-best c = omega arith
-
-add-best : tie.Need-add-best Inv-loop μ-loop
-add-best c = omega arith
-
-mul-best-2 : tie.Need-mul-best-2 Inv-loop μ-loop
-mul-best-2 c = omega arith
-
-shared-slice-read-best : tie.Need-shared-slice-read-best Inv-loop μ-loop
-shared-slice-read-best c = omega arith
-
-mul-best-3 : tie.Need-mul-best-3 Inv-loop μ-loop
-mul-best-3 c = omega arith
-
-shared-slice-read-best-2 : tie.Need-shared-slice-read-best-2 Inv-loop μ-loop
-shared-slice-read-best-2 c = omega arith
 
 cast-best : tie.Need-cast-best Inv-loop μ-loop
 cast-best c =
@@ -85,15 +58,6 @@ loop-holds c =
           (pre .1 .stop) _,
     )
 
-sub-k : tie.Need-sub-k Inv-loop μ-loop
-sub-k c = omega arith
-
-mul-carry : tie.Need-mul-carry Inv-loop μ-loop
-mul-carry c = omega arith
-
-shared-slice-read-carry : tie.Need-shared-slice-read-carry Inv-loop μ-loop
-shared-slice-read-carry c = omega arith
-
 cast-carry : tie.Need-cast-carry Inv-loop μ-loop
 cast-carry c =
     omega (arith, atStart (beforeLoop c) .pre .0 .crossings .below (c .before .before .loop .k - 1) (omega arith))
@@ -104,14 +68,8 @@ carry-requires c κs =
     let k = c .before .before .loop .k - 1 in
     (at-crossing on k (omega arith), omega (arith, on .crossings .below k (omega arith)))
 
-mul-ahead : tie.Need-mul-ahead Inv-loop μ-loop
-mul-ahead c = omega arith
-
 slice-write-ahead : tie.Need-slice-write-ahead Inv-loop μ-loop
 slice-write-ahead c = omega (arith, atLoop c .loop .inv .0)
-
-loop-less : tie.Need-loop-less Inv-loop μ-loop
-loop-less c = omega arith
 
 loop-again : tie.Need-loop-again Inv-loop μ-loop
 loop-again c =
@@ -131,7 +89,7 @@ returns c = down-done (omega arith) (c .before .loop .inv .1)
 
 pub ahead-of-spec : {M : Type 1} → statement M
 ahead-of-spec =
-    tie.close (tie.spec Inv-loop μ-loop sub-top mul-top shared-slice-read-top cast-top mul-best add-best mul-best-2
-    shared-slice-read-best mul-best-3 shared-slice-read-best-2 cast-best sub-best add-best-2 add-best-3 loop-holds
-    sub-k mul-carry shared-slice-read-carry cast-carry carry-requires mul-ahead slice-write-ahead loop-less loop-again
-    same-length returns)
+    tie.close (tie.spec Inv-loop μ-loop (λ c. omega arith) (λ c. omega arith) (λ c. omega arith) cast-top
+    (λ c. omega arith) (λ c. omega arith) (λ c. omega arith) (λ c. omega arith) (λ c. omega arith) (λ c. omega arith)
+    cast-best sub-best add-best-2 add-best-3 loop-holds (λ c. omega arith) (λ c. omega arith) (λ c. omega arith)
+    cast-carry carry-requires (λ c. omega arith) slice-write-ahead (λ c. omega arith) loop-again same-length returns)

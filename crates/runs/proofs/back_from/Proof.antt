@@ -19,26 +19,8 @@ atLoop c = c .before .before
 loop-holds : tie.Need-loop-holds Inv-loop μ-loop
 loop-holds c = (omega arith, linked-refl _ _ _)
 
-mul-if1 : tie.Need-mul-if1 Inv-loop μ-loop
-mul-if1 c = omega arith
-
-sub-if1 : tie.Need-sub-if1 Inv-loop μ-loop
-sub-if1 c = omega arith
-
-add-if1 : tie.Need-add-if1 Inv-loop μ-loop
-add-if1 c = omega arith
-
-shared-slice-read-if1 : tie.Need-shared-slice-read-if1 Inv-loop μ-loop
-shared-slice-read-if1 c = omega arith
-
 returns : tie.Need-returns Inv-loop μ-loop
 returns c = record { le = omega arith; linked = atLoop (c .before) .loop .inv .1; stop = λ z. c .if1 .taken }
-
-sub-lo : tie.Need-sub-lo Inv-loop μ-loop
-sub-lo c = omega arith
-
-loop-less : tie.Need-loop-less Inv-loop μ-loop
-loop-less c = omega arith
 
 loop-again : tie.Need-loop-again Inv-loop μ-loop
 loop-again c =
@@ -49,5 +31,5 @@ returns-2 c = record { le = omega arith; linked = c .before .loop .inv .1; stop 
 
 pub back-from-spec : {M : Type 1} → statement M
 back-from-spec =
-    tie.close (tie.spec Inv-loop μ-loop loop-holds mul-if1 sub-if1 add-if1 shared-slice-read-if1 returns sub-lo
-    loop-less loop-again returns-2)
+    tie.close (tie.spec Inv-loop μ-loop loop-holds (λ c. omega arith) (λ c. omega arith) (λ c. omega arith)
+    (λ c. omega arith) returns (λ c. omega arith) (λ c. omega arith) loop-again returns-2)

@@ -24,35 +24,11 @@ atStart c = c .before .before .before .before .before .before .before
 abbrev atLoop : tie.After-shared-slice-known7 Inv-loop μ-loop → tie.At-loop Inv-loop μ-loop
 atLoop c = c .before .before
 
-mul-top : tie.Need-mul-top Inv-loop μ-loop
-mul-top c = omega arith
-
-shared-slice-read-top : tie.Need-shared-slice-read-top Inv-loop μ-loop
-shared-slice-read-top c = omega arith
-
 cast-top : tie.Need-cast-top Inv-loop μ-loop
 cast-top c = omega (arith, atStartFromLoop c .pre .0 .crossings .below (atStartFromLoop c .args .lo) (omega arith))
 
 sub-top : tie.Need-sub-top Inv-loop μ-loop
 sub-top c = omega (arith, atStartFromLoop c .pre .0 .crossings .below (atStartFromLoop c .args .lo) (omega arith))
-
-mul-best : tie.Need-mul-best Inv-loop μ-loop
-mul-best c = omega arith
-
-add-best : tie.Need-add-best Inv-loop μ-loop
-add-best c = omega arith
-
-mul-best-2 : tie.Need-mul-best-2 Inv-loop μ-loop
-mul-best-2 c = omega arith
-
-shared-slice-read-best : tie.Need-shared-slice-read-best Inv-loop μ-loop
-shared-slice-read-best c = omega arith
-
-mul-best-3 : tie.Need-mul-best-3 Inv-loop μ-loop
-mul-best-3 c = omega arith
-
-shared-slice-read-best-2 : tie.Need-shared-slice-read-best-2 Inv-loop μ-loop
-shared-slice-read-best-2 c = omega arith
 
 cast-best : tie.Need-cast-best Inv-loop μ-loop
 cast-best c = omega (arith, atStart c .pre .0 .crossings .below (atStart c .args .h) (omega arith))
@@ -79,12 +55,6 @@ loop-holds c =
           (pre .1 .stop) _,
     )
 
-mul-carry : tie.Need-mul-carry Inv-loop μ-loop
-mul-carry c = omega arith
-
-shared-slice-read-carry : tie.Need-shared-slice-read-carry Inv-loop μ-loop
-shared-slice-read-carry c = omega arith
-
 cast-carry : tie.Need-cast-carry Inv-loop μ-loop
 cast-carry c = omega (arith, atStart (atLoop c .before) .pre .0 .crossings .below (atLoop c .loop .k) (omega arith))
 
@@ -95,17 +65,8 @@ carry-requires : tie.Need-carry-requires Inv-loop μ-loop
 carry-requires c κs =
     (at-crossing (atStart (atLoop c .before) .pre .0) (atLoop c .loop .k) (omega arith), omega arith)
 
-mul-behind : tie.Need-mul-behind Inv-loop μ-loop
-mul-behind c = omega arith
-
 slice-write-behind : tie.Need-slice-write-behind Inv-loop μ-loop
 slice-write-behind c = omega (arith, atLoop (c .before) .loop .inv .0)
-
-add-k : tie.Need-add-k Inv-loop μ-loop
-add-k c = omega arith
-
-loop-less : tie.Need-loop-less Inv-loop μ-loop
-loop-less c = omega arith
 
 loop-again : tie.Need-loop-again Inv-loop μ-loop
 loop-again c =
@@ -126,7 +87,8 @@ returns c = up-done (omega arith) (c .before .loop .inv .1)
 
 pub behind-of-spec : {M : Type 1} → statement M
 behind-of-spec =
-    tie.close (tie.spec Inv-loop μ-loop mul-top shared-slice-read-top cast-top sub-top mul-best add-best mul-best-2
-    shared-slice-read-best mul-best-3 shared-slice-read-best-2 cast-best sub-best sub-best-2 add-best-2 add-best-3
-    loop-holds mul-carry shared-slice-read-carry cast-carry sub-carry carry-requires mul-behind slice-write-behind
-    add-k loop-less loop-again same-length returns)
+    tie.close (tie.spec Inv-loop μ-loop (λ c. omega arith) (λ c. omega arith) cast-top sub-top (λ c. omega arith)
+    (λ c. omega arith) (λ c. omega arith) (λ c. omega arith) (λ c. omega arith) (λ c. omega arith) cast-best sub-best
+    sub-best-2 add-best-2 add-best-3 loop-holds (λ c. omega arith) (λ c. omega arith) cast-carry sub-carry
+    carry-requires (λ c. omega arith) slice-write-behind (λ c. omega arith) (λ c. omega arith) loop-again same-length
+    returns)

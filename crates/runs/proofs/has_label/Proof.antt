@@ -8,18 +8,6 @@ use Rattle.runs.proofs.has_label.Tie as tie
 returns : tie.Need-returns
 returns c = (λ e. clash e refl, λ e. c .before .pre .1 (c .if1 .taken))
 
-mul-if2 : tie.Need-mul-if2
-mul-if2 c = search needs
-
-add-if2 : tie.Need-add-if2
-add-if2 c = search needs
-
-mul-if2-2 : tie.Need-mul-if2-2
-mul-if2-2 c = search needs
-
-shared-slice-read-if2 : tie.Need-shared-slice-read-if2
-shared-slice-read-if2 c = search needs
-
 returns-2 : tie.Need-returns-2
 returns-2 c = (λ e. c .if2 .taken, λ e. clash refl e)
 
@@ -28,4 +16,5 @@ returns-3 c = (λ e. clash e refl, λ e. c .if2 .left)
 
 pub has-label-spec : {M : Type 1} → statement M
 has-label-spec =
-    tie.close (tie.spec returns mul-if2 add-if2 mul-if2-2 shared-slice-read-if2 returns-2 returns-3)
+    tie.close (tie.spec returns (λ c. search needs) (λ c. search needs) (λ c. search needs) (λ c. search needs)
+    returns-2 returns-3)

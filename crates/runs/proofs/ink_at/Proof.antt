@@ -22,55 +22,16 @@ atStart c = c .before .before .before .before .before .before .before
 abbrev atLoop : tie.After-steps2 Inv-loop μ-loop → tie.At-loop Inv-loop μ-loop
 atLoop c = c .before .before .before
 
-mul-x : tie.Need-mul-x Inv-loop μ-loop
-mul-x c = omega arith
-
-shared-slice-read-x : tie.Need-shared-slice-read-x Inv-loop μ-loop
-shared-slice-read-x c = omega arith
-
-mul-best : tie.Need-mul-best Inv-loop μ-loop
-mul-best c = omega arith
-
-add-best : tie.Need-add-best Inv-loop μ-loop
-add-best c = omega arith
-
-mul-best-2 : tie.Need-mul-best-2 Inv-loop μ-loop
-mul-best-2 c = omega arith
-
-shared-slice-read-best : tie.Need-shared-slice-read-best Inv-loop μ-loop
-shared-slice-read-best c = omega arith
-
-mul-steps : tie.Need-mul-steps Inv-loop μ-loop
-mul-steps c = omega arith
-
-shared-slice-read-steps : tie.Need-shared-slice-read-steps Inv-loop μ-loop
-shared-slice-read-steps c = omega arith
-
-steps-requires : tie.Need-steps-requires Inv-loop μ-loop
-steps-requires c κs = search needs
-
 add-best-2 : tie.Need-add-best-2 Inv-loop μ-loop
 add-best-2 c =
     let start = atStart c in
     let low = start .pre .0 .low .le (start .args .h) (omega arith) (start .pre .1 .stop) in
     omega (arith, low, c .steps .ensures .1)
 
-add-k : tie.Need-add-k Inv-loop μ-loop
-add-k c = omega arith
-
 loop-holds : tie.Need-loop-holds Inv-loop μ-loop
 loop-holds c =
     let e = c .steps .ensures .0 in
     (omega arith, omega arith, least-one (omega arith) (atStart c .pre .1 .stop) (omega arith))
-
-mul-steps-2 : tie.Need-mul-steps-2 Inv-loop μ-loop
-mul-steps-2 c = omega arith
-
-shared-slice-read-steps-2 : tie.Need-shared-slice-read-steps-2 Inv-loop μ-loop
-shared-slice-read-steps-2 c = omega arith
-
-steps-requires-2 : tie.Need-steps-requires-2 Inv-loop μ-loop
-steps-requires-2 c κs = search needs
 
 carry-requires : tie.Need-carry-requires Inv-loop μ-loop
 carry-requires c κs =
@@ -81,12 +42,6 @@ carry-requires c κs =
       at-crossing (start .pre .0) k (omega arith),
       omega (arith, c .steps2 .ensures .0, near, lines .below k (omega arith)),
     )
-
-add-k-2 : tie.Need-add-k-2 Inv-loop μ-loop
-add-k-2 c = omega arith
-
-loop-less : tie.Need-loop-less Inv-loop μ-loop
-loop-less c = omega arith
 
 loop-again : tie.Need-loop-again Inv-loop μ-loop
 loop-again c =
@@ -101,6 +56,7 @@ returns c = let inv = c .before .loop .inv in least-done (omega arith) (inv .2)
 
 pub ink-at-spec : {M : Type 1} → statement M
 ink-at-spec =
-    tie.close (tie.spec Inv-loop μ-loop mul-x shared-slice-read-x mul-best add-best mul-best-2 shared-slice-read-best
-    mul-steps shared-slice-read-steps steps-requires add-best-2 add-k loop-holds mul-steps-2 shared-slice-read-steps-2
-    steps-requires-2 carry-requires add-k-2 loop-less loop-again returns)
+    tie.close (tie.spec Inv-loop μ-loop (λ c. omega arith) (λ c. omega arith) (λ c. omega arith) (λ c. omega arith)
+    (λ c. omega arith) (λ c. omega arith) (λ c. omega arith) (λ c. omega arith) (λ c κs. search needs) add-best-2
+    (λ c. omega arith) loop-holds (λ c. omega arith) (λ c. omega arith) (λ c κs. search needs) carry-requires
+    (λ c. omega arith) (λ c. omega arith) loop-again returns)

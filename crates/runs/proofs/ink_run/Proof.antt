@@ -23,24 +23,6 @@ atLoop c = c .before .before .before .before .before
 loop-holds : tie.Need-loop-holds Inv-loop μ-loop
 loop-holds c = (omega arith, omega arith, inked-none _ _)
 
-mul-ink-of : tie.Need-mul-ink-of Inv-loop μ-loop
-mul-ink-of c = omega arith
-
-shared-slice-read-ink-of : tie.Need-shared-slice-read-ink-of Inv-loop μ-loop
-shared-slice-read-ink-of c = omega arith
-
-mul-ink-of-2 : tie.Need-mul-ink-of-2 Inv-loop μ-loop
-mul-ink-of-2 c = omega arith
-
-shared-slice-read-ink-of-2 : tie.Need-shared-slice-read-ink-of-2 Inv-loop μ-loop
-shared-slice-read-ink-of-2 c = omega arith
-
-mul-ink-of-3 : tie.Need-mul-ink-of-3 Inv-loop μ-loop
-mul-ink-of-3 c = omega arith
-
-shared-slice-read-ink-of-3 : tie.Need-shared-slice-read-ink-of-3 Inv-loop μ-loop
-shared-slice-read-ink-of-3 c = omega arith
-
 ink-of-requires : tie.Need-ink-of-requires Inv-loop μ-loop
 ink-of-requires c κs =
     let swept = atStart c .pre .0 in
@@ -58,12 +40,6 @@ put-ink-requires c κs =
       (pre .0 .line-in, omega (arith, pre .0 .crossings .few), omega (arith, inv .2 .size, pre .1 .0), pre .1 .1),
       λ e. pre .1 .2 e .none (atLoop (c .before) .loop .k) (inv .0) (omega arith),
     )
-
-add-k : tie.Need-add-k Inv-loop μ-loop
-add-k c = omega arith
-
-loop-less : tie.Need-loop-less Inv-loop μ-loop
-loop-less c = omega arith
 
 loop-again : tie.Need-loop-again Inv-loop μ-loop
 loop-again c =
@@ -88,6 +64,6 @@ returns c = inked-done (omega arith) (c .before .loop .inv .2)
 
 pub ink-run-spec : {M : Type 1} → statement M
 ink-run-spec =
-    tie.close (tie.spec Inv-loop μ-loop loop-holds mul-ink-of shared-slice-read-ink-of mul-ink-of-2
-    shared-slice-read-ink-of-2 mul-ink-of-3 shared-slice-read-ink-of-3 ink-of-requires put-ink-requires add-k
-    loop-less loop-again same-length returns)
+    tie.close (tie.spec Inv-loop μ-loop loop-holds (λ c. omega arith) (λ c. omega arith) (λ c. omega arith)
+    (λ c. omega arith) (λ c. omega arith) (λ c. omega arith) ink-of-requires put-ink-requires (λ c. omega arith)
+    (λ c. omega arith) loop-again same-length returns)

@@ -9,15 +9,6 @@ use Rattle.runs.proofs.next_stop.Tie as tie
 abbrev atStart : tie.After-shared-slice-known5 → tie.Start
 atStart c = c .before .before .before .before .before .before
 
-run-start-requires : tie.Need-run-start-requires
-run-start-requires c κs = search needs
-
-mul-scan : tie.Need-mul-scan
-mul-scan c = omega arith
-
-shared-slice-read-scan : tie.Need-shared-slice-read-scan
-shared-slice-read-scan c = omega arith
-
 scan-requires : tie.Need-scan-requires
 scan-requires c κs =
     let pre = atStart c .pre in
@@ -27,4 +18,5 @@ returns : tie.Need-returns
 returns c = stop-of (c .before .before .run-start .ensures) (c .scan .ensures)
 
 pub next-stop-spec : {M : Type 1} → statement M
-next-stop-spec = tie.close (tie.spec run-start-requires mul-scan shared-slice-read-scan scan-requires returns)
+next-stop-spec =
+    tie.close (tie.spec (λ c κs. search needs) (λ c. omega arith) (λ c. omega arith) scan-requires returns)

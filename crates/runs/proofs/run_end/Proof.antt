@@ -16,23 +16,8 @@ abbrev μ-loop : tie.MeasureT-loop
 abbrev atLoop : tie.After-shared-slice-known Inv-loop μ-loop → tie.At-loop Inv-loop μ-loop
 atLoop c = c .before .before
 
-add-hi : tie.Need-add-hi Inv-loop μ-loop
-add-hi c = omega arith
-
 loop-holds : tie.Need-loop-holds Inv-loop μ-loop
 loop-holds c = (omega arith, omega arith, linked-first _ _ _)
-
-mul-if1 : tie.Need-mul-if1 Inv-loop μ-loop
-mul-if1 c = omega arith
-
-sub-if1 : tie.Need-sub-if1 Inv-loop μ-loop
-sub-if1 c = omega arith
-
-add-if1 : tie.Need-add-if1 Inv-loop μ-loop
-add-if1 c = omega arith
-
-shared-slice-read-if1 : tie.Need-shared-slice-read-if1 Inv-loop μ-loop
-shared-slice-read-if1 c = omega arith
 
 returns : tie.Need-returns Inv-loop μ-loop
 returns c =
@@ -43,12 +28,6 @@ returns c =
       stop = λ z.
           c .if1 .taken;
     }
-
-add-hi-2 : tie.Need-add-hi-2 Inv-loop μ-loop
-add-hi-2 c = omega arith
-
-loop-less : tie.Need-loop-less Inv-loop μ-loop
-loop-less c = omega arith
 
 loop-again : tie.Need-loop-again Inv-loop μ-loop
 loop-again c =
@@ -65,5 +44,5 @@ returns-2 c =
 
 pub run-end-spec : {M : Type 1} → statement M
 run-end-spec =
-    tie.close (tie.spec Inv-loop μ-loop add-hi loop-holds mul-if1 sub-if1 add-if1 shared-slice-read-if1 returns
-    add-hi-2 loop-less loop-again returns-2)
+    tie.close (tie.spec Inv-loop μ-loop (λ c. omega arith) loop-holds (λ c. omega arith) (λ c. omega arith)
+    (λ c. omega arith) (λ c. omega arith) returns (λ c. omega arith) (λ c. omega arith) loop-again returns-2)

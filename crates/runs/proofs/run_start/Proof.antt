@@ -4,14 +4,9 @@ use Rattle.runs.proofs.Line.{start-nearer}
 use Rattle.runs.proofs.run_start.Statement.{statement}
 use Rattle.runs.proofs.run_start.Tie as tie
 
-back-from-requires : tie.Need-back-from-requires
-back-from-requires c κs = search needs
-
-nearer-requires : tie.Need-nearer-requires
-nearer-requires c κs = search needs
-
 returns : tie.Need-returns
 returns c = start-nearer (c .before .back-from .ensures) (c .nearer .ensures)
 
 pub run-start-spec : {M : Type 1} → statement M
-run-start-spec = tie.close (tie.spec back-from-requires nearer-requires returns)
+run-start-spec =
+    tie.close (tie.spec (λ c κs. search needs) (λ c κs. search needs) returns)

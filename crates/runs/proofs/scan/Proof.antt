@@ -43,27 +43,12 @@ returns c =
       found = λ z. (omega arith, atLoop c .loop .inv .2, sym (c .before .is-stop .ensures) ∙ c .if1 .taken);
     }
 
-mul-if2 : tie.Need-mul-if2 Inv-loop μ-loop
-mul-if2 c = omega arith
-
-add-if2 : tie.Need-add-if2 Inv-loop μ-loop
-add-if2 c = omega arith
-
-shared-slice-read-if2 : tie.Need-shared-slice-read-if2 Inv-loop μ-loop
-shared-slice-read-if2 c = omega arith
-
 returns-2 : tie.Need-returns-2 Inv-loop μ-loop
 returns-2 c =
     let at-if1 = c .before .before in
     let at-loop = atStop (c .before) .before .before in
     blocked _ _ _ _ _ _ _ _ _ _ (at-loop .loop .k) (omega arith) (at-loop .loop .inv .3)
     (sym (at-if1 .before .is-stop .ensures) ∙ at-if1 .if1 .left) (c .if2 .taken)
-
-add-k : tie.Need-add-k Inv-loop μ-loop
-add-k c = omega arith
-
-loop-less : tie.Need-loop-less Inv-loop μ-loop
-loop-less c = omega arith
 
 loop-again : tie.Need-loop-again Inv-loop μ-loop
 loop-again c =
@@ -85,5 +70,5 @@ returns-3 c =
 
 pub scan-spec : {M : Type 1} → statement M
 scan-spec =
-    tie.close (tie.spec Inv-loop μ-loop loop-holds is-stop-requires returns mul-if2 add-if2 shared-slice-read-if2
-    returns-2 add-k loop-less loop-again returns-3)
+    tie.close (tie.spec Inv-loop μ-loop loop-holds is-stop-requires returns (λ c. omega arith) (λ c. omega arith)
+    (λ c. omega arith) returns-2 (λ c. omega arith) (λ c. omega arith) loop-again returns-3)

@@ -18,12 +18,6 @@ atRows c = c .before .before .before .before .before
 abbrev afterRows : tie.After-links-arg6 → tie.After-rows
 afterRows c = c .before .before .before .before .before .before .before .before .before .before
 
-cast-axis : tie.Need-cast-axis
-cast-axis c = search needs
-
-cast-axis-2 : tie.Need-cast-axis-2
-cast-axis-2 c = search needs
-
 axis-requires : tie.Need-axis-requires
 axis-requires c κs =
     let asked = atStart c .pre in
@@ -36,12 +30,6 @@ axis-requires c κs =
       short = aimed .boxes .width;
       room = asked .room .column-lines;
     }
-
-cast-axis-3 : tie.Need-cast-axis-3
-cast-axis-3 c = search needs
-
-cast-axis-4 : tie.Need-cast-axis-4
-cast-axis-4 c = search needs
 
 axis-requires-2 : tie.Need-axis-requires-2
 axis-requires-2 c κs =
@@ -81,22 +69,8 @@ links-requires-2 c κs =
       },
     )
 
-same-length : tie.Need-same-length
-same-length c = search needs
-
-same-length-2 : tie.Need-same-length-2
-same-length-2 c = search needs
-
-same-length-3 : tie.Need-same-length-3
-same-length-3 c = search needs
-
-same-length-4 : tie.Need-same-length-4
-same-length-4 c = search needs
-
-returns : tie.Need-returns
-returns c = search needs
-
 pub build-spec : {M : Type 1} → statement M
 build-spec =
-    tie.close (tie.spec cast-axis cast-axis-2 axis-requires cast-axis-3 cast-axis-4 axis-requires-2 links-requires
-    links-requires-2 same-length same-length-2 same-length-3 same-length-4 returns)
+    tie.close (tie.spec (λ c. search needs) (λ c. search needs) axis-requires (λ c. search needs) (λ c. search needs)
+    axis-requires-2 links-requires links-requires-2 (λ c. search needs) (λ c. search needs) (λ c. search needs)
+    (λ c. search needs) (λ c. search needs))

@@ -20,14 +20,8 @@ add-t13 c =
     let asked = atStart c .pre in
     omega (arith, not-covered _ _ _ _ _ _ (asked .t-free), asked .boxes .width, asked .boxes .height)
 
-slice-aggregate-first-path-to : tie.Need-slice-aggregate-first-path-to
-slice-aggregate-first-path-to c = search needs
-
 first-path-to-requires : tie.Need-first-path-to-requires
 first-path-to-requires c κs = one-aimed (atStart (c .before .before) .pre)
-
-same-length : tie.Need-same-length
-same-length c = search needs
 
 returns : tie.Need-returns
 returns c =
@@ -36,4 +30,4 @@ returns c =
 
 pub first-path-spec : {M : Type 1} → statement M
 first-path-spec =
-    tie.close (tie.spec add-t12 add-t13 slice-aggregate-first-path-to first-path-to-requires same-length returns)
+    tie.close (tie.spec add-t12 add-t13 (λ c. search needs) first-path-to-requires (λ c. search needs) returns)

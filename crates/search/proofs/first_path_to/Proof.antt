@@ -13,12 +13,6 @@ atStart c = c .before .before .before .before
 is-boxed-requires : tie.Need-is-boxed-requires
 is-boxed-requires c κs = c .before .before .before .pre .targets .len
 
-stay-requires : tie.Need-stay-requires
-stay-requires c κs = search needs
-
-same-length : tie.Need-same-length
-same-length c = search needs
-
 returns : tie.Need-returns
 returns c =
     let at-stay = c .before .before in
@@ -33,22 +27,16 @@ path-among-few-requires : tie.Need-path-among-few-requires
 path-among-few-requires c κs =
     record { aimed = atStart (c .before .before .before .before) .pre; few = omega (arith, c .before .if2 .taken) }
 
-same-length-2 : tie.Need-same-length-2
-same-length-2 c = search needs
-
 returns-2 : tie.Need-returns-2
 returns-2 c = c .before .before .path-among-few .ensures
 
 path-among-many-requires : tie.Need-path-among-many-requires
 path-among-many-requires c κs = atStart (c .before .before .before .before) .pre
 
-same-length-3 : tie.Need-same-length-3
-same-length-3 c = search needs
-
 returns-3 : tie.Need-returns-3
 returns-3 c = c .before .before .path-among-many .ensures
 
 pub first-path-to-spec : {M : Type 1} → statement M
 first-path-to-spec =
-    tie.close (tie.spec is-boxed-requires stay-requires same-length returns add-if2 path-among-few-requires
-    same-length-2 returns-2 path-among-many-requires same-length-3 returns-3)
+    tie.close (tie.spec is-boxed-requires (λ c κs. search needs) (λ c. search needs) returns add-if2
+    path-among-few-requires (λ c. search needs) returns-2 path-among-many-requires (λ c. search needs) returns-3)

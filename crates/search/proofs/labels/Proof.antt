@@ -19,9 +19,6 @@ abbrev atLabel : tie.After-start-at-arg6 → tie.After-label
 atLabel c = c .before .before .before .before .before .before .before .before .before .before .before .before .before
     .before
 
-build-requires : tie.Need-build-requires
-build-requires c κs = search needs
-
 label-requires : tie.Need-label-requires
 label-requires c κs =
     let build = atBuild c .build in
@@ -87,5 +84,5 @@ returns c =
 
 pub labels-spec : {M : Type 1} → statement M
 labels-spec =
-    tie.close (tie.spec build-requires label-requires start-at-requires same-length same-length-2 same-length-3
-    same-length-4 same-length-5 same-length-6 same-length-7 same-length-8 returns)
+    tie.close (tie.spec (λ c κs. search needs) label-requires start-at-requires same-length same-length-2
+    same-length-3 same-length-4 same-length-5 same-length-6 same-length-7 same-length-8 returns)

@@ -9,14 +9,8 @@ abbrev atLabels : tie.After-write-path-arg9 → tie.After-labels
 atLabels c = c .before .before .before .before .before .before .before .before .before .before .before .before .before
     .before .before .before .before .before .before .before .before .before .before .before .before
 
-labels-requires : tie.Need-labels-requires
-labels-requires c κs = search needs
-
 write-path-requires : tie.Need-write-path-requires
 write-path-requires c κs = record { path = _; searched = atLabels c .labels .ensures }
-
-same-length : tie.Need-same-length
-same-length c = search needs
 
 same-length-2 : tie.Need-same-length-2
 same-length-2 c = omega (arith, atLabels (c .before .before .before) .labels .kept)
@@ -49,5 +43,5 @@ returns c =
 
 pub path-in-spec : {M : Type 1} → statement M
 path-in-spec =
-    tie.close (tie.spec labels-requires write-path-requires same-length same-length-2 same-length-3 same-length-4
-    same-length-5 same-length-6 same-length-7 same-length-8 same-length-9 returns)
+    tie.close (tie.spec (λ c κs. search needs) write-path-requires (λ c. search needs) same-length-2 same-length-3
+    same-length-4 same-length-5 same-length-6 same-length-7 same-length-8 same-length-9 returns)

@@ -17,24 +17,12 @@ starts-upright-requires c κs =
     let asked = atStart c .pre in
     record { room = asked .room; choosing = asked .choosing (not-ff _ (c .if1 .left)) }
 
-label-at-requires : tie.Need-label-at-requires
-label-at-requires c κs = search needs
-
-cast-corners : tie.Need-cast-corners
-cast-corners c = search needs
-
 returns-2 : tie.Need-returns-2
 returns-2 c =
     let at-choice = c .before .before in
     rw (c .label-at .ensures)
     (upright-start (not-ff _ (at-choice .before .if1 .left))
     (rw (c .before .if2 .taken) at (at-choice .starts-upright .ensures)))
-
-label-at-requires-2 : tie.Need-label-at-requires-2
-label-at-requires-2 c κs = search needs
-
-cast-corners-2 : tie.Need-cast-corners-2
-cast-corners-2 c = search needs
 
 returns-3 : tie.Need-returns-3
 returns-3 c =
@@ -45,5 +33,5 @@ returns-3 c =
 
 pub start-at-spec : {M : Type 1} → statement M
 start-at-spec =
-    tie.close (tie.spec returns starts-upright-requires label-at-requires cast-corners returns-2 label-at-requires-2
-    cast-corners-2 returns-3)
+    tie.close (tie.spec returns starts-upright-requires (λ c κs. search needs) (λ c. search needs) returns-2
+    (λ c κs. search needs) (λ c. search needs) returns-3)

@@ -21,54 +21,6 @@ bothHave c = c .before .before .before .before .before
 abbrev asMany : tie.Else6 → tie.Else4
 asMany c = c .before .before
 
-mul-a : tie.Need-mul-a
-mul-a c = search needs
-
-add-a : tie.Need-add-a
-add-a c = search needs
-
-mul-a-2 : tie.Need-mul-a-2
-mul-a-2 c = search needs
-
-shared-slice-read-a : tie.Need-shared-slice-read-a
-shared-slice-read-a c = search needs
-
-mul-b : tie.Need-mul-b
-mul-b c = search needs
-
-add-b : tie.Need-add-b
-add-b c = search needs
-
-mul-b-2 : tie.Need-mul-b-2
-mul-b-2 c = search needs
-
-shared-slice-read-b : tie.Need-shared-slice-read-b
-shared-slice-read-b c = search needs
-
-mul-s : tie.Need-mul-s
-mul-s c = search needs
-
-add-s : tie.Need-add-s
-add-s c = search needs
-
-mul-s-2 : tie.Need-mul-s-2
-mul-s-2 c = search needs
-
-shared-slice-read-s : tie.Need-shared-slice-read-s
-shared-slice-read-s c = search needs
-
-mul-t : tie.Need-mul-t
-mul-t c = search needs
-
-add-t : tie.Need-add-t
-add-t c = search needs
-
-mul-t-2 : tie.Need-mul-t-2
-mul-t-2 c = search needs
-
-shared-slice-read-t : tie.Need-shared-slice-read-t
-shared-slice-read-t c = search needs
-
 returns : tie.Need-returns
 returns c = choose-upright (atStart (c .before) .pre .choosing .some) (c .if1 .taken)
 
@@ -96,9 +48,6 @@ returns-7 : tie.Need-returns-7
 returns-7 c =
     let at-if4 = asMany (c .before) in
     here (c .if7 .taken) (omega (arith, c .if7 .taken, at-if4 .if4 .left, at-if4 .before .if3 .left))
-
-sub-next-stop : tie.Need-sub-next-stop
-sub-next-stop c = omega arith
 
 next-stop-requires : tie.Need-next-stop-requires
 next-stop-requires c κs =
@@ -137,6 +86,8 @@ returns-9 c =
 
 pub starts-upright-spec : {M : Type 1} → statement M
 starts-upright-spec =
-    tie.close (tie.spec mul-a add-a mul-a-2 shared-slice-read-a mul-b add-b mul-b-2 shared-slice-read-b mul-s add-s
-    mul-s-2 shared-slice-read-s mul-t add-t mul-t-2 shared-slice-read-t returns returns-2 returns-3 returns-4
-    returns-5 returns-6 returns-7 sub-next-stop next-stop-requires returns-8 returns-9)
+    tie.close (tie.spec (λ c. search needs) (λ c. search needs) (λ c. search needs) (λ c. search needs)
+    (λ c. search needs) (λ c. search needs) (λ c. search needs) (λ c. search needs) (λ c. search needs)
+    (λ c. search needs) (λ c. search needs) (λ c. search needs) (λ c. search needs) (λ c. search needs)
+    (λ c. search needs) (λ c. search needs) returns returns-2 returns-3 returns-4 returns-5 returns-6 returns-7
+    (λ c. omega arith) next-stop-requires returns-8 returns-9)

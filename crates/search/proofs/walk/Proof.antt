@@ -15,21 +15,6 @@ atFirst c = c .before .before .before
 abbrev walked : tie.After-slice-known3 → tie.After-walk-on
 walked c = c .before .before
 
-mul-x : tie.Need-mul-x
-mul-x c = search needs
-
-shared-slice-read-x : tie.Need-shared-slice-read-x
-shared-slice-read-x c = search needs
-
-mul-y : tie.Need-mul-y
-mul-y c = search needs
-
-shared-slice-read-y : tie.Need-shared-slice-read-y
-shared-slice-read-y c = search needs
-
-put-corner-requires : tie.Need-put-corner-requires
-put-corner-requires c κs = search needs
-
 cast-label : tie.Need-cast-t20
 cast-label c = let low = corners-low (atStart (atFirst c) .pre .ready) in omega arith
 
@@ -39,9 +24,6 @@ walk-on-requires c κs =
     let start = atStart first in
     let ready = start .pre .ready in
     (ready .walkable, sets-out ready (start .args .out .now) _ (start .pre .room) (first .put-corner .kept .0))
-
-same-length : tie.Need-same-length
-same-length c = search needs
 
 returns : tie.Need-returns
 returns c =
@@ -53,5 +35,5 @@ returns c =
 
 pub walk-spec : {M : Type 1} → statement M
 walk-spec =
-    tie.close (tie.spec mul-x shared-slice-read-x mul-y shared-slice-read-y put-corner-requires cast-label
-    walk-on-requires same-length returns)
+    tie.close (tie.spec (λ c. search needs) (λ c. search needs) (λ c. search needs) (λ c. search needs)
+    (λ c κs. search needs) cast-label walk-on-requires (λ c. search needs) returns)

@@ -28,9 +28,6 @@ walk-requires c κs =
       room = omega (arith, fits .if2 .left);
     }
 
-same-length : tie.Need-same-length
-same-length c = search needs
-
 returns-3 : tie.Need-returns-3
 returns-3 c =
     let walked = c .before .before in
@@ -41,4 +38,5 @@ returns-3 c =
     }
 
 pub write-path-spec : {M : Type 1} → statement M
-write-path-spec = tie.close (tie.spec returns returns-2 walk-requires same-length returns-3)
+write-path-spec =
+    tie.close (tie.spec returns returns-2 walk-requires (λ c. search needs) returns-3)

@@ -36,23 +36,8 @@ atBody c = c .before .before
 abbrev atEnd : tie.After-slice-known6 → tie.After-finish
 atEnd c = c .before .before
 
-slice-aggregate-open-foil : tie.Need-slice-aggregate-open-foil
-slice-aggregate-open-foil c = search needs
-
 open-foil-requires : tie.Need-open-foil-requires
 open-foil-requires c κs = no-rows
-
-enum-known-checked : tie.Need-enum-known-checked
-enum-known-checked c = search needs
-
-refuse-requires : tie.Need-refuse-requires
-refuse-requires c κs = search needs
-
-same-length : tie.Need-same-length
-same-length c = search needs
-
-same-length-2 : tie.Need-same-length-2
-same-length-2 c = search needs
 
 returns : tie.Need-returns
 unfolding readsFoil reads
@@ -61,9 +46,6 @@ returns c =
     let opening = told .before .before .before in
     wrote-refused _ (atStart (atOpening opening) .args .sheet) _ _ _ _ _ (c .refuse .ensures) _
     (not-opened _ _ _ _ (opening .open-foil .ensures) _ (told .checked .given .1) _ _ refl)
-
-enum-told : tie.Need-enum-told
-enum-told c = search needs
 
 board-at-requires : tie.Need-board-at-requires
 board-at-requires c κs =
@@ -75,18 +57,12 @@ limit-requires c κs =
     let o = opened _ _ _ _ (atPassed told .open-foil .ensures) (told .enum-told .given .1) in
     (o .out .here, o .out .eight-foils .limits)
 
-slice-aggregate-lay-in : tie.Need-slice-aggregate-lay-in
-slice-aggregate-lay-in c = search needs
-
 lay-in-requires : tie.Need-lay-in-requires
 lay-in-requires c κs =
     let board = c .before .before .before .before in
     let told = board .before in
     let o = opened _ _ _ _ (atPassed told .open-foil .ensures) (told .enum-told .given .1) in
     (keeps-rules _ _ _ o _ (board .board-at .ensures), limit-most _ _ _ (c .before .before .before .limit .ensures))
-
-slice-aggregate-finish : tie.Need-slice-aggregate-finish
-slice-aggregate-finish c = search needs
 
 finish-requires : tie.Need-finish-requires
 unfolding writes
@@ -99,15 +75,6 @@ finish-requires c κs =
     let o = opened _ _ _ _ (atPassed told .open-foil .ensures) (told .enum-told .given .1) in
     may-finish-output _ (s .args .sheet) _ _ _ _ (o .out) _ (board .board-at .ensures) refl _ _ _ _
     (most .limit .ensures) _ _ (body .lay-in .ensures) (omega arith)
-
-same-length-3 : tie.Need-same-length-3
-same-length-3 c = search needs
-
-same-length-4 : tie.Need-same-length-4
-same-length-4 c = search needs
-
-same-length-5 : tie.Need-same-length-5
-same-length-5 c = search needs
 
 returns-2 : tie.Need-returns-2
 unfolding writes
@@ -124,23 +91,7 @@ returns-2 c =
 
 pub lay-spec : {M : Type 1} → statement M
 lay-spec =
-    tie.close
-    (tie.spec
-    slice-aggregate-open-foil
-    open-foil-requires
-    enum-known-checked
-    refuse-requires
-    same-length
-    same-length-2
-    returns
-    enum-told
-    board-at-requires
-    limit-requires
-    slice-aggregate-lay-in
-    lay-in-requires
-    slice-aggregate-finish
-    finish-requires
-    same-length-3
-    same-length-4
-    same-length-5
-    returns-2)
+    tie.close (tie.spec (λ c. search needs) open-foil-requires (λ c. search needs) (λ c κs. search needs)
+    (λ c. search needs) (λ c. search needs) returns (λ c. search needs) board-at-requires limit-requires
+    (λ c. search needs) lay-in-requires (λ c. search needs) finish-requires (λ c. search needs) (λ c. search needs)
+    (λ c. search needs) returns-2)

@@ -33,23 +33,8 @@ atBody c = c .before .before
 abbrev atEnd : tie.After-slice-known4 → tie.After-finish
 atEnd c = c .before .before
 
-slice-aggregate-open-foil : tie.Need-slice-aggregate-open-foil
-slice-aggregate-open-foil c = search needs
-
 open-foil-requires : tie.Need-open-foil-requires
 open-foil-requires c κs = no-rows
-
-enum-known-checked : tie.Need-enum-known-checked
-enum-known-checked c = search needs
-
-refuse-requires : tie.Need-refuse-requires
-refuse-requires c κs = search needs
-
-same-length : tie.Need-same-length
-same-length c = search needs
-
-same-length-2 : tie.Need-same-length-2
-same-length-2 c = search needs
 
 returns : tie.Need-returns
 unfolding readsFoil reads
@@ -59,15 +44,9 @@ returns c =
     gave-refused _ (atStart (atOpening opening) .args .sheet) _ _ _ _ _ (c .refuse .ensures) _
     (not-opened _ _ _ _ (opening .open-foil .ensures) _ (told .checked .given .1) _ _ refl)
 
-enum-told : tie.Need-enum-told
-enum-told c = search needs
-
 board-at-requires : tie.Need-board-at-requires
 board-at-requires c κs =
     (opened _ _ _ _ (atPassed c .open-foil .ensures) (c .enum-told .given .1)) .out .here
-
-slice-aggregate-lift-in : tie.Need-slice-aggregate-lift-in
-slice-aggregate-lift-in c = search needs
 
 lift-in-requires : tie.Need-lift-in-requires
 lift-in-requires c κs =
@@ -75,9 +54,6 @@ lift-in-requires c κs =
     let told = board .before in
     let o = opened _ _ _ _ (atPassed told .open-foil .ensures) (told .enum-told .given .1) in
     keeps-rules _ _ _ o _ (board .board-at .ensures)
-
-slice-aggregate-finish : tie.Need-slice-aggregate-finish
-slice-aggregate-finish c = search needs
 
 finish-requires : tie.Need-finish-requires
 unfolding writes
@@ -89,12 +65,6 @@ finish-requires c κs =
     let o = opened _ _ _ _ (atPassed told .open-foil .ensures) (told .enum-told .given .1) in
     may-finish _ (s .args .sheet) _ _ _ _ (o .out) _ (board .board-at .ensures) refl _ _ _ _
     refl (λ r long is. body .lift-in .ensures r long) (omega arith)
-
-same-length-3 : tie.Need-same-length-3
-same-length-3 c = search needs
-
-same-length-4 : tie.Need-same-length-4
-same-length-4 c = search needs
 
 returns-2 : tie.Need-returns-2
 unfolding writes
@@ -110,21 +80,6 @@ returns-2 c =
 
 pub lift-spec : {M : Type 1} → statement M
 lift-spec =
-    tie.close
-    (tie.spec
-    slice-aggregate-open-foil
-    open-foil-requires
-    enum-known-checked
-    refuse-requires
-    same-length
-    same-length-2
-    returns
-    enum-told
-    board-at-requires
-    slice-aggregate-lift-in
-    lift-in-requires
-    slice-aggregate-finish
-    finish-requires
-    same-length-3
-    same-length-4
-    returns-2)
+    tie.close (tie.spec (λ c. search needs) open-foil-requires (λ c. search needs) (λ c κs. search needs)
+    (λ c. search needs) (λ c. search needs) returns (λ c. search needs) board-at-requires (λ c. search needs)
+    lift-in-requires (λ c. search needs) finish-requires (λ c. search needs) (λ c. search needs) returns-2)

@@ -32,23 +32,8 @@ atBody c = c .before .before
 abbrev atEnd : tie.After-slice-known4 → tie.After-finish
 atEnd c = c .before .before
 
-slice-aggregate-lend-foil : tie.Need-slice-aggregate-lend-foil
-slice-aggregate-lend-foil c = search needs
-
 lend-foil-requires : tie.Need-lend-foil-requires
 lend-foil-requires c κs = no-rows
-
-enum-known-checked : tie.Need-enum-known-checked
-enum-known-checked c = search needs
-
-refuse-requires : tie.Need-refuse-requires
-refuse-requires c κs = search needs
-
-same-length : tie.Need-same-length
-same-length c = search needs
-
-same-length-2 : tie.Need-same-length-2
-same-length-2 c = search needs
 
 returns : tie.Need-returns
 returns c =
@@ -57,15 +42,9 @@ returns c =
     gave-refused _ (atStart (atOpening opening) .args .sheet) _ _ _ _ _ (c .refuse .ensures) _
     (step-unopened _ _ _ (not-out _ _ _ _ (opening .lend-foil .ensures) _ (told .checked .given .1)) _ _)
 
-enum-told : tie.Need-enum-told
-enum-told c = search needs
-
 board-at-requires : tie.Need-board-at-requires
 board-at-requires c κs =
     (taken-out _ _ _ _ (atPassed c .lend-foil .ensures) (c .enum-told .given .1)) .here
-
-slice-aggregate-new-foil-in : tie.Need-slice-aggregate-new-foil-in
-slice-aggregate-new-foil-in c = search needs
 
 new-foil-in-requires : tie.Need-new-foil-in-requires
 new-foil-in-requires c κs =
@@ -73,9 +52,6 @@ new-foil-in-requires c κs =
     let told = board .before in
     let o = taken-out _ _ _ _ (atPassed told .lend-foil .ensures) (told .enum-told .given .1) in
     (omega arith, o .strips)
-
-slice-aggregate-finish : tie.Need-slice-aggregate-finish
-slice-aggregate-finish c = search needs
 
 finish-requires : tie.Need-finish-requires
 unfolding writes clearanceOf
@@ -87,12 +63,6 @@ finish-requires c κs =
     let o = taken-out _ _ _ _ (atPassed told .lend-foil .ensures) (told .enum-told .given .1) in
     may-finish _ (s .args .sheet) _ _ _ _ o _ (board .board-at .ensures) refl _ _ _ _
     refl (λ r long is. body .new-foil-in .ensures r long) (omega arith)
-
-same-length-3 : tie.Need-same-length-3
-same-length-3 c = search needs
-
-same-length-4 : tie.Need-same-length-4
-same-length-4 c = search needs
 
 returns-2 : tie.Need-returns-2
 unfolding writes clearanceOf
@@ -108,21 +78,6 @@ returns-2 c =
 
 pub new-foil-spec : {M : Type 1} → statement M
 new-foil-spec =
-    tie.close
-    (tie.spec
-    slice-aggregate-lend-foil
-    lend-foil-requires
-    enum-known-checked
-    refuse-requires
-    same-length
-    same-length-2
-    returns
-    enum-told
-    board-at-requires
-    slice-aggregate-new-foil-in
-    new-foil-in-requires
-    slice-aggregate-finish
-    finish-requires
-    same-length-3
-    same-length-4
-    returns-2)
+    tie.close (tie.spec (λ c. search needs) lend-foil-requires (λ c. search needs) (λ c κs. search needs)
+    (λ c. search needs) (λ c. search needs) returns (λ c. search needs) board-at-requires (λ c. search needs)
+    new-foil-in-requires (λ c. search needs) finish-requires (λ c. search needs) (λ c. search needs) returns-2)

@@ -14,24 +14,6 @@ abbrev μ-loop : tie.MeasureT-loop
 loop-holds : tie.Need-loop-holds Inv-loop μ-loop
 loop-holds c = counted-none _
 
-mul-board : tie.Need-mul-board Inv-loop μ-loop
-mul-board c = omega arith
-
-array-copy-out-board : tie.Need-array-copy-out-board Inv-loop μ-loop
-array-copy-out-board c = omega arith
-
-mul-counts : tie.Need-mul-counts Inv-loop μ-loop
-mul-counts c = omega arith
-
-array-write-counts : tie.Need-array-write-counts Inv-loop μ-loop
-array-write-counts c = omega arith
-
-add-i : tie.Need-add-i Inv-loop μ-loop
-add-i c = omega arith
-
-loop-less : tie.Need-loop-less Inv-loop μ-loop
-loop-less c = omega arith
-
 loop-again : tie.Need-loop-again Inv-loop μ-loop
 loop-again c =
     let s = c .before .before .before .before in
@@ -44,16 +26,5 @@ returns c =
 
 pub counts-of-spec : {M : Type 1} → statement M
 counts-of-spec =
-    tie.close
-    (tie.spec
-    Inv-loop
-    μ-loop
-    loop-holds
-    mul-board
-    array-copy-out-board
-    mul-counts
-    array-write-counts
-    add-i
-    loop-less
-    loop-again
-    returns)
+    tie.close (tie.spec Inv-loop μ-loop loop-holds (λ c. omega arith) (λ c. omega arith) (λ c. omega arith)
+    (λ c. omega arith) (λ c. omega arith) (λ c. omega arith) loop-again returns)

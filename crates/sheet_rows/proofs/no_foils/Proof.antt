@@ -6,11 +6,9 @@ use Rattle.foil_spec.specs.Limits.{sheetFoils}
 use Rattle.sheet_rows.proofs.no_foils.Statement.{statement}
 use Rattle.sheet_rows.proofs.no_foils.Tie as tie
 
-no-board-requires : tie.Need-no-board-requires
-no-board-requires c κs = search needs
-
 returns : tie.Need-returns
 returns c = ap (replicate sheetFoils) (c .no-board .ensures)
 
 pub no-foils-spec : {M : Type 1} → statement M
-no-foils-spec = tie.close (tie.spec no-board-requires returns)
+no-foils-spec =
+    tie.close (tie.spec (λ c κs. search needs) returns)

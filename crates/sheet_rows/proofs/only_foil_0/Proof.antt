@@ -4,14 +4,9 @@ use Rattle.sheet_rows.proofs.Records.{boards-only}
 use Rattle.sheet_rows.proofs.only_foil_0.Statement.{statement}
 use Rattle.sheet_rows.proofs.only_foil_0.Tie as tie
 
-no-board-requires : tie.Need-no-board-requires
-no-board-requires c κs = search needs
-
-array-set-from-boards : tie.Need-array-set-from-boards
-array-set-from-boards c = search needs
-
 returns : tie.Need-returns
 returns c = boards-only _ _ (c .no-board .ensures)
 
 pub only-foil-0-spec : {M : Type 1} → statement M
-only-foil-0-spec = tie.close (tie.spec no-board-requires array-set-from-boards returns)
+only-foil-0-spec =
+    tie.close (tie.spec (λ c κs. search needs) (λ c. search needs) returns)

@@ -9,9 +9,6 @@ use Rattle.sowing.proofs.box_has.Tie as tie
 abbrev atAlong : tie.Else1 → tie.After-extent-of
 atAlong c = c .before .before
 
-extent-of-requires : tie.Need-extent-of-requires
-extent-of-requires c κs = search needs
-
 returns : tie.Need-returns
 returns c =
     let at-along = c .before .before in
@@ -23,9 +20,6 @@ returns-2 c =
     let at-along = atAlong (c .before .before) in
     let args = at-along .before .before .args in
     no-past _ _ (args .x) (args .y) (at-along .extent-of .ensures) (c .if2 .taken)
-
-extent-of-requires-2 : tie.Need-extent-of-requires-2
-extent-of-requires-2 c κs = search needs
 
 returns-3 : tie.Need-returns-3
 returns-3 c =
@@ -47,4 +41,4 @@ returns-4 c =
 
 pub box-has-spec : {M : Type 1} → statement M
 box-has-spec =
-    tie.close (tie.spec extent-of-requires returns returns-2 extent-of-requires-2 returns-3 returns-4)
+    tie.close (tie.spec (λ c κs. search needs) returns returns-2 (λ c κs. search needs) returns-3 returns-4)

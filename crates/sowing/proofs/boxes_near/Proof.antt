@@ -20,23 +20,11 @@ inLoop c = c .before .before
 loop-holds : tie.Need-loop-holds Inv-loop μ-loop
 loop-holds c = enough-all _ _ _ _ refl
 
-sub-entry-at : tie.Need-sub-entry-at Inv-loop μ-loop
-sub-entry-at c = omega arith
-
 entry-at-requires : tie.Need-entry-at-requires Inv-loop μ-loop
 entry-at-requires c κs = omega (arith, c .before .loop .inv .le)
 
-overlap-requires : tie.Need-overlap-requires Inv-loop μ-loop
-overlap-requires c κs = search needs
-
 returns : tie.Need-returns Inv-loop μ-loop
 returns c = inLoop (c .before) .before .loop .inv
-
-sub-k : tie.Need-sub-k Inv-loop μ-loop
-sub-k c = omega arith
-
-loop-less : tie.Need-loop-less Inv-loop μ-loop
-loop-less c = omega arith
 
 loop-again : tie.Need-loop-again Inv-loop μ-loop
 loop-again c =
@@ -49,5 +37,5 @@ returns-2 c = enough-none _ _ _ _ (omega arith) (c .before .loop .inv)
 
 pub boxes-near-spec : {M : Type 1} → statement M
 boxes-near-spec =
-    tie.close (tie.spec Inv-loop μ-loop loop-holds sub-entry-at entry-at-requires overlap-requires returns sub-k
-    loop-less loop-again returns-2)
+    tie.close (tie.spec Inv-loop μ-loop loop-holds (λ c. omega arith) entry-at-requires (λ c κs. search needs) returns
+    (λ c. omega arith) (λ c. omega arith) loop-again returns-2)

@@ -17,19 +17,10 @@ abbrev μ-loop : tie.MeasureT-loop
 loop-holds : tie.Need-loop-holds Inv-loop μ-loop
 loop-holds c = (omega arith, boxed-none _ _ _ _)
 
-box-has-requires : tie.Need-box-has-requires Inv-loop μ-loop
-box-has-requires c κs = omega arith
-
 returns : tie.Need-returns Inv-loop μ-loop
 returns c =
     let at-box = c .before in
     sym (boxed-here _ _ _ _ _ _ (omega arith) (sym (at-box .box-has .ensures) ∙ c .if1 .taken))
-
-add-k : tie.Need-add-k Inv-loop μ-loop
-add-k c = omega arith
-
-loop-less : tie.Need-loop-less Inv-loop μ-loop
-loop-less c = omega arith
 
 loop-again : tie.Need-loop-again Inv-loop μ-loop
 loop-again c =
@@ -43,4 +34,5 @@ returns-2 c = sym (unboxed-done _ _ _ _ _ _ (omega arith) (c .before .loop .inv 
 
 pub is-boxed-spec : {M : Type 1} → statement M
 is-boxed-spec =
-    tie.close (tie.spec Inv-loop μ-loop loop-holds box-has-requires returns add-k loop-less loop-again returns-2)
+    tie.close (tie.spec Inv-loop μ-loop loop-holds (λ c κs. omega arith) returns (λ c. omega arith) (λ c. omega arith)
+    loop-again returns-2)

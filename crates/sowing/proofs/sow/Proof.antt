@@ -45,16 +45,10 @@ slice-write-labels c =
     let S = c .pre in
     omega (arith, S .lines-in, S .sown .labels-fit, S .crossings-in, S .sown .crossings-few)
 
-same-length : tie.Need-same-length
-same-length c = search needs
-
-same-length-2 : tie.Need-same-length-2
-same-length-2 c = search needs
-
 returns : tie.Need-returns
 returns c = cell-sown _ _
 
 pub sow-spec : {M : Type 1} → statement M
 sow-spec =
     tie.close (tie.spec mul-inks add-inks mul-inks-2 slice-write-inks mul-labels add-labels mul-labels-2
-    slice-write-labels same-length same-length-2 returns)
+    slice-write-labels (λ c. search needs) (λ c. search needs) returns)

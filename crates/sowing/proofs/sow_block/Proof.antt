@@ -41,12 +41,6 @@ sow-run-requires c κs =
     part-asked asked (inv .4) (omega (arith, inv .1)) (omega arith) (omega arith) (omega (arith, below))
     (asked .crossings-order) (omega arith)
 
-add-line : tie.Need-add-line Inv-loop μ-loop
-add-line c = omega arith
-
-loop-less : tie.Need-loop-less Inv-loop μ-loop
-loop-less c = omega arith
-
 loop-again : tie.Need-loop-again Inv-loop μ-loop
 loop-again c =
     let sow = atSow c .sow-run in
@@ -71,5 +65,5 @@ returns c =
 
 pub sow-block-spec : {M : Type 1} → statement M
 sow-block-spec =
-    tie.close (tie.spec Inv-loop μ-loop loop-holds sow-run-requires add-line loop-less loop-again same-length
-    same-length-2 returns)
+    tie.close (tie.spec Inv-loop μ-loop loop-holds sow-run-requires (λ c. omega arith) (λ c. omega arith) loop-again
+    same-length same-length-2 returns)

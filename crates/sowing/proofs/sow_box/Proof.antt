@@ -25,15 +25,6 @@ atB c = c .before
 abbrev atBeside : tie.After-first-from2 → tie.After-extent-of
 atBeside c = c .before .before
 
-entry-at-requires : tie.Need-entry-at-requires
-entry-at-requires c κs = search needs
-
-boxes-near-requires : tie.Need-boxes-near-requires
-boxes-near-requires c κs = search needs
-
-extent-of-requires : tie.Need-extent-of-requires
-extent-of-requires c κs = search needs
-
 first-from-requires : tie.Need-first-from-requires
 first-from-requires c κs = atStart (atNear c) .pre .along-lines
 
@@ -77,12 +68,6 @@ sow-block-requires c κs =
       };
     }
 
-same-length : tie.Need-same-length
-same-length c = search needs
-
-same-length-2 : tie.Need-same-length-2
-same-length-2 c = search needs
-
 returns : tie.Need-returns
 returns c =
     let sow = c .before .before .before .before in
@@ -97,6 +82,6 @@ returns c =
 
 pub sow-box-spec : {M : Type 1} → statement M
 sow-box-spec =
-    tie.close (tie.spec entry-at-requires boxes-near-requires extent-of-requires first-from-requires
+    tie.close (tie.spec (λ c κs. search needs) (λ c κs. search needs) (λ c κs. search needs) first-from-requires
     first-from-requires-2 extent-of-requires-2 first-from-requires-3 first-from-requires-4 sow-block-requires
-    same-length same-length-2 returns)
+    (λ c. search needs) (λ c. search needs) returns)

@@ -10,18 +10,6 @@ use Rattle.sowing.proofs.sow_clear.Tie as tie
 abbrev atStart : tie.After-shared-slice-known5 → tie.Start
 atStart c = c .before .before .before .before .before .before .before
 
-mul-is-boxed : tie.Need-mul-is-boxed
-mul-is-boxed c = search needs
-
-shared-slice-read-is-boxed : tie.Need-shared-slice-read-is-boxed
-shared-slice-read-is-boxed c = search needs
-
-mul-is-boxed-2 : tie.Need-mul-is-boxed-2
-mul-is-boxed-2 c = search needs
-
-shared-slice-read-is-boxed-2 : tie.Need-shared-slice-read-is-boxed-2
-shared-slice-read-is-boxed-2 c = search needs
-
 is-boxed-requires : tie.Need-is-boxed-requires
 is-boxed-requires c κs = atStart c .pre .boxes
 
@@ -32,12 +20,6 @@ returns c =
 sow-requires : tie.Need-sow-requires
 sow-requires c κs = atStart (c .before .before .before .before) .pre .sowable
 
-same-length : tie.Need-same-length
-same-length c = search needs
-
-same-length-2 : tie.Need-same-length-2
-same-length-2 c = search needs
-
 returns-2 : tie.Need-returns-2
 returns-2 c =
     let at-sow = c .before .before .before .before in
@@ -47,5 +29,5 @@ returns-2 c =
 
 pub sow-clear-spec : {M : Type 1} → statement M
 sow-clear-spec =
-    tie.close (tie.spec mul-is-boxed shared-slice-read-is-boxed mul-is-boxed-2 shared-slice-read-is-boxed-2
-    is-boxed-requires returns sow-requires same-length same-length-2 returns-2)
+    tie.close (tie.spec (λ c. search needs) (λ c. search needs) (λ c. search needs) (λ c. search needs)
+    is-boxed-requires returns sow-requires (λ c. search needs) (λ c. search needs) returns-2)

@@ -41,12 +41,6 @@ sow-clear-requires c κs =
     part-asked asked (inv .4) (omega arith) (omega (arith, inv .1)) (omega arith) (omega arith) (omega arith)
     (omega (arith, below))
 
-add-k : tie.Need-add-k Inv-loop μ-loop
-add-k c = omega arith
-
-loop-less : tie.Need-loop-less Inv-loop μ-loop
-loop-less c = omega arith
-
 loop-again : tie.Need-loop-again Inv-loop μ-loop
 loop-again c =
     let sow = atSow c .sow-clear in
@@ -71,5 +65,5 @@ returns c =
 
 pub sow-run-spec : {M : Type 1} → statement M
 sow-run-spec =
-    tie.close (tie.spec Inv-loop μ-loop loop-holds sow-clear-requires add-k loop-less loop-again same-length
-    same-length-2 returns)
+    tie.close (tie.spec Inv-loop μ-loop loop-holds sow-clear-requires (λ c. omega arith) (λ c. omega arith) loop-again
+    same-length same-length-2 returns)

@@ -47,12 +47,6 @@ sow-box-requires c κs =
       sown = atLoop c .loop .inv .3;
     }
 
-add-e : tie.Need-add-e Inv-loop μ-loop
-add-e c = omega arith
-
-loop-less : tie.Need-loop-less Inv-loop μ-loop
-loop-less c = omega arith
-
 loop-again : tie.Need-loop-again Inv-loop μ-loop
 loop-again c =
     let sow = atSow c .sow-box in
@@ -76,5 +70,5 @@ returns c =
 
 pub sow-targets-spec : {M : Type 1} → statement M
 sow-targets-spec =
-    tie.close (tie.spec Inv-loop μ-loop loop-holds sow-box-requires add-e loop-less loop-again same-length
-    same-length-2 returns)
+    tie.close (tie.spec Inv-loop μ-loop loop-holds sow-box-requires (λ c. omega arith) (λ c. omega arith) loop-again
+    same-length same-length-2 returns)

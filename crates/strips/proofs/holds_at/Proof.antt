@@ -20,9 +20,6 @@ atTop c = atRight (c .before .before)
 abbrev atBottom : tie.After-struct-known4 → tie.After-strip-at
 atBottom c = atTop (c .before .before)
 
-strip-at-requires : tie.Need-strip-at-requires
-strip-at-requires c κs = search needs
-
 returns : tie.Need-returns
 returns c = sym (left-of _ _ (c .if1 .taken)) ∙ ap (holds _) (atLeft (c .before) .strip-at .ensures)
 
@@ -50,4 +47,4 @@ returns-5 c =
 
 pub holds-at-spec : {M : Type 1} → statement M
 holds-at-spec =
-    tie.close (tie.spec strip-at-requires returns returns-2 returns-3 returns-4 returns-5)
+    tie.close (tie.spec (λ c κs. search needs) returns returns-2 returns-3 returns-4 returns-5)

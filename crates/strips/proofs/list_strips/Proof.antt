@@ -24,39 +24,15 @@ afterMarks c = c .before .before .before .before
 abbrev afterJoinRows : tie.After-row2 → tie.After-join-rows
 afterJoinRows c = c .before .before .before .before
 
-slice-aggregate-mark-rows : tie.Need-slice-aggregate-mark-rows
-slice-aggregate-mark-rows c = omega arith
-
 mark-rows-requires : tie.Need-mark-rows-requires
 mark-rows-requires c κs =
     let p = fromMarks c .pre .0 in
     (p .len, λ k l. omega (arith, p .y-order k l, p .y-end k l, p .height))
 
-slice-aggregate-chain-boxes : tie.Need-slice-aggregate-chain-boxes
-slice-aggregate-chain-boxes c = omega arith
-
-slice-aggregate-chain-boxes-2 : tie.Need-slice-aggregate-chain-boxes-2
-slice-aggregate-chain-boxes-2 c = omega arith
-
 chain-boxes-requires : tie.Need-chain-boxes-requires
 chain-boxes-requires c κs =
     let p = fromChains c .pre .0 in
     (omega (arith, p .len, p .few), (λ k l. omega (arith, p .y-order k l, p .y-end k l, p .height), refl))
-
-slice-aggregate-join-rows : tie.Need-slice-aggregate-join-rows
-slice-aggregate-join-rows c = omega arith
-
-slice-aggregate-join-rows-2 : tie.Need-slice-aggregate-join-rows-2
-slice-aggregate-join-rows-2 c = omega arith
-
-slice-aggregate-join-rows-3 : tie.Need-slice-aggregate-join-rows-3
-slice-aggregate-join-rows-3 c = omega arith
-
-slice-aggregate-join-rows-4 : tie.Need-slice-aggregate-join-rows-4
-slice-aggregate-join-rows-4 c = omega arith
-
-slice-aggregate-join-rows-5 : tie.Need-slice-aggregate-join-rows-5
-slice-aggregate-join-rows-5 c = omega arith
 
 join-rows-requires : tie.Need-join-rows-requires
 join-rows-requires c κs =
@@ -64,26 +40,11 @@ join-rows-requires c κs =
     let chains = afterChains c in
     (p .0, ((afterMarks chains .mark-rows .ensures, chains .chain-boxes .ensures), omega (arith, p .1)))
 
-same-length : tie.Need-same-length
-same-length c = omega arith
-
 returns : tie.Need-returns
 returns c = afterJoinRows c .join-rows .ensures
 
 pub list-strips-spec : {M : Type 1} → statement M
 list-strips-spec =
-    tie.close
-    (tie.spec
-    slice-aggregate-mark-rows
-    mark-rows-requires
-    slice-aggregate-chain-boxes
-    slice-aggregate-chain-boxes-2
-    chain-boxes-requires
-    slice-aggregate-join-rows
-    slice-aggregate-join-rows-2
-    slice-aggregate-join-rows-3
-    slice-aggregate-join-rows-4
-    slice-aggregate-join-rows-5
-    join-rows-requires
-    same-length
-    returns)
+    tie.close (tie.spec (λ c. omega arith) mark-rows-requires (λ c. omega arith) (λ c. omega arith)
+    chain-boxes-requires (λ c. omega arith) (λ c. omega arith) (λ c. omega arith) (λ c. omega arith)
+    (λ c. omega arith) join-rows-requires (λ c. omega arith) returns)

@@ -31,18 +31,6 @@ atTried c = atRead (c .before .before)
 loop-holds : tie.Need-loop-holds Inv-loop μ-loop
 loop-holds c = (omega arith, λ i l. absurd (omega arith))
 
-strip-at-requires : tie.Need-strip-at-requires Inv-loop μ-loop
-strip-at-requires c κs = omega arith
-
-holds-at-requires : tie.Need-holds-at-requires Inv-loop μ-loop
-holds-at-requires c κs = omega arith
-
-add-k : tie.Need-add-k Inv-loop μ-loop
-add-k c = omega arith
-
-loop-less : tie.Need-loop-less Inv-loop μ-loop
-loop-less c = omega arith
-
 loop-again : tie.Need-loop-again Inv-loop μ-loop
 loop-again c = (
   omega arith,
@@ -65,16 +53,5 @@ returns-3 c =
 
 pub locate-spec : {M : Type 1} → statement M
 locate-spec =
-    tie.close
-    (tie.spec
-    Inv-loop
-    μ-loop
-    loop-holds
-    strip-at-requires
-    holds-at-requires
-    add-k
-    loop-less
-    loop-again
-    returns
-    returns-2
-    returns-3)
+    tie.close (tie.spec Inv-loop μ-loop loop-holds (λ c κs. omega arith) (λ c κs. omega arith) (λ c. omega arith)
+    (λ c. omega arith) loop-again returns returns-2 returns-3)

@@ -17,22 +17,10 @@ inElse c = c .before .before .before .before
 list-strips-requires : tie.Need-list-strips-requires
 list-strips-requires c κs = c .before .before .before .pre
 
-same-length : tie.Need-same-length
-same-length c = omega arith
-
 returns : tie.Need-returns
 returns c =
     let l = listed (c .before) in
     (omega (arith, l .list-strips .ensures .count, c .if1 .taken), l .list-strips .kept .0)
-
-mul-clear : tie.Need-mul-clear
-mul-clear c = omega arith
-
-clear-requires : tie.Need-clear-requires
-clear-requires c κs = omega arith
-
-same-length-2 : tie.Need-same-length-2
-same-length-2 c = omega arith
 
 returns-2 : tie.Need-returns-2
 returns-2 c =
@@ -42,5 +30,5 @@ returns-2 c =
 
 pub rebuild-spec : {M : Type 1} → statement M
 rebuild-spec =
-    tie.close
-    (tie.spec list-strips-requires same-length returns mul-clear clear-requires same-length-2 returns-2)
+    tie.close (tie.spec list-strips-requires (λ c. omega arith) returns (λ c. omega arith) (λ c κs. omega arith)
+    (λ c. omega arith) returns-2)

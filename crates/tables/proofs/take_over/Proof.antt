@@ -17,21 +17,6 @@ atZones c = c .before .before .before .before
 abbrev atStrips : tie.After-slice-known3 → tie.After-put-strips
 atStrips c = c .before .before
 
-slice-aggregate-pen-zones : tie.Need-slice-aggregate-pen-zones
-slice-aggregate-pen-zones c = search needs
-
-pen-zones-requires : tie.Need-pen-zones-requires
-pen-zones-requires c κs = search needs
-
-slice-aggregate-put-strips : tie.Need-slice-aggregate-put-strips
-slice-aggregate-put-strips c = search needs
-
-put-strips-requires : tie.Need-put-strips-requires
-put-strips-requires c κs = search needs
-
-same-length : tie.Need-same-length
-same-length c = search needs
-
 returns : tie.Need-returns
 returns c =
     let p = atStrips (c .before) in
@@ -44,12 +29,6 @@ copy-front-requires c κs =
     let l = rows-long (s .args .n) (s .args .rows .now) (s .pre .0 .few) (s .pre .1 .0) in
     (omega arith, omega (arith, l))
 
-same-length-2 : tie.Need-same-length-2
-same-length-2 c = search needs
-
-same-length-3 : tie.Need-same-length-3
-same-length-3 c = search needs
-
 returns-2 : tie.Need-returns-2
 returns-2 c =
     let copied = c .before .before in
@@ -61,15 +40,5 @@ returns-2 c =
 
 pub take-over-spec : {M : Type 1} → statement M
 take-over-spec =
-    tie.close
-    (tie.spec
-    slice-aggregate-pen-zones
-    pen-zones-requires
-    slice-aggregate-put-strips
-    put-strips-requires
-    same-length
-    returns
-    copy-front-requires
-    same-length-2
-    same-length-3
-    returns-2)
+    tie.close (tie.spec (λ c. search needs) (λ c κs. search needs) (λ c. search needs) (λ c κs. search needs)
+    (λ c. search needs) returns copy-front-requires (λ c. search needs) (λ c. search needs) returns-2)

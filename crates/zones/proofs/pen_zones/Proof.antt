@@ -11,14 +11,8 @@ atRule c = c .before
 abbrev atStart : tie.After-pen-rule → tie.Start
 atStart c = c .before .before .before
 
-pen-rule-requires : tie.Need-pen-rule-requires
-pen-rule-requires c κs = search needs
-
 zones-requires : tie.Need-zones-requires
 zones-requires c κs = rw (atRule c .pen-rule .ensures) (atStart (atRule c) .pre)
-
-same-length : tie.Need-same-length
-same-length c = search needs
 
 returns : tie.Need-returns
 returns c =
@@ -26,4 +20,5 @@ returns c =
     zoned-free _ _ _ _ _ _ _ _ (atRule (made .before) .pen-rule .ensures) (made .zones .ensures .0)
 
 pub pen-zones-spec : {M : Type 1} → statement M
-pen-zones-spec = tie.close (tie.spec pen-rule-requires zones-requires same-length returns)
+pen-zones-spec =
+    tie.close (tie.spec (λ c κs. search needs) zones-requires (λ c. search needs) returns)

@@ -18,9 +18,6 @@ atEdge c = c .before .before .before .before
 put-zones-requires : tie.Need-put-zones-requires
 put-zones-requires c κs = c .before .before .before .pre
 
-same-length : tie.Need-same-length
-same-length c = search needs
-
 returns : tie.Need-returns
 returns c =
     let zoned = atZones (c .before) in
@@ -39,9 +36,6 @@ put-edge-requires c κs =
 add-result : tie.Need-add-result
 add-result c = omega (arith, atStart (atZones (atEdge c .before)) .pre .0 .few)
 
-same-length-2 : tie.Need-same-length-2
-same-length-2 c = search needs
-
 returns-2 : tie.Need-returns-2
 returns-2 c =
     let edge = c .before .before .put-edge in
@@ -54,12 +48,5 @@ returns-2 c =
 
 pub zones-spec : {M : Type 1} → statement M
 zones-spec =
-    tie.close
-    (tie.spec
-    put-zones-requires
-    same-length
-    returns
-    put-edge-requires
-    add-result
-    same-length-2
-    returns-2)
+    tie.close (tie.spec put-zones-requires (λ c. search needs) returns put-edge-requires add-result
+    (λ c. search needs) returns-2)

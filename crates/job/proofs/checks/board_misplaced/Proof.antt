@@ -4,17 +4,11 @@ use borrow.Author.Needs.{needs}
 use Rattle.job.proofs.checks.board_misplaced.Statement.{statement}
 use Rattle.job.proofs.checks.board_misplaced.Tie as tie
 
-has-requires : tie.Need-has-requires
-has-requires c κs = search needs
-
 returns : tie.Need-returns
 returns c = first-board _ _ _ (c .before .has .ensures) (c .if1 .taken)
 
 returns-2 : tie.Need-returns-2
 returns-2 c = later-board _ _ _ (c .before .before .has .ensures) (c .before .if1 .left) (c .if2 .taken)
-
-has-requires-2 : tie.Need-has-requires-2
-has-requires-2 c κs = search needs
 
 returns-3 : tie.Need-returns-3
 returns-3 c =
@@ -23,4 +17,5 @@ returns-3 c =
     (c .has2 .ensures)
 
 pub board-misplaced-spec : {M : Type 1} → statement M
-board-misplaced-spec = tie.close (tie.spec has-requires returns returns-2 has-requires-2 returns-3)
+board-misplaced-spec =
+    tie.close (tie.spec (λ c κs. search needs) returns returns-2 (λ c κs. search needs) returns-3)

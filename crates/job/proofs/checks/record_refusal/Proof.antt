@@ -17,31 +17,13 @@ inElse3FromFieldsAt c = c .before .before .before
 returns : tie.Need-returns
 returns c = no-byte _ _ (c .if1 .taken)
 
-cast-if2 : tie.Need-cast-if2
-cast-if2 c = search needs
-
-shl-if2 : tie.Need-shl-if2
-shl-if2 c = search needs
-
-shared-slice-read-if2 : tie.Need-shared-slice-read-if2
-shared-slice-read-if2 c = search needs
-
 returns-2 : tie.Need-returns-2
 returns-2 c = unknown _ _ (c .before .before .if1 .left) (c .if2 .taken)
-
-board-misplaced-requires : tie.Need-board-misplaced-requires
-board-misplaced-requires c κs = search needs
 
 returns-3 : tie.Need-returns-3
 returns-3 c =
     misplaced _ _ (inElse1 (c .before) .if1 .left) (c .before .before .if2 .left) _
     (c .before .board-misplaced .ensures) (c .if3 .taken)
-
-shared-slice-read-if4 : tie.Need-shared-slice-read-if4
-shared-slice-read-if4 c = search needs
-
-add-if5 : tie.Need-add-if5
-add-if5 c = search needs
 
 returns-4 : tie.Need-returns-4
 returns-4 c =
@@ -55,9 +37,6 @@ returns-5 c =
     end-last _ _ (inElse1 (inElse3 (c .before) .before) .if1 .left) (inElse3 (c .before) .before .before .if2 .left) _
     (inElse3 (c .before) .before .board-misplaced .ensures) (inElse3 (c .before) .if3 .left)
     (c .before .if4 .taken) (c .if5 .left)
-
-fields-at-requires : tie.Need-fields-at-requires
-fields-at-requires c κs = search needs
 
 returns-6 : tie.Need-returns-6
 returns-6 c =
@@ -77,5 +56,6 @@ returns-7 c =
 
 pub record-refusal-spec : {M : Type 1} → statement M
 record-refusal-spec =
-    tie.close (tie.spec returns cast-if2 shl-if2 shared-slice-read-if2 returns-2 board-misplaced-requires returns-3
-    shared-slice-read-if4 add-if5 returns-4 returns-5 fields-at-requires returns-6 returns-7)
+    tie.close (tie.spec returns (λ c. search needs) (λ c. search needs) (λ c. search needs) returns-2
+    (λ c κs. search needs) returns-3 (λ c. search needs) (λ c. search needs) returns-4 returns-5
+    (λ c κs. search needs) returns-6 returns-7)

@@ -11,26 +11,8 @@ use Rattle.job.proofs.fields.field.Tie as tie
 abbrev atStart : tie.After-shared-slice-known2 → tie.Start
 atStart c = c .before .before .before
 
-fields-at-requires : tie.Need-fields-at-requires
-fields-at-requires c κs = search needs
-
-mul-place : tie.Need-mul-place
-mul-place c = search needs
-
-add-place : tie.Need-add-place
-add-place c = search needs
-
-shared-slice-read-result : tie.Need-shared-slice-read-result
-shared-slice-read-result c = search needs
-
 cast-result : tie.Need-cast-result
 cast-result c = omega (arith, c .shared-slice-known2 .given (c .before .fields-at .result + 2 * atStart c .args .i))
-
-add-result : tie.Need-add-result
-add-result c = search needs
-
-shared-slice-read-result-2 : tie.Need-shared-slice-read-result-2
-shared-slice-read-result-2 c = search needs
 
 cast-result-2 : tie.Need-cast-result-2
 cast-result-2 c =
@@ -64,5 +46,5 @@ returns c = rw (c .before .before .fields-at .ensures) refl
 
 pub field-spec : {M : Type 1} → statement M
 field-spec =
-    tie.close (tie.spec fields-at-requires mul-place add-place shared-slice-read-result cast-result add-result
-    shared-slice-read-result-2 cast-result-2 mul-result add-result-2 returns)
+    tie.close (tie.spec (λ c κs. search needs) (λ c. search needs) (λ c. search needs) (λ c. search needs) cast-result
+    (λ c. search needs) (λ c. search needs) cast-result-2 mul-result add-result-2 returns)

@@ -12,17 +12,8 @@ use Rattle.job.proofs.fields.field_bytes.Tie as tie
 abbrev atStart : tie.Else1 → tie.Start
 atStart c = c .before .before .before
 
-has-requires : tie.Need-has-requires
-has-requires c κs = search needs
-
 returns : tie.Need-returns
 returns c = rw (sym (c .before .has .ensures) ∙ not-true _ (c .if1 .taken)) refl
-
-mul-result : tie.Need-mul-result
-mul-result c = search needs
-
-array-read-result : tie.Need-array-read-result
-array-read-result c = search needs
 
 mul-result-2 : tie.Need-mul-result-2
 mul-result-2 c = record { fits = unfold fieldCount in omega (arith, count-small (atStart c .args .k)) }
@@ -31,4 +22,5 @@ returns-2 : tie.Need-returns-2
 returns-2 c = rw (sym (c .before .has .ensures) ∙ not-false _ (c .if1 .left)) (unfold fieldCount in refl)
 
 pub field-bytes-spec : {M : Type 1} → statement M
-field-bytes-spec = tie.close (tie.spec has-requires returns mul-result array-read-result mul-result-2 returns-2)
+field-bytes-spec =
+    tie.close (tie.spec (λ c κs. search needs) returns (λ c. search needs) (λ c. search needs) mul-result-2 returns-2)

@@ -17,15 +17,9 @@ abbrev μ-loop : tie.MeasureT-loop
 abbrev atStart : tie.After-field-bytes Inv-loop μ-loop → tie.Start Inv-loop μ-loop
 atStart c = c .before .before .before .before
 
-add-place : tie.Need-add-place Inv-loop μ-loop
-add-place c = omega arith
-
 loop-holds : tie.Need-loop-holds Inv-loop μ-loop
 unfolding fieldsAt
 loop-holds c = (omega arith, refl)
-
-field-bytes-requires : tie.Need-field-bytes-requires Inv-loop μ-loop
-field-bytes-requires c κs = omega arith
 
 add-place-2 : tie.Need-add-place-2 Inv-loop μ-loop
 add-place-2 c =
@@ -38,12 +32,6 @@ add-place-2 c =
           (atStart c .args .at) (c .before .before .loop .i + 1),
     )
 
-add-i : tie.Need-add-i Inv-loop μ-loop
-add-i c = omega arith
-
-loop-less : tie.Need-loop-less Inv-loop μ-loop
-loop-less c = omega arith
-
 loop-again : tie.Need-loop-again Inv-loop μ-loop
 loop-again c = (omega arith, rw (c .before .before .loop .inv .1) (fields-more _ _ _ _ (c .field-bytes .ensures)))
 
@@ -52,5 +40,5 @@ returns c = fields-done _ _ _ _ _ (c .before .loop .inv .1) (omega arith)
 
 pub fields-at-spec : {M : Type 1} → statement M
 fields-at-spec =
-    tie.close (tie.spec Inv-loop μ-loop add-place loop-holds field-bytes-requires add-place-2 add-i loop-less
-    loop-again returns)
+    tie.close (tie.spec Inv-loop μ-loop (λ c. omega arith) loop-holds (λ c κs. omega arith) add-place-2
+    (λ c. omega arith) (λ c. omega arith) loop-again returns)

@@ -9,21 +9,6 @@ use Rattle.job.proofs.fields.leg_of.Tie as tie
 abbrev afterField3 : tie.After-field5 → tie.After-field3
 afterField3 c = c .before .before
 
-field-requires : tie.Need-field-requires
-field-requires c κs = search needs
-
-field-requires-2 : tie.Need-field-requires-2
-field-requires-2 c κs = search needs
-
-field-requires-3 : tie.Need-field-requires-3
-field-requires-3 c κs = search needs
-
-field-requires-4 : tie.Need-field-requires-4
-field-requires-4 c κs = search needs
-
-field-requires-5 : tie.Need-field-requires-5
-field-requires-5 c κs = search needs
-
 returns : tie.Need-returns
 unfolding stepAt
 returns c =
@@ -33,4 +18,5 @@ returns c =
 
 pub leg-of-spec : {M : Type 1} → statement M
 leg-of-spec =
-    tie.close (tie.spec field-requires field-requires-2 field-requires-3 field-requires-4 field-requires-5 returns)
+    tie.close (tie.spec (λ c κs. search needs) (λ c κs. search needs) (λ c κs. search needs) (λ c κs. search needs)
+    (λ c κs. search needs) returns)

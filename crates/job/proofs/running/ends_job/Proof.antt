@@ -4,9 +4,6 @@ use borrow.Author.Needs.{needs}
 use Rattle.job.proofs.running.ends_job.Statement.{statement}
 use Rattle.job.proofs.running.ends_job.Tie as tie
 
-enum-known-answer : tie.Need-enum-known-answer
-enum-known-answer c = search needs
-
 returns : tie.Need-returns
 returns c = ends-other _ (λ n e. no-refusal (rw e at (c .match .keys2)))
 
@@ -20,4 +17,5 @@ returns-4 : tie.Need-returns-4
 returns-4 c = ends-20 _ _ (c .before .before .before .answer .given .1) (c .before .if1 .left) (c .if2 .left)
 
 pub ends-job-spec : {M : Type 1} → statement M
-ends-job-spec = tie.close (tie.spec enum-known-answer returns returns-2 returns-3 returns-4)
+ends-job-spec =
+    tie.close (tie.spec (λ c. search needs) returns returns-2 returns-3 returns-4)

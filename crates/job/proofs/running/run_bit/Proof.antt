@@ -14,9 +14,6 @@ runs c = c .before .before .before
 abbrev afterStepOf : tie.After-ends-job → tie.After-step-of
 afterStepOf c = c .before .before .before .before .before .before .before .before .before
 
-runs-requires : tie.Need-runs-requires
-runs-requires c κs = search needs
-
 returns : tie.Need-returns
 returns c = bit-skipped _ _ _ _ _ _ _ _ _ (c .before .runs .ensures) (c .if1 .taken)
 
@@ -28,21 +25,6 @@ step-of-requires c κs = (
   atStart c .pre .1,
 )
 
-tell-requires : tie.Need-tell-requires
-tell-requires c κs = search needs
-
-ends-job-requires : tie.Need-ends-job-requires
-ends-job-requires c κs = search needs
-
-same-length : tie.Need-same-length
-same-length c = search needs
-
-same-length-2 : tie.Need-same-length-2
-same-length-2 c = search needs
-
-same-length-3 : tie.Need-same-length-3
-same-length-3 c = search needs
-
 returns-2 : tie.Need-returns-2
 returns-2 c = bit-run _ _ _ _ _ _ _ _ _ (runs (afterStepOf c .before) .before .runs .ensures)
     (runs (afterStepOf c .before) .if1 .left) _ _ _ _ (afterStepOf c .step-of .ensures) _
@@ -50,5 +32,5 @@ returns-2 c = bit-run _ _ _ _ _ _ _ _ _ (runs (afterStepOf c .before) .before .r
 
 pub run-bit-spec : {M : Type 1} → statement M
 run-bit-spec =
-    tie.close (tie.spec runs-requires returns step-of-requires tell-requires ends-job-requires same-length
-    same-length-2 same-length-3 returns-2)
+    tie.close (tie.spec (λ c κs. search needs) returns step-of-requires (λ c κs. search needs) (λ c κs. search needs)
+    (λ c. search needs) (λ c. search needs) (λ c. search needs) returns-2)

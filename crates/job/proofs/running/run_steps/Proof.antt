@@ -44,12 +44,6 @@ run-bit-requires c κs = (
   atStart (atLoop c) .pre .1,
 )
 
-add-k : tie.Need-add-k Inv-loop μ-loop
-add-k c = omega arith
-
-loop-less : tie.Need-loop-less Inv-loop μ-loop
-loop-less c = omega arith
-
 loop-again : tie.Need-loop-again Inv-loop μ-loop
 loop-again c = (
   omega arith,
@@ -63,9 +57,6 @@ loop-again c = (
 
 fields-at-requires : tie.Need-fields-at-requires Inv-loop μ-loop
 fields-at-requires c κs = (atStart (c .before .before) .pre .0 .whole .begun, omega arith)
-
-next-place-requires : tie.Need-next-place-requires Inv-loop μ-loop
-next-place-requires c κs = search needs
 
 same-length : tie.Need-same-length Inv-loop μ-loop
 same-length c = omega (arith, afterLoop c .before .loop .inv .1)
@@ -83,5 +74,5 @@ returns c = let last : afterLoop c .before .loop .k ≡ stepBits = omega (arith,
 
 pub run-steps-spec : {M : Type 1} → statement M
 run-steps-spec =
-    tie.close (tie.spec Inv-loop μ-loop loop-holds run-bit-requires add-k loop-less loop-again fields-at-requires
-    next-place-requires same-length same-length-2 same-length-3 returns)
+    tie.close (tie.spec Inv-loop μ-loop loop-holds run-bit-requires (λ c. omega arith) (λ c. omega arith) loop-again
+    fields-at-requires (λ c κs. search needs) same-length same-length-2 same-length-3 returns)

@@ -5,9 +5,6 @@ use borrow.Author.Needs.{needs}
 use Rattle.job.proofs.running.runs.Statement.{statement}
 use Rattle.job.proofs.running.runs.Tie as tie
 
-has-requires : tie.Need-has-requires
-has-requires c κs = search needs
-
 returns : tie.Need-returns
 returns c = rw (sym (c .before .has .ensures) ∙ not-true _ (c .if1 .taken)) refl
 
@@ -15,4 +12,5 @@ returns-2 : tie.Need-returns-2
 returns-2 c = rw (sym (c .before .has .ensures) ∙ not-false _ (c .if1 .left)) refl
 
 pub runs-spec : {M : Type 1} → statement M
-runs-spec = tie.close (tie.spec has-requires returns returns-2)
+runs-spec =
+    tie.close (tie.spec (λ c κs. search needs) returns returns-2)

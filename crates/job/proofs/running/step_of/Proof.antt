@@ -94,15 +94,6 @@ clearance-of-requires c κs =
     let start = atStartFromThen1 (c .before .before) in
     (start .pre .0 .whole, board-set (start .pre .0) (c .before .before .if1 .taken))
 
-new-foil-in-requires : tie.Need-new-foil-in-requires
-new-foil-in-requires c κs = search needs
-
-same-length : tie.Need-same-length
-same-length c = search needs
-
-same-length-2 : tie.Need-same-length-2
-same-length-2 c = search needs
-
 returns : tie.Need-returns
 returns c = does-board _ _ _ _ _ _ _ _ _ (afterField c .before .if1 .taken) _ _ _ (afterField c .field .ensures)
     (afterClearanceOf c .before .field2 .ensures) (afterClearanceOf c .clearance-of .ensures)
@@ -132,12 +123,6 @@ draw-in-requires c κs = (
   ready-sound (atStartFromThen2 (inThen2 c) .pre .0) (inThen2 c .before .if1 .left),
   atStartFromThen2 (inThen2 c) .pre .1,
 )
-
-same-length-3 : tie.Need-same-length-3
-same-length-3 c = search needs
-
-same-length-4 : tie.Need-same-length-4
-same-length-4 c = search needs
 
 returns-2 : tie.Need-returns-2
 returns-2 c = does-patch _ _ _ _ _ _ _ _ _ (inThen2 (afterDrawIn c .before) .if2 .taken) _ _ _ _
@@ -174,15 +159,6 @@ lay-in-requires c κs = (
   atStart (inElse2 c) .pre .1,
 )
 
-same-length-5 : tie.Need-same-length-5
-same-length-5 c = search needs
-
-same-length-6 : tie.Need-same-length-6
-same-length-6 c = search needs
-
-same-length-7 : tie.Need-same-length-7
-same-length-7 c = search needs
-
 returns-3 : tie.Need-returns-3
 returns-3 c = does-track _ _ _ _ _ _ _ _ _ _ (inThen3 (afterField8 c) .if3 .taken) _ _ _ _ _
     (afterField8 c .before .field7 .ensures) (afterField8 c .field8 .ensures)
@@ -198,12 +174,6 @@ lift-in-requires : tie.Need-lift-in-requires
 lift-in-requires c κs =
     let neither = inThen4 (c .before) .before .before in
     ready-sound (atStart neither .pre .0) (neither .before .if1 .left)
-
-same-length-8 : tie.Need-same-length-8
-same-length-8 c = search needs
-
-same-length-9 : tie.Need-same-length-9
-same-length-9 c = search needs
 
 returns-4 : tie.Need-returns-4
 returns-4 c =
@@ -221,12 +191,6 @@ put-leg-in-requires c κs =
     let neither = inElse4 (c .before) .before .before in
     (ready-sound (atStart neither .pre .0) (neither .before .if1 .left), atStart neither .pre .1)
 
-same-length-10 : tie.Need-same-length-10
-same-length-10 c = search needs
-
-same-length-11 : tie.Need-same-length-11
-same-length-11 c = search needs
-
 returns-5 : tie.Need-returns-5
 returns-5 c =
     let done = afterPutLegIn c in
@@ -235,9 +199,10 @@ returns-5 c =
 
 pub step-of-spec : {M : Type 1} → statement M
 step-of-spec =
-    tie.close (tie.spec field-requires field-requires-2 clearance-of-requires new-foil-in-requires same-length
-    same-length-2 returns field-requires-3 field-requires-4 field-requires-5 field-requires-6 draw-in-requires
-    same-length-3 same-length-4 returns-2 field-requires-7 field-requires-8 field-requires-9 field-requires-10
-    field-requires-11 lay-in-requires same-length-5 same-length-6 same-length-7 returns-3 field-requires-12
-    lift-in-requires same-length-8 same-length-9 returns-4 leg-of-requires put-leg-in-requires same-length-10
-    same-length-11 returns-5)
+    tie.close (tie.spec field-requires field-requires-2 clearance-of-requires (λ c κs. search needs)
+    (λ c. search needs) (λ c. search needs) returns field-requires-3 field-requires-4 field-requires-5
+    field-requires-6 draw-in-requires (λ c. search needs) (λ c. search needs) returns-2 field-requires-7
+    field-requires-8 field-requires-9 field-requires-10 field-requires-11 lay-in-requires (λ c. search needs)
+    (λ c. search needs) (λ c. search needs) returns-3 field-requires-12 lift-in-requires (λ c. search needs)
+    (λ c. search needs) returns-4 leg-of-requires put-leg-in-requires (λ c. search needs) (λ c. search needs)
+    returns-5)

@@ -8,21 +8,6 @@ use Rattle.job.proofs.running.tell.Tie as tie
 abbrev afterNewer2 : tie.After-newer5 → tie.After-newer2
 afterNewer2 c = c .before .before .before
 
-newer-requires : tie.Need-newer-requires
-newer-requires c κs = search needs
-
-newer-requires-2 : tie.Need-newer-requires-2
-newer-requires-2 c κs = search needs
-
-newer-requires-3 : tie.Need-newer-requires-3
-newer-requires-3 c κs = search needs
-
-newer-requires-4 : tie.Need-newer-requires-4
-newer-requires-4 c κs = search needs
-
-newer-requires-5 : tie.Need-newer-requires-5
-newer-requires-5 c κs = search needs
-
 returns : tie.Need-returns
 returns c =
     let second = afterNewer2 c in
@@ -31,4 +16,5 @@ returns c =
 
 pub tell-spec : {M : Type 1} → statement M
 tell-spec =
-    tie.close (tie.spec newer-requires newer-requires-2 newer-requires-3 newer-requires-4 newer-requires-5 returns)
+    tie.close (tie.spec (λ c κs. search needs) (λ c κs. search needs) (λ c κs. search needs) (λ c κs. search needs)
+    (λ c κs. search needs) returns)

@@ -4,18 +4,6 @@ use Rattle.job_end.proofs.Answering.{as-asked}
 use Rattle.job_end.proofs.asking.ask.Statement.{statement}
 use Rattle.job_end.proofs.asking.ask.Tie as tie
 
-enum-told : tie.Need-enum-told
-enum-told c = search needs
-
-ask-file-requires : tie.Need-ask-file-requires
-ask-file-requires c κs = search needs
-
-enum-told-2 : tie.Need-enum-told-2
-enum-told-2 c = search needs
-
-ask-slip-requires : tie.Need-ask-slip-requires
-ask-slip-requires c κs = search needs
-
 returns : tie.Need-returns
 returns c = as-asked _ _ _ _ (c .before .before .enum-told .given .1) (c .ask-file .ensures)
 
@@ -24,4 +12,5 @@ returns-2 c = as-asked _ _ _ _ (c .before .before .enum-told2 .given .1) (c .ask
 
 pub ask-spec : {M : Type 1} → statement M
 ask-spec =
-    tie.close (tie.spec enum-told ask-file-requires enum-told-2 ask-slip-requires returns returns-2)
+    tie.close (tie.spec (λ c. search needs) (λ c κs. search needs) (λ c. search needs) (λ c κs. search needs) returns
+    returns-2)

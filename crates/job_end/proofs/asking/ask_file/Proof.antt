@@ -19,21 +19,6 @@ atSheet c = c .before
 abbrev atStart : tie.After-only-foil-0 → tie.Start
 atStart c = c .before .before .before .before .before
 
-slice-aggregate-save : tie.Need-slice-aggregate-save
-slice-aggregate-save c = search needs
-
-only-foil-0-requires : tie.Need-only-foil-0-requires
-only-foil-0-requires c κs = search needs
-
-save-requires : tie.Need-save-requires
-save-requires c κs = search needs
-
-slice-aggregate-give : tie.Need-slice-aggregate-give
-slice-aggregate-give c = search needs
-
-slice-aggregate-give-2 : tie.Need-slice-aggregate-give-2
-slice-aggregate-give-2 c = search needs
-
 give-requires : tie.Need-give-requires
 unfolding stepOf wordOf bytesOf
 give-requires c κs =
@@ -45,10 +30,7 @@ give-requires c κs =
           (omega arith) (omega arith) (call .save .ensures),
     )
 
-returns : tie.Need-returns
-returns c = search needs
-
 pub ask-file-spec : {M : Type 1} → statement M
 ask-file-spec =
-    tie.close (tie.spec slice-aggregate-save only-foil-0-requires save-requires slice-aggregate-give
-    slice-aggregate-give-2 give-requires returns)
+    tie.close (tie.spec (λ c. search needs) (λ c κs. search needs) (λ c κs. search needs) (λ c. search needs)
+    (λ c. search needs) give-requires (λ c. search needs))

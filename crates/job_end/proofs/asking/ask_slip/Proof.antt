@@ -19,21 +19,6 @@ atSheet c = c .before
 abbrev atStart : tie.After-only-foil-0 → tie.Start
 atStart c = c .before .before .before .before .before
 
-slice-aggregate-slip : tie.Need-slice-aggregate-slip
-slice-aggregate-slip c = search needs
-
-only-foil-0-requires : tie.Need-only-foil-0-requires
-only-foil-0-requires c κs = search needs
-
-slip-requires : tie.Need-slip-requires
-slip-requires c κs = search needs
-
-slice-aggregate-give : tie.Need-slice-aggregate-give
-slice-aggregate-give c = search needs
-
-slice-aggregate-give-2 : tie.Need-slice-aggregate-give-2
-slice-aggregate-give-2 c = search needs
-
 give-requires : tie.Need-give-requires
 unfolding stepOf wordOf bytesOf
 give-requires c κs =
@@ -45,10 +30,7 @@ give-requires c κs =
           (omega arith) (omega arith) (call .slip .ensures),
     )
 
-returns : tie.Need-returns
-returns c = search needs
-
 pub ask-slip-spec : {M : Type 1} → statement M
 ask-slip-spec =
-    tie.close (tie.spec slice-aggregate-slip only-foil-0-requires slip-requires slice-aggregate-give
-    slice-aggregate-give-2 give-requires returns)
+    tie.close (tie.spec (λ c. search needs) (λ c κs. search needs) (λ c κs. search needs) (λ c. search needs)
+    (λ c. search needs) give-requires (λ c. search needs))

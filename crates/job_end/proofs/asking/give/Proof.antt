@@ -12,12 +12,6 @@ withBytes c = c .before .before .before .before .before .before .before
 abbrev withNumber : tie.After-number-of → tie.Start
 withNumber c = c .before .before .before .before .before .before
 
-enum-known-answer : tie.Need-enum-known-answer
-enum-known-answer c = search needs
-
-number-of-requires : tie.Need-number-of-requires
-number-of-requires c κs = search needs
-
 tell-requires : tie.Need-tell-requires
 tell-requires c κs =
     let start = withNumber c in (
@@ -25,9 +19,6 @@ tell-requires c κs =
       number-said _ _ _ _ (start .pre .1) (λ k e. no-bytes (rw e at (c .before .before .match .keys2))) _
           (c .number-of .ensures),
     )
-
-returns : tie.Need-returns
-returns c = search needs
 
 write-front-requires : tie.Need-write-front-requires
 write-front-requires c κs =
@@ -43,4 +34,5 @@ returns-2 c =
 
 pub give-spec : {M : Type 1} → statement M
 give-spec =
-    tie.close (tie.spec enum-known-answer number-of-requires tell-requires returns write-front-requires returns-2)
+    tie.close (tie.spec (λ c. search needs) (λ c κs. search needs) tell-requires (λ c. search needs)
+    write-front-requires returns-2)

@@ -12,15 +12,6 @@ atLine c = c .before .before .before
 abbrev atStart : tie.After-put-line → tie.Start
 atStart c = c .before .before .before .before
 
-slice-aggregate-put-line : tie.Need-slice-aggregate-put-line
-slice-aggregate-put-line c = search needs
-
-put-line-requires : tie.Need-put-line-requires
-put-line-requires c κs = search needs
-
-slice-aggregate-write-front : tie.Need-slice-aggregate-write-front
-slice-aggregate-write-front c = search needs
-
 write-front-requires : tie.Need-write-front-requires
 write-front-requires c κs =
     let line = atLine c in
@@ -35,5 +26,4 @@ returns c =
 
 pub tell-spec : {M : Type 1} → statement M
 tell-spec =
-    tie.close (tie.spec slice-aggregate-put-line put-line-requires slice-aggregate-write-front write-front-requires
-    returns)
+    tie.close (tie.spec (λ c. search needs) (λ c κs. search needs) (λ c. search needs) write-front-requires returns)

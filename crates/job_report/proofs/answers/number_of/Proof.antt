@@ -5,9 +5,6 @@ use Rattle.job_report.proofs.Telling.{number-refused, number-other}
 use Rattle.job_report.proofs.answers.number_of.Statement.{statement}
 use Rattle.job_report.proofs.answers.number_of.Tie as tie
 
-enum-known-answer : tie.Need-enum-known-answer
-enum-known-answer c = search needs
-
 returns : tie.Need-returns
 returns c = number-other _ (λ n e. no-refusal (rw e at (c .match .keys2)))
 
@@ -15,4 +12,5 @@ returns-2 : tie.Need-returns-2
 returns-2 c = number-refused _ _ (c .before .answer .given .1)
 
 pub number-of-spec : {M : Type 1} → statement M
-number-of-spec = tie.close (tie.spec enum-known-answer returns returns-2)
+number-of-spec =
+    tie.close (tie.spec (λ c. search needs) returns returns-2)

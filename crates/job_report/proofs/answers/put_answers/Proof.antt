@@ -31,20 +31,11 @@ afterToldBy c = c .before .before .before
 loop-holds : tie.Need-loop-holds Inv-loop μ-loop
 loop-holds c = (omega arith, lines-none _ _ _ _, omega arith)
 
-told-by-requires : tie.Need-told-by-requires Inv-loop μ-loop
-told-by-requires c κs = omega arith
-
 put-bit-requires : tie.Need-put-bit-requires Inv-loop μ-loop
 put-bit-requires c κs = (
   (omega arith, atLoop c .loop .inv .2, omega (arith, put-length (atLoop c .loop .inv .1))),
   rw (c .told-by .ensures) (atStart c .pre .1 .bit _ (omega arith)),
 )
-
-add-k : tie.Need-add-k Inv-loop μ-loop
-add-k c = omega arith
-
-loop-less : tie.Need-loop-less Inv-loop μ-loop
-loop-less c = omega arith
 
 loop-again : tie.Need-loop-again Inv-loop μ-loop
 loop-again c = (
@@ -63,5 +54,5 @@ returns c = let last : c .before .loop .k ≡ stepBits = omega arith in
 
 pub put-answers-spec : {M : Type 1} → statement M
 put-answers-spec =
-    tie.close (tie.spec Inv-loop μ-loop loop-holds told-by-requires put-bit-requires add-k loop-less loop-again
-    same-length returns)
+    tie.close (tie.spec Inv-loop μ-loop loop-holds (λ c κs. omega arith) put-bit-requires (λ c. omega arith)
+    (λ c. omega arith) loop-again same-length returns)

@@ -57,12 +57,6 @@ is-leg c =
       c .if4 .left,
     )
 
-enum-known-told : tie.Need-enum-known-told
-enum-known-told c = search needs
-
-enum-told : tie.Need-enum-told
-enum-told c = search needs
-
 returns : tie.Need-returns
 returns c = let rise = bytes-rise (untold c .args .k) (untold c .pre .0 .0) in (
   no-line _ _ _ _ (c .enum-told .given .1)
@@ -70,15 +64,9 @@ returns c = let rise = bytes-rise (untold c .args .k) (untold c .pre .0 .0) in (
   omega (arith, rise .0, untold c .pre .0 .1),
 )
 
-number-of-requires : tie.Need-number-of-requires
-number-of-requires c κs = search needs
-
 board-line-requires : tie.Need-board-line-requires
 unfolding bytesBelow
 board-line-requires c κs = line-room (atStart (forBoard c .before) .pre .0) 0 64 (forBoard c .if1 .taken) refl
-
-same-length : tie.Need-same-length
-same-length c = search needs
 
 returns-2 : tie.Need-returns-2
 unfolding bytesBelow
@@ -90,16 +78,10 @@ returns-2 c =
       line-end (atStart (arm .before) .pre .0) 0 64 (arm .if1 .taken) refl (put .board-line .ensures .1),
     )
 
-number-of-requires-2 : tie.Need-number-of-requires-2
-number-of-requires-2 c κs = search needs
-
 patch-line-requires : tie.Need-patch-line-requires
 unfolding bytesBelow
 patch-line-requires c κs =
     line-room (atStart (toldPatch (forPatch c)) .pre .0) 1 64 (forPatch c .if2 .taken) refl
-
-same-length-2 : tie.Need-same-length-2
-same-length-2 c = search needs
 
 returns-3 : tie.Need-returns-3
 unfolding bytesBelow
@@ -125,9 +107,6 @@ put-track-requires c κs =
       atStart told .pre .1 .corners _ (told .before .told .given .1),
     )
 
-same-length-3 : tie.Need-same-length-3
-same-length-3 c = search needs
-
 returns-4 : tie.Need-returns-4
 unfolding bytesBelow
 returns-4 c =
@@ -144,16 +123,10 @@ net-of-requires-2 c κs =
     net-given _ (toldLift c .before .told .given .1) (atStart (toldLift c) .pre .1) 3 (c .if4 .taken) (omega arith)
     (omega arith)
 
-number-of-requires-3 : tie.Need-number-of-requires-3
-number-of-requires-3 c κs = search needs
-
 lift-line-requires : tie.Need-lift-line-requires
 unfolding bytesBelow
 lift-line-requires c κs =
     line-room (atStart (toldLift (forLift c)) .pre .0) 3 64 (forLift c .if4 .taken) refl
-
-same-length-4 : tie.Need-same-length-4
-same-length-4 c = search needs
 
 returns-5 : tie.Need-returns-5
 unfolding bytesBelow
@@ -172,15 +145,9 @@ net-of-requires-3 c κs =
     net-given _ (toldLeg c .before .told .given .1) (atStart (toldLeg c) .pre .1) 4 (is-leg c) (omega arith)
     (omega arith)
 
-number-of-requires-4 : tie.Need-number-of-requires-4
-number-of-requires-4 c κs = search needs
-
 leg-line-requires : tie.Need-leg-line-requires
 unfolding bytesBelow
 leg-line-requires c κs = line-room (atStart (toldLeg (forLeg c)) .pre .0) 4 64 (is-leg (forLeg c)) refl
-
-same-length-5 : tie.Need-same-length-5
-same-length-5 c = search needs
 
 returns-6 : tie.Need-returns-6
 unfolding bytesBelow
@@ -195,7 +162,8 @@ returns-6 c =
 
 pub put-bit-spec : {M : Type 1} → statement M
 put-bit-spec =
-    tie.close (tie.spec enum-known-told enum-told returns number-of-requires board-line-requires same-length returns-2
-    number-of-requires-2 patch-line-requires same-length-2 returns-3 net-of-requires put-track-requires same-length-3
-    returns-4 net-of-requires-2 number-of-requires-3 lift-line-requires same-length-4 returns-5 net-of-requires-3
-    number-of-requires-4 leg-line-requires same-length-5 returns-6)
+    tie.close (tie.spec (λ c. search needs) (λ c. search needs) returns (λ c κs. search needs) board-line-requires
+    (λ c. search needs) returns-2 (λ c κs. search needs) patch-line-requires (λ c. search needs) returns-3
+    net-of-requires put-track-requires (λ c. search needs) returns-4 net-of-requires-2 (λ c κs. search needs)
+    lift-line-requires (λ c. search needs) returns-5 net-of-requires-3 (λ c κs. search needs) leg-line-requires
+    (λ c. search needs) returns-6)

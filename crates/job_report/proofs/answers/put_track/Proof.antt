@@ -19,18 +19,6 @@ afterRefused c = c .before .before
 abbrev atNoTrack : tie.After-number-of → tie.At-match-keys2
 atNoTrack c = c .before .before
 
-enum-known-answer : tie.Need-enum-known-answer
-enum-known-answer c = search needs
-
-number-of-requires : tie.Need-number-of-requires
-number-of-requires c κs = search needs
-
-track-refused-requires : tie.Need-track-refused-requires
-track-refused-requires c κs = search needs
-
-same-length : tie.Need-same-length
-same-length c = search needs
-
 returns : tie.Need-returns
 returns c =
     let numbered = afterRefused c .before in (
@@ -45,9 +33,6 @@ track-laid-requires c κs = (
   atStart (c .before .before) .pre .1 .there _ _ (c .before .before .answer .given .1),
 )
 
-same-length-2 : tie.Need-same-length-2
-same-length-2 c = search needs
-
 returns-2 : tie.Need-returns-2
 returns-2 c = (
   laid-line _ _ (afterAnswer c .answer .given .1) (c .before .before .track-laid .ensures .0),
@@ -60,5 +45,5 @@ returns-2 c = (
 
 pub put-track-spec : {M : Type 1} → statement M
 put-track-spec =
-    tie.close (tie.spec enum-known-answer number-of-requires track-refused-requires same-length returns
-    track-laid-requires same-length-2 returns-2)
+    tie.close (tie.spec (λ c. search needs) (λ c κs. search needs) (λ c κs. search needs) (λ c. search needs) returns
+    track-laid-requires (λ c. search needs) returns-2)

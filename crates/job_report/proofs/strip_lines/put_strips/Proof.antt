@@ -31,17 +31,8 @@ loop-holds : tie.Need-loop-holds Inv-loop μ-loop
 unfolding listedStrips
 loop-holds c = (omega arith, put-none _ _ (omega arith), omega arith)
 
-strip-at-requires : tie.Need-strip-at-requires Inv-loop μ-loop
-strip-at-requires c κs = omega arith
-
 strip-line-requires : tie.Need-strip-line-requires Inv-loop μ-loop
 strip-line-requires c κs = omega (arith, put-length (atLoop c .loop .inv .1))
-
-add-k : tie.Need-add-k Inv-loop μ-loop
-add-k c = omega arith
-
-loop-less : tie.Need-loop-less Inv-loop μ-loop
-loop-less c = omega arith
 
 loop-again : tie.Need-loop-again Inv-loop μ-loop
 unfolding listedStrips
@@ -63,6 +54,5 @@ returns c =
 
 pub put-strips-spec : {M : Type 1} → statement M
 put-strips-spec =
-    tie.close
-    (tie.spec Inv-loop μ-loop loop-holds strip-at-requires strip-line-requires add-k loop-less loop-again same-length
-    returns)
+    tie.close (tie.spec Inv-loop μ-loop loop-holds (λ c κs. omega arith) strip-line-requires (λ c. omega arith)
+    (λ c. omega arith) loop-again same-length returns)

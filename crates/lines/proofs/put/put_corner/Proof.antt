@@ -21,23 +21,8 @@ atCorner c = c .before .before .before
 abbrev atStart : tie.After-slice-known4 → tie.Start
 atStart c = afterPutItem c .before .before .before
 
-put-item-requires : tie.Need-put-item-requires
-put-item-requires c κs = omega arith
-
-slice-aggregate-put-bytes : tie.Need-slice-aggregate-put-bytes
-slice-aggregate-put-bytes c = search needs
-
-put-bytes-requires : tie.Need-put-bytes-requires
-put-bytes-requires c κs = omega arith
-
 cast-put-number : tie.Need-cast-put-number
 cast-put-number c = omega (arith, c .struct-known .given .1 .0)
-
-put-number-requires : tie.Need-put-number-requires
-put-number-requires c κs = omega arith
-
-same-length : tie.Need-same-length
-same-length c = omega arith
 
 returns : tie.Need-returns
 unfolding cornerItem
@@ -49,5 +34,5 @@ returns c = (
 
 pub put-corner-spec : {M : Type 1} → statement M
 put-corner-spec =
-    tie.close (tie.spec put-item-requires slice-aggregate-put-bytes put-bytes-requires cast-put-number
-    put-number-requires same-length returns)
+    tie.close (tie.spec (λ c κs. omega arith) (λ c. search needs) (λ c κs. omega arith) cast-put-number
+    (λ c κs. omega arith) (λ c. omega arith) returns)

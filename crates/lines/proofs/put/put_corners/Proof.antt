@@ -31,17 +31,8 @@ loop-holds : tie.Need-loop-holds Inv-loop μ-loop
 unfolding cornersIn
 loop-holds c = (omega arith, put-none _ _ (omega arith), omega arith)
 
-corner-at-requires : tie.Need-corner-at-requires Inv-loop μ-loop
-corner-at-requires c κs = omega arith
-
 put-corner-requires : tie.Need-put-corner-requires Inv-loop μ-loop
 put-corner-requires c κs = omega (arith, put-length (atLoop c .loop .inv .1))
-
-add-k : tie.Need-add-k Inv-loop μ-loop
-add-k c = omega arith
-
-loop-less : tie.Need-loop-less Inv-loop μ-loop
-loop-less c = omega arith
 
 loop-again : tie.Need-loop-again Inv-loop μ-loop
 unfolding cornersIn
@@ -63,6 +54,5 @@ returns c =
 
 pub put-corners-spec : {M : Type 1} → statement M
 put-corners-spec =
-    tie.close
-    (tie.spec Inv-loop μ-loop loop-holds corner-at-requires put-corner-requires add-k loop-less loop-again same-length
-    returns)
+    tie.close (tie.spec Inv-loop μ-loop loop-holds (λ c κs. omega arith) put-corner-requires (λ c. omega arith)
+    (λ c. omega arith) loop-again same-length returns)

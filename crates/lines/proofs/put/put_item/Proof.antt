@@ -14,18 +14,6 @@ atBlank c = c .before .before .before .before .before .before
 abbrev atStart : tie.After-slice-known3 → tie.Start
 atStart c = atBlank c .before .before .before .before
 
-slice-aggregate-put-bytes : tie.Need-slice-aggregate-put-bytes
-slice-aggregate-put-bytes c = search needs
-
-put-bytes-requires : tie.Need-put-bytes-requires
-put-bytes-requires c κs = omega arith
-
-put-number-requires : tie.Need-put-number-requires
-put-number-requires c κs = omega arith
-
-same-length : tie.Need-same-length
-same-length c = omega arith
-
 returns : tie.Need-returns
 unfolding item
 returns c = (
@@ -35,4 +23,4 @@ returns c = (
 
 pub put-item-spec : {M : Type 1} → statement M
 put-item-spec =
-    tie.close (tie.spec slice-aggregate-put-bytes put-bytes-requires put-number-requires same-length returns)
+    tie.close (tie.spec (λ c. search needs) (λ c κs. omega arith) (λ c κs. omega arith) (λ c. omega arith) returns)

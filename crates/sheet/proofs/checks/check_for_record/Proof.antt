@@ -17,33 +17,18 @@ atPlace c = c .before .before
 returns : tie.Need-returns
 returns c = at-start _ _ _ (omega (arith, c .if1 .taken))
 
-slice-aggregate-lend-for-record : tie.Need-slice-aggregate-lend-for-record
-slice-aggregate-lend-for-record c = search needs
-
 lend-for-record-requires : tie.Need-lend-for-record-requires
 lend-for-record-requires c κs = no-rows
-
-enum-known-lending : tie.Need-enum-known-lending
-enum-known-lending c = search needs
 
 returns-2 : tie.Need-returns-2
 returns-2 c =
     let told = c .before in
     record-not-out _ _ _ _ _ (told .before .before .before .lend-for-record .ensures) _ (told .lending .given .1) _
 
-enum-told : tie.Need-enum-told
-enum-told c = search needs
-
-slice-aggregate-lent-refusal : tie.Need-slice-aggregate-lent-refusal
-slice-aggregate-lent-refusal c = search needs
-
 board-at-requires : tie.Need-board-at-requires
 board-at-requires c κs =
     let told = c .before in
     record-out _ _ _ _ _ (atLending told .lend-for-record .ensures) (told .enum-told .given .1) .0 .here
-
-lent-refusal-requires : tie.Need-lent-refusal-requires
-lent-refusal-requires c κs = search needs
 
 returns-3 : tie.Need-returns-3
 returns-3 c =
@@ -56,15 +41,5 @@ returns-3 c =
 
 pub check-for-record-spec : {M : Type 1} → statement M
 check-for-record-spec =
-    tie.close
-    (tie.spec
-    returns
-    slice-aggregate-lend-for-record
-    lend-for-record-requires
-    enum-known-lending
-    returns-2
-    enum-told
-    slice-aggregate-lent-refusal
-    board-at-requires
-    lent-refusal-requires
-    returns-3)
+    tie.close (tie.spec returns (λ c. search needs) lend-for-record-requires (λ c. search needs) returns-2
+    (λ c. search needs) (λ c. search needs) board-at-requires (λ c κs. search needs) returns-3)

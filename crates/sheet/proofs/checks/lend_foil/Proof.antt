@@ -17,19 +17,10 @@ atChecks c = c .before .before
 abbrev atPassed : tie.After-slice-known2 → tie.After-enum-told
 atPassed c = c .before .before .before .before
 
-sheet-checks-requires : tie.Need-sheet-checks-requires
-sheet-checks-requires c κs = search needs
-
-enum-known-checked : tie.Need-enum-known-checked
-enum-known-checked c = search needs
-
 returns : tie.Need-returns
 returns c =
     let told = c .before in
     number-first _ _ (told .before .before .sheet-checks .ensures) _ (told .checked .given .1)
-
-enum-told : tie.Need-enum-told
-enum-told c = search needs
 
 take-out-requires : tie.Need-take-out-requires
 take-out-requires c κs =
@@ -39,9 +30,6 @@ take-out-requires c κs =
     let goes = none-first _ _ (atChecks told .sheet-checks .ensures) (told .enum-told .given .1) in
     let m = sheetLent (s .args .sheet .boards) (s .args .table .now) (s .args .strips .now) in
     (in-limits (s .args .k) m size goes, (on-sheet (s .args .k) m size goes, s .pre))
-
-same-length : tie.Need-same-length
-same-length c = search needs
 
 returns-2 : tie.Need-returns-2
 returns-2 c =
@@ -53,5 +41,5 @@ returns-2 c =
 
 pub lend-foil-spec : {M : Type 1} → statement M
 lend-foil-spec =
-    tie.close
-    (tie.spec sheet-checks-requires enum-known-checked returns enum-told take-out-requires same-length returns-2)
+    tie.close (tie.spec (λ c κs. search needs) (λ c. search needs) returns (λ c. search needs) take-out-requires
+    (λ c. search needs) returns-2)

@@ -23,9 +23,6 @@ returns-2 c = record-large _ _ _ (c .before .if1 .left) (c .if2 .taken)
 lend-foil-requires : tie.Need-lend-foil-requires
 lend-foil-requires c κs = atStart (c .before .before .before) .pre
 
-same-length : tie.Need-same-length
-same-length c = search needs
-
 returns-3 : tie.Need-returns-3
 returns-3 c =
     let lending = atLending c in
@@ -35,4 +32,4 @@ returns-3 c =
 
 pub lend-for-record-spec : {M : Type 1} → statement M
 lend-for-record-spec =
-    tie.close (tie.spec returns returns-2 lend-foil-requires same-length returns-3)
+    tie.close (tie.spec returns returns-2 lend-foil-requires (λ c. search needs) returns-3)

@@ -17,31 +17,16 @@ atStart c = c .before .before .before
 lend-foil-requires : tie.Need-lend-foil-requires
 lend-foil-requires c κs = atStart (c .before) .pre
 
-enum-known-lending : tie.Need-enum-known-lending
-enum-known-lending c = search needs
-
-same-length : tie.Need-same-length
-same-length c = search needs
-
 returns : tie.Need-returns
 returns c =
     let told = c .before in
     let lending = told .before .before .before .before in
     unopened _ _ _ (not-out _ _ _ _ (lending .lend-foil .ensures) _ (told .lending .given .1))
 
-enum-told : tie.Need-enum-told
-enum-told c = search needs
-
 board-at-requires : tie.Need-board-at-requires
 board-at-requires c κs =
     let told = c .before in
     taken-out _ _ _ _ (atLending told .lend-foil .ensures) (told .enum-told .given .1) .here
-
-lent-refusal-requires : tie.Need-lent-refusal-requires
-lent-refusal-requires c κs = search needs
-
-same-length-2 : tie.Need-same-length-2
-same-length-2 c = search needs
 
 returns-2 : tie.Need-returns-2
 returns-2 c =
@@ -53,14 +38,5 @@ returns-2 c =
 
 pub open-foil-spec : {M : Type 1} → statement M
 open-foil-spec =
-    tie.close
-    (tie.spec
-    lend-foil-requires
-    enum-known-lending
-    same-length
-    returns
-    enum-told
-    board-at-requires
-    lent-refusal-requires
-    same-length-2
-    returns-2)
+    tie.close (tie.spec lend-foil-requires (λ c. search needs) (λ c. search needs) returns (λ c. search needs)
+    board-at-requires (λ c κs. search needs) (λ c. search needs) returns-2)

@@ -14,17 +14,8 @@ atOpening c = c .before .before
 returns : tie.Need-returns
 returns c = list-no-foil _ _ _ _ (c .if1 .taken)
 
-too-many-requires : tie.Need-too-many-requires
-too-many-requires c κs = search needs
-
 returns-2 : tie.Need-returns-2
 returns-2 c = list-many _ _ _ _ (c .before .before .if1 .left) _ (c .before .too-many .ensures) (c .if2 .taken)
-
-open-foil-requires : tie.Need-open-foil-requires
-open-foil-requires c κs = search needs
-
-same-length : tie.Need-same-length
-same-length c = search needs
 
 returns-3 : tie.Need-returns-3
 returns-3 c =
@@ -35,4 +26,4 @@ returns-3 c =
 
 pub open-for-list-spec : {M : Type 1} → statement M
 open-for-list-spec =
-    tie.close (tie.spec returns too-many-requires returns-2 open-foil-requires same-length returns-3)
+    tie.close (tie.spec returns (λ c κs. search needs) returns-2 (λ c κs. search needs) (λ c. search needs) returns-3)

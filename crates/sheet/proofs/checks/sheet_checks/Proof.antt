@@ -22,9 +22,6 @@ returns-3 c =
     let table = c .before in
     short-strips _ _ (atFoil table .if1 .left) (table .if2 .left) (c .if3 .taken)
 
-counts-ok-requires : tie.Need-counts-ok-requires
-counts-ok-requires c κs = search needs
-
 returns-4 : tie.Need-returns-4
 returns-4 c =
     let counted = c .before in
@@ -43,4 +40,4 @@ returns-5 c =
 
 pub sheet-checks-spec : {M : Type 1} → statement M
 sheet-checks-spec =
-    tie.close (tie.spec returns returns-2 returns-3 counts-ok-requires returns-4 returns-5)
+    tie.close (tie.spec returns returns-2 returns-3 (λ c κs. search needs) returns-4 returns-5)

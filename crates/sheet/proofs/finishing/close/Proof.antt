@@ -20,13 +20,11 @@ put-back-requires c κs =
     let p = atStart (c .before) .pre in
     (p .eight-foils, ((p .here, p .few (not-ff _ (c .before .if1 .left))), p .full))
 
-same-length : tie.Need-same-length
-same-length c = search needs
-
 returns-2 : tie.Need-returns-2
 returns-2 c =
     let put = atPut c in
     put-if _ _ _ _ _ _ (not-ff _ (put .before .before .if1 .left)) _ _ (put .put-back .ensures)
 
 pub close-spec : {M : Type 1} → statement M
-close-spec = tie.close (tie.spec returns put-back-requires same-length returns-2)
+close-spec =
+    tie.close (tie.spec returns put-back-requires (λ c. search needs) returns-2)

@@ -12,15 +12,9 @@ atStart c = c .before .before .before
 abbrev atClosed : tie.After-slice-known2 → tie.After-close
 atClosed c = c .before .before
 
-accepts-requires : tie.Need-accepts-requires
-accepts-requires c κs = search needs
-
 close-requires : tie.Need-close-requires
 close-requires c κs =
     may-close-by _ _ _ _ _ _ _ (c .accepts .ensures) (atStart (c .before .before) .pre)
-
-same-length : tie.Need-same-length
-same-length c = search needs
 
 returns : tie.Need-returns
 returns c =
@@ -28,4 +22,5 @@ returns c =
     finish-is _ _ _ _ _ _ _ refl _ (closed .before .accepts .ensures) (closed .close .ensures)
 
 pub finish-spec : {M : Type 1} → statement M
-finish-spec = tie.close (tie.spec accepts-requires close-requires same-length returns)
+finish-spec =
+    tie.close (tie.spec (λ c κs. search needs) close-requires (λ c. search needs) returns)

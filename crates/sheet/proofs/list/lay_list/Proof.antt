@@ -31,23 +31,8 @@ atBody c = c .before .before .before .before .before .before .before .before
 abbrev atEnd : tie.After-slice-known8 → tie.After-close
 atEnd c = c .before .before
 
-slice-aggregate-open-for-list : tie.Need-slice-aggregate-open-for-list
-slice-aggregate-open-for-list c = search needs
-
 open-for-list-requires : tie.Need-open-for-list-requires
 open-for-list-requires c κs = no-rows
-
-enum-known-checked : tie.Need-enum-known-checked
-enum-known-checked c = search needs
-
-refuse-requires : tie.Need-refuse-requires
-refuse-requires c κs = search needs
-
-same-length : tie.Need-same-length
-same-length c = search needs
-
-same-length-2 : tie.Need-same-length-2
-same-length-2 c = search needs
 
 returns : tie.Need-returns
 returns c =
@@ -55,9 +40,6 @@ returns c =
     let opening = told .before .before .before in
     list-refused _ (atStart (atOpening opening) .args .sheet) _ _ _ _ _ _ _ (c .refuse .ensures)
     (list-not-out _ _ _ _ _ _ (opening .open-for-list .ensures) _ (told .checked .given .1) _)
-
-enum-told : tie.Need-enum-told
-enum-told c = search needs
 
 board-at-requires : tie.Need-board-at-requires
 board-at-requires c κs =
@@ -68,9 +50,6 @@ limit-requires c κs =
     let told = c .before in
     let o = list-out _ _ _ _ _ _ (atPassed told .open-for-list .ensures) (told .enum-told .given .1) .0 in
     (o .out .here, o .out .eight-foils .limits)
-
-slice-aggregate-lay-list-in : tie.Need-slice-aggregate-lay-list-in
-slice-aggregate-lay-list-in c = search needs
 
 lay-list-in-requires : tie.Need-lay-list-in-requires
 lay-list-in-requires c κs =
@@ -83,9 +62,6 @@ lay-list-in-requires c κs =
       (limit-most _ _ _ (most .limit .ensures), places _ (s .args .answers .now) (o .1)),
     )
 
-slice-aggregate-close : tie.Need-slice-aggregate-close
-slice-aggregate-close c = search needs
-
 close-requires : tie.Need-close-requires
 close-requires c κs =
     let body = atBody (atLeft c) in
@@ -96,18 +72,6 @@ close-requires c κs =
     let o = list-out _ _ _ _ _ _ (atPassed told .open-for-list .ensures) (told .enum-told .given .1) in
     list-closable _ (s .args .sheet) _ _ _ _ _ _ (o .0) (o .1) _ (board .board-at .ensures) _ (most .limit .ensures)
     _ _ _ _ _ (body .lay-list-in .ensures) (omega arith)
-
-same-length-3 : tie.Need-same-length-3
-same-length-3 c = search needs
-
-same-length-4 : tie.Need-same-length-4
-same-length-4 c = search needs
-
-same-length-5 : tie.Need-same-length-5
-same-length-5 c = search needs
-
-same-length-6 : tie.Need-same-length-6
-same-length-6 c = search needs
 
 returns-2 : tie.Need-returns-2
 returns-2 c =
@@ -123,7 +87,7 @@ returns-2 c =
 
 pub lay-list-spec : {M : Type 1} → statement M
 lay-list-spec =
-    tie.close
-    (tie.spec slice-aggregate-open-for-list open-for-list-requires enum-known-checked refuse-requires same-length
-    same-length-2 returns enum-told board-at-requires limit-requires slice-aggregate-lay-list-in lay-list-in-requires
-    slice-aggregate-close close-requires same-length-3 same-length-4 same-length-5 same-length-6 returns-2)
+    tie.close (tie.spec (λ c. search needs) open-for-list-requires (λ c. search needs) (λ c κs. search needs)
+    (λ c. search needs) (λ c. search needs) returns (λ c. search needs) board-at-requires limit-requires
+    (λ c. search needs) lay-list-in-requires (λ c. search needs) close-requires (λ c. search needs)
+    (λ c. search needs) (λ c. search needs) (λ c. search needs) returns-2)

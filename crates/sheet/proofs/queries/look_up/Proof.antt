@@ -14,14 +14,8 @@ use Rattle.sheet.proofs.queries.look_up.Tie as tie
 abbrev atPassed : tie.After-enum-told → tie.After-open-foil
 atPassed c = c .before .before .before
 
-slice-aggregate-open-foil : tie.Need-slice-aggregate-open-foil
-slice-aggregate-open-foil c = search needs
-
 open-foil-requires : tie.Need-open-foil-requires
 open-foil-requires c κs = no-rows
-
-enum-known-checked : tie.Need-enum-known-checked
-enum-known-checked c = search needs
 
 returns : tie.Need-returns
 unfolding readsFoil reads
@@ -31,15 +25,9 @@ returns c =
     read-refused _ _ _ _ _
     (not-opened _ _ _ _ (opening .open-foil .ensures) _ (told .checked .given .1) _ _ refl)
 
-enum-told : tie.Need-enum-told
-enum-told c = search needs
-
 board-at-requires : tie.Need-board-at-requires
 board-at-requires c κs =
     opened _ _ _ _ (atPassed c .open-foil .ensures) (c .enum-told .given .1) .out .here
-
-slice-aggregate-look-up-in : tie.Need-slice-aggregate-look-up-in
-slice-aggregate-look-up-in c = search needs
 
 look-up-in-requires : tie.Need-look-up-in-requires
 look-up-in-requires c κs =
@@ -59,14 +47,5 @@ returns-2 c =
 
 pub look-up-spec : {M : Type 1} → statement M
 look-up-spec =
-    tie.close
-    (tie.spec
-    slice-aggregate-open-foil
-    open-foil-requires
-    enum-known-checked
-    returns
-    enum-told
-    board-at-requires
-    slice-aggregate-look-up-in
-    look-up-in-requires
-    returns-2)
+    tie.close (tie.spec (λ c. search needs) open-foil-requires (λ c. search needs) returns (λ c. search needs)
+    board-at-requires (λ c. search needs) look-up-in-requires returns-2)

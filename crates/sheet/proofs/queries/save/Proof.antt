@@ -17,14 +17,8 @@ atPassed c = c .before .before .before
 abbrev atBody : tie.After-slice-known2 → tie.After-save-in
 atBody c = c .before .before
 
-slice-aggregate-open-foil : tie.Need-slice-aggregate-open-foil
-slice-aggregate-open-foil c = search needs
-
 open-foil-requires : tie.Need-open-foil-requires
 open-foil-requires c κs = no-rows
-
-enum-known-checked : tie.Need-enum-known-checked
-enum-known-checked c = search needs
 
 returns : tie.Need-returns
 unfolding readsFoil reads
@@ -34,15 +28,9 @@ returns c =
     read-refused _ _ _ _ _
     (not-opened _ _ _ _ (opening .open-foil .ensures) _ (told .checked .given .1) _ _ refl)
 
-enum-told : tie.Need-enum-told
-enum-told c = search needs
-
 board-at-requires : tie.Need-board-at-requires
 board-at-requires c κs =
     opened _ _ _ _ (atPassed c .open-foil .ensures) (c .enum-told .given .1) .out .here
-
-slice-aggregate-save-in : tie.Need-slice-aggregate-save-in
-slice-aggregate-save-in c = search needs
 
 save-in-requires : tie.Need-save-in-requires
 save-in-requires c κs =
@@ -50,9 +38,6 @@ save-in-requires c κs =
     let told = board .before in
     let o = opened _ _ _ _ (atPassed told .open-foil .ensures) (told .enum-told .given .1) in
     keeps-rules _ _ _ o _ (board .board-at .ensures)
-
-same-length : tie.Need-same-length
-same-length c = search needs
 
 returns-2 : tie.Need-returns-2
 unfolding writes
@@ -65,15 +50,5 @@ returns-2 c =
 
 pub save-spec : {M : Type 1} → statement M
 save-spec =
-    tie.close
-    (tie.spec
-    slice-aggregate-open-foil
-    open-foil-requires
-    enum-known-checked
-    returns
-    enum-told
-    board-at-requires
-    slice-aggregate-save-in
-    save-in-requires
-    same-length
-    returns-2)
+    tie.close (tie.spec (λ c. search needs) open-foil-requires (λ c. search needs) returns (λ c. search needs)
+    board-at-requires (λ c. search needs) save-in-requires (λ c. search needs) returns-2)

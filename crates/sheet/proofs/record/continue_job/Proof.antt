@@ -34,23 +34,8 @@ atBody c = c .before .before .before .before
 abbrev atEnd : tie.After-slice-known6 → tie.After-close
 atEnd c = c .before .before
 
-slice-aggregate-lend-for-record : tie.Need-slice-aggregate-lend-for-record
-slice-aggregate-lend-for-record c = search needs
-
 lend-for-record-requires : tie.Need-lend-for-record-requires
 lend-for-record-requires c κs = no-rows
-
-enum-known-checked : tie.Need-enum-known-checked
-enum-known-checked c = search needs
-
-refuse-requires : tie.Need-refuse-requires
-refuse-requires c κs = search needs
-
-same-length : tie.Need-same-length
-same-length c = search needs
-
-same-length-2 : tie.Need-same-length-2
-same-length-2 c = search needs
 
 returns : tie.Need-returns
 returns c =
@@ -58,9 +43,6 @@ returns c =
     let lending = told .before .before .before in
     record-refused _ (atStart (atLending lending) .args .sheet) _ _ _ _ _ _ _ (c .refuse .ensures)
     (record-not-out _ _ _ _ _ (lending .lend-for-record .ensures) _ (told .checked .given .1) _ _)
-
-enum-told : tie.Need-enum-told
-enum-told c = search needs
 
 board-at-requires : tie.Need-board-at-requires
 board-at-requires c κs =
@@ -73,9 +55,6 @@ limit-requires c κs =
     let here = o .0 .here in
     (omega arith, o .0 .eight-foils .limits)
 
-slice-aggregate-run-record-in : tie.Need-slice-aggregate-run-record-in
-slice-aggregate-run-record-in c = search needs
-
 run-record-in-requires : tie.Need-run-record-in-requires
 run-record-in-requires c κs =
     let most = c .before .before .before in
@@ -87,12 +66,6 @@ run-record-in-requires c κs =
       limit-most _ _ _ (most .limit .ensures),
     )
 
-slice-aggregate-close : tie.Need-slice-aggregate-close
-slice-aggregate-close c = search needs
-
-took-any-requires : tie.Need-took-any-requires
-took-any-requires c κs = search needs
-
 close-requires : tie.Need-close-requires
 close-requires c κs =
     let body = atBody (atCorners (atLeft c)) in
@@ -103,15 +76,6 @@ close-requires c κs =
     let o = record-out _ _ _ _ _ (atPassed told .lend-for-record .ensures) (told .enum-told .given .1) in
     record-closable _ (s .args .sheet) _ _ _ _ _ _ (o .0) (o .1) _ (board .board-at .ensures) _
     (most .limit .ensures) _ _ _ _ (body .run-record-in .ensures) _ (c .took-any .ensures) (omega arith)
-
-same-length-3 : tie.Need-same-length-3
-same-length-3 c = search needs
-
-same-length-4 : tie.Need-same-length-4
-same-length-4 c = search needs
-
-same-length-5 : tie.Need-same-length-5
-same-length-5 c = search needs
 
 returns-2 : tie.Need-returns-2
 returns-2 c =
@@ -128,24 +92,7 @@ returns-2 c =
 
 pub continue-job-spec : {M : Type 1} → statement M
 continue-job-spec =
-    tie.close
-    (tie.spec
-    slice-aggregate-lend-for-record
-    lend-for-record-requires
-    enum-known-checked
-    refuse-requires
-    same-length
-    same-length-2
-    returns
-    enum-told
-    board-at-requires
-    limit-requires
-    slice-aggregate-run-record-in
-    run-record-in-requires
-    slice-aggregate-close
-    took-any-requires
-    close-requires
-    same-length-3
-    same-length-4
-    same-length-5
-    returns-2)
+    tie.close (tie.spec (λ c. search needs) lend-for-record-requires (λ c. search needs) (λ c κs. search needs)
+    (λ c. search needs) (λ c. search needs) returns (λ c. search needs) board-at-requires limit-requires
+    (λ c. search needs) run-record-in-requires (λ c. search needs) (λ c κs. search needs) close-requires
+    (λ c. search needs) (λ c. search needs) (λ c. search needs) returns-2)

@@ -17,21 +17,6 @@ atPassed c = c .before .before .before
 abbrev atBody : tie.After-slice-known6 → tie.After-continue-job
 atBody c = c .before .before .before .before .before .before
 
-check-for-record-requires : tie.Need-check-for-record-requires
-check-for-record-requires c κs = search needs
-
-enum-known-checked : tie.Need-enum-known-checked
-enum-known-checked c = search needs
-
-refuse-requires : tie.Need-refuse-requires
-refuse-requires c κs = search needs
-
-same-length : tie.Need-same-length
-same-length c = search needs
-
-same-length-2 : tie.Need-same-length-2
-same-length-2 c = search needs
-
 returns : tie.Need-returns
 returns c =
     let told = c .before .before in
@@ -39,39 +24,16 @@ returns c =
     record-refused _ (atStart checks .args .sheet) _ _ _ _ _ _ _ (c .refuse .ensures)
     (refused-so _ _ _ _ _ (checks .check-for-record .ensures) _ (told .checked .given .1) _)
 
-enum-told : tie.Need-enum-told
-enum-told c = search needs
-
 continue-job-requires : tie.Need-continue-job-requires
 continue-job-requires c κs =
     let told = atPassed c in
     continues _ _ _ _ _ (atChecks told .check-for-record .ensures) (told .enum-told .given .1)
-
-same-length-3 : tie.Need-same-length-3
-same-length-3 c = search needs
-
-same-length-4 : tie.Need-same-length-4
-same-length-4 c = search needs
-
-same-length-5 : tie.Need-same-length-5
-same-length-5 c = search needs
 
 returns-2 : tie.Need-returns-2
 returns-2 c = atBody c .continue-job .ensures
 
 pub run-record-spec : {M : Type 1} → statement M
 run-record-spec =
-    tie.close
-    (tie.spec
-    check-for-record-requires
-    enum-known-checked
-    refuse-requires
-    same-length
-    same-length-2
-    returns
-    enum-told
-    continue-job-requires
-    same-length-3
-    same-length-4
-    same-length-5
-    returns-2)
+    tie.close (tie.spec (λ c κs. search needs) (λ c. search needs) (λ c κs. search needs) (λ c. search needs)
+    (λ c. search needs) returns (λ c. search needs) continue-job-requires (λ c. search needs) (λ c. search needs)
+    (λ c. search needs) returns-2)

@@ -14,23 +14,14 @@ noPatch c = c .before
 abbrev noTrack : tie.After-took4 → tie.Else3
 noTrack c = c .before
 
-took-requires : tie.Need-took-requires
-took-requires c κs = search needs
-
 returns : tie.Need-returns
 returns c = took-board _ _ (c .before .took .ensures) (c .if1 .taken)
-
-took-requires-2 : tie.Need-took-requires-2
-took-requires-2 c κs = search needs
 
 returns-2 : tie.Need-returns-2
 returns-2 c =
     let patch = c .before in
     let board = noBoard patch in
     took-patch _ _ (board .before .took .ensures) (board .if1 .left) _ (patch .took2 .ensures) (c .if2 .taken)
-
-took-requires-3 : tie.Need-took-requires-3
-took-requires-3 c κs = search needs
 
 returns-3 : tie.Need-returns-3
 returns-3 c =
@@ -40,9 +31,6 @@ returns-3 c =
     took-track _ _ (board .before .took .ensures) (board .if1 .left) _ (patch .before .took2 .ensures)
     (patch .if2 .left) _ (track .took3 .ensures) (c .if3 .taken)
 
-took-requires-4 : tie.Need-took-requires-4
-took-requires-4 c κs = search needs
-
 returns-4 : tie.Need-returns-4
 returns-4 c =
     let lift = c .before in
@@ -51,9 +39,6 @@ returns-4 c =
     let board = noBoard (patch .before) in
     took-lift _ _ (board .before .took .ensures) (board .if1 .left) _ (patch .before .took2 .ensures)
     (patch .if2 .left) _ (track .before .took3 .ensures) (track .if3 .left) _ (lift .took4 .ensures) (c .if4 .taken)
-
-took-requires-5 : tie.Need-took-requires-5
-took-requires-5 c κs = search needs
 
 returns-5 : tie.Need-returns-5
 returns-5 c =
@@ -67,15 +52,5 @@ returns-5 c =
 
 pub some-took-spec : {M : Type 1} → statement M
 some-took-spec =
-    tie.close
-    (tie.spec
-    took-requires
-    returns
-    took-requires-2
-    returns-2
-    took-requires-3
-    returns-3
-    took-requires-4
-    returns-4
-    took-requires-5
-    returns-5)
+    tie.close (tie.spec (λ c κs. search needs) returns (λ c κs. search needs) returns-2 (λ c κs. search needs)
+    returns-3 (λ c κs. search needs) returns-4 (λ c κs. search needs) returns-5)

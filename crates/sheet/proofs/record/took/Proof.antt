@@ -5,15 +5,6 @@ use borrow.Author.Needs.{needs}
 use Rattle.sheet.proofs.record.took.Statement.{statement}
 use Rattle.sheet.proofs.record.took.Tie as tie
 
-enum-told : tie.Need-enum-told
-enum-told c = search needs
-
-enum-known-told : tie.Need-enum-known-told
-enum-known-told c = search needs
-
-accepts-requires : tie.Need-accepts-requires
-accepts-requires c κs = search needs
-
 returns : tie.Need-returns
 unfolding took
 returns c = sym (ap took (c .enum-told .given .1))
@@ -23,4 +14,5 @@ unfolding took
 returns-2 c = c .accepts .ensures ∙ sym (ap took (c .before .before .told .given .1))
 
 pub took-spec : {M : Type 1} → statement M
-took-spec = tie.close (tie.spec enum-told enum-known-told accepts-requires returns returns-2)
+took-spec =
+    tie.close (tie.spec (λ c. search needs) (λ c. search needs) (λ c κs. search needs) returns returns-2)

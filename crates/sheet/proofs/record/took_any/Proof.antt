@@ -5,18 +5,6 @@ use borrow.Author.Needs.{needs}
 use Rattle.sheet.proofs.record.took_any.Statement.{statement}
 use Rattle.sheet.proofs.record.took_any.Tie as tie
 
-enum-told : tie.Need-enum-told
-enum-told c = search needs
-
-enum-known-reply : tie.Need-enum-known-reply
-enum-known-reply c = search needs
-
-some-took-requires : tie.Need-some-took-requires
-some-took-requires c κs = search needs
-
-enum-told-2 : tie.Need-enum-told-2
-enum-told-2 c = search needs
-
 returns : tie.Need-returns
 unfolding tookAny
 returns c = sym (ap tookAny (c .enum-told .given .1))
@@ -31,5 +19,5 @@ returns-3 c = sym (ap tookAny (c .enum-told2 .given .1))
 
 pub took-any-spec : {M : Type 1} → statement M
 took-any-spec =
-    tie.close
-    (tie.spec enum-told enum-known-reply some-took-requires enum-told-2 returns returns-2 returns-3)
+    tie.close (tie.spec (λ c. search needs) (λ c. search needs) (λ c κs. search needs) (λ c. search needs) returns
+    returns-2 returns-3)

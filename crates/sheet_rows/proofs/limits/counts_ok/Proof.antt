@@ -7,12 +7,6 @@ use borrow.Author.Needs.{needs}
 use Rattle.sheet_rows.proofs.limits.counts_ok.Statement.{statement}
 use Rattle.sheet_rows.proofs.limits.counts_ok.Tie as tie
 
-counts-of-requires : tie.Need-counts-of-requires
-counts-of-requires c κs = search needs
-
-each-few-requires : tie.Need-each-few-requires
-each-few-requires c κs = search needs
-
 returns : tie.Need-returns
 returns c =
     let tested = c .before in
@@ -29,4 +23,4 @@ returns-2 c =
 
 pub counts-ok-spec : {M : Type 1} → statement M
 counts-ok-spec =
-    tie.close (tie.spec counts-of-requires each-few-requires returns reserved-requires returns-2)
+    tie.close (tie.spec (λ c κs. search needs) (λ c κs. search needs) returns reserved-requires returns-2)

@@ -8,9 +8,6 @@ use borrow.Author.Needs.{needs}
 use Rattle.sheet_rows.proofs.limits.limit.Statement.{statement}
 use Rattle.sheet_rows.proofs.limits.limit.Tie as tie
 
-counts-of-requires : tie.Need-counts-of-requires
-counts-of-requires c κs = search needs
-
 limit-by-requires : tie.Need-limit-by-requires
 limit-by-requires c κs =
     let s = c .before in
@@ -22,4 +19,5 @@ returns c =
     c .limit-by .ensures ∙ ap (λ (ns : List ℕ). limitOf ns (s .args .k)) (c .before .counts-of .ensures)
 
 pub limit-spec : {M : Type 1} → statement M
-limit-spec = tie.close (tie.spec counts-of-requires limit-by-requires returns)
+limit-spec =
+    tie.close (tie.spec (λ c κs. search needs) limit-by-requires returns)

@@ -9,15 +9,6 @@ use Rattle.sheet_rows.proofs.limits.limit_by.Tie as tie
 reserved-requires : tie.Need-reserved-requires
 reserved-requires c κs = ok-few _ (c .pre .1)
 
-mul-at-least-sure : tie.Need-mul-at-least-sure
-mul-at-least-sure c = search needs
-
-array-read-at-least-sure : tie.Need-array-read-at-least-sure
-array-read-at-least-sure c = search needs
-
-at-least-sure-requires : tie.Need-at-least-sure-requires
-at-least-sure-requires c κs = search needs
-
 sub-left : tie.Need-sub-left
 sub-left c =
     let s = c .before .before in
@@ -44,13 +35,5 @@ returns-2 c =
 
 pub limit-by-spec : {M : Type 1} → statement M
 limit-by-spec =
-    tie.close
-    (tie.spec
-    reserved-requires
-    mul-at-least-sure
-    array-read-at-least-sure
-    at-least-sure-requires
-    sub-left
-    sub-left-2
-    returns
-    returns-2)
+    tie.close (tie.spec reserved-requires (λ c. search needs) (λ c. search needs) (λ c κs. search needs) sub-left
+    sub-left-2 returns returns-2)

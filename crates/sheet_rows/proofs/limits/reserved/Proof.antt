@@ -16,15 +16,6 @@ abbrev μ-loop : tie.MeasureT-loop
 loop-holds : tie.Need-loop-holds Inv-loop μ-loop
 loop-holds c = kept-none (c .args .t1) (omega arith)
 
-mul-at-least-sure : tie.Need-mul-at-least-sure Inv-loop μ-loop
-mul-at-least-sure c = omega arith
-
-array-read-at-least-sure : tie.Need-array-read-at-least-sure Inv-loop μ-loop
-array-read-at-least-sure c = omega arith
-
-at-least-sure-requires : tie.Need-at-least-sure-requires Inv-loop μ-loop
-at-least-sure-requires c κs = search needs
-
 add-sum : tie.Need-add-sum Inv-loop μ-loop
 add-sum c =
     let s = c .before .before .before in
@@ -34,12 +25,6 @@ add-sum c =
       few-at (s .args .t1) (c .before .before .loop .i) (s .pre) (omega arith),
       c .at-least-sure .ensures,
     )
-
-add-i : tie.Need-add-i Inv-loop μ-loop
-add-i c = omega arith
-
-loop-less : tie.Need-loop-less Inv-loop μ-loop
-loop-less c = omega arith
 
 loop-again : tie.Need-loop-again Inv-loop μ-loop
 loop-again c =
@@ -54,16 +39,5 @@ returns c =
 
 pub reserved-spec : {M : Type 1} → statement M
 reserved-spec =
-    tie.close
-    (tie.spec
-    Inv-loop
-    μ-loop
-    loop-holds
-    mul-at-least-sure
-    array-read-at-least-sure
-    at-least-sure-requires
-    add-sum
-    add-i
-    loop-less
-    loop-again
-    returns)
+    tie.close (tie.spec Inv-loop μ-loop loop-holds (λ c. omega arith) (λ c. omega arith) (λ c κs. search needs)
+    add-sum (λ c. omega arith) (λ c. omega arith) loop-again returns)

@@ -15,12 +15,6 @@ abbrev μ-loop : tie.MeasureT-loop
 loop-holds : tie.Need-loop-holds Inv-loop μ-loop
 loop-holds c = begun-none _ _
 
-mul-start : tie.Need-mul-start Inv-loop μ-loop
-mul-start c = omega arith
-
-array-read-start : tie.Need-array-read-start Inv-loop μ-loop
-array-read-start c = omega arith
-
 mul-start-2 : tie.Need-mul-start-2 Inv-loop μ-loop
 mul-start-2 c =
     let s = c .before .before in
@@ -35,12 +29,6 @@ add-start c =
       begun-small (s .args .t1) (s .pre .1) _ _ _ (c .before .loop .inv),
     )
 
-add-i : tie.Need-add-i Inv-loop μ-loop
-add-i c = omega arith
-
-loop-less : tie.Need-loop-less Inv-loop μ-loop
-loop-less c = omega arith
-
 loop-again : tie.Need-loop-again Inv-loop μ-loop
 loop-again c =
     let s = c .before .before in
@@ -53,16 +41,5 @@ returns c =
 
 pub start-of-spec : {M : Type 1} → statement M
 start-of-spec =
-    tie.close
-    (tie.spec
-    Inv-loop
-    μ-loop
-    loop-holds
-    mul-start
-    array-read-start
-    mul-start-2
-    add-start
-    add-i
-    loop-less
-    loop-again
-    returns)
+    tie.close (tie.spec Inv-loop μ-loop loop-holds (λ c. omega arith) (λ c. omega arith) mul-start-2 add-start
+    (λ c. omega arith) (λ c. omega arith) loop-again returns)

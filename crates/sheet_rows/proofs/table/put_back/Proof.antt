@@ -16,9 +16,6 @@ atStart c = c .before .before .before .before
 abbrev atRows : tie.After-with-board → tie.After-put-rows
 atRows c = c .before .before .before
 
-counts-of-requires : tie.Need-counts-of-requires
-counts-of-requires c κs = search needs
-
 put-rows-requires : tie.Need-put-rows-requires
 put-rows-requires c κs =
     let s = atStart c in
@@ -32,12 +29,6 @@ put-rows-requires c κs =
       (s .pre .0 .places, omega (arith, limit-few _ _ _ few, s .pre .1 .1)),
     )
 
-with-board-requires : tie.Need-with-board-requires
-with-board-requires c κs = search needs
-
-same-length : tie.Need-same-length
-same-length c = search needs
-
 returns : tie.Need-returns
 returns c =
     let rows = atRows c in
@@ -47,5 +38,4 @@ returns c =
 
 pub put-back-spec : {M : Type 1} → statement M
 put-back-spec =
-    tie.close
-    (tie.spec counts-of-requires put-rows-requires with-board-requires same-length returns)
+    tie.close (tie.spec (λ c κs. search needs) put-rows-requires (λ c κs. search needs) (λ c. search needs) returns)

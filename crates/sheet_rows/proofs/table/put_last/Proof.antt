@@ -4,15 +4,6 @@ use borrow.Author.Needs.{needs}
 use Rattle.sheet_rows.proofs.table.put_last.Statement.{statement}
 use Rattle.sheet_rows.proofs.table.put_last.Tie as tie
 
-clear-requires : tie.Need-clear-requires
-clear-requires c κs = search needs
-
-copy-requires : tie.Need-copy-requires
-copy-requires c κs = search needs
-
-same-length : tie.Need-same-length
-same-length c = search needs
-
 returns : tie.Need-returns
 returns c =
     let copied = c .before .before in
@@ -22,4 +13,5 @@ returns c =
     (s .pre .2) (cleared .clear .ensures) (copied .copy .ensures)
 
 pub put-last-spec : {M : Type 1} → statement M
-put-last-spec = tie.close (tie.spec clear-requires copy-requires same-length returns)
+put-last-spec =
+    tie.close (tie.spec (λ c κs. search needs) (λ c κs. search needs) (λ c. search needs) returns)

@@ -16,21 +16,6 @@ atEnd c = c .before
 abbrev atReplaced : tie.After-slice-known2 → tie.After-replace
 atReplaced c = c .before .before
 
-start-of-requires : tie.Need-start-of-requires
-start-of-requires c κs = search needs
-
-add-start-of : tie.Need-add-start-of
-add-start-of c = search needs
-
-start-of-requires-2 : tie.Need-start-of-requires-2
-start-of-requires-2 c κs = search needs
-
-start-of-requires-3 : tie.Need-start-of-requires-3
-start-of-requires-3 c κs = search needs
-
-mul-replace : tie.Need-mul-replace
-mul-replace c = search needs
-
 replace-requires : tie.Need-replace-requires
 replace-requires c κs =
     let end = atEnd c in
@@ -49,9 +34,6 @@ replace-requires c κs =
       omega arith,
     )
 
-same-length : tie.Need-same-length
-same-length c = search needs
-
 returns : tie.Need-returns
 returns c =
     let end = atEnd (atReplaced c .before) in
@@ -64,13 +46,5 @@ returns c =
 
 pub put-rows-spec : {M : Type 1} → statement M
 put-rows-spec =
-    tie.close
-    (tie.spec
-    start-of-requires
-    add-start-of
-    start-of-requires-2
-    start-of-requires-3
-    mul-replace
-    replace-requires
-    same-length
-    returns)
+    tie.close (tie.spec (λ c κs. search needs) (λ c. search needs) (λ c κs. search needs) (λ c κs. search needs)
+    (λ c. search needs) replace-requires (λ c. search needs) returns)

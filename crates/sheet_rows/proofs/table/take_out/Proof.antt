@@ -16,19 +16,10 @@ atStart c = c .before .before .before
 abbrev atCopy : tie.After-slice-known2 → tie.After-copy
 atCopy c = c .before .before
 
-counts-of-requires : tie.Need-counts-of-requires
-counts-of-requires c κs = search needs
-
 start-of-requires : tie.Need-start-of-requires
 start-of-requires c κs =
     let s = atStart c in
     (omega arith, counts-fine _ _ (s .pre .0) _ (s .pre .1 .0) _ (c .counts-of .ensures))
-
-mul-size : tie.Need-mul-size
-mul-size c = search needs
-
-array-read-size : tie.Need-array-read-size
-array-read-size c = search needs
 
 mul-size-2 : tie.Need-mul-size-2
 mul-size-2 c =
@@ -51,9 +42,6 @@ copy-requires c κs =
       omega (arith, part-in _ fine (s .args .k) here _ (begun .start-of .ensures), s .pre .0 .places),
     )
 
-same-length : tie.Need-same-length
-same-length c = search needs
-
 returns : tie.Need-returns
 returns c =
     let begun = atCopy c .before .before in
@@ -63,13 +51,5 @@ returns c =
 
 pub take-out-spec : {M : Type 1} → statement M
 take-out-spec =
-    tie.close
-    (tie.spec
-    counts-of-requires
-    start-of-requires
-    mul-size
-    array-read-size
-    mul-size-2
-    copy-requires
-    same-length
-    returns)
+    tie.close (tie.spec (λ c κs. search needs) start-of-requires (λ c. search needs) (λ c. search needs) mul-size-2
+    copy-requires (λ c. search needs) returns)

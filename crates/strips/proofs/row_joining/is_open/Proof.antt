@@ -17,12 +17,6 @@ atX1 c = atX0 (c .before .before)
 abbrev atY1 : tie.After-struct-known3 → tie.After-strip-at
 atY1 c = atX1 (c .before .before)
 
-returns : tie.Need-returns
-returns c = search needs
-
-strip-at-requires : tie.Need-strip-at-requires
-strip-at-requires c κs = search needs
-
 returns-2 : tie.Need-returns-2
 unfolding listedStrip
 returns-2 c p =
@@ -53,4 +47,4 @@ returns-5 c =
 
 pub is-open-spec : {M : Type 1} → statement M
 is-open-spec =
-    tie.close (tie.spec returns strip-at-requires returns-2 returns-3 returns-4 returns-5)
+    tie.close (tie.spec (λ c. search needs) (λ c κs. search needs) returns-2 returns-3 returns-4 returns-5)

@@ -105,7 +105,8 @@ in-last c =
 place : (c : tie.After-is-open Inv-loop μ-loop)
     → atPlace c .wide2 .result ≡ getD (inLoop (atRun c) .before .loop .last) (a (atRun c)) 0
 place c =
-    atPlace c .wide2 .ensures ∙ ap (λ (u : ℕ). getD (inLoop (atRun c) .before .loop .last) u 0) (atWide c .wide .ensures)
+    atPlace c .wide2 .ensures
+    ∙ ap (λ (u : ℕ). getD (inLoop (atRun c) .before .loop .last) u 0) (atWide c .wide .ensures)
 
 -- the strip at place k goes on with the run, or does not
 abbrev GoesOn : tie.After-is-open Inv-loop μ-loop → ℕ → Type 0
@@ -140,12 +141,6 @@ sweep-requires c κs = (
   ),
 )
 
-enum-known-a : tie.Need-enum-known-a Inv-loop μ-loop
-enum-known-a c = omega arith
-
-enum-told : tie.Need-enum-told Inv-loop μ-loop
-enum-told c = omega arith
-
 same-length : tie.Need-same-length Inv-loop μ-loop
 same-length c = noRun c .before .loop .inv .same-out
 
@@ -160,17 +155,11 @@ returns c =
     (subst (λ (r : Swept). Found (atStart l) (l .before .loop .x) r) (c .enum-told .given .1)
     (answered (c .before .before)))
 
-wide-requires : tie.Need-wide-requires Inv-loop μ-loop
-wide-requires c κs = omega arith
-
 mul-wide : tie.Need-mul-wide Inv-loop μ-loop
 mul-wide c = omega (arith, c .wide .ensures, in-last (c .before))
 
 slice-read-wide : tie.Need-slice-read-wide Inv-loop μ-loop
 slice-read-wide c = omega (arith, c .before .wide .ensures, in-last (c .before .before))
-
-wide-requires-2 : tie.Need-wide-requires-2 Inv-loop μ-loop
-wide-requires-2 c κs = omega arith
 
 is-open-requires : tie.Need-is-open-requires Inv-loop μ-loop
 is-open-requires c κs =
@@ -196,9 +185,6 @@ slice-write-out : tie.Need-slice-write-out Inv-loop μ-loop
 slice-write-out c =
     let l = inLoop (atRun (c .before)) in
     omega (arith, opened c .lt, l .before .loop .inv .small, l .before .loop .inv .same-out, atStart l .pre .1 .1 .0)
-
-add-result : tie.Need-add-result Inv-loop μ-loop
-add-result c = omega arith
 
 same-length-3 : tie.Need-same-length-3 Inv-loop μ-loop
 same-length-3 c = inLoop (atRun (c .before .before)) .before .loop .inv .same-out
@@ -293,39 +279,8 @@ returns-3 c =
 
 pub join-row-spec : {M : Type 1} → statement M
 join-row-spec =
-    tie.close
-    (tie.spec
-    Inv-loop
-    μ-loop
-    loop-holds
-    sweep-requires
-    enum-known-a
-    enum-told
-    same-length
-    same-length-2
-    returns
-    wide-requires
-    mul-wide
-    slice-read-wide
-    wide-requires-2
-    is-open-requires
-    mul-out
-    add-out
-    mul-out-2
-    slice-write-out
-    add-result
-    same-length-3
-    same-length-4
-    returns-2
-    put-strip-requires
-    narrow-requires
-    mul-last
-    slice-write-last
-    add-count
-    loop-less
-    loop-again
-    loop-less-2
-    loop-again-2
-    same-length-5
-    same-length-6
-    returns-3)
+    tie.close (tie.spec Inv-loop μ-loop loop-holds sweep-requires (λ c. omega arith) (λ c. omega arith) same-length
+    same-length-2 returns (λ c κs. omega arith) mul-wide slice-read-wide (λ c κs. omega arith) is-open-requires
+    mul-out add-out mul-out-2 slice-write-out (λ c. omega arith) same-length-3 same-length-4 returns-2
+    put-strip-requires narrow-requires mul-last slice-write-last add-count loop-less loop-again loop-less-2
+    loop-again-2 same-length-5 same-length-6 returns-3)

@@ -37,9 +37,6 @@ clear-requires c κs =
     let l = listed c in
     omega (arith, few l, l .list-strips .kept .0, atStart l .pre .1 .0)
 
-same-length : tie.Need-same-length
-same-length c = omega arith
-
 returns : tie.Need-returns
 returns c =
     let cleared = c .before .before in
@@ -49,4 +46,4 @@ returns c =
 
 pub put-few-spec : {M : Type 1} → statement M
 put-few-spec =
-    tie.close (tie.spec list-strips-requires mul-clear clear-requires same-length returns)
+    tie.close (tie.spec list-strips-requires mul-clear clear-requires (λ c. omega arith) returns)

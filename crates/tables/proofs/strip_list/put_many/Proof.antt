@@ -15,9 +15,6 @@ listed c = c .before .before
 abbrev inElse : tie.After-copy-front → tie.Else1
 inElse c = c .before .before .before
 
-slice-aggregate-list-strips : tie.Need-slice-aggregate-list-strips
-slice-aggregate-list-strips c = omega arith
-
 list-strips-requires : tie.Need-list-strips-requires
 list-strips-requires c κs = (c .before .before .before .pre .0, omega arith)
 
@@ -25,24 +22,6 @@ returns : tie.Need-returns
 returns c =
     let l = c .before .before in
     put-none _ _ _ (atStart l .pre .1) _ _ (l .list-strips .ensures) _ (c .if1 .taken) refl
-
-slice-aggregate-copy-front : tie.Need-slice-aggregate-copy-front
-slice-aggregate-copy-front c = omega arith
-
-mul-copy-front : tie.Need-mul-copy-front
-mul-copy-front c = omega arith
-
-copy-front-requires : tie.Need-copy-front-requires
-copy-front-requires c κs = omega arith
-
-mul-clear : tie.Need-mul-clear
-mul-clear c = omega arith
-
-clear-requires : tie.Need-clear-requires
-clear-requires c κs = omega arith
-
-same-length : tie.Need-same-length
-same-length c = omega arith
 
 returns-2 : tie.Need-returns-2
 returns-2 c =
@@ -54,15 +33,5 @@ returns-2 c =
 
 pub put-many-spec : {M : Type 1} → statement M
 put-many-spec =
-    tie.close
-    (tie.spec
-    slice-aggregate-list-strips
-    list-strips-requires
-    returns
-    slice-aggregate-copy-front
-    mul-copy-front
-    copy-front-requires
-    mul-clear
-    clear-requires
-    same-length
-    returns-2)
+    tie.close (tie.spec (λ c. omega arith) list-strips-requires returns (λ c. omega arith) (λ c. omega arith)
+    (λ c κs. omega arith) (λ c. omega arith) (λ c κs. omega arith) (λ c. omega arith) returns-2)

@@ -7,9 +7,6 @@ use Rattle.tables.proofs.strip_list.put_strips.Tie as tie
 abbrev atStart : tie.After-are-few → tie.Start
 atStart c = c .before .before .before
 
-are-few-requires : tie.Need-are-few-requires
-are-few-requires c κs = omega arith
-
 put-few-requires : tie.Need-put-few-requires
 put-few-requires c κs =
     let t = c .before in
@@ -34,5 +31,5 @@ returns-2 c = c .before .before .put-many .ensures
 
 pub put-strips-spec : {M : Type 1} → statement M
 put-strips-spec =
-    tie.close
-    (tie.spec are-few-requires put-few-requires same-length returns put-many-requires same-length-2 returns-2)
+    tie.close (tie.spec (λ c κs. omega arith) put-few-requires same-length returns put-many-requires same-length-2
+    returns-2)
