@@ -1,5 +1,5 @@
 -- Laws of the marks: where, on each line, labels are.
-use Prim.Native.Nat.{ℕ, zero, suc, _+_, _-_, _*_, _≤_, _<_, max}
+use Prim.Native.Nat.{ℕ, _+_, _-_, _*_, _≤_, _<_, max}
 use native.Mathlib.Omega.{arith}
 use native.Mathlib.Decide.{decLt, ℕ-discrete}
 use mathlib.Core.Path.{_≡_, refl, _∙_}
@@ -9,14 +9,9 @@ use lib.ListN.{getD, set, length, length-set, replicate}
 use lib.Seq.{getD-set-same, getD-set-other}
 use borrow.Author.Count.{below-more}
 use Rattle.grid.specs.Size.{stride}
+use Rattle.grid.proofs.Marking.{blank}
 use Rattle.runs.specs.Line.{along}
 use Rattle.labels.specs.Pass.{Spans, Marks, Marked, Widened, NextNew, Summed}
-
--- a fresh list has zeros
-pub blank : (n p : ℕ) → _≡_ {A = ℕ} (getD (replicate n 0) p 0) 0
-blank zero p = refl
-blank (suc n) zero = refl
-blank (suc n) (suc p) = blank n p
 
 -- fresh marks span nothing
 pub no-marks : (size n : ℕ) → Marks (replicate size 0) n

@@ -8,6 +8,7 @@ use mathlib.Core.List.{List}
 use lib.ListN.{getD, set, length, length-set}
 use lib.Seq.{getD-set-same, getD-set-other}
 use borrow.Author.Count.{below-more}
+use Rattle.foil_spec.specs.Limits.{maxSide}
 use Rattle.foil_spec.specs.Paths.{gap}
 use Rattle.grid.specs.Size.{stride}
 use Rattle.grid.specs.Lines.{Lines}
@@ -78,17 +79,17 @@ over-far : (p c d i top : ℕ) → i + d ≤ p → i + 2 * top ≤ p + d → c �
 over-far p c d i top h f l = omega arith
 
 -- upside down, numbers are as far apart
-pub flipped : (a b : ℕ) → a < 4096 → b < 4096 → gap a b ≡ gap (4096 - a) (4096 - b)
+pub flipped : (a b : ℕ) → a < maxSide → b < maxSide → gap a b ≡ gap (maxSide - a) (maxSide - b)
 flipped a b la lb = pick (decLe a b)
   where
-    pick : Dec (a ≤ b) → gap a b ≡ gap (4096 - a) (4096 - b)
+    pick : Dec (a ≤ b) → gap a b ≡ gap (maxSide - a) (maxSide - b)
     pick (yes p) = omega arith
     pick (no p) = omega arith
 
 module _ {other inks : List ℕ} {line v lo hi : ℕ} {g : ℕ → ℕ} {top : ℕ} where
   -- from the stop h, over no crossing yet
   pub sweep-start : (h a : ℕ) → lo ≤ h → h < hi → across other line h ≡ v → across inks line h ≤ 4095 * v →
-      g h ≤ top → top ≤ 4096 → Sweep other inks line v lo hi g top a a (across inks line h + (top - g h) + top)
+      g h ≤ top → top ≤ maxSide → Sweep other inks line v lo hi g top a a (across inks line h + (top - g h) + top)
   sweep-start h a p q e small l t = record {
     small = omega arith;
     le = λ q f t. absurd (omega arith);
@@ -287,7 +288,7 @@ abbrev pub rise : List ℕ → ℕ → ℕ
 rise cross k = getD cross k 0
 
 abbrev pub fall : List ℕ → ℕ → ℕ
-fall cross k = 4096 - getD cross k 0
+fall cross k = maxSide - getD cross k 0
 
 -- The sweep down, with the crossings from k on done.
 pub record Down (other inks cross : List ℕ) (line v lo hi k best : ℕ) (ahead : List ℕ) : Type 0 where
@@ -321,7 +322,8 @@ behind-more : {other inks cross : List ℕ} {line v lo hi : ℕ} (k : ℕ) {t : 
     Behind other inks cross line v lo hi (k + 1) (set t k r)
 behind-more {other} {inks} {cross} {line} {v} {lo} {hi} k {t} {r} fit B S = record {
   at = below-more
-      (λ j. lo ≤ j → Over other inks cross line v lo hi lo (j + 1) j (4096 - getD cross j 0) (getD (set t k r) j 0)) k
+      (λ j. lo ≤ j
+      → Over other inks cross line v lo hi lo (j + 1) j (maxSide - getD cross j 0) (getD (set t k r) j 0)) k
       (λ j p q. rw (getD-set-other t k j r 0 (omega arith)) (B .at j p q))
       (λ p. rw (getD-set-same t k r 0 fit) S);
 }

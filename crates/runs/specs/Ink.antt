@@ -4,6 +4,7 @@ use mathlib.Core.Path.{_≡_}
 use mathlib.Core.Logic.{_≢_, _⊎_}
 use mathlib.Core.List.{List}
 use lib.ListN.{getD, set, length}
+use Rattle.foil_spec.specs.Limits.{maxSide}
 use Rattle.foil_spec.specs.Paths.{gap}
 use Rattle.grid.specs.Size.{stride}
 use Rattle.grid.specs.Lines.{Lines}
@@ -69,7 +70,7 @@ pub record Ahead (other inks cross : List ℕ) (line v lo hi k : ℕ) (ahead : L
 -- much more as its number is below 4,096
 pub record Behind (other inks cross : List ℕ) (line v lo hi k : ℕ) (behind : List ℕ) : Type 0 where
   pub at : (j : ℕ) → j < k → lo ≤ j →
-      Over other inks cross line v lo hi lo (j + 1) j (4096 - getD cross j 0) (getD behind j 0)
+      Over other inks cross line v lo hi lo (j + 1) j (maxSide - getD cross j 0) (getD behind j 0)
 
 -- both sweeps have come over the crossings lo to hi, hi excluded, of a line with n
 pub record Swept (other inks cross : List ℕ) (line n v lo hi : ℕ) (ahead behind : List ℕ) : Type 0 where

@@ -1,16 +1,21 @@
 // One line of the escape grid: the run of a crossing, the stops on it, which are the crossings with a given label in
 // the other direction, and the inks of the run over these stops, by two sweeps.
+use foil_spec::MAX_SIDE;
 use grid::STRIDE;
 ghost use Prim.Native.Nat.{_+_, _-_, _*_, _≤_, _<_, min};
 ghost use mathlib.Core.Path.{_≡_};
 ghost use mathlib.Core.Bool.{true, false};
 ghost use mathlib.Core.Logic.{_≢_};
 ghost use lib.ListN.{getD, length};
+ghost use Rattle.foil_spec.specs.Limits.{maxSide};
 ghost use Rattle.foil_spec.specs.Paths.{gap};
 ghost use Rattle.grid.specs.Size.{stride};
 ghost use Rattle.runs.specs.Line.{along, HasLine, RunStart, RunEnd, Left, isStop, Scanned, Stop, FirstStop};
 ghost use Rattle.runs.specs.Ink.{OnLine, AtCrossing, StopIn, Swept, Carried, Least, Ahead, Behind, InkPut};
 ghost use Rattle.runs.specs.Ink.{Blank, RunInked};
+
+// No number on an axis is above the longest side.
+const SIDE: u32 = MAX_SIDE as u32;
 
 // How many steps two numbers are apart.
 pub fn steps(a: u16, b: u16) -> u32
@@ -188,7 +193,7 @@ pub fn next_stop(
 
 // The least of `best` and, where crossing k of a line is a stop for the label v, its ink and x more.
 fn carry(other: &[u16], inks: &[u32], line: usize, k: usize, v: u16, x: u32, best: u32) -> u32
-    requires { ⌜ AtCrossing (now other) (now inks) line v k × (x ≤ 4096) ⌝ }
+    requires { ⌜ AtCrossing (now other) (now inks) line v k × (x ≤ maxSide) ⌝ }
     ensures { λ r. ⌜ Carried (now (other .entry)) (now (inks .entry)) line v k x best r ⌝ }
 {
     if other[k * STRIDE + line] != v {
@@ -285,11 +290,11 @@ pub fn behind_of(
     ensures { λ _. ⌜ Behind (now (other .entry)) (now (inks .entry)) (now (cross .entry)) line v lo hi hi
         (now (behind .exit)) ⌝ }
 {
-    let top = 4096 - cross[lo] as u32;
-    let mut best = inks[h * STRIDE + line] + (top - (4096 - cross[h] as u32)) + top;
+    let top = SIDE - cross[lo] as u32;
+    let mut best = inks[h * STRIDE + line] + (top - (SIDE - cross[h] as u32)) + top;
     let mut k = lo;
     while k < hi {
-        best = carry(other, inks, line, k, v, 4096 - cross[k] as u32, best);
+        best = carry(other, inks, line, k, v, SIDE - cross[k] as u32, best);
         behind[k] = best;
         k += 1;
     }
@@ -297,10 +302,10 @@ pub fn behind_of(
 
 // The ink of a crossing with the number x, from what the two sweeps say of it.
 fn ink_of(ahead: u32, behind: u32, x: u16) -> u32
-    requires { ⌜ (x ≤ 4096) × (x ≤ ahead) × (4096 - x ≤ behind) ⌝ }
-    ensures { λ r. ⌜ r ≡ min (behind - (4096 - x)) (ahead - x) ⌝ }
+    requires { ⌜ (x ≤ maxSide) × (x ≤ ahead) × (maxSide - x ≤ behind) ⌝ }
+    ensures { λ r. ⌜ r ≡ min (behind - (maxSide - x)) (ahead - x) ⌝ }
 {
-    let up = behind - (4096 - x as u32);
+    let up = behind - (SIDE - x as u32);
     let down = ahead - x as u32;
     lesser(up, down)
 }
