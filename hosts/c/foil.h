@@ -87,7 +87,7 @@ enum {
 };
 
 /* the bytes of stack that are enough for any call (docs/HOST.md: what was measured) */
-enum { FOIL_STACK = 8 * 1024 * 1024 };
+enum { FOIL_STACK = 2 * 1024 * 1024 };
 
 /* a foil's record, with the pen's half width and gap; all zero where the foil is not begun */
 struct foil_board {

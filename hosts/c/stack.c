@@ -1,6 +1,7 @@
 /* How much stack the calls take: each runs in a thread whose stack was painted first, and the paint that is left is
-   counted from its far end. Prints a line for each call, in KB, and ends with 1 if one took more than half of FOIL_STACK.
-   The walk that writes the corners goes one call deeper for each leg, so a find is made through more and more bars. */
+   counted from its far end. Prints a line for each call, in KB, and ends with 1 if one took more than 1,100 KB of
+   FOIL_STACK. The walk that writes the corners goes 32 calls deep at most, so a find is made through more and more bars:
+   from 32 legs on it takes no more. */
 #define _GNU_SOURCE
 #include <pthread.h>
 #include <stdio.h>
@@ -131,7 +132,7 @@ static int show(const char *name, void *(*call)(void *))
     used = (size - left + 1023) / 1024;
     munmap(stack, size);
     printf("%-12s %6zu KB  (%u, %zu corners)\n", name, used, said.number, said.corners);
-    return used * 1024 > (size_t)FOIL_STACK / 2;
+    return used > 1100;
 }
 
 int main(void)

@@ -18,6 +18,6 @@ FILE_BYTES = 12 + 11 * ENTRIES
 SLIP_LINE = 33
 SLIP_BYTES = SLIP_LINE * ENTRIES
 # the bytes of stack that are enough for any call: threading.stack_size(STACK) before a thread is started
-STACK = 8 * 1024 * 1024
+STACK = 2 * 1024 * 1024
 # the largest of a call's 16-bit numbers
 MOST = 0xFFFF

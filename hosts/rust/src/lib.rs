@@ -14,9 +14,10 @@
 //! # }).unwrap();
 //! ```
 //!
-//! A call needs up to `STACK` bytes of stack, more than a thread of Rust has by itself: start threads that make calls
-//! by `std::thread::Builder::stack_size(STACK)`, or make calls inside `with_stack`. A call that runs out of stack ends
-//! the program at the guard page. Nothing is kept between calls: sheets in several threads do not notice each other.
+//! `STACK` bytes of stack are enough for a call and for what little calls it, and a thread of Rust has as many. One that
+//! needs much stack itself is started with more by `std::thread::Builder::stack_size`; `with_stack` does a piece of
+//! work in a thread with `STACK` bytes. A call that runs out of stack ends the program at the guard page. Nothing is
+//! kept between calls: sheets in several threads do not notice each other.
 mod answers;
 pub mod lent;
 pub mod limits;

@@ -25,4 +25,4 @@ pub const FILE_BYTES: usize = 12 + 11 * ENTRIES;
 pub const SLIP_LINE: usize = 33;
 pub const SLIP_BYTES: usize = SLIP_LINE * ENTRIES;
 /// The bytes of stack that are enough for any call.
-pub const STACK: usize = 8 * 1024 * 1024;
+pub const STACK: usize = 2 * 1024 * 1024;
