@@ -318,7 +318,7 @@ fn largest(bench: &mut Bench, figures: &mut Vec<Figure>) {
         row(name, "lay", &cost);
         worst = cost.millions().max(worst);
     }
-    figures.push(Figure { what: "lay, 126 staggered bars", asked: 2.5, measured: worst, unit: " M" });
+    figures.push(Figure { what: "lay, the dearest maze or 126 staggered bars", asked: 2.5, measured: worst, unit: " M" });
     row("126 staggered bars", "draw", &bench.step(&bars, &[], &patch([0, 0, 9, 9])));
     row("126 staggered bars", "lift of a net not there", &bench.step(&bars, &[], &lift(7)));
 }
