@@ -4,7 +4,7 @@ use borrow.Author.Needs.{needs}
 use Rattle.sheet_rows.proofs.table.replace.Statement.{statement}
 use Rattle.sheet_rows.proofs.table.replace.Tie as tie
 
--- back from the rows that are last to the test, and from the last copy to the rows and to the first one
+-- back from the rows that are last to the test, and from the last copy to the rows, to the first one, and to the start
 abbrev noneBehind : tie.After-put-last → tie.Then1
 noneBehind c = c .before .before
 
@@ -13,6 +13,9 @@ atRows c = c .before .before .before .before .before
 
 abbrev atBehind : tie.After-put-last2 → tie.After-copy
 atBehind c = c .before .before .before
+
+abbrev atStart : tie.After-copy → tie.Start
+atStart c = c .before .before .before .before .before .before
 
 returns : tie.Need-returns
 returns c =
@@ -28,7 +31,7 @@ returns-2 c =
     let last = c .before .before in
     let rows = atRows last in
     let behind = atBehind rows in
-    let s = behind .before .before .before .before .before .before in
+    let s = atStart behind in
     replacing (s .args .table .now) (s .args .rows .now) (s .args .m) (s .args .start) (s .args .rest) (s .args .end)
     (s .pre .0 .0) (s .pre .0 .1) (s .pre .0 .2) (s .pre .1 .0) (s .pre .1 .1) _ _ _ (behind .copy .ensures)
     (rows .put-last2 .ensures) (last .copy2 .ensures)
