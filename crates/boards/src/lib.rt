@@ -1,10 +1,11 @@
 // Boards for tests, up to 40 by 40, made from a number: the same number always gives the same board.
+#![tactic(auto)]
 ghost use Rattle.std.specs.Prelude.{◌≡◌, ◌<◌, ◌≤◌, min};
 ghost use Rattle.boards.specs.Board.{OnBoard};
 
 // A board: its width, height and clearance, how many entries it has, two points on it that may be blocked, and the
 // number for the next board.
-#[derive(Drop)]
+#[derive(Clone, Copy)]
 pub struct Made {
     pub width: u16,
     pub height: u16,
@@ -18,7 +19,7 @@ pub struct Made {
 }
 
 // How many entries were drawn, and the number that is left.
-#[derive(Drop)]
+#[derive(Clone, Copy)]
 struct Drawn {
     entries: usize,
     seed: u32,

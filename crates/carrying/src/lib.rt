@@ -1,6 +1,7 @@
 // Carrying over a foil that was begun under document 01's rules: its state, which is only read, is checked by those
 // rules and written as a state by today's, without the nets that a patch blocks. It has no `requires`, and what it
 // writes stays on 128 places.
+#![tactic(auto)]
 mod nets;
 
 ghost use Rattle.std.specs.Prelude.{◌≤◌, map, length};

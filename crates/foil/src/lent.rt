@@ -7,7 +7,7 @@ use foil_spec::{Board, STRIPS_SIZE, TABLE_SIZE};
 use state::is_sound;
 
 // Whether checks are passed, or the number of the first that is not.
-#[derive(Drop)]
+#[derive(Clone, Copy)]
 pub enum Checked {
     Passed,
     Refused(u8),

@@ -2,6 +2,7 @@
 // the strip list four. Each is the body of a call (`.._in`): the crate `sheet` has taken the foil out of
 // its sheet and has tried 12 and 13 by `lent_refusal`, and the body is told how many entries the foil may
 // have. Lay is in the crate `laying`.
+#![tactic(auto)]
 mod lent;
 mod pens;
 
@@ -28,7 +29,7 @@ use tables::{Booked, copy_front, in_use, take_over, without};
 // What a call answers: the number of a refusal, or that it is accepted, with the numbers of corners
 // and bends after a lay, a find or a booking, with the strip's place after a look up, and with the
 // number of bytes after a save or a slip.
-#[derive(Drop)]
+#[derive(Clone, Copy)]
 pub enum Answer {
     Refused(u8),
     Accepted,
@@ -38,7 +39,7 @@ pub enum Answer {
 }
 
 // An answer, and the board's record after it.
-#[derive(Drop)]
+#[derive(Clone, Copy)]
 pub struct Done {
     pub answer: Answer,
     pub board: Board,

@@ -9,7 +9,7 @@ use state::{pen_ok, reach_ok};
 
 // What a new foil keeps clear: by the half width and the gap of its pen; or by document 01's reach,
 // which a record without bit 5 gives.
-#[derive(Drop)]
+#[derive(Clone, Copy)]
 pub enum Clearance {
     Pen(u16, u16),
     Reach(u16),

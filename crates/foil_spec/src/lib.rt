@@ -1,5 +1,6 @@
 // The definitions of document 01, in specs/, and what they and the calls share: the limits, and the structs (the
 // board's record and that of document 01, an entry of the patch table, a strip, a point, the figures of an ink).
+#![tactic(auto)]
 
 // How many entries a table holds, and how many numbers they are in a flat list.
 pub const MAX_ENTRIES: usize = 128;
@@ -33,7 +34,7 @@ pub const CORNERS_SIZE: usize = 16384;
 // The board's record: its width and height, the pen's half width and gap, and how many entries and
 // strips the lent lists hold.
 #[repr(C)]
-#[derive(Drop)]
+#[derive(Clone, Copy)]
 pub struct Board {
     pub width: u16,
     pub height: u16,
@@ -45,7 +46,7 @@ pub struct Board {
 
 // The board's record of document 01: its width and height, its reach, and the two counts.
 #[repr(C)]
-#[derive(Drop)]
+#[derive(Clone, Copy)]
 pub struct OldBoard {
     pub width: u16,
     pub height: u16,
@@ -55,14 +56,14 @@ pub struct OldBoard {
 }
 
 // A pen: its half width, and the gap that its ink keeps.
-#[derive(Drop)]
+#[derive(Clone, Copy)]
 pub struct Pen {
     pub half: u16,
     pub gap: u16,
 }
 
 // A rule of blocking: how far away a patch, a leg and the foil's edge block.
-#[derive(Drop)]
+#[derive(Clone, Copy)]
 pub struct Rule {
     pub patch: u16,
     pub leg: u16,
@@ -71,7 +72,7 @@ pub struct Rule {
 
 // An entry of the patch table: its net, and the points with x0 <= x < x1 and y0 <= y < y1.
 #[repr(C)]
-#[derive(Drop)]
+#[derive(Clone, Copy)]
 pub struct Entry {
     pub net: u16,
     pub x0: u16,
@@ -82,7 +83,7 @@ pub struct Entry {
 
 // The ink: ohms a square (R), the width of a track in points (w), squares counted for a bend (c).
 #[repr(C)]
-#[derive(Drop)]
+#[derive(Clone, Copy)]
 pub struct Ink {
     pub sheet: f64,
     pub width: f64,
@@ -90,7 +91,7 @@ pub struct Ink {
 }
 
 // A strip of free points: those with x0 <= x < x1 and y0 <= y < y1.
-#[derive(Drop)]
+#[derive(Clone, Copy)]
 pub struct Strip {
     pub x0: u16,
     pub y0: u16,
@@ -99,7 +100,7 @@ pub struct Strip {
 }
 
 // A point of the foil.
-#[derive(Drop)]
+#[derive(Clone, Copy)]
 pub struct Point {
     pub x: u16,
     pub y: u16,

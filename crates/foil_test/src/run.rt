@@ -10,7 +10,7 @@ use places::no_board;
 use sheet_rows::SHEET_SIZE;
 
 // How a job ended: by the number of a record as a whole, by its board, or by the end mark.
-#[derive(Drop)]
+#[derive(Clone, Copy)]
 pub(crate) enum Ended {
     By(u8),
     Board,
@@ -18,7 +18,7 @@ pub(crate) enum Ended {
 }
 
 // A job after its last record: the board's record, and how it ended.
-#[derive(Drop)]
+#[derive(Clone, Copy)]
 pub(crate) struct Job {
     pub(crate) board: Board,
     pub(crate) ended: Ended,

@@ -20,7 +20,7 @@ use sheet::SheetDone;
 use sheet_rows::{SHEET_SIZE, Sheet, places_lent};
 
 // The first 512 places of a lent table as numbers, five a place, and how many places are lent.
-#[derive(Drop)]
+#[derive(Clone, Copy)]
 pub struct Flat {
     pub at: [u16; SHEET_SIZE],
     pub len: usize,
@@ -30,7 +30,7 @@ pub struct Flat {
 // lay, a join, a find or a booking; the strip's place after a look up; the number of bytes after a save
 // or a slip, and of nets after a carry.
 #[repr(C)]
-#[derive(Drop)]
+#[derive(Clone, Copy)]
 pub struct Said {
     pub number: u8,
     pub corners: usize,
@@ -41,14 +41,14 @@ pub struct Said {
 
 // Ohms as numbers: the number of a refusal, 0 for none, and the ohms, 0 where they are refused.
 #[repr(C)]
-#[derive(Drop)]
+#[derive(Clone, Copy)]
 pub struct OhmsSaid {
     pub number: u8,
     pub ohms: f64,
 }
 
 // What a call leaves: the records, its answer, and the table's numbers.
-#[derive(Drop)]
+#[derive(Clone, Copy)]
 pub struct Left {
     pub sheet: Sheet,
     pub answer: Answer,
@@ -56,7 +56,7 @@ pub struct Left {
 }
 
 // What a carry leaves: the record, its answer, and the table's numbers.
-#[derive(Drop)]
+#[derive(Clone, Copy)]
 pub struct Brought {
     pub board: Board,
     pub answer: Answer,

@@ -2,6 +2,7 @@
 // `&mut`, the table that they share as a slice of entry structs, the strip list of the foil called, and
 // the foil's number. Each has the contract of the call of `sheet` on numbers. `exported` has the same
 // calls for programs in C.
+#![tactic(auto)]
 mod exported;
 mod flat;
 mod records;

@@ -10,7 +10,7 @@ use sheet_rows::{SHEET_SIZE, Sheet};
 
 // A step of a record: whether it was run, and its answer as numbers, zeros if it was not.
 #[repr(C)]
-#[derive(Drop)]
+#[derive(Clone, Copy)]
 pub struct StepSaid {
     pub ran: bool,
     pub said: Said,
@@ -19,7 +19,7 @@ pub struct StepSaid {
 // A reply as numbers: the number that refuses the record as a whole, 0 for none; whether it was the end
 // mark; each step; whether the job goes on, and the next record's place.
 #[repr(C)]
-#[derive(Drop)]
+#[derive(Clone, Copy)]
 pub struct RecordSaid {
     pub number: u8,
     pub end: bool,
@@ -33,7 +33,7 @@ pub struct RecordSaid {
 }
 
 // What a record leaves: the records of the foils, its reply, and the table's numbers.
-#[derive(Drop)]
+#[derive(Clone, Copy)]
 pub struct Ran {
     pub sheet: Sheet,
     pub reply: Reply,

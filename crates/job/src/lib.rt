@@ -1,4 +1,5 @@
 // The job file: the record that begins at a place of its bytes is checked, and its steps are run.
+#![tactic(auto)]
 mod checks;
 mod fields;
 mod running;
@@ -18,14 +19,14 @@ use foil_spec::Board;
 use running::run_steps;
 
 // What a step of a record answered, if the record has that step and it was run.
-#[derive(Drop)]
+#[derive(Clone, Copy)]
 pub enum Told {
     Nothing,
     Said(Answer),
 }
 
 // The answers of a record's steps, in bit order.
-#[derive(Drop)]
+#[derive(Clone, Copy)]
 pub struct Answers {
     pub board: Told,
     pub patch: Told,
@@ -60,7 +61,7 @@ pub fn told_by(answers: Answers, k: usize) -> Told
 }
 
 // The place of the next record; none where the job has ended.
-#[derive(Drop)]
+#[derive(Clone, Copy)]
 pub enum Next {
     At(usize),
     Nowhere,
@@ -68,7 +69,7 @@ pub enum Next {
 
 // What run a record answers: the number that refuses the record as a whole, or each step's answer and
 // the next place, or that the end mark was met.
-#[derive(Drop)]
+#[derive(Clone, Copy)]
 pub enum Reply {
     Refused(u8),
     Ran(Answers, Next),
@@ -76,7 +77,7 @@ pub enum Reply {
 }
 
 // A reply, and the board's record after it.
-#[derive(Drop)]
+#[derive(Clone, Copy)]
 pub struct Replied {
     pub reply: Reply,
     pub board: Board,

@@ -17,7 +17,7 @@ use foil_spec::Board;
 use laying::lay_in;
 
 // What the steps told so far, whether the job has ended, and the board's record after them.
-#[derive(Drop)]
+#[derive(Clone, Copy)]
 struct Stepped {
     answers: Answers,
     ended: bool,

@@ -21,7 +21,7 @@ use sheet_rows::{SHEET_SIZE, only_foil_0};
 use slips::PAGE_SIZE;
 
 // What is asked for: the foil's own job file, or its slip.
-#[derive(Drop)]
+#[derive(Clone, Copy)]
 pub enum Question {
     Save,
     Slip,

@@ -1,6 +1,7 @@
 // The foil that a job leaves: the records of a job file are run in turn on foil 0 of a sheet else empty, without their
 // lines, for programs that ask something of the foil at its end. `asking` asks for what is one step of a sheet, and
 // writes its answer.
+#![tactic(auto)]
 mod asking;
 
 ghost use Rattle.std.specs.Prelude.{◌≡◌};
@@ -18,7 +19,7 @@ use places::no_board;
 use sheet_rows::SHEET_SIZE;
 
 // How a job ended: at its end mark, with foil 0's record; or by the number of its board, or of the file as a whole.
-#[derive(Drop)]
+#[derive(Clone, Copy)]
 pub enum Ended {
     AtMark(Board),
     ByBoard(u8),

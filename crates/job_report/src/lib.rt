@@ -2,6 +2,7 @@
 // to the front of a lent list of bytes. Whoever writes out what each call gave, from place 0 on, writes the job's
 // output. A record is run at place 0, or on a foil that keeps the rules, as the record before it has left it; so none
 // checks the foil again.
+#![tactic(auto)]
 mod answers;
 mod strip_lines;
 
@@ -23,7 +24,7 @@ use strip_lines::put_strips;
 pub const OUT_SIZE: usize = 131072;
 
 // How many bytes a record's lines take, the place of the next record, and foil 0's record after it.
-#[derive(Drop)]
+#[derive(Clone, Copy)]
 pub struct Reported {
     pub size: usize,
     pub next: Next,

@@ -6,6 +6,7 @@
 // crossings, `labels` and `own` have the labels and inks of its own direction, and `other` and `inks` those of the
 // other one. Where both directions meet, `il` and `iu` are the level and the upright inks, `kl` and `ku` the links, and
 // `ml` and `mu` the marks: where, on each line, the labels of the round before are.
+#![tactic(auto)]
 ghost use Rattle.std.specs.Prelude.{◌≡◌, true, false, ℕ, ◌+◌, ◌*◌, ◌≤◌, ◌<◌, length};
 ghost use Rattle.grid.specs.Size.{stride};
 ghost use Rattle.runs.specs.Line.{along, HasLine, label_top};
@@ -28,7 +29,7 @@ use runs::{
 const MARKS: usize = 538;
 
 // What a visit did: the crossings lo to hi, hi excluded, of the run, and how many of them got labels.
-#[derive(Drop)]
+#[derive(Clone, Copy)]
 struct Run {
     lo: usize,
     hi: usize,
@@ -383,7 +384,7 @@ pub fn rounds(
 
 // A walk under way: it stands at the crossing of column i and row j, whose label in the direction of its next segment
 // is `label`, and has written so many corners.
-#[derive(Drop)]
+#[derive(Clone, Copy)]
 pub struct Walker {
     pub i: usize,
     pub j: usize,

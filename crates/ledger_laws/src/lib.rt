@@ -1,1 +1,2 @@
 // Laws of the ledger and of what is lent, in proofs/: no code.
+#![tactic(auto)]

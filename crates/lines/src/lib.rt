@@ -1,6 +1,7 @@
 // The lines that the job program writes, into a lent list of bytes. Each function writes one line at
 // place `at` and answers the place after it, which says too how long a line can be. Their caller lends
 // room enough; the `requires` says how much.
+#![tactic(auto)]
 mod put;
 
 ghost use Rattle.std.specs.Prelude.{◌+◌, ◌*◌, ◌≤◌, ◌++◌, length};

@@ -1,1 +1,2 @@
 // Laws of tests and lists, in proofs/: no code.
+#![tactic(auto)]

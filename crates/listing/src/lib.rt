@@ -1,6 +1,7 @@
 // The body of the call that lays a list of nets (`lay_list_in`): one lay after the other, each lent the corner places
 // that are still unused. The foil keeps the rules before each of them, so that none checks it again. A list that is too
 // long, or has too few places for its answers, is told by `too_many`.
+#![tactic(auto)]
 ghost use Rattle.std.specs.Prelude.{◌≡◌, true, ◌||◌, ◌+◌, ◌*◌, ◌/◌, ◌≤◌, length};
 ghost use Rattle.foil_spec.specs.Limits.{max_entries};
 ghost use Rattle.foil_spec.specs.Lent.{lent, sound};
@@ -16,7 +17,7 @@ use laying::lay_in;
 const MAX_WISHES: usize = 40;
 
 // A net to lay from (sx, sy) to (tx, ty).
-#[derive(Drop)]
+#[derive(Clone, Copy)]
 struct Wish {
     net: u16,
     sx: u16,
@@ -27,7 +28,7 @@ struct Wish {
 
 // An answer in numbers: that of a refusal, 0 for none, and how many corners and bends a track has; and whether it is no
 // refusal.
-#[derive(Drop)]
+#[derive(Clone, Copy)]
 pub struct InNumbers {
     pub number: u8,
     pub corners: usize,
@@ -37,7 +38,7 @@ pub struct InNumbers {
 
 // What the nets so far have left: the board's record, how many numbers of the corner list they use, and whether one of
 // them was laid.
-#[derive(Drop)]
+#[derive(Clone, Copy)]
 pub struct Listed {
     pub board: Board,
     pub used: usize,

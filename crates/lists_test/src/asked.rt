@@ -10,7 +10,7 @@ use sheet_rows::no_foils;
 
 // A list: how many nets it has, how many numbers of the corner list and of the answers' list are lent, the number at
 // the last place of the table, which no foil uses, and the number for its nets.
-#[derive(Drop)]
+#[derive(Clone, Copy)]
 pub(crate) struct Asked {
     pub(crate) nets: usize,
     pub(crate) corners: usize,

@@ -2,6 +2,7 @@
 // the other, each with the corner places that those before it have left. After every list the answer to it, the numbers
 // for each net, the corners, the eight records, the table and the strips are compared with what they should be. Writes
 // how many nets were laid and refused by each number, and how many lists differed.
+#![tactic(auto)]
 mod asked;
 mod holds;
 mod single;
@@ -45,7 +46,7 @@ fn count(counts: &mut [u64; COUNTS], k: usize, yes: bool)
 }
 
 // Where the two foils stand: the sheet's records, the plain foil, and the number for what comes next.
-#[derive(Drop)]
+#[derive(Clone, Copy)]
 struct Stood {
     sheet: Sheet,
     foil: Foil,

@@ -9,7 +9,7 @@ use std::num::wrapping_sub_usize;
 
 // What the nets so far have left: the number for the list as a whole, the foil, how many corner places they use, and
 // whether one was laid, and one met 12.
-#[derive(Drop)]
+#[derive(Clone, Copy)]
 pub(crate) struct Laid {
     pub(crate) number: u8,
     pub(crate) foil: Foil,

@@ -1,4 +1,5 @@
 // A net's legs in a table: how many there are, and how long they are together.
+#![tactic(auto)]
 ghost use Rattle.std.specs.Prelude.{◌≡◌, ◌+◌, ◌*◌, ◌<◌, ◌≤◌, length};
 ghost use Rattle.foil_spec.specs.Limits.{max_entries};
 ghost use Rattle.foil_spec.specs.Lent.{entry_at};
@@ -9,7 +10,7 @@ use foil_spec::Entry;
 use places::entry_at;
 
 // How many legs a net has, and the steps of all of them together.
-#[derive(Drop)]
+#[derive(Clone, Copy)]
 pub struct Track {
     pub legs: u32,
     pub steps: u32,

@@ -1,5 +1,6 @@
 // The resistance of a laid net, from the ink's three figures: `net_ohms` is the body of the call. Nothing is
 // changed.
+#![tactic(auto)]
 ghost use Rattle.std.specs.Prelude.{◌≡◌};
 ghost use Rattle.foil_spec.specs.Ohms.{ink_ok, formula as formula_of};
 ghost use Rattle.nets.specs.Measured.{Boxes};
@@ -11,7 +12,7 @@ use state::net_ok;
 use tables::in_use;
 
 // What the call answers: the number of a refusal, or the ohms.
-#[derive(Drop)]
+#[derive(Clone, Copy)]
 pub enum Resistance {
     Refused(u8),
     Ohms(f64),

@@ -2,6 +2,7 @@
 // 8 bytes, low byte first), then a job file; runs the job, and writes a line for each net on the foil
 // that it leaves, nets rising. Each function here that writes is told how many bytes are written already,
 // and adds its own.
+#![tactic(auto)]
 mod figures;
 mod show;
 

@@ -1,1 +1,2 @@
 // Laws of paths, in proofs/: no code.
+#![tactic(auto)]

@@ -1,5 +1,7 @@
 // The places of flat lists, read and written as structs: entries of a table, strips, corners; and the few functions of
 // numbers and records that many crates use.
+#![tactic(auto)]
+
 ghost use Rattle.std.specs.Prelude.{◌≡◌, ◌+◌, ◌*◌, ◌≤◌, min, max, length};
 ghost use Rattle.std.proofs.lemmas.List.Edits.{sets};
 ghost use Rattle.foil_spec.specs.Foil.{entry_numbers};
@@ -10,6 +12,7 @@ ghost use Rattle.foil_spec.specs.Sheet.{no_board};
 use foil_spec::{Board, Entry, Point, Strip};
 
 // The entry at place k of a table.
+#[tactic(auto, unfolding(foil_spec::specs::Lent::entry_at))]
 pub fn entry_at(table: &[u16], k: usize) -> Entry
     requires { k * 5 + 5 ≤ length table.now }
     ensures { result ≡ entry_at table.now k }
@@ -24,6 +27,7 @@ pub fn entry_at(table: &[u16], k: usize) -> Entry
 }
 
 // Puts an entry at place k of a table.
+#[tactic(auto, unfolding(foil_spec::specs::Foil::entry_numbers))]
 pub fn put_entry(table: &mut [u16], k: usize, e: Entry)
     requires { k * 5 + 5 ≤ length table.old }
     ensures { table.new ≡ sets table.old (k * 5) (entry_numbers e) }
@@ -36,6 +40,7 @@ pub fn put_entry(table: &mut [u16], k: usize, e: Entry)
 }
 
 // The strip at place k of a strip list.
+#[tactic(auto, unfolding(foil_spec::specs::Lent::listed_strip))]
 pub fn strip_at(list: &[u16], k: usize) -> Strip
     requires { k * 4 + 4 ≤ length list.now }
     ensures { result ≡ listed_strip list.now k }
@@ -49,6 +54,7 @@ pub fn strip_at(list: &[u16], k: usize) -> Strip
 }
 
 // Puts a strip at place k of a strip list.
+#[tactic(auto, unfolding(foil_spec::specs::Lent::strip_numbers))]
 pub fn put_strip(list: &mut [u16], k: usize, s: Strip)
     requires { k * 4 + 4 ≤ length list.old }
     ensures { list.new ≡ sets list.old (k * 4) (strip_numbers s) }
@@ -60,6 +66,7 @@ pub fn put_strip(list: &mut [u16], k: usize, s: Strip)
 }
 
 // The corner at place k of a corner list.
+#[tactic(auto, unfolding(foil_spec::specs::Corners::corner_at))]
 pub fn corner_at(list: &[u16], k: usize) -> Point
     requires { k * 2 + 2 ≤ length list.now }
     ensures { result ≡ corner_at list.now k }
@@ -71,6 +78,7 @@ pub fn corner_at(list: &[u16], k: usize) -> Point
 }
 
 // Puts a corner at place k of a corner list.
+#[tactic(auto, unfolding(foil_spec::specs::Corners::point_numbers))]
 pub fn put_corner(list: &mut [u16], k: usize, p: Point)
     requires { k * 2 + 2 ≤ length list.old }
     ensures { list.new ≡ sets list.old (k * 2) (point_numbers p) }

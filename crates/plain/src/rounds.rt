@@ -5,7 +5,7 @@ ghost use Rattle.std.specs.Prelude.{◌<◌, ◌≤◌};
 use crate::{POINTS, SEGMENT, SIDE};
 
 // Where a point's four neighbours are; up is towards smaller y.
-#[derive(Drop)]
+#[derive(Clone, Copy)]
 enum Direction {
     Left,
     Right,

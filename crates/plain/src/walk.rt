@@ -5,7 +5,7 @@ ghost use Rattle.std.specs.Prelude.{◌<◌, ◌≤◌};
 use crate::{POINTS, SEGMENT, SIDE, place};
 
 // Which way the next segment may go.
-#[derive(Drop)]
+#[derive(Clone, Copy)]
 enum Heading {
     Either,
     Level,

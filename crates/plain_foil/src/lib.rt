@@ -1,5 +1,6 @@
 // Document 01's foil, kept plainly, for the calls to be compared with: a row of entries, from which free points, paths
 // and strips are worked out anew each time. A foil is at most 64 by 64, so that 4,096 strips are never passed.
+#![tactic(auto)]
 mod crossing;
 mod joins;
 mod laying;
@@ -17,7 +18,7 @@ pub use records::{NONE, Ran, record};
 pub use runs::strips;
 
 // A foil's size, the half width and the gap of its pen, and how many entries its row has.
-#[derive(Drop)]
+#[derive(Clone, Copy)]
 pub struct Foil {
     pub width: u16,
     pub height: u16,
@@ -42,7 +43,7 @@ fn free_points(map: &mut [bool; 4096], row: &[u16; 640], foil: Foil)
 }
 
 // The number of a step, 0 if it is accepted, with the corners of a track; and the foil after it.
-#[derive(Drop)]
+#[derive(Clone, Copy)]
 pub struct Done {
     pub number: u8,
     pub corners: usize,

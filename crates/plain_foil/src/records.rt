@@ -9,7 +9,7 @@ pub const NONE: u8 = 255;
 
 // What came of a record: the number that refuses it as a whole, or 0; whether it was the end mark, or its board ended
 // the job; else the number of each step, the corners of its track, and the place after it. And the foil after it.
-#[derive(Drop)]
+#[derive(Clone, Copy)]
 pub struct Ran {
     pub number: u8,
     pub end: bool,

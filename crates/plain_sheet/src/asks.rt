@@ -7,7 +7,7 @@ use boards::{below, next};
 use plain_foil::Foil;
 
 // The kinds of calls.
-#[derive(Drop)]
+#[derive(Clone, Copy)]
 pub enum Kind {
     New,
     Draw,
@@ -22,7 +22,7 @@ pub enum Kind {
 }
 
 // The four numbers of a call: a size and a pen, a box, or two points.
-#[derive(Drop)]
+#[derive(Clone, Copy)]
 pub struct Four {
     pub x0: u16,
     pub y0: u16,
@@ -31,7 +31,7 @@ pub struct Four {
 }
 
 // How a call is lent the sheet: which list is short, what is wrong with the records, and in which one of them.
-#[derive(Drop)]
+#[derive(Clone, Copy)]
 pub struct Terms {
     pub short: u32,
     pub wrong: u32,
@@ -40,7 +40,7 @@ pub struct Terms {
 
 // A call: its foil, its kind, whether it is made by a record of a job file, its net and numbers, how many corner places
 // it is lent or how many numbers its list has, and how it is lent the sheet.
-#[derive(Drop)]
+#[derive(Clone, Copy)]
 pub struct Asked {
     pub foil: usize,
     pub kind: Kind,

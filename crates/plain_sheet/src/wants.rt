@@ -8,7 +8,7 @@ use plain_foil::{Done, Foil};
 
 // The number of a call, 0 if it is accepted, with the corners of its track; whether it wrote entries; whether the sheet
 // alone had no room for it; and the foils after it.
-#[derive(Drop)]
+#[derive(Clone, Copy)]
 pub struct Want {
     pub number: u8,
     pub corners: usize,

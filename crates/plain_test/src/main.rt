@@ -1,5 +1,6 @@
 // Runs the plain search on the starred boards of document 01 that have a track, round a patch and a leg by a wide pen,
 // and to two columns of targets, and writes what it finds: a line for each search, with the corners of the path.
+#![tactic(auto)]
 ghost use Rattle.std.specs.Prelude.{◌≤◌, ◌<◌};
 
 use foil_spec::Pen;

@@ -1,5 +1,6 @@
 // Bytes and numbers written at a place of a lent list. Each function answers the place after them. Their caller lends
 // room enough; the `requires` says how much.
+#![tactic(auto)]
 ghost use Rattle.std.specs.Prelude.{◌+◌, ◌≤◌, length};
 ghost use Rattle.foil_spec.specs.Text.{decimal};
 ghost use Rattle.putting.specs.Put.{Put};

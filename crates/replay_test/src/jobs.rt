@@ -4,7 +4,7 @@ ghost use Rattle.std.specs.Prelude.{◌≡◌, ◌+◌, ◌<◌, ◌≤◌};
 use boards::{below, next};
 
 // A file: how many bytes it has, how many corner places are lent to it, and the number for the next one.
-#[derive(Drop)]
+#[derive(Clone, Copy)]
 pub(crate) struct Made {
     pub(crate) length: usize,
     pub(crate) room: usize,
@@ -12,7 +12,7 @@ pub(crate) struct Made {
 }
 
 // Where the next byte goes, and the number that is left.
-#[derive(Drop)]
+#[derive(Clone, Copy)]
 struct Cursor {
     at: usize,
     seed: u32,

@@ -12,7 +12,7 @@ use sheet::{Sheet, SheetDone, join};
 use std::num::wrapping_sub_u16;
 
 // What is asked for: a point to be joined to a net, with room for so many corners.
-#[derive(Drop)]
+#[derive(Clone, Copy)]
 struct Asked {
     net: u16,
     x: u16,
@@ -21,7 +21,7 @@ struct Asked {
 }
 
 // A point.
-#[derive(Drop)]
+#[derive(Clone, Copy)]
 struct Spot {
     x: u16,
     y: u16,

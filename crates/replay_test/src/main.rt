@@ -2,6 +2,7 @@
 // and then, and writes how many records there were, how many steps were accepted and refused by each number, and how
 // often the two differ: in an answer, in the record, in the table, the strips or the corner list, or in the strip of a
 // point that is looked up.
+#![tactic(auto)]
 mod compare;
 mod drawings;
 mod holds;
@@ -57,7 +58,7 @@ fn count_number(counts: &mut [u64; COUNTS], number: u8) {
 
 // Where a job stands: the sheet's records by the calls, the plain foil, the place of the next record, and the number
 // for a point.
-#[derive(Drop)]
+#[derive(Clone, Copy)]
 struct Stood {
     sheet: Sheet,
     foil: Foil,

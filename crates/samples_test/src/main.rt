@@ -1,4 +1,5 @@
 // Runs the sample jobs (the folder `samples`) as the job program does, and holds what each one gives to its `.out`.
+#![tactic(auto)]
 ghost use Rattle.std.specs.Prelude.{◌+◌, ◌≤◌, length};
 ghost use Rattle.io.specs.Counts.{IsPrefixLen};
 
@@ -10,7 +11,7 @@ use putting::put_bytes;
 use sheet_rows::SHEET_SIZE;
 
 // How many bytes of what a job gives are as stored, before one is not; and whether that is all of both.
-#[derive(Drop)]
+#[derive(Clone, Copy)]
 struct Agreed {
     bytes: usize,
     all: bool,

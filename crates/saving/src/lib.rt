@@ -1,4 +1,5 @@
 // Saving a foil as a job file: `save_in` is the body of the call.
+#![tactic(auto)]
 mod file;
 
 ghost use Rattle.std.specs.Prelude.{◌≡◌, true};

@@ -4,6 +4,7 @@
 // The work lists of `labels` and `walk` are `level` and `upright` for the labels of the grid's crossings in the two
 // directions, `il` and `iu` for their inks, `kl` and `ku` for the level and the upright links between crossings (STRIDE
 // places for each line that there may be), and `cols` and `rows` for the lines of the grid (STRIDE places).
+#![tactic(auto)]
 ghost use Rattle.std.specs.Prelude.{◌≡◌, [], ◌∷◌, ◌+◌, ◌*◌, ◌≤◌, ◌<◌, length};
 ghost use Rattle.std.proofs.Math.Option.{some};
 ghost use Rattle.foil_spec.specs.Foil.{point};
@@ -30,7 +31,7 @@ const FEW: usize = 33;
 const FEW_AREA: usize = 18561;
 
 // What a search is asked: how many boxes and target boxes there are, the foil's width and height, and the start.
-#[derive(Drop)]
+#[derive(Clone, Copy)]
 pub struct Aim {
     pub n: usize,
     pub k: usize,
@@ -41,14 +42,14 @@ pub struct Aim {
 }
 
 // How many columns and rows the grid has.
-#[derive(Drop)]
+#[derive(Clone, Copy)]
 struct Size {
     columns: usize,
     rows: usize,
 }
 
 // Where the start is on the grid, and whether its crossing has a label.
-#[derive(Drop)]
+#[derive(Clone, Copy)]
 struct Arrived {
     i: usize,
     j: usize,
@@ -57,7 +58,7 @@ struct Arrived {
 
 // Where the first path begins: the start's column and row, whether the first segment is upright, and how many corners
 // the path has, 0 where there is no path.
-#[derive(Drop)]
+#[derive(Clone, Copy)]
 struct Start {
     columns: usize,
     rows: usize,

@@ -1,6 +1,7 @@
 // Compares the search with the plain search over all points, corner for corner, on boards made from a number, and
 // writes how many boards there were, how many of them without a free point and without a path, how many paths of each
 // number of bends, and on how many boards the two searches differ.
+#![tactic(auto)]
 mod asked;
 
 ghost use Rattle.std.specs.Prelude.{◌<◌, ◌≤◌};
@@ -13,7 +14,7 @@ use foil_spec::Pen;
 const BOARDS: u64 = 5000;
 
 // What came of a board: no point is free, there is no path, the path has so many bends, or the searches differ.
-#[derive(Drop)]
+#[derive(Clone, Copy)]
 enum Outcome {
     Blocked,
     NoPath,

@@ -3,6 +3,7 @@
 // only what documents 01 and 02 say. Each is its checks, taking the foil's rows out of the table, the body that there
 // is for a foil of its own, with as many entries as the other foils leave to it, and putting the rows back where it
 // wrote entries. Those that only read stand in `queries`, a record in `record`, and a list of nets in `list`.
+#![tactic(auto)]
 mod checks;
 mod finishing;
 mod list;
@@ -30,14 +31,14 @@ pub use sheet_rows::Sheet;
 use sheet_rows::{board_at, limit};
 
 // An answer, and the sheet's records after it.
-#[derive(Drop)]
+#[derive(Clone, Copy)]
 pub struct SheetDone {
     pub answer: Answer,
     pub sheet: Sheet,
 }
 
 // A record's reply, and the sheet's records after it.
-#[derive(Drop)]
+#[derive(Clone, Copy)]
 pub struct SheetReplied {
     pub reply: Reply,
     pub sheet: Sheet,

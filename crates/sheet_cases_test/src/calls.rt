@@ -6,7 +6,7 @@ use crate::{reads, writes};
 use sheet::Sheet;
 
 // A call: its foil, the letter of its kind, its net, four numbers, and the letter of how the sheet is lent.
-#[derive(Drop)]
+#[derive(Clone, Copy)]
 pub(crate) struct Call {
     pub(crate) foil: usize,
     pub(crate) kind: u8,

@@ -1,5 +1,6 @@
 // The rows of a sheet: how many entries its eight foils have and may have, and the table that they share, from which a
 // foil's entries are taken out for a call and to which they are put back.
+#![tactic(auto)]
 mod limits;
 mod table;
 
@@ -22,7 +23,7 @@ pub const SHEET_SIZE: usize = 2560;
 
 // The records of the eight foils.
 #[repr(C)]
-#[derive(Drop)]
+#[derive(Clone, Copy)]
 pub struct Sheet {
     pub boards: [Board; FOILS],
 }

@@ -1,6 +1,7 @@
 // Random calls on all eight foils of a sheet beside eight plain foils that are kept apart. After every call the answer,
 // the eight records, the whole table, the strips of the foil called and the corners are compared with what they should
 // be. Writes how many calls were accepted and refused by each number, and how often one differed.
+#![tactic(auto)]
 mod calls;
 mod holds;
 mod records;

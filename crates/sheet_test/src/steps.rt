@@ -11,7 +11,7 @@ use sheet::{Sheet, SheetDone};
 
 // Where a sheet stands: its records, its plain foils, and whether unused places of its table hold other numbers than
 // zeros.
-#[derive(Drop)]
+#[derive(Clone, Copy)]
 pub(crate) struct Stood {
     pub(crate) sheet: Sheet,
     pub(crate) foils: [Foil; 8],
@@ -33,7 +33,7 @@ pub(crate) fn unbegun() -> Stood {
 }
 
 // What is left of a foil: its record as it should be, and whether its strips are so.
-#[derive(Drop)]
+#[derive(Clone, Copy)]
 struct Left {
     board: Board,
     alike: bool,

@@ -1,6 +1,7 @@
 // The slip of the foil that a job leaves: reads a job file from standard input, runs it, and writes the
 // slip to standard output. Where the file is at fault or its board is refused, a line on standard error
 // has the number, and nothing else is written.
+#![tactic(auto)]
 use foil_spec::INPUT_SIZE;
 use job_end::{Question, answer_input};
 

@@ -1,6 +1,7 @@
 // The labels before the first round: each crossing of the grid that is a target gets the label 1 and the ink 0. A
 // target is a point in one of the first k target boxes that the first n boxes leave free. Each function serves both
 // directions, as in `grid` and `labels`.
+#![tactic(auto)]
 ghost use Rattle.std.specs.Prelude.{◌≡◌, true, ◌+◌, ◌*◌, ◌≤◌, length};
 ghost use Rattle.foil_spec.specs.Lent.{entry_at};
 ghost use Rattle.zones.specs.Boxes.{covers};

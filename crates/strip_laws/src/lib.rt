@@ -1,1 +1,2 @@
 // Laws of runs and strips, in proofs/: no code.
+#![tactic(auto)]

@@ -1,4 +1,5 @@
 // The strips of a foil: built from the boxes that are blocked, and looked up.
+#![tactic(auto)]
 mod row_boxes;
 mod row_joining;
 mod rows;
@@ -18,7 +19,7 @@ use places::strip_at;
 use zones::MAX_BOXES;
 
 // How many strips there are, or that there are more than the list has places.
-#[derive(Drop)]
+#[derive(Clone, Copy)]
 pub enum Built {
     Strips(usize),
     TooMany,
@@ -73,7 +74,7 @@ pub fn clear(out: &mut [u16], from: usize, to: usize)
 }
 
 // The place of the strip that holds a point, or that none does.
-#[derive(Drop)]
+#[derive(Clone, Copy)]
 pub enum Place {
     At(usize),
     Nowhere,

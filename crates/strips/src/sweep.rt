@@ -9,7 +9,7 @@ use places::entry_at;
 
 // The next run of a row, the column behind the box that ends it, and how many boxes the sweep goes on with from there;
 // or that none is left.
-#[derive(Drop)]
+#[derive(Clone, Copy)]
 pub(crate) enum Swept {
     Run(u16, u16, u16, usize),
     Nothing,

@@ -1,4 +1,5 @@
 // A table in the making: its rows, the legs of a path in them, and taking it over with its strips.
+#![tactic(auto)]
 mod legs;
 mod rows;
 mod strip_list;
@@ -19,7 +20,7 @@ use strip_list::put_strips;
 use zones::{BOXES_SIZE, pen_zones};
 
 // The record after a booking, or that there would be too many strips.
-#[derive(Drop)]
+#[derive(Clone, Copy)]
 pub enum Booked {
     Taken(Board),
     TooFine,
