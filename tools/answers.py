@@ -236,6 +236,58 @@ def is_search(b):
     return re.fullmatch(r"\(?λ[^.]*\.\s*search rules\)?|search rules", b.strip()) is not None
 
 
+def as_record(body, names):
+    """The answer for several clauses: a tuple, behind its lets, becomes a record of them."""
+    depth, i, last = 0, 0, 0
+    for m in re.finditer(r"[(\[{]|[)\]}]|(?<![\w'\-])in(?=\s)", body):
+        s = m.group(0)
+        if s in "([{":
+            depth += 1
+        elif s in ")]}":
+            depth -= 1
+        elif depth == 0:
+            last = m.end()
+    lets, rest = body[:last], body[last:].strip()
+    parts = tuple_parts(rest)
+    if parts and len(parts) >= len(names):
+        head, tail = parts[: len(names) - 1], parts[len(names) - 1 :]
+        end = tail[0] if len(tail) == 1 else "(" + ", ".join(tail) + ")"
+        fields = head + [end]
+        # a pair nested to the right
+        return lets + (" " if lets else "") + "record { " + "; ".join(f"{n} = {f}" for n, f in zip(names, fields)) + " }"
+    if parts and len(parts) == 2 and tuple_parts(parts[1]) and len(tuple_parts(parts[1])) >= len(names) - 1:
+        return as_record(lets + " (" + parts[0] + ", " + ", ".join(tuple_parts(parts[1])) + ")", names)
+    if re.fullmatch(r"c(\.[\w'\-]+)*", rest):
+        return lets + rest
+    way = ["both" + ".1" * k + (".0" if k < len(names) - 1 else "") for k in range(len(names))]
+    return lets + (" " if lets else "") + f"let both = {rest} in record {{ " + "; ".join(f"{n} = {w}" for n, w in zip(names, way)) + " }"
+
+
+def tuple_parts(s):
+    if not (s.startswith("(") and s.endswith(")")):
+        return None
+    depth, parts, cur = 0, [], ""
+    for k, ch in enumerate(s):
+        if ch in "([{":
+            depth += 1
+            if depth == 1:
+                continue
+        if ch in ")]}":
+            depth -= 1
+            if depth == 0:
+                if k != len(s) - 1:
+                    return None
+                continue
+        if ch == "," and depth == 1:
+            parts.append(cur.strip())
+            cur = ""
+        else:
+            cur += ch
+    if cur.strip():
+        parts.append(cur.strip())
+    return parts if len(parts) > 1 else None
+
+
 def convert(fn, text):
     fn.odd = []
     head, uses, defs = items(text)
@@ -411,6 +463,9 @@ def convert(fn, text):
         rhs = with_lets(rhs.strip(), unf)
         rhs = fn.paths(rhs)
         rhs = re.sub(r"\bκs\b", "_", rhs)
+        asked = fn.d["asked"].get(need)
+        if asked:
+            rhs = as_record(rhs.strip(), asked)
         ans_text += ("\n".join(d["comment"]) + "\n" if d["comment"] else "")
         ans_text += f"pub {need} : goal.{need}\n"
         if unf:

@@ -3,7 +3,7 @@ use Prim.Native.Nat.{ℕ, zero, suc, ◌+◌, ◌-◌, ◌≤◌, ◌<◌}
 use native.Mathlib.Nat.{add-zero, eq-or-lt_of_le}
 use native.Mathlib.Omega.{arith}
 use mathlib.Core.Path.{◌≡◌, refl, sym, ap, ◌∙◌, subst}
-use mathlib.Core.Bool.{Bool, true, false, ◌&&◌}
+use mathlib.Core.Bool.{Bool, true, false, cond, ◌&&◌}
 use mathlib.Core.List.{List, [], ◌∷◌, ◌++◌}
 use mathlib.Core.Logic.{⊎_elim, inl, inr}
 use lib.Dec.{leb, ltb, eqb}
@@ -270,16 +270,22 @@ sorted-strips f W H =
     let q = of_map (strip_at f W H z) t (keep (is_top f W z) (runs (row_of f z) W)) ht in
     rw (p.2, q.2) (or-il (eqb y z && ltb p.0.from q.0.from) h))
 
+-- the place that is looked up, at a list's first strip or behind it
+place_next : (p : Point) (s d t : Strip) (ss : List Strip) (b : Bool) → holds p t ≡ b → In s (t ∷ ss) → holds p s ≡ true
+    → (In s ss → (place_of p ss < length ss) × In (get_or ss (place_of p ss) d) ss × (holds p (get_or ss (place_of p ss) d) ≡ true))
+    → (cond b 0 (suc (place_of p ss)) < suc (length ss))
+    × In (get_or (t ∷ ss) (cond b 0 (suc (place_of p ss))) d) (t ∷ ss)
+    × (holds p (get_or (t ∷ ss) (cond b 0 (suc (place_of p ss))) d) ≡ true)
+place_next p s d t ss true e i h k = (omega arith, inl refl, e)
+place_next p s d t ss false e i h k =
+    let j : In s ss = ⊎_elim (λ (q : s ≡ t). clash h (ap (holds p) q ∙ e)) (λ (q : In s ss). q) i in
+    let r = k j in
+    (omega arith, inr r.1, r.2)
+
 -- the place that is looked up, where some strip of a list holds the point
 pub place_in : (p : Point) (s d : Strip) (ss : List Strip) → In s ss → holds p s ≡ true
     → (place_of p ss < length ss) × In (get_or ss (place_of p ss) d) ss × (holds p (get_or ss (place_of p ss) d) ≡ true)
 unfolding place_of
 place_in p s d [] i h = absurd i
 place_in p s d (t ∷ ss) i h =
-    ⊎_elim
-    (λ (e : holds p t ≡ true). rw e (omega arith, inl refl, e))
-    (λ (e : holds p t ≡ false).
-    let j : In s ss = ⊎_elim (λ (k : s ≡ t). clash h (ap (holds p) k ∙ e)) (λ (k : In s ss). k) i in
-    let r = place_in p s d ss j h in
-    rw e (omega arith, inr r.1, r.2))
-    (true-or-false (holds p t))
+    place_next p s d t ss (holds p t) refl i h (λ j. place_in p s d ss j h)
