@@ -2,6 +2,7 @@
 // place `at` and answers the place after it, which says too how long a line can be. Their caller lends
 // room enough; the `requires` says how much.
 #![tactic(auto)]
+
 mod put;
 
 ghost use Rattle.std.specs.Prelude.{◌+◌, ◌*◌, ◌≤◌, ◌++◌, length};

@@ -1,5 +1,6 @@
 // A net's legs in a table: how many there are, and how long they are together.
 #![tactic(auto)]
+
 ghost use Rattle.std.specs.Prelude.{◌≡◌, ◌+◌, ◌*◌, ◌<◌, ◌≤◌, length};
 ghost use Rattle.foil_spec.specs.Limits.{max_entries};
 ghost use Rattle.foil_spec.specs.Lent.{entry_at};

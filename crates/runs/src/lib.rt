@@ -1,6 +1,7 @@
 // One line of the escape grid: the run of a crossing, the stops on it, which are the crossings with a given label in
 // the other direction, and the inks of the run over these stops, by two sweeps.
 #![tactic(auto)]
+
 ghost use Rattle.std.specs.Prelude.{◌+◌, ◌-◌, ◌*◌, ◌≤◌, ◌<◌, min, ◌≡◌, true, false, ◌≢◌, get_or, length};
 ghost use Rattle.foil_spec.specs.Limits.{max_side};
 ghost use Rattle.foil_spec.specs.Paths.{gap};

@@ -1,5 +1,6 @@
 // The strips of a foil: built from the boxes that are blocked, and looked up.
 #![tactic(auto)]
+
 mod row_boxes;
 mod row_joining;
 mod rows;

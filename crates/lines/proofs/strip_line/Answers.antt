@@ -1,0 +1,19 @@
+-- `lines::strip_line` meets its contract: the word, the four ends and the line feed, one after the other.
+use native.Mathlib.Omega.{arith}
+use Rattle.lines.specs.Lines.{strip_line}
+use Rattle.putting.proofs.Putting.{put_then}
+use Rattle.lines.proofs.strip_line.Goals as goal
+
+pub returns : goal.returns
+unfolding strip_line
+returns c = record {
+  put = put_then
+      (put_then
+      (put_then
+      (put_then (put_then c.put_bytes-a.ensures c.put_item-b.ensures.put)
+      c.put_item-c.ensures.put)
+      c.put_item-d.ensures.put)
+      c.put_item-e.ensures.put)
+      c.put_bytes.ensures;
+  upper_bound = omega arith;
+}
