@@ -100,10 +100,10 @@ trail-greedy tf F F' A B AM BM {i} {j} done li lj lr e =
     let t = (A.says j lj i li).course 0 e in
     let z = (AM.says j lj i li).least 0 e 0 t in
     (t, omega arith)
-trail-greedy tf {cross} {n} {lines} {m} F F' A B AM BM {i} {j} (step {v = w} {q = q} {qs = qs} s lq t) li lj lr e =
+trail-greedy {f = f} tf {cross} {n} {lines} {m} F F' A B AM BM {i} {j} (step {v = w} {q = q} {qs = qs} s lq t) li lj lr e =
     let ew : w ≡ length qs + 1 = trail-length t in
     let st = of-stop _ _ _ _ _ _ _ _ (s.found lq).1 in
-    let g = trail-greedy (λ a b z. tf b a z) F' F B A BM AM t lj lq (omega arith) st.0 in (
+    let g = trail-greedy {f = λ a b. f b a} (λ a b z. tf b a z) F' F B A BM AM t lj lq (omega arith) st.0 in (
       greedy-step tf F A B AM BM i j (length qs) q (coords lines cross qs) li lj lq (omega arith) (omega arith)
           (rw ew at s) (sym (coords-length lines cross qs)) g.1 g.0,
       omega (arith, st.1, g.1),

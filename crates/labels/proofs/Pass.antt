@@ -1,5 +1,5 @@
 -- Laws of a pass: visiting only the crossings with the label v does what a pass over all lines does.
-use Prim.Native.Nat.{ℕ, zero, suc, ◌+◌, ◌-◌, ◌*◌, ◌≤◌, ◌<◌}
+use Prim.Native.Nat.{ℕ, zero, suc, ◌+◌, ◌*◌, ◌≤◌, ◌<◌}
 use native.Mathlib.Nat.{add-zero}
 use native.Mathlib.Omega.{arith}
 use native.Mathlib.Decide.{dec_le, dec_lt, ℕ_discrete}
@@ -13,7 +13,7 @@ use lib.ListN.{get_or, length}
 use Rattle.grid.specs.Size.{stride}
 use Rattle.runs.specs.Line.{along, across, Linked, RunStart, RunEnd, label_top}
 use Rattle.runs.specs.Ink.{OnLine, StopIn, Blank, RunInked, LeastInk, Inked, Lean}
-use Rattle.labels.specs.Pass.{zeros, Cell, kept, none, new, Pass, floor, Joined, Full, Spans, Marks, Marked}
+use Rattle.labels.specs.Pass.{zeros, Cell, kept, none, new, Pass, floor, Full, Spans, Marks, Marked}
 use Rattle.labels.specs.Pass.{Widened, NextNew, Fill, held, fresh, RunFilled, Visit, passed, left, ran}
 use Rattle.labels.specs.Pass.{OneWay, LineLists, Visiting}
 use Rattle.labels.specs.Pass.{Part, stood, got, Done, labelled, waits, NewLabel, Visited}

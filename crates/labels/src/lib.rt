@@ -7,6 +7,7 @@
 // other one. Where both directions meet, `il` and `iu` are the level and the upright inks, `kl` and `ku` the links, and
 // `ml` and `mu` the marks: where, on each line, the labels of the round before are.
 #![tactic(auto)]
+
 ghost use Rattle.std.specs.Prelude.{◌≡◌, true, false, ℕ, ◌+◌, ◌*◌, ◌≤◌, ◌<◌, length};
 ghost use Rattle.grid.specs.Size.{stride};
 ghost use Rattle.runs.specs.Line.{along, HasLine, label_top};

@@ -7,6 +7,7 @@
 // A board is at most 64 by 64. A list of points has 4,096 places, and the point (x, y) stands at
 // y * 64 + x: the order of the places is the order of corners, smaller y first, then smaller x.
 #![tactic(auto)]
+
 mod rounds;
 mod walk;
 

@@ -1,5 +1,6 @@
 // A table in the making: its rows, the legs of a path in them, and taking it over with its strips.
 #![tactic(auto)]
+
 mod legs;
 mod rows;
 mod strip_list;

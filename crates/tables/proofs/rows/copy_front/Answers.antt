@@ -1,0 +1,16 @@
+-- `tables::rows::copy_front` meets its contract: the first i numbers are copied.
+use native.Mathlib.Omega.{arith}
+use Rattle.tables.proofs.Copying.{copied_none, copied_more, copied_all}
+use Rattle.tables.proofs.rows.copy_front.Goals as goal
+
+pub loop-i-init : goal.loop-i-init
+loop-i-init c = copied_none _ _ _
+
+pub loop-i-preserved : goal.loop-i-preserved
+loop-i-preserved c = copied_more _ _ _ _ _ (omega arith) (omega arith) (omega arith) c.loop-i.invariant
+
+pub shape_of-to : goal.shape_of-to
+shape_of-to c = c.loop-i.invariant.same
+
+pub returns : goal.returns
+returns c = copied_all _ _ _ _ _ (omega arith) c.loop-i.invariant
