@@ -23,7 +23,9 @@ from desk.progress import Progress
 PARTS = ("src", "specs", "proofs")
 # the toolchain that these sources are proved by
 KIT = ROOT / "tools" / "KIT-ID"
-# what a run holds that builds: it stands beside target/, which `rt ci` removes
+# what proves and builds, with `rt`
+MAKE = ROOT / "tools" / "make"
+# what a run holds that builds: it stands beside target/
 LOCK = ROOT / "target.lock"
 WAITS = "another run is proving and building here: this one waits for it, and then goes on"
 # what the status of a check that failed says, and how many of its last lines are told
@@ -212,7 +214,7 @@ def check(names, lock, verb="check"):
     log.parent.mkdir(parents=True, exist_ok=True)
     last = collections.deque(maxlen=TOLD)
     with open(log, "w", encoding="utf-8") as kept, subprocess.Popen(
-            ["rt", verb, *names], cwd=ROOT, stdin=subprocess.DEVNULL, stdout=subprocess.PIPE,
+            [MAKE, verb, *names], cwd=ROOT, stdin=subprocess.DEVNULL, stdout=subprocess.PIPE,
             stderr=subprocess.STDOUT, encoding="utf-8", errors="replace", pass_fds=[lock.fileno()]) as running:
         crates = listed()
         with Progress(needed(names, crates), crates, ROOT / "target" / "log") as shown:

@@ -57,6 +57,7 @@ class Scratch:
         for at in range(proofs):
             self.write("crates/laws/proofs/part%d/P%d.antt" % (at % 7, at), "-- law %d\n" % at)
         self.write("../tools/rt", RT).chmod(0o755)
+        self.write("tools/make", '#!/bin/sh\nexec "$(dirname "$0")/../../tools/rt" "$@"\n').chmod(0o755)
         self.write("../tools/version", "a kit 1\n")
         self.write("tools/KIT-ID", "a kit 1\n")
 

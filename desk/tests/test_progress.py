@@ -1,6 +1,7 @@
 """The line that says how far proving is."""
 import contextlib
 import io
+import os
 import pathlib
 import re
 import tempfile
@@ -35,6 +36,7 @@ class Lines(unittest.TestCase):
 
     def test_at_a_terminal_the_line_moves_by_itself(self):
         with contextlib.redirect_stderr(Terminal()) as err, mock.patch.object(progress, "PACE", 0.01), \
+                mock.patch.dict(os.environ, RT_JOBS="2"), \
                 mock.patch.object(console, "width", return_value=80), \
                 mock.patch.object(progress, "clock", lambda seconds: "%.2f" % seconds):
             with progress.Progress(["laws", "foil", "job"], {}, self.logs):
