@@ -1,6 +1,7 @@
 // The body of the call book (`book_in`): takes a way over as a track, whoever drew it. What it books by is open to
 // calls that search a path first.
 #![tactic(auto)]
+
 mod tracks;
 mod way;
 

@@ -2,11 +2,10 @@
 use Prim.Native.Nat.{ℕ, ◌-◌, ◌<◌}
 use native.Mathlib.Omega.{arith}
 use mathlib.Core.Path.{◌≡◌, refl, sym, ap, ap₂, ◌∙◌}
-use mathlib.Core.Bool.{Bool, true, false, not}
+use mathlib.Core.Bool.{Bool, true, false}
 use mathlib.Core.List.{List, map}
 use mathlib.Core.Option.{none, some}
 use lib.Ieee.{Float}
-use borrow.Author.Tests.{not-true, not-false}
 use Rattle.foil_spec.specs.Lists.{range}
 use Rattle.foil_spec.specs.Foil.{Entry, Layout, net_ok}
 use Rattle.foil_spec.specs.Ledger.{number_of, first}
@@ -33,28 +32,28 @@ module _ (net : ℕ) (i : Ink) (t : List ℕ) (n : ℕ) where
   refused-by k e = record { answer = λ l is. rw (e l is) refl }
 
   module _ (o : Bool) (o_is : o ≡ net_ok net) where
-    pub no-net : not o ≡ true → NetAnswered net i t n (Refused 4)
+    pub no-net : o ≡ false → NetAnswered net i t n (Refused 4)
     unfolding ohms_refusals first
-    no-net h = refused-by 4 (λ l is. rw (sym o_is ∙ not-true o h) refl)
+    no-net h = refused-by 4 (λ l is. rw (sym o_is ∙ h) refl)
 
-    module _ (allowed : not o ≡ false) (u : Bool) (u-is : u ≡ in_use net entries) where
-      pub not_there : not u ≡ true → NetAnswered net i t n (Refused 6)
+    module _ (allowed : o ≡ true) (u : Bool) (u-is : u ≡ in_use net entries) where
+      pub not_there : u ≡ false → NetAnswered net i t n (Refused 6)
       unfolding ohms_refusals first
-      not_there h = refused-by 6 (λ l is. rw (is, sym o_is ∙ not-false o allowed, sym u-is ∙ not-true u h) refl)
+      not_there h = refused-by 6 (λ l is. rw (is, sym o_is ∙ allowed, sym u-is ∙ h) refl)
 
-      module _ (used : not u ≡ false) (g : Bool) (g-is : g ≡ ink_ok i) where
-        pub no-ink : not g ≡ true → NetAnswered net i t n (Refused 22)
+      module _ (used : u ≡ true) (g : Bool) (g-is : g ≡ ink_ok i) where
+        pub no-ink : g ≡ false → NetAnswered net i t n (Refused 22)
         unfolding ohms_refusals first
         no-ink h =
             refused-by 22 (λ l is.
-            rw (is, sym o_is ∙ not-false o allowed, sym u-is ∙ not-false u used, sym g-is ∙ not-true g h) refl)
+            rw (is, sym o_is ∙ allowed, sym u-is ∙ used, sym g-is ∙ h) refl)
 
-        none_left : not g ≡ false → (l : Layout) → l.entries ≡ entries → first (ohms_refusals net i l) ≡ none
+        none_left : g ≡ true → (l : Layout) → l.entries ≡ entries → first (ohms_refusals net i l) ≡ none
         unfolding ohms_refusals first
         none_left h l is =
-            rw (is, sym o_is ∙ not-false o allowed, sym u-is ∙ not-false u used, sym g-is ∙ not-false g h) refl
+            rw (is, sym o_is ∙ allowed, sym u-is ∙ used, sym g-is ∙ h) refl
 
-        pub ohms-are : not g ≡ false → (r : Track) → Measured t n net r → (x : Float)
+        pub ohms-are : g ≡ true → (r : Track) → Measured t n net r → (x : Float)
             → x ≡ formula r.steps (r.legs - 1) i → NetAnswered net i t n (Ohms x)
         unfolding ohms_reply resistance_of legs_to ohms_of net_length net_bends
         ohms-are h r m x e =
@@ -65,8 +64,8 @@ module _ (net : ℕ) (i : Ink) (t : List ℕ) (n : ℕ) where
             }
 
 -- a net that is in use has a leg
-pub has-leg : (net : ℕ) (t : List ℕ) (n : ℕ) (u : Bool) → u ≡ in_use net (map (entry_at t) (range 0 n)) → not u ≡ false
+pub has-leg : (net : ℕ) (t : List ℕ) (n : ℕ) (u : Bool) → u ≡ in_use net (map (entry_at t) (range 0 n)) → u ≡ true
     → (r : Track) → Measured t n net r → 0 < r.legs
 unfolding legs_to
 has-leg net t n u u-is used r m =
-    omega (arith, m.legs, used-leg net (map (entry_at t) (range 0 n)) (sym u-is ∙ not-false u used))
+    omega (arith, m.legs, used-leg net (map (entry_at t) (range 0 n)) (sym u-is ∙ used))

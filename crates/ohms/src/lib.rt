@@ -1,6 +1,7 @@
 // The resistance of a laid net, from the ink's three figures: `net_ohms` is the body of the call. Nothing is
 // changed.
 #![tactic(auto)]
+
 ghost use Rattle.std.specs.Prelude.{◌≡◌};
 ghost use Rattle.foil_spec.specs.Ohms.{ink_ok, formula as formula_of};
 ghost use Rattle.nets.specs.Measured.{Boxes};

@@ -3,7 +3,7 @@ use Prim.Native.Nat.{ℕ, ◌+◌, ◌≤◌, ◌<◌}
 use native.Mathlib.Omega.{arith}
 use mathlib.Core.Path.{◌≡◌, refl, sym, ◌∙◌}
 use mathlib.Core.List.{List, ◌∷◌, append-nil}
-use lib.ListN.{length, get_or, set, replicate, length-map}
+use lib.ListN.{length, get_or, set, replicate}
 use lib.Seq.{take_all}
 use mir.Val.{Val}
 use denote.Laws.{Is}
@@ -19,7 +19,7 @@ use Rattle.sheet_rows.proofs.Sheet.TheLaws as T'
 
 -- an array of the code has its length
 pub eight : (s : Sheet) {w : List Val} → Is T.the_row s w → length s.boards ≡ sheet_foils
-eight s is = sym (length-map s.boards _) ∙ (LL.owed T.the_type T'.the_laws s _ is).0.1.0.1
+eight s is = (LL.owed T.the_type T'.the_laws s _ is).0.1.0.1
 
 -- eight records that are zero, but for that of foil 0
 pub boards-only : (n b : Board) → n ≡ no_board → set (replicate sheet_foils n) 0 b ≡ b ∷ replicate 7 no_board

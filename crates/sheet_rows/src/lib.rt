@@ -1,6 +1,7 @@
 // The rows of a sheet: how many entries its eight foils have and may have, and the table that they share, from which a
 // foil's entries are taken out for a call and to which they are put back.
 #![tactic(auto)]
+
 mod limits;
 mod table;
 

@@ -2,6 +2,7 @@
 // target is a point in one of the first k target boxes that the first n boxes leave free. Each function serves both
 // directions, as in `grid` and `labels`.
 #![tactic(auto)]
+
 ghost use Rattle.std.specs.Prelude.{◌≡◌, true, ◌+◌, ◌*◌, ◌≤◌, length};
 ghost use Rattle.foil_spec.specs.Lent.{entry_at};
 ghost use Rattle.zones.specs.Boxes.{covers};

@@ -6,7 +6,7 @@ use mathlib.Core.Bool.{Bool, true, false, not, ◌&&◌, and-true, and-false}
 use mathlib.Core.List.{List, map}
 use lib.Dec.{leb, ltb}
 use lib.ListN.{length, get_or, take}
-use borrow.Author.Tests.{le-leb, leb-true, ltb-false, le-ltb, not-true, not-false}
+use borrow.Author.Tests.{le-leb, leb-true, ltb-false, le-ltb}
 use Rattle.foil_spec.specs.Lists.{range, all, each}
 use Rattle.foil_spec.specs.Limits.{max_entries, table_size, max_strips, strips_size}
 use Rattle.foil_spec.specs.Foil.{Entry, entry_numbers, Rule, size_ok, reach_ok, pen_ok, entry_ok, no_crossing, pen_rule}
@@ -83,16 +83,16 @@ module _ (rule : Rule) (w h n count : ℕ) (t s : List ℕ) where
   pub short-strips : length s < strips_size → false ≡ right
   short-strips l = not_right (λ k. omega (arith, (as_long (ruled rule) w h n count t s k).1))
 
-  pub bad-sizes : (r : Bool) → r ≡ sizes_ok w h n → not r ≡ true → false ≡ right
+  pub bad-sizes : (r : Bool) → r ≡ sizes_ok w h n → r ≡ false → false ≡ right
   unfolding sizes_ok
   bad-sizes r e f =
       not_right (λ k.
       let g = of-asked (ruled rule) w h es k.kept in
       clash (let y : sizes_ok w h n ≡ true = simp (g.width, g.height, le-leb n max_entries k.few) in y)
-      (sym e ∙ not-true r f))
+      (sym e ∙ f))
 
-  pub bad-entries : (r : Bool) → r ≡ all (entry_ok w h) es → not r ≡ true → false ≡ right
-  bad-entries r e f = not_right (λ k. clash (of-asked (ruled rule) w h es k.kept).entries (sym e ∙ not-true r f))
+  pub bad-entries : (r : Bool) → r ≡ all (entry_ok w h) es → r ≡ false → false ≡ right
+  bad-entries r e f = not_right (λ k. clash (of-asked (ruled rule) w h es k.kept).entries (sym e ∙ f))
 
   zeros-after : SoundAs (ruled rule) w h n count t s → Zeros t (n * 5) table_size
   zeros-after k =
@@ -106,8 +106,8 @@ module _ (rule : Rule) (w h n count : ℕ) (t s : List ℕ) where
             ∙ written-zero table_size ns t (omega (arith, k.few)) (i - length ns) (omega arith);
       }
 
-  pub bad-rest : (r : Bool) → Decided (Zeros t (n * 5) table_size) r → not r ≡ true → false ≡ right
-  bad-rest true z f = clash f refl
+  pub bad-rest : (r : Bool) → Decided (Zeros t (n * 5) table_size) r → r ≡ false → false ≡ right
+  bad-rest true z f = clash refl f
   bad-rest false z f = not_right (λ k. z (zeros-after k))
 
   -- what the test of the sizes says
@@ -116,10 +116,10 @@ module _ (rule : Rule) (w h n count : ℕ) (t s : List ℕ) where
     pub few : n ≤ max_entries
     pub sized : Sized w h
 
-  pub sizes-fit : (r : Bool) → r ≡ sizes_ok w h n → not r ≡ false → SizesFit
+  pub sizes-fit : (r : Bool) → r ≡ sizes_ok w h n → r ≡ true → SizesFit
   unfolding sizes_ok
   sizes-fit r e f =
-      let y : sizes_ok w h n ≡ true = sym e ∙ not-false r f in
+      let y : sizes_ok w h n ≡ true = sym e ∙ f in
       let few : leb n max_entries ≡ true = search parts in
       record {
         yes = y;
@@ -134,10 +134,10 @@ module _ (rule : Rule) (w h n count : ℕ) (t s : List ℕ) where
     pub entries : all (entry_ok w h) es ≡ true
     pub rest : Zeros t (n * 5) table_size
 
-  pub shown : table_size ≤ length t → SizesFit → (r : Bool) → r ≡ all (entry_ok w h) es → not r ≡ false
-      → (q : Bool) → Decided (Zeros t (n * 5) table_size) q → not q ≡ false → Shown
-  shown len fits r e f true z k = record { long = len; sizes = fits; entries = sym e ∙ not-false r f; rest = z }
-  shown len fits r e f false z k = clash refl k
+  pub shown : table_size ≤ length t → SizesFit → (r : Bool) → r ≡ all (entry_ok w h) es → r ≡ true
+      → (q : Bool) → Decided (Zeros t (n * 5) table_size) q → q ≡ true → Shown
+  shown len fits r e f true z k = record { long = len; sizes = fits; entries = sym e ∙ f; rest = z }
+  shown len fits r e f false z k = clash k refl
 
   all-kept : Shown → length (strips_by rule w h es) ≤ max_strips → keeps_asked (ruled rule) w h es ≡ true
   unfolding sizes_ok ruled
@@ -173,9 +173,9 @@ module _ (rule : Rule) (w h n count : ℕ) (t s : List ℕ) where
       }))
 
   -- where it is passed, the table has the entries, and they are few
-  pub right-fits : (r : Bool) → r ≡ right → not r ≡ false → (n ≤ max_entries) × (n * 5 ≤ length t)
+  pub right-fits : (r : Bool) → r ≡ right → r ≡ true → (n ≤ max_entries) × (n * 5 ≤ length t)
   right-fits r e f =
-      let k = of-sound-as (ruled rule) w h n count t s (sym e ∙ not-false r f) in
+      let k = of-sound-as (ruled rule) w h n count t s (sym e ∙ f) in
       (k.few, omega (arith, k.few, (as_long (ruled rule) w h n count t s k).0))
 
 -- ---- with what is asked besides
@@ -212,22 +212,22 @@ module _ (b : Board) (t s : List ℕ) where
   unfolding sound today
   today-parts = asked-parts (today (pen_in b)) b.width b.height b.entries b.strips t s
 
-  pub bad-pen : (r : Bool) → r ≡ pen_ok (pen_in b) → not r ≡ true → false ≡ sound (lent b t s)
-  bad-pen r e f = sym (today-parts ∙ simp (sym e ∙ not-true r f))
+  pub bad-pen : (r : Bool) → r ≡ pen_ok (pen_in b) → r ≡ false → false ≡ sound (lent b t s)
+  bad-pen r e f = sym (today-parts ∙ simp (sym e ∙ f))
 
   module _ (allowed : pen_ok (pen_in b) ≡ true) (rule : Rule) (is : rule ≡ pen_rule (pen_in b)) (r : Bool)
       (found : r ≡ by rule) where
     by-is : r ≡ by (pen_rule (pen_in b))
     by-is = found ∙ ap by is
 
-    pub rule-broken : not r ≡ true → false ≡ sound (lent b t s)
-    rule-broken f = sym (today-parts ∙ simp (allowed, sym by-is ∙ not-true r f))
+    pub rule-broken : r ≡ false → false ≡ sound (lent b t s)
+    rule-broken f = sym (today-parts ∙ simp (allowed, sym by-is ∙ f))
 
-    pub rule-kept : not r ≡ false → (q : Bool) → q ≡ no_crossing rule.patch entries → q ≡ sound (lent b t s)
+    pub rule-kept : r ≡ true → (q : Bool) → q ≡ no_crossing rule.patch entries → q ≡ sound (lent b t s)
     unfolding patch_margin
     rule-kept f q e =
         e ∙ ap (λ (x : Rule). no_crossing x.patch entries) is
-        ∙ sym (today-parts ∙ simp (allowed, sym by-is ∙ not-false r f))
+        ∙ sym (today-parts ∙ simp (allowed, sym by-is ∙ f))
 
 -- document 01's check, by the reach
 module _ (b : OldBoard) (t s : List ℕ) where
@@ -237,10 +237,10 @@ module _ (b : OldBoard) (t s : List ℕ) where
   unfolding old_sound formerly
   old-parts = asked-parts (formerly b.reach) b.width b.height b.entries b.strips t s
 
-  pub bad-reach : (r : Bool) → r ≡ reach_ok b.reach → not r ≡ true → false ≡ old_sound (old b t s)
-  bad-reach r e f = sym (old-parts ∙ simp (sym e ∙ not-true r f))
+  pub bad-reach : (r : Bool) → r ≡ reach_ok b.reach → r ≡ false → false ≡ old_sound (old b t s)
+  bad-reach r e f = sym (old-parts ∙ simp (sym e ∙ f))
 
-  pub old-rule : (r : Bool) → r ≡ reach_ok b.reach → not r ≡ false → (q : Bool)
+  pub old-rule : (r : Bool) → r ≡ reach_ok b.reach → r ≡ true → (q : Bool)
       → q ≡ sound_by (ruled (reach_rule b.reach)) b.width b.height b.entries b.strips t s
       → q ≡ old_sound (old b t s)
-  old-rule r e f q is = is ∙ sym (old-parts ∙ simp (sym e ∙ not-false r f, and-true))
+  old-rule r e f q is = is ∙ sym (old-parts ∙ simp (sym e ∙ f, and-true))

@@ -7,7 +7,7 @@ use mathlib.Core.List.{List, map}
 use lib.Dec.{ltb, eqb}
 use lib.ListN.{length}
 use borrow.Author.Count.{below_more}
-use borrow.Author.Tests.{eq-eqb, ne_eqb, not-true, not-false}
+use borrow.Author.Tests.{eq-eqb, ne_eqb}
 use Rattle.foil_spec.specs.Lists.{range, keep, any}
 use Rattle.foil_spec.specs.Limits.{max_entries}
 use Rattle.foil_spec.specs.Foil.{Entry, meets, crosses, over_leg, under_patch, no_crossing}
@@ -23,24 +23,24 @@ use Rattle.tables.proofs.Filling.{read-rows, kept-long}
 -- ---- two boxes, comparison by comparison
 
 module _ (m : ℕ) (p e : Entry) (a : Bool) (a-is : a ≡ ltb e.x0 (p.x1 + m)) where
-  pub right_of : not a ≡ true → false ≡ meets m p e
+  pub right_of : a ≡ false → false ≡ meets m p e
   unfolding meets
-  right_of n = simp (sym a-is ∙ not-true a n)
+  right_of n = simp (sym a-is ∙ n)
 
-  module _ (a-yes : not a ≡ false) (b : Bool) (b-is : b ≡ ltb p.x0 (e.x1 + m)) where
-    pub left-of : not b ≡ true → false ≡ meets m p e
+  module _ (a-yes : a ≡ true) (b : Bool) (b-is : b ≡ ltb p.x0 (e.x1 + m)) where
+    pub left-of : b ≡ false → false ≡ meets m p e
     unfolding meets
-    left-of n = simp (sym a-is ∙ not-false a a-yes, sym b-is ∙ not-true b n)
+    left-of n = simp (sym a-is ∙ a-yes, sym b-is ∙ n)
 
-    module _ (b-yes : not b ≡ false) (c : Bool) (c-is : c ≡ ltb e.y0 (p.y1 + m)) where
-      pub below : not c ≡ true → false ≡ meets m p e
+    module _ (b-yes : b ≡ true) (c : Bool) (c-is : c ≡ ltb e.y0 (p.y1 + m)) where
+      pub below : c ≡ false → false ≡ meets m p e
       unfolding meets
-      below n = simp (sym a-is ∙ not-false a a-yes, sym b-is ∙ not-false b b-yes, sym c-is ∙ not-true c n)
+      below n = simp (sym a-is ∙ a-yes, sym b-is ∙ b-yes, sym c-is ∙ n)
 
-      pub not-below : not c ≡ false → (d : Bool) → d ≡ ltb p.y0 (e.y1 + m) → d ≡ meets m p e
+      pub not-below : c ≡ true → (d : Bool) → d ≡ ltb p.y0 (e.y1 + m) → d ≡ meets m p e
       unfolding meets
       not-below c-yes d d-is =
-          d-is ∙ simp (sym a-is ∙ not-false a a-yes, sym b-is ∙ not-false b b-yes, sym c-is ∙ not-false c c-yes)
+          d-is ∙ simp (sym a-is ∙ a-yes, sym b-is ∙ b-yes, sym c-is ∙ c-yes)
 
 -- ---- a patch and a leg
 

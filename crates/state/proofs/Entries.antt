@@ -2,11 +2,11 @@
 use Prim.Native.Nat.{ℕ, ◌+◌, ◌≤◌, ◌<◌}
 use native.Mathlib.Omega.{arith}
 use mathlib.Core.Path.{◌≡◌, sym, ap, ◌∙◌}
-use mathlib.Core.Bool.{Bool, true, false, not}
+use mathlib.Core.Bool.{Bool, true, false}
 use mathlib.Core.List.{List, map}
 use lib.Dec.{ltb}
 use borrow.Author.Count.{below_more}
-use borrow.Author.Tests.{ltb-true, not-true, not-false}
+use borrow.Author.Tests.{ltb-true}
 use Rattle.foil_spec.specs.Foil.{Entry, entry, box_ok, shape_ok, entry_ok}
 use Rattle.foil_spec.specs.Lent.{entry_at}
 use Rattle.foil_spec.specs.Lists.{range, all}
@@ -14,21 +14,21 @@ use Rattle.list_laws.proofs.Tests.{parts}
 use Rattle.list_laws.proofs.Members.{all-places, not-all}
 
 module _ (e : Entry) (w h : ℕ) (r : Bool) (is : r ≡ box_ok w h (entry 0 e.x0 e.y0 e.x1 e.y1)) where
-  pub off-board : not r ≡ true → false ≡ entry_ok w h e
+  pub off-board : r ≡ false → false ≡ entry_ok w h e
   unfolding entry_ok box_ok
-  off-board n = simp (sym is ∙ not-true r n)
+  off-board n = simp (sym is ∙ n)
 
-  pub not-empty : not r ≡ false → (e.x0 < e.x1) × (e.y0 < e.y1)
+  pub not-empty : r ≡ true → (e.x0 < e.x1) × (e.y0 < e.y1)
   unfolding box_ok
   not-empty n =
-      let b : box_ok w h (entry 0 e.x0 e.y0 e.x1 e.y1) ≡ true = sym is ∙ not-false r n in
+      let b : box_ok w h (entry 0 e.x0 e.y0 e.x1 e.y1) ≡ true = sym is ∙ n in
       let p : ltb e.x0 e.x1 ≡ true = search parts in
       let q : ltb e.y0 e.y1 ≡ true = search parts in
       (ltb-true e.x0 e.x1 p, ltb-true e.y0 e.y1 q)
 
-  pub shaped : (s : Bool) → s ≡ shape_ok e → not r ≡ false → s ≡ entry_ok w h e
+  pub shaped : (s : Bool) → s ≡ shape_ok e → r ≡ true → s ≡ entry_ok w h e
   unfolding entry_ok box_ok
-  shaped s q n = q ∙ simp (sym is ∙ not-false r n)
+  shaped s q n = q ∙ simp (sym is ∙ n)
 
 -- the entries before place k are such, of n
 pub record Passed (t : List ℕ) (n w h k : ℕ) : Type 0 where
@@ -46,12 +46,12 @@ module _ (t : List ℕ) (n w h : ℕ) where
     is : r ≡ entry_ok w h (entry_at t k)
     is = of ∙ ap (entry_ok w h) at
 
-    pub passed-more : not r ≡ false → Passed t n w h k → Passed t n w h (k + 1)
+    pub passed-more : r ≡ true → Passed t n w h k → Passed t n w h (k + 1)
     passed-more y p =
         record {
           le = omega arith;
-          ok = below_more (λ (i : ℕ). entry_ok w h (entry_at t i) ≡ true) k p.ok (sym is ∙ not-false r y);
+          ok = below_more (λ (i : ℕ). entry_ok w h (entry_at t i) ≡ true) k p.ok (sym is ∙ y);
         }
 
-    pub passed-not : not r ≡ true → false ≡ all (entry_ok w h) (map (entry_at t) (range 0 n))
-    passed-not y = sym (not-all (entry_ok w h) (entry_at t) n k l (sym is ∙ not-true r y))
+    pub passed-not : r ≡ false → false ≡ all (entry_ok w h) (map (entry_at t) (range 0 n))
+    passed-not y = sym (not-all (entry_ok w h) (entry_at t) n k l (sym is ∙ y))

@@ -4,9 +4,9 @@ use native.Mathlib.Omega.{arith}
 use native.Mathlib.Decide.{ℕ_discrete}
 use mathlib.Core.Path.{◌≡◌, sym, ◌∙◌}
 use mathlib.Core.Logic.{by_cases}
-use mathlib.Core.Bool.{Bool, true, false, not}
+use mathlib.Core.Bool.{Bool, true, false}
 use lib.Dec.{eqb}
-use borrow.Author.Tests.{eq-eqb, ne_eqb, not-true, not-false}
+use borrow.Author.Tests.{eq-eqb, ne_eqb}
 use Rattle.foil_spec.specs.Foil.{entry, net_ok, shape_ok}
 
 -- two numbers are neighbours exactly if their difference is 1
@@ -22,17 +22,17 @@ module _ (net x0 y0 x1 y1 : ℕ) where
   patch-shape e = simp (eq-eqb net 0 e)
 
   module _ (r : Bool) (is : r ≡ net_ok net) (no-patch : net ≡ 0 → ⊥) where
-    pub no-track : not r ≡ true → false ≡ shape_ok (entry net x0 y0 x1 y1)
+    pub no-track : r ≡ false → false ≡ shape_ok (entry net x0 y0 x1 y1)
     unfolding shape_ok
-    no-track t = simp (ne_eqb net 0 no-patch, sym is ∙ not-true r t)
+    no-track t = simp (ne_eqb net 0 no-patch, sym is ∙ t)
 
-    pub narrow-leg : not r ≡ false → x0 < x1 → x1 - x0 ≡ 1 → true ≡ shape_ok (entry net x0 y0 x1 y1)
+    pub narrow-leg : r ≡ true → x0 < x1 → x1 - x0 ≡ 1 → true ≡ shape_ok (entry net x0 y0 x1 y1)
     unfolding shape_ok
-    narrow-leg t l e = simp (ne_eqb net 0 no-patch, sym is ∙ not-false r t, eq-eqb x1 (suc x0) (omega arith))
+    narrow-leg t l e = simp (ne_eqb net 0 no-patch, sym is ∙ t, eq-eqb x1 (suc x0) (omega arith))
 
-    pub flat-leg : not r ≡ false → x0 < x1 → y0 < y1 → (x1 - x0 ≡ 1 → ⊥)
+    pub flat-leg : r ≡ true → x0 < x1 → y0 < y1 → (x1 - x0 ≡ 1 → ⊥)
         → eqb (y1 - y0) 1 ≡ shape_ok (entry net x0 y0 x1 y1)
     unfolding shape_ok
     flat-leg t l k n =
-        simp (ne_eqb net 0 no-patch, sym is ∙ not-false r t, ne_eqb x1 (suc x0) (λ e. n (omega arith)))
+        simp (ne_eqb net 0 no-patch, sym is ∙ t, ne_eqb x1 (suc x0) (λ e. n (omega arith)))
         (one_apart y0 y1 k)

@@ -1,6 +1,7 @@
 // The state check: whether the record, the table and the strips keep the rules (13), today's or those of
 // document 01.
 #![tactic(auto)]
+
 mod arguments;
 mod crossing;
 
