@@ -6,7 +6,7 @@ use mathlib.Core.List.{List}
 use mathlib.Core.Option.{Option}
 use lib.ListN.{length}
 use Rattle.foil_spec.specs.Foil.{Point}
-use Rattle.search.specs.Search.{Ready, path_corners, Searched, Walked, PathFound}
+use Rattle.search.specs.Search.{path_corners, Searched, Walked, PathFound}
 use Rattle.search.specs.declared.Start.{Start}
 
 module _ {o : Option (List Point)} {cols rows kl ku l u wl wu : List ℕ} {s : Start}

@@ -1,17 +1,16 @@
 -- A path to one point is a path to a target box of that point.
-use Prim.Native.Nat.{ℕ, suc, ◌+◌, ◌≤◌, ◌<◌}
+use Prim.Native.Nat.{ℕ, ◌+◌, ◌≤◌, ◌<◌}
 use native.Mathlib.Omega.{arith}
-use mathlib.Core.Path.{◌≡◌, refl, sym, ap, ◌∙◌, subst, fun_ext}
-use mathlib.Core.Bool.{Bool, true, false, ◌&&◌, ◌||◌, or-false}
+use mathlib.Core.Path.{◌≡◌, sym, ap, ◌∙◌, subst, fun_ext}
+use mathlib.Core.Bool.{true, false, ◌&&◌, ◌||◌, or-false}
 use mathlib.Core.List.{List, [], ◌∷◌}
 use mathlib.Core.Option.{Option}
 use lib.Dec.{eqb}
-use lib.ListN.{length}
 use borrow.Author.Tests.{eq-eqb, eqb-true}
 use Rattle.foil_spec.specs.Foil.{Point, point, Entry, same}
 use Rattle.foil_spec.specs.Lent.{entry_at}
 use Rattle.foil_spec.specs.Paths.{at, first_path, first_path_to}
-use Rattle.list_laws.proofs.Tests.{and_l, and_r, and_i, or_cases, same_test}
+use Rattle.list_laws.proofs.Tests.{and_l, and_r, and_i, same_test}
 use Rattle.path_laws.proofs.Segments.{same-eq}
 use Rattle.zones.specs.Boxes.{inside, covers, box_free, Boxes}
 use Rattle.zones.proofs.Free.{inside-yes, of-inside, not_covered}
