@@ -1,6 +1,7 @@
 // The body of the call find (`find_in`): writes the corners of the first path of fewest bends, and changes nothing
 // else. What it seeks by is open to lay.
 #![tactic(auto)]
+
 ghost use Rattle.std.specs.Prelude.{◌≡◌, ◌<◌, true};
 ghost use Rattle.foil_spec.specs.Foil.{point};
 ghost use Rattle.foil_spec.specs.Ledger.{find as finds, blocked};

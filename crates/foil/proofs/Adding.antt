@@ -2,11 +2,11 @@
 use Prim.Native.Nat.{ℕ, ◌+◌, ◌*◌, min, ◌≤◌, ◌<◌}
 use native.Mathlib.Omega.{arith}
 use mathlib.Core.Path.{◌≡◌, refl, sym, ap, ◌∙◌, subst}
-use mathlib.Core.Bool.{Bool, true, false, not}
+use mathlib.Core.Bool.{Bool, true, false}
 use mathlib.Core.List.{List, [], ◌∷◌, ◌++◌, map}
 use lib.ListN.{length, replicate, length-append}
 use lib.Seq.{paste, sets}
-use borrow.Author.Tests.{lt-ltb, le-ltb, not-true, not-false}
+use borrow.Author.Tests.{lt-ltb, le-ltb}
 use Rattle.foil_spec.specs.Lists.{range, all}
 use Rattle.foil_spec.specs.Limits.{max_entries, table_size}
 use Rattle.foil_spec.specs.Foil.{Entry, entry, entry_numbers, Layout, net_ok, box_ok, entry_ok, over_leg, under_patch}
@@ -113,14 +113,14 @@ module _ (b : Board) (t s : List ℕ) (g : sound (lent b t s) ≡ true) (limit :
   -- ---- a patch
 
   module _ (x0 y0 x1 y1 : ℕ) (o : Bool) (o_is : o ≡ box_ok b.width b.height (entry 0 x0 y0 x1 y1)) where
-    pub no-patch : not o ≡ true → (r : Done) → r ≡ refused_by 3 b → StepIn (draw x0 y0 x1 y1) limit m r t s
+    pub no-patch : o ≡ false → (r : Done) → r ≡ refused_by 3 b → StepIn (draw x0 y0 x1 y1) limit m r t s
     unfolding first refusals held layout_of
     no-patch n r q room long is =
-        own-done (draw x0 y0 x1 y1) m 3 r q g room long (rw (sym o_is ∙ not-true o n) refl)
+        own-done (draw x0 y0 x1 y1) m 3 r q g room long (rw (sym o_is ∙ n) refl)
 
-    module _ (box : not o ≡ false) where
+    module _ (box : o ≡ true) where
       pub is-entry : entry_ok b.width b.height (entry 0 x0 y0 x1 y1) ≡ true
-      is-entry = patch-ok b.width b.height x0 y0 x1 y1 (sym o_is ∙ not-false o box)
+      is-entry = patch-ok b.width b.height x0 y0 x1 y1 (sym o_is ∙ box)
 
       module _ (d : ℕ) (d-is : d ≡ patch_margin (pen_in b)) (v : Bool)
           (v-is : v ≡ over_leg d (map (entry_at t) (range 0 b.entries)) (entry 0 x0 y0 x1 y1)) where
@@ -132,12 +132,12 @@ module _ (b : Board) (t s : List ℕ) (g : sound (lent b t s) ≡ true) (limit :
         pub patch-across : v ≡ true → (r : Done) → r ≡ refused_by 21 b → StepIn (draw x0 y0 x1 y1) limit m r t s
         unfolding first refusals held layout_of
         patch-across y r q room long is =
-            own-done (draw x0 y0 x1 y1) m 21 r q g room long (rw (sym o_is ∙ not-false o box, over-is ∙ y) refl)
+            own-done (draw x0 y0 x1 y1) m 21 r q g room long (rw (sym o_is ∙ box, over-is ∙ y) refl)
 
         module _ (clear : v ≡ false) where
           past-21 : PastOwn (draw x0 y0 x1 y1) (entry 0 x0 y0 x1 y1)
           unfolding refusals first says next held layout_of
-          past-21 room = rw (sym o_is ∙ not-false o box, over-is ∙ clear) refl
+          past-21 room = rw (sym o_is ∙ box, over-is ∙ clear) refl
 
           pub drawn : (r : Done) (t' s' : List ℕ) → Added (entry 0 x0 y0 x1 y1) r t' s'
               → StepIn (draw x0 y0 x1 y1) limit m r t' s'
@@ -146,17 +146,17 @@ module _ (b : Board) (t s : List ℕ) (g : sound (lent b t s) ≡ true) (limit :
   -- ---- a leg
 
   module _ (e : Entry) (n : Bool) (n-is : n ≡ net_ok e.net) where
-    pub no-net : not n ≡ true → (r : Done) → r ≡ refused_by 4 b → StepIn (put_leg e) limit m r t s
+    pub no-net : n ≡ false → (r : Done) → r ≡ refused_by 4 b → StepIn (put_leg e) limit m r t s
     unfolding first refusals
-    no-net f r q room long is = own-done (put_leg e) m 4 r q g room long (rw (sym n-is ∙ not-true n f) refl)
+    no-net f r q room long is = own-done (put_leg e) m 4 r q g room long (rw (sym n-is ∙ f) refl)
 
-    module _ (named : not n ≡ false) (o : Bool) (o_is : o ≡ entry_ok b.width b.height e) where
-      pub no-leg : not o ≡ true → (r : Done) → r ≡ refused_by 3 b → StepIn (put_leg e) limit m r t s
+    module _ (named : n ≡ true) (o : Bool) (o_is : o ≡ entry_ok b.width b.height e) where
+      pub no-leg : o ≡ false → (r : Done) → r ≡ refused_by 3 b → StepIn (put_leg e) limit m r t s
       unfolding first refusals held layout_of
       no-leg f r q room long is =
-          own-done (put_leg e) m 3 r q g room long (rw (sym n-is ∙ not-false n named, sym o_is ∙ not-true o f) refl)
+          own-done (put_leg e) m 3 r q g room long (rw (sym n-is ∙ named, sym o_is ∙ f) refl)
 
-      module _ (ok : not o ≡ false) where
+      module _ (ok : o ≡ true) where
         module _ (d : ℕ) (d-is : d ≡ patch_margin (pen_in b)) (v : Bool)
             (v-is : v ≡ under_patch d (map (entry_at t) (range 0 b.entries)) e) where
           under-is : under_patch (patch_margin (pen_in b)) (map (entry_at t) (range 0 b.entries)) e ≡ v
@@ -167,13 +167,13 @@ module _ (b : Board) (t s : List ℕ) (g : sound (lent b t s) ≡ true) (limit :
           unfolding first refusals held layout_of
           leg-across y r q room long is =
               own-done (put_leg e) m 21 r q g room long
-              (rw (sym n-is ∙ not-false n named, sym o_is ∙ not-false o ok, under-is ∙ y) refl)
+              (rw (sym n-is ∙ named, sym o_is ∙ ok, under-is ∙ y) refl)
 
           module _ (clear : v ≡ false) where
             past-4-3-and-21 : PastOwn (put_leg e) e
             unfolding refusals first says next held layout_of
             past-4-3-and-21 room =
-                rw (sym n-is ∙ not-false n named, sym o_is ∙ not-false o ok, under-is ∙ clear) refl
+                rw (sym n-is ∙ named, sym o_is ∙ ok, under-is ∙ clear) refl
 
             pub leg-put : (r : Done) (t' s' : List ℕ) → Added e r t' s' → StepIn (put_leg e) limit m r t' s'
             leg-put = step_added (put_leg e) e past-4-3-and-21

@@ -6,7 +6,6 @@ use mathlib.Core.Bool.{Bool, true, false, not, and-false}
 use mathlib.Core.List.{List, [], ◌∷◌}
 use mathlib.Core.Option.{none, some}
 use lib.ListN.{replicate}
-use borrow.Author.Tests.{not-true, not-false}
 use Rattle.foil_spec.specs.Limits.{table_size}
 use Rattle.foil_spec.specs.Foil.{Pen, size_ok, pen_ok, pen_rule}
 use Rattle.foil_spec.specs.Ledger.{Room, short, Clearance, pen_of, clearance_refusal, new_foil, next, says, first, reads}
@@ -44,23 +43,23 @@ module _ (b : Board) (t s : List ℕ) (w h : ℕ) (c : Clearance) (room : Room) 
   from-1 = rw (long, and-false (not (sound (lent b t s)))) refl
 
   module _ (u : Bool) (u-is : u ≡ size_ok w) where
-    pub no-width : not u ≡ true → (r : Done) → r ≡ refused_by 1 b → Given r t s
+    pub no-width : u ≡ false → (r : Done) → r ≡ refused_by 1 b → Given r t s
     unfolding first refusals
     no-width n r q =
-        step-refused (new_foil w h c) (lent b t s) 1 r q room (from-1 ∙ rw (sym u-is ∙ not-true u n) refl)
+        step-refused (new_foil w h c) (lent b t s) 1 r q room (from-1 ∙ rw (sym u-is ∙ n) refl)
 
-    module _ (wide : not u ≡ false) (v : Bool) (v-is : v ≡ size_ok h) where
-      pub no-height : not v ≡ true → (r : Done) → r ≡ refused_by 1 b → Given r t s
+    module _ (wide : u ≡ true) (v : Bool) (v-is : v ≡ size_ok h) where
+      pub no-height : v ≡ false → (r : Done) → r ≡ refused_by 1 b → Given r t s
       unfolding first refusals
       no-height n r q =
           step-refused (new_foil w h c) (lent b t s) 1 r q room
-          (from-1 ∙ rw (sym u-is ∙ not-false u wide, sym v-is ∙ not-true v n) refl)
+          (from-1 ∙ rw (sym u-is ∙ wide, sym v-is ∙ n) refl)
 
-      module _ (high : not v ≡ false) where
+      module _ (high : v ≡ true) where
         -- then only the clearance can still be refused
         past-1 : first (refusals (new_foil w h c) room (held (lent b t s))) ≡ first (clearance_refusal c ∷ [])
         unfolding first refusals
-        past-1 = rw (sym u-is ∙ not-false u wide, sym v-is ∙ not-false v high) refl
+        past-1 = rw (sym u-is ∙ wide, sym v-is ∙ high) refl
 
         pub no-pen : (n : ℕ) → first (clearance_refusal c ∷ []) ≡ some n → (r : Done) → r ≡ refused_by n b → Given r t s
         no-pen n e r q = step-refused (new_foil w h c) (lent b t s) n r q room (from-1 ∙ past-1 ∙ e)

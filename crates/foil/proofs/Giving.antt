@@ -7,7 +7,7 @@ use mathlib.Core.List.{List}
 use mathlib.Core.Logic.{⊎_elim}
 use mathlib.Core.Option.{Option, none, some}
 use lib.Dec.{ltb}
-use borrow.Author.Tests.{lt-ltb, le-ltb, not-true}
+use borrow.Author.Tests.{lt-ltb, le-ltb}
 use lib.ListN.{length}
 use Rattle.foil_spec.specs.Limits.{max_entries, table_size, max_strips, strips_size}
 use Rattle.foil_spec.specs.Foil.{Layout}
@@ -124,10 +124,10 @@ module _ (b : Board) (t s : List ℕ) (k : Bool) (k-is : TooShort t s k) where
   unfolding after_lent first
   too_short e limit output rs = rw (sym (k-is.is b limit output) ∙ e) refl
 
-  pub broken : k ≡ false → (g : Bool) → g ≡ sound (lent b t s) → not g ≡ true
+  pub broken : k ≡ false → (g : Bool) → g ≡ sound (lent b t s) → g ≡ false
       → LentChecked (lent b t s) (checked.Refused 13)
   unfolding after_lent first
-  broken e g g-is y limit output rs = rw (sym (k-is.is b limit output) ∙ e, sym g-is ∙ not-true g y) refl
+  broken e g g-is y limit output rs = rw (sym (k-is.is b limit output) ∙ e, sym g-is ∙ y) refl
 
 -- ---- a step that is accepted
 

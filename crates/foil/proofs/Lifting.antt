@@ -4,7 +4,6 @@ use native.Mathlib.Omega.{arith}
 use mathlib.Core.Path.{◌≡◌, refl, sym, ap, ◌∙◌, subst}
 use mathlib.Core.Bool.{Bool, true, false, not}
 use mathlib.Core.List.{List, map}
-use borrow.Author.Tests.{not-true, not-false}
 use Rattle.foil_spec.specs.Lists.{range, all}
 use Rattle.foil_spec.specs.Foil.{Entry, Layout, net_ok, entry_ok, pen_rule}
 use Rattle.foil_spec.specs.Nets.{of_net, in_use}
@@ -35,18 +34,18 @@ module _ (b : Board) (t s : List ℕ) (net : ℕ) (g : sound (lent b t s) ≡ tr
   facts = of-sound m g
 
   module _ (o : Bool) (o_is : o ≡ net_ok net) where
-    pub no-net : not o ≡ true → (r : Done) → r ≡ refused_by 4 b → Lifted r t s
+    pub no-net : o ≡ false → (r : Done) → r ≡ refused_by 4 b → Lifted r t s
     unfolding first refusals
-    no-net n r q room long = own-done (lift net) m 4 r q g room long (rw (sym o_is ∙ not-true o n) refl)
+    no-net n r q room long = own-done (lift net) m 4 r q g room long (rw (sym o_is ∙ n) refl)
 
     module _
-        (allowed : not o ≡ false) (u : Bool) (u-is : u ≡ in_use net (map (entry_at t) (range 0 b.entries))) where
-      pub not_there : not u ≡ true → (r : Done) → r ≡ refused_by 6 b → Lifted r t s
+        (allowed : o ≡ true) (u : Bool) (u-is : u ≡ in_use net (map (entry_at t) (range 0 b.entries))) where
+      pub not_there : u ≡ false → (r : Done) → r ≡ refused_by 6 b → Lifted r t s
       unfolding first refusals held layout_of
       not_there n r q room long =
-          own-done (lift net) m 6 r q g room long (rw (sym o_is ∙ not-false o allowed, sym u-is ∙ not-true u n) refl)
+          own-done (lift net) m 6 r q g room long (rw (sym o_is ∙ allowed, sym u-is ∙ n) refl)
 
-      module _ (used : not u ≡ false) (rows : List ℕ) (n : ℕ) (kept : Kept rows t net b.entries n) where
+      module _ (used : u ≡ true) (rows : List ℕ) (n : ℕ) (kept : Kept rows t net b.entries n) where
         abbrev es : List Entry
         es = other_nets net t b.entries
 
@@ -74,7 +73,7 @@ module _ (b : Board) (t s : List ℕ) (net : ℕ) (g : sound (lent b t s) ≡ tr
             (record { answer = says (lift net) (held m); state = store (next (lift net) (held m)) m }) m
             ≡ taken_over (next (lift net) (held m)) m
         unfolding refusals first says held layout_of
-        past-6 room = rw (sym o_is ∙ not-false o allowed, sym u-is ∙ not-false u used) refl
+        past-6 room = rw (sym o_is ∙ allowed, sym u-is ∙ used) refl
 
         pub lifted : (r : Done) (t' s' : List ℕ)
             → Gave (taken_over (layout_of b.width b.height (pen_in b) n rows) m) r t' s' → Lifted r t' s'

@@ -3,6 +3,7 @@
 // its sheet and has tried 12 and 13 by `lent_refusal`, and the body is told how many entries the foil may
 // have. Lay is in the crate `laying`.
 #![tactic(auto)]
+
 mod lent;
 mod pens;
 

@@ -1,5 +1,6 @@
 // Saving a foil as a job file: `save_in` is the body of the call.
 #![tactic(auto)]
+
 mod file;
 
 ghost use Rattle.std.specs.Prelude.{◌≡◌, true};

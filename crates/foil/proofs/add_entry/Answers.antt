@@ -1,0 +1,25 @@
+-- `foil::add_entry` copies the table, appends the entry, and takes the rows over.
+use native.Mathlib.Omega.{arith}
+use Rattle.ledger_laws.proofs.Sound.{sound-long}
+use Rattle.foil.proofs.Adding.{table-full, added-again, added-table, entry-added}
+use Rattle.foil.proofs.add_entry.Goals as goal
+
+pub returns-then-limit-n : goal.returns-then-limit-n
+returns-then-limit-n c = table-full _ _ _ c.requires.strips_value _
+    c.requires.limit_le_max_entries.0 _ c.if-limit-n.true _ c.refuse.ensures
+
+pub copy_front-requires : goal.copy_front-requires
+copy_front-requires c = (omega arith, (sound-long _ c.requires.strips_value).table)
+
+pub settle-requires : goal.settle-requires
+settle-requires c = record {
+  table = added-table _ _ _ c.requires.strips_value _ c.requires.limit_le_max_entries.0 _ c.if-limit-n.false c.requires.limit_le_max_entries.1 _ _
+      c.copy_front.ensures c.put_entry.ensures;
+  rows_value = added-again _ _ _ c.requires.strips_value _ c.requires.limit_le_max_entries.0 _ c.if-limit-n.false c.requires.limit_le_max_entries.1 _ _
+      c.copy_front.ensures c.put_entry.ensures;
+  table_size_in_bounds = ((sound-long _ c.requires.strips_value).table, (sound-long _ c.requires.strips_value).strips);
+}
+
+pub returns : goal.returns
+returns c = entry-added _ _ _ c.requires.strips_value _ c.requires.limit_le_max_entries.0 _ c.if-limit-n.false c.requires.limit_le_max_entries.1 _ _
+    c.copy_front.ensures c.put_entry.ensures _ _ _ c.settle.ensures

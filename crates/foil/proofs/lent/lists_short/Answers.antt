@@ -1,0 +1,9 @@
+-- `foil::lent::lists_short` tests the two lengths by their numbers.
+use Rattle.foil.proofs.Giving.{short-table, by-strips}
+use Rattle.foil.proofs.lent.lists_short.Goals as goal
+
+pub returns-then-table-lt-TABLE_SIZE : goal.returns-then-table-lt-TABLE_SIZE
+returns-then-table-lt-TABLE_SIZE c = short-table _ _ c.if-table-lt-TABLE_SIZE.true
+
+pub returns : goal.returns
+returns c = by-strips _ _ c.if-table-lt-TABLE_SIZE.false
