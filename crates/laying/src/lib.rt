@@ -1,6 +1,7 @@
 // The body of the call lay (`lay_in`): finds the first path of fewest bends as `finding` does, and books it as
 // `booking` does.
 #![tactic(auto)]
+
 ghost use Rattle.std.specs.Prelude.{◌≡◌, ◌≤◌, true};
 ghost use Rattle.foil_spec.specs.Limits.{max_entries};
 ghost use Rattle.foil_spec.specs.Foil.{point};

@@ -1,6 +1,7 @@
 // Document 01's foil, kept plainly, for the calls to be compared with: a row of entries, from which free points, paths
 // and strips are worked out anew each time. A foil is at most 64 by 64, so that 4,096 strips are never passed.
 #![tactic(auto)]
+
 mod crossing;
 mod joins;
 mod laying;

@@ -1,5 +1,6 @@
 // The slip for the carton: a line for each net, into a lent list of bytes. `slip_in` is the body of the call.
 #![tactic(auto)]
+
 mod firsts;
 mod page;
 mod put;
