@@ -3,24 +3,14 @@ use Prim.Native.Nat.{ℕ}
 use native.Mathlib.Omega.{arith}
 use mathlib.Core.Path.{◌≡◌, refl, sym, ◌∙◌}
 use mathlib.Core.Bool.{true, false, ◌||◌}
-use mathlib.Core.Logic.{inl, inr}
-use mathlib.Core.List.{[], ◌∷◌}
 use lib.Dec.{eqb}
 use borrow.Author.Tests.{eq-eqb, ne_eqb}
-use types.Run.{OneOf}
 use Rattle.foil_spec.specs.Ledger.{Answer, refused, accepted, laid, found, wrote, booked}
 use Rattle.foil_spec.specs.Calls.{ends_job}
 use Rattle.foil.specs.Contract.{answer_of}
 use Rattle.foil.specs.declared.Answer.{Answer as Answered}
 use Rattle.foil.specs.declared.Answer.TheVariants.{Refused}
 use Rattle.job.specs.Parts.{Ends}
-
--- 0 is the key of a refusal, 1 to 4 those of the other answers
-pub no-refusal : OneOf (1 ∷ 2 ∷ 3 ∷ 4 ∷ []) 0 → ⊥
-no-refusal (inl e) = omega arith
-no-refusal (inr (inl e)) = omega arith
-no-refusal (inr (inr (inl e))) = omega arith
-no-refusal (inr (inr (inr e))) = omega arith
 
 pub ends-other : (a : Answered) → ((n : ℕ) → a ≡ Refused n → ⊥) → Ends a false
 ends-other a none = record { is = λ o e. other o (λ n f. none n (e ∙ f)) }

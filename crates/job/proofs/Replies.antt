@@ -9,7 +9,6 @@ use mathlib.Core.Logic.{◌⊎◌, inl, inr, ⊎_elim}
 use mathlib.Core.Option.{Option, none, some}
 use lib.Dec.{leb, ltb, eqb}
 use lib.ListN.{length, drop}
-use types.Run.{OneOf}
 use borrow.Author.Tests.{ltb-false, leb-false}
 use Rattle.foil_spec.specs.Lists.{range}
 use Rattle.foil_spec.specs.Limits.{max_bytes}
@@ -60,11 +59,6 @@ has-run on (ran_steps given p) a n e = record { given = given; place = p; is = r
 has-run on end_mark a n e = absurd (let z : ◌≡◌ {A = ℕ} 0 1 = cc in omega arith)
 
 -- ---- where the job goes on
-
--- 1 is the key of steps that were run, 0 and 2 those of the other replies
-pub not-run : OneOf (0 ∷ 2 ∷ []) 1 → ⊥
-not-run (inl e) = omega arith
-not-run (inr e) = omega arith
 
 pub next-run : (x : Reply) (a : Answers) (n : Next) → x ≡ Ran a n → n ≡ next_in x
 unfolding next_in

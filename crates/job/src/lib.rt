@@ -1,5 +1,6 @@
 // The job file: the record that begins at a place of its bytes is checked, and its steps are run.
 #![tactic(auto)]
+
 mod checks;
 mod fields;
 mod running;

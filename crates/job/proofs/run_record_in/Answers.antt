@@ -1,0 +1,23 @@
+-- What is lent is known to be fit; the record is checked, and then its steps are run.
+use Rattle.job.proofs.Wholes.{record-refused, there, ready, at-end, ran-done}
+use Rattle.job.proofs.run_record_in.Goals as goal
+
+pub returns-in-Refused : goal.returns-in-Refused
+returns-in-Refused c =
+    record-refused _ _ _ _ _ _ _ c.requires.lends _ c.record_refusal-checked.ensures _ c.in-Refused.is _ c.refuse.ensures
+
+pub bounds-bytes-at : goal.bounds-bytes-at
+bounds-bytes-at c = there _ _ _ c.record_refusal-checked.ensures c.in_default.is
+
+pub returns-then-bytes-at-eq0 : goal.returns-then-bytes-at-eq0
+returns-then-bytes-at-eq0 c =
+    at-end _ _ _ _ _ _ _ c.requires.lends _ c.record_refusal-checked.ensures c.in_default.is c.if-bytes-at-eq0.true
+
+pub run_steps-requires-clause-ready : goal.run_steps-requires-clause-ready
+run_steps-requires-clause-ready c =
+    ready _ _ _ c.record_refusal-checked.ensures c.in_default.is c.if-bytes-at-eq0.false _ c.requires.lends
+
+pub returns : goal.returns
+returns c =
+    ran-done _ _ _ _ _ _ _ c.requires.lends _ c.record_refusal-checked.ensures c.in_default.is c.if-bytes-at-eq0.false _
+    _ _ _ c.run_steps.ensures
