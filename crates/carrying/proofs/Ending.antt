@@ -6,7 +6,7 @@ use mathlib.Core.Bool.{Bool, true, false, not, ◌&&◌, and-false}
 use mathlib.Core.List.{List, [], ◌∷◌, map}
 use mathlib.Core.Logic.{inl, inr}
 use lib.Dec.{leb, eqb}
-use borrow.Author.Tests.{eqb-true, leb-true, lt-ltb, le-ltb, not-true, not-false}
+use borrow.Author.Tests.{eqb-true, leb-true, lt-ltb, le-ltb}
 use lib.ListN.{length}
 use Rattle.foil_spec.specs.Lists.{range, cons_if, keep, all, any}
 use Rattle.foil_spec.specs.Limits.{max_entries, report_places}
@@ -230,8 +230,8 @@ unfolding old_short short room_in
 old-short-is b board t s limit output = refl
 
 -- the check was passed
-pub kept_by : (z : Bool) (o : Old) → z ≡ old_sound o → not z ≡ false → old_sound o ≡ true
-kept_by z o is e = sym is ∙ not-false z e
+pub kept_by : (z : Bool) (o : Old) → z ≡ old_sound o → z ≡ true → old_sound o ≡ true
+kept_by z o is e = sym is ∙ e
 
 -- an old foil that keeps the rules
 pub old-rows : (b : OldBoard) (t s : List ℕ) → old_sound (old b t s) ≡ true → OldRows t b
@@ -295,11 +295,11 @@ module _ (ob : OldBoard) (ot os : List ℕ) (board : Board) (t s out : List ℕ)
               (own ∙ rw (old-is, olds, lt-ltb (length out) report_places l) refl)
 
           module _ (report : report_places ≤ length out) (z : Bool) (is : z ≡ old_sound from) where
-            pub old-broken : not z ≡ true → d ≡ refused_by 13 board → Given d t s out
+            pub old-broken : z ≡ false → d ≡ refused_by 13 board → Given d t s out
             unfolding refusals first room_in
             old-broken e q =
                 wrote-refused (carry from) m 13 d q r out
-                (own ∙ rw (old-is, olds, le-ltb (length out) report_places report, sym is ∙ not-true z e) refl)
+                (own ∙ rw (old-is, olds, le-ltb (length out) report_places report, sym is ∙ e) refl)
 
             only-11 : old_sound from ≡ true
                 → refusal_of r (not (sound m)) (carry from) (held m) ≡ first ((is_too_fine (carried from) ⇒ 11) ∷ [])
@@ -318,7 +318,7 @@ module _ (ob : OldBoard) (ot os : List ℕ) (board : Board) (t s out : List ℕ)
             unfolding step_on says next
             step_is e = rw (only-11 e) refl
 
-            pub carried_on : not z ≡ false → (t₁ s₁ out₁ : List ℕ)
+            pub carried_on : z ≡ true → (t₁ s₁ out₁ : List ℕ)
                 → CarriedAs (carried_layout ob (map (entry_at ot) (range 0 ob.entries)))
                 (blocked_nets ob.reach (map (entry_at ot) (range 0 ob.entries))) m out d t₁ s₁ out₁
                 → Given d t₁ s₁ out₁

@@ -2,6 +2,7 @@
 // rules and written as a state by today's, without the nets that a patch blocks. It has no `requires`, and what it
 // writes stays on 128 places.
 #![tactic(auto)]
+
 mod nets;
 
 ghost use Rattle.std.specs.Prelude.{◌≤◌, map, length};
