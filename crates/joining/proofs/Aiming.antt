@@ -1,11 +1,11 @@
 -- What the rows of the other nets and of the net's legs give the search.
 use Prim.Native.Nat.{ℕ, ◌+◌, ◌≤◌}
 use native.Mathlib.Omega.{arith}
-use mathlib.Core.Path.{◌≡◌, refl, sym, ap, ◌∙◌, subst}
+use mathlib.Core.Path.{◌≡◌, sym, ap, ◌∙◌, subst}
 use mathlib.Core.Bool.{Bool, true, not, and-true}
 use mathlib.Core.List.{List, [], ◌∷◌, map}
 use mathlib.Core.Option.{Option}
-use Rattle.foil_spec.specs.Lists.{range, all, keep}
+use Rattle.foil_spec.specs.Lists.{range}
 use Rattle.foil_spec.specs.Foil.{Point, point, Entry, Pen, Rule, Layout, entry_ok, pen_rule, free_by, free}
 use Rattle.foil_spec.specs.Nets.{of_net, legs_of}
 use Rattle.foil_spec.specs.Paths.{leads, is_way}

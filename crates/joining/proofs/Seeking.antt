@@ -1,16 +1,15 @@
 -- The first path to the target boxes, over points that the boxes leave free, is that of the join.
-use Prim.Native.Nat.{ℕ, ◌+◌}
+use Prim.Native.Nat.{ℕ}
 use native.Mathlib.Nat.{add-zero}
-use mathlib.Core.Path.{◌≡◌, refl, sym, ap, ap₂, ◌∙◌, fun_ext}
+use mathlib.Core.Path.{◌≡◌, sym, ap, ap₂, ◌∙◌, fun_ext}
 use mathlib.Core.Bool.{Bool, ◌&&◌}
-use mathlib.Core.List.{List, [], ◌∷◌, map}
+use mathlib.Core.List.{List}
 use lib.Dec.{leb, ltb}
-use Rattle.foil_spec.specs.Lists.{range, any}
+use Rattle.foil_spec.specs.Lists.{any}
 use Rattle.foil_spec.specs.Foil.{Point, Entry, Layout, within, blocks}
 use Rattle.foil_spec.specs.Nets.{legs_of}
 use Rattle.foil_spec.specs.Paths.{first_path_to}
-use Rattle.foil_spec.specs.Ledger.{free_for, on_legs, on_net, join_of}
-use Rattle.foil_spec.specs.Lent.{entry_at}
+use Rattle.foil_spec.specs.Ledger.{on_legs, on_net, join_of}
 use Rattle.zones.specs.Boxes.{inside, covers, box_free}
 use Rattle.grid.specs.Targets.{in_boxes, target}
 use Rattle.joining.specs.Sought.{Sought}

@@ -1,6 +1,7 @@
 // The body of the call join (`join_in`): finds the first path of fewest bends from a point to a net, over points that
 // are free for the net, and books it under the same net.
 #![tactic(auto)]
+
 ghost use Rattle.std.specs.Prelude.{◌≡◌, ◌+◌, ◌*◌, ◌≤◌, ◌<◌, true, [], length};
 ghost use Rattle.foil_spec.specs.Limits.{max_entries};
 ghost use Rattle.foil_spec.specs.Foil.{point};

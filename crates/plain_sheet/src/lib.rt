@@ -1,6 +1,7 @@
 // Eight plain foils kept apart, for the foils of a sheet to be compared with: calls at random on them, what each call
 // should come to by the words of the documents, and the table that their rows make.
 #![tactic(auto)]
+
 mod asks;
 mod records;
 mod rows;
