@@ -1,5 +1,6 @@
 // Boards for tests, up to 40 by 40, made from a number: the same number always gives the same board.
 #![tactic(auto)]
+
 ghost use Rattle.std.specs.Prelude.{◌≡◌, ◌<◌, ◌≤◌, min};
 ghost use Rattle.boards.specs.Board.{OnBoard};
 

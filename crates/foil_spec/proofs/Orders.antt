@@ -1,8 +1,6 @@
 -- The refusals stand in the order of specs/Orders.
-use Prim.Native.Nat.{ℕ}
 use mathlib.Core.Path.{◌≡◌, refl}
 use mathlib.Core.Bool.{Bool}
-use mathlib.Core.List.{[], ◌∷◌}
 use Rattle.foil_spec.specs.Foil.{Layout}
 use Rattle.foil_spec.specs.Ledger.{Room, by_pen, by_reach, Step, new_foil, draw, lay, lift, look_up, put_leg, save}
 use Rattle.foil_spec.specs.Ledger.{find, book, slip, join, carry, clearance_refusal, refusals, after_lent}

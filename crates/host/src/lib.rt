@@ -3,6 +3,7 @@
 // the foil's number. Each has the contract of the call of `sheet` on numbers. `exported` has the same
 // calls for programs in C.
 #![tactic(auto)]
+
 mod exported;
 mod flat;
 mod records;

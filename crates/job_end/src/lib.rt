@@ -2,6 +2,7 @@
 // lines, for programs that ask something of the foil at its end. `asking` asks for what is one step of a sheet, and
 // writes its answer.
 #![tactic(auto)]
+
 mod asking;
 
 ghost use Rattle.std.specs.Prelude.{◌≡◌};

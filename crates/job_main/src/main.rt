@@ -1,5 +1,6 @@
 // The job program: reads a job file from standard input, and writes the lines of its records in turn.
 #![tactic(auto)]
+
 ghost use Rattle.std.specs.Prelude.{◌+◌, ◌<◌, ◌≡◌, length};
 ghost use Rattle.foil_spec.specs.Limits.{max_bytes};
 ghost use Rattle.lines.specs.Output.{output};

@@ -3,6 +3,7 @@
 // output. A record is run at place 0, or on a foil that keeps the rules, as the record before it has left it; so none
 // checks the foil again.
 #![tactic(auto)]
+
 mod answers;
 mod strip_lines;
 

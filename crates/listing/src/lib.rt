@@ -2,6 +2,7 @@
 // that are still unused. The foil keeps the rules before each of them, so that none checks it again. A list that is too
 // long, or has too few places for its answers, is told by `too_many`.
 #![tactic(auto)]
+
 ghost use Rattle.std.specs.Prelude.{◌≡◌, true, ◌||◌, ◌+◌, ◌*◌, ◌/◌, ◌≤◌, length};
 ghost use Rattle.foil_spec.specs.Limits.{max_entries};
 ghost use Rattle.foil_spec.specs.Lent.{lent, sound};

@@ -3,6 +3,7 @@
 // for each net, the corners, the eight records, the table and the strips are compared with what they should be. Writes
 // how many nets were laid and refused by each number, and how many lists differed.
 #![tactic(auto)]
+
 mod asked;
 mod holds;
 mod single;

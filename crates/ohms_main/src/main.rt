@@ -3,6 +3,7 @@
 // that it leaves, nets rising. Each function here that writes is told how many bytes are written already,
 // and adds its own.
 #![tactic(auto)]
+
 mod figures;
 mod show;
 

@@ -1,6 +1,7 @@
 // Bytes and numbers written at a place of a lent list. Each function answers the place after them. Their caller lends
 // room enough; the `requires` says how much.
 #![tactic(auto)]
+
 ghost use Rattle.std.specs.Prelude.{◌+◌, ◌≤◌, length};
 ghost use Rattle.foil_spec.specs.Text.{decimal};
 ghost use Rattle.putting.specs.Put.{Put};

@@ -3,6 +3,7 @@
 // often the two differ: in an answer, in the record, in the table, the strips or the corner list, or in the strip of a
 // point that is looked up.
 #![tactic(auto)]
+
 mod compare;
 mod drawings;
 mod holds;

@@ -1,5 +1,6 @@
 // Runs the sample jobs (the folder `samples`) as the job program does, and holds what each one gives to its `.out`.
 #![tactic(auto)]
+
 ghost use Rattle.std.specs.Prelude.{◌+◌, ◌≤◌, length};
 ghost use Rattle.io.specs.Counts.{IsPrefixLen};
 

@@ -2,6 +2,7 @@
 // writes how many boards there were, how many of them without a free point and without a path, how many paths of each
 // number of bends, and on how many boards the two searches differ.
 #![tactic(auto)]
+
 mod asked;
 
 ghost use Rattle.std.specs.Prelude.{◌<◌, ◌≤◌};

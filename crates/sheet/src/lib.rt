@@ -4,6 +4,7 @@
 // is for a foil of its own, with as many entries as the other foils leave to it, and putting the rows back where it
 // wrote entries. Those that only read stand in `queries`, a record in `record`, and a list of nets in `list`.
 #![tactic(auto)]
+
 mod checks;
 mod finishing;
 mod list;

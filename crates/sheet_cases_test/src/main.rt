@@ -6,6 +6,7 @@
 // lent whole (_), with other numbers than zeros in unused places (g), with a table (t) or a strip list (s) that is too
 // short, or with counts that break the limit of a foil (c) or of the sheet (e).
 #![tactic(auto)]
+
 mod calls;
 mod lists;
 mod reads;

@@ -2,6 +2,7 @@
 // the eight records, the whole table, the strips of the foil called and the corners are compared with what they should
 // be. Writes how many calls were accepted and refused by each number, and how often one differed.
 #![tactic(auto)]
+
 mod calls;
 mod holds;
 mod records;

@@ -2,6 +2,7 @@
 // slip to standard output. Where the file is at fault or its board is refused, a line on standard error
 // has the number, and nothing else is written.
 #![tactic(auto)]
+
 use foil_spec::INPUT_SIZE;
 use job_end::{Question, answer_input};
 

@@ -1,6 +1,7 @@
 // Writes slips, and how many bytes each has or the number that it is refused by: of document 01's foil
 // without a track and with two, of a foil with the widest line, and of one with 128 nets.
 #![tactic(auto)]
+
 mod foils;
 
 use foil::Answer;

@@ -2,6 +2,7 @@
 // of a sheet else empty, and writes what they answer: 0 where a step is accepted, else the number of its
 // refusal. All lists are lent full of sevens, so that a place that no call touches still holds one.
 #![tactic(auto)]
+
 mod drawing;
 mod lists;
 mod show;

@@ -1,5 +1,4 @@
 -- `boards::below` meets its contract: a remainder is smaller than what it was divided by.
-use borrow.Author.Rules.{rules}
 use native.Mathlib.Nat.{mod-lt}
 use native.Mathlib.Omega.{arith}
 use Rattle.boards.proofs.below.Goals as goal

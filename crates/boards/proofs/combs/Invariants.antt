@@ -1,6 +1,5 @@
 -- `boards::combs` meets its contract: there are fewer teeth than columns.
 use Prim.Native.Nat.{◌<◌, ◌≤◌, ◌-◌}
-use borrow.Author.Rules.{rules}
 use Rattle.boards.proofs.combs.Given as goal
 
 abbrev pub invariant-loop-x : goal.invariant-loop-x

@@ -1,6 +1,5 @@
 -- `boards::first_free` is safe and ends: the loop counts up to 4,096.
 use Prim.Native.Nat.{◌≤◌, ◌-◌}
-use borrow.Author.Rules.{rules}
 use Rattle.boards.proofs.first_free.Given as goal
 
 abbrev pub invariant-loop-p : goal.invariant-loop-p

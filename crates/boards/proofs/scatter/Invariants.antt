@@ -1,6 +1,5 @@
 -- `boards::scatter` meets its contract: the loop counts up to the number of patches.
 use Prim.Native.Nat.{◌≤◌, ◌-◌}
-use borrow.Author.Rules.{rules}
 use Rattle.boards.proofs.scatter.Given as goal
 
 abbrev pub invariant-loop-i : goal.invariant-loop-i

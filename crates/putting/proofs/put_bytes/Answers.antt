@@ -1,8 +1,5 @@
 -- `putting::put_bytes` meets its contract: the loop has put the first i bytes.
-use Prim.Native.Nat.{◌+◌, ◌-◌, ◌≤◌}
 use native.Mathlib.Omega.{arith}
-use lib.ListN.{length, take}
-use Rattle.putting.specs.Put.{Put}
 use Rattle.putting.proofs.Putting.{put-length, copied_none, copied_more, copied_all}
 use Rattle.putting.proofs.put_bytes.Goals as goal
 

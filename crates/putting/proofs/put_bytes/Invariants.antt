@@ -1,9 +1,7 @@
 -- `putting::put_bytes` meets its contract: the loop has put the first i bytes.
 use Prim.Native.Nat.{◌+◌, ◌-◌, ◌≤◌}
-use native.Mathlib.Omega.{arith}
 use lib.ListN.{length, take}
 use Rattle.putting.specs.Put.{Put}
-use Rattle.putting.proofs.Putting.{put-length, copied_none, copied_more, copied_all}
 use Rattle.putting.proofs.put_bytes.Given as goal
 
 abbrev pub invariant-loop-i : goal.invariant-loop-i

@@ -1,6 +1,5 @@
 -- `putting::put_number` meets its contract: `io::decimal` gives the fewest digits, at most 20.
 use native.Mathlib.Omega.{arith}
-use borrow.Author.Rules.{rules}
 use Rattle.putting.proofs.Decimals.{fewest-short, number_put}
 use Rattle.putting.proofs.put_number.Goals as goal
 

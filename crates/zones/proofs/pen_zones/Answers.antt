@@ -1,5 +1,4 @@
 -- `zones::pen_zones` meets its contract: the zones by the pen's rule leave what is free on the layout.
-use borrow.Author.Rules.{rules}
 use Rattle.zones.proofs.Zoning.{zoned-free}
 use Rattle.zones.proofs.pen_zones.Goals as goal
 

@@ -1,6 +1,5 @@
 -- `zones::put_edge` meets its contract: the boxes on the left and the right, then those above and below.
 use native.Mathlib.Omega.{arith}
-use borrow.Author.Rules.{rules}
 use Rattle.zones.proofs.Zoning.{edge-put}
 use Rattle.zones.proofs.put_edge.Goals as goal
 

@@ -1,6 +1,5 @@
 -- `zones::put_two` meets its contract: the second box leaves the first as it is.
 use native.Mathlib.Omega.{arith}
-use borrow.Author.Rules.{rules}
 use Rattle.zones.proofs.Zoning.{box-put, two-put}
 use Rattle.zones.proofs.put_two.Goals as goal
 

@@ -1,11 +1,10 @@
 -- `zones::put_zones` meets its contract: the loop has written the zones of the entries before k.
-use Prim.Native.Nat.{◌-◌}
 use native.Mathlib.Omega.{arith}
 use mathlib.Core.Path.{◌≡◌, ap, ◌∙◌}
 use Rattle.foil_spec.specs.Foil.{Entry, margin}
 use Rattle.foil_spec.specs.Lent.{entry_at}
 use Rattle.zones.specs.Boxes.{zone_of}
-use Rattle.zones.proofs.Zoning.{box-put, Zoning, zoning-start, zoning-more, margin-small}
+use Rattle.zones.proofs.Zoning.{box-put, zoning-start, zoning-more, margin-small}
 use Rattle.zones.proofs.put_zones.Goals as goal
 
 pub loop-k-init : goal.loop-k-init
@@ -40,7 +39,7 @@ loop-k-preserved c = let zone-is : c.zone_of-zone.result
     ∙ ap (λ (e : Entry).
     zone_of (margin c.args.rule e) c.args.w c.args.h e)
     c.entry_at.ensures in
-            zoning-more _ _ _ _ _ _ _ _ _ _ c.loop-k-test.true c.put_entry.auto.table c.loop-k.invariant zone-is
+    zoning-more _ _ _ _ _ _ _ _ _ _ c.loop-k-test.true c.put_entry.auto.table c.loop-k.invariant zone-is
     (box-put _ _ _ _
     (omega (arith, c.loop-k-test.true, c.requires.table.few, c.requires.max_boxes_in_bounds, c.loop-k.invariant.same))
     c.put_entry.ensures)

@@ -1,11 +1,6 @@
 -- `zones::put_zones` meets its contract: the loop has written the zones of the entries before k.
 use Prim.Native.Nat.{◌-◌}
-use native.Mathlib.Omega.{arith}
-use mathlib.Core.Path.{◌≡◌, ap, ◌∙◌}
-use Rattle.foil_spec.specs.Foil.{Entry, margin}
-use Rattle.foil_spec.specs.Lent.{entry_at}
-use Rattle.zones.specs.Boxes.{zone_of}
-use Rattle.zones.proofs.Zoning.{box-put, Zoning, zoning-start, zoning-more, margin-small}
+use Rattle.zones.proofs.Zoning.{Zoning}
 use Rattle.zones.proofs.put_zones.Given as goal
 
 abbrev pub invariant-loop-k : goal.invariant-loop-k

@@ -1,5 +1,4 @@
 -- `zones::zone_of` computes the numbers that `zone_of` names.
-use borrow.Author.Rules.{rules}
 use Rattle.zones.proofs.Zoning.{zone-made}
 use Rattle.zones.proofs.zone_of.Goals as goal
 

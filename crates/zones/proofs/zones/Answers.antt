@@ -1,6 +1,5 @@
 -- `zones::zones` meets its contract: the zones of the entries, and four boxes along the edge where it blocks something.
 use native.Mathlib.Omega.{arith}
-use borrow.Author.Rules.{rules}
 use Rattle.zones.proofs.Zoning.{zones-alone, zones-edged}
 use Rattle.zones.proofs.zones.Goals as goal
 
@@ -9,10 +8,10 @@ put_zones-requires c = c.requires
 
 pub returns-then-m-eq0 : goal.returns-then-m-eq0
 returns-then-m-eq0 c = (
-      zones-alone _ _ _ _ _ c.requires.table _ c.put_zones.ensures (omega (arith, c.requires.max_boxes_in_bounds, c.put_zones.auto.out))
-          c.if-m-eq0.true,
-      omega arith,
-    )
+  zones-alone _ _ _ _ _ c.requires.table _ c.put_zones.ensures (omega (arith, c.requires.max_boxes_in_bounds, c.put_zones.auto.out))
+      c.if-m-eq0.true,
+  omega arith,
+)
 
 pub put_edge-requires : goal.put_edge-requires
 put_edge-requires c = (c.requires.table.few, omega (arith, c.requires.max_boxes_in_bounds, c.requires.table.few, c.put_zones.auto.out))
@@ -22,7 +21,7 @@ overflow_add-result c = omega (arith, c.requires.table.few)
 
 pub returns : goal.returns
 returns c = (
-      zones-edged _ _ _ _ _ c.requires.table _ _ (omega (arith, c.if-m-eq0.false)) c.put_edge.ensures
-          c.put_zones.ensures (omega (arith, c.requires.max_boxes_in_bounds, c.put_zones.auto.out, c.put_edge.auto.out)),
-      omega arith,
-    )
+  zones-edged _ _ _ _ _ c.requires.table _ _ (omega (arith, c.if-m-eq0.false)) c.put_edge.ensures
+      c.put_zones.ensures (omega (arith, c.requires.max_boxes_in_bounds, c.put_zones.auto.out, c.put_edge.auto.out)),
+  omega arith,
+)
