@@ -2,8 +2,8 @@
 -- and one. Its numbers, and how much of the corner list it uses.
 use Prim.Native.Nat.{ℕ, suc, ◌*◌, ◌≤◌, min}
 use native.Mathlib.Omega.{arith}
-use mathlib.Core.Path.{◌≡◌, refl, ap, ◌∙◌}
-use mathlib.Core.Bool.{true, false, not}
+use mathlib.Core.Path.{◌≡◌, refl, ap}
+use mathlib.Core.Bool.{false, not}
 use mathlib.Core.List.{List, [], ◌∷◌, ◌++◌}
 use mathlib.Core.Option.{Option, none, some}
 use lib.Dec.{ltb}
@@ -13,7 +13,7 @@ use Rattle.foil_spec.specs.Limits.{max_entries}
 use Rattle.foil_spec.specs.Foil.{Point, Layout}
 use Rattle.foil_spec.specs.Paths.{bends}
 use Rattle.foil_spec.specs.Ledger.{legs_from, legs, corners_of, Room, corner_room, too_long, lay, Answer, refused, laid}
-use Rattle.foil_spec.specs.Ledger.{next, says, first, refusals, After, settle, refusal_of}
+use Rattle.foil_spec.specs.Ledger.{next, says, first, refusals, settle, refusal_of}
 use Rattle.foil_spec.specs.Lent.{Lent, store, held, sound, step_on, output_after, numbers_out}
 use Rattle.ledger_laws.proofs.Stored.{length-points}
 use Rattle.ledger_laws.proofs.Outputs.{laid_out}

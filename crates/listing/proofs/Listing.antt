@@ -12,14 +12,14 @@ use Rattle.foil_spec.specs.Lists.{range, each, any}
 use Rattle.foil_spec.specs.Limits.{max_entries}
 use Rattle.foil_spec.specs.Foil.{Point, point}
 use Rattle.foil_spec.specs.Ledger.{Room, with_output, short, Step, lay, Answer, After, ledger_step}
-use Rattle.foil_spec.specs.Lent.{Lent, lent, held, sound, room_in, step_on, over_front, output_after, numbers_out}
+use Rattle.foil_spec.specs.Lent.{Lent, lent, held, sound, room_in, step_on, over_front, numbers_out}
 use Rattle.foil_spec.specs.Lent.{room_left}
 use Rattle.foil_spec.specs.Wishes.{wish_at, wishes}
 use Rattle.foil_spec.specs.Calls.{in_front, act_each}
 use Rattle.foil_spec.specs.declared.Board.{Board}
 use Rattle.list_laws.proofs.Tests.{any_append}
 use Rattle.list_laws.proofs.Members.{each_append, map_last, length-range}
-use Rattle.ledger_laws.proofs.Outputs.{over-append, out-is}
+use Rattle.ledger_laws.proofs.Outputs.{out-is}
 use Rattle.ledger_laws.proofs.Replies.{each_keeps}
 use Rattle.ledger_laws.proofs.Stored.{sound-store}
 use Rattle.ledger_laws.proofs.Kept.{step_kept}
@@ -28,7 +28,7 @@ use Rattle.ledger_laws.proofs.Sound.{of-sound, sound-store-is, sound-long}
 use Rattle.foil.specs.Contract.{answer_of, Wrote, OutputIn}
 use Rattle.foil.proofs.Giving.{long-room, limit_is, output-is}
 use Rattle.foil.specs.declared.Done.{Done}
-use Rattle.listing.specs.Contract.{in_numbers, place_numbers, answer_numbers, took, ListIn, ListGave}
+use Rattle.listing.specs.Contract.{in_numbers, place_numbers, answer_numbers, took, ListIn}
 use Rattle.listing.specs.Parts.{lay_of, Fits, PutAt, laid_to, LaidBy, MayLay, GoesOn}
 use Rattle.listing.specs.declared.InNumbers.{InNumbers}
 use Rattle.listing.specs.declared.Listed.{Listed}

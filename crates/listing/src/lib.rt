@@ -47,6 +47,7 @@ pub struct Listed {
 }
 
 // Whether the wishes are more than 40, or more than these places for their answers.
+#[tactic(auto, unfolding(foil_spec::specs::Wishes::too_many))]
 pub fn too_many(wishes: &[u16], places: usize) -> bool
     ensures { result ≡ too_many wishes.now places }
 {

@@ -26,6 +26,10 @@ module _ {l u wl wu ku rows : List ℕ} {nr i j : ℕ} where
   choose-upright (inl p) z = absurd (p z)
   choose-upright (inr p) z = upright-only p (inl z)
 
+  -- the upright way needs fewer segments
+  pub fewer_upright : along u i j ≢ 0 → along u i j < along l j i → Choice l u wl wu ku rows nr i j true
+  fewer_upright p lt = upright-only p (inr lt)
+
   -- both ways need as many segments
   module _ (p : along l j i ≢ 0) (le : along l j i ≤ along u i j) (ge : along u i j ≤ along l j i) where
     pub choose-less-upright : along wu i j < along wl j i → Choice l u wl wu ku rows nr i j true

@@ -172,6 +172,7 @@ fn label_at(labels: &[u16], line: usize, k: usize) -> u16
 
 // Whether the first path goes upright from the crossing of column i and row j, which has a label. Where both ways
 // need as many segments and steps, it does so if that leads to a smaller y.
+#[tactic(auto, using(crate::proofs::Choice::fewer_upright))]
 fn starts_upright(
     level: &[u16],
     upright: &[u16],

@@ -4,9 +4,6 @@ use Rattle.sowing.proofs.Boxed.{not-clear, is-clear}
 use Rattle.sowing.proofs.Seeds.{cell-clear, cell-blocked}
 use Rattle.sowing.proofs.sow_clear.Goals as goal
 
-pub is_boxed-requires : goal.is_boxed-requires
-is_boxed-requires c = c.requires.boxes
-
 pub returns-then-is_boxed : goal.returns-then-is_boxed
 returns-then-is_boxed c = cell-blocked _ _ (not-clear _ _ _ _ _ _ _ (sym c.if-is_boxed.true ∙ c.is_boxed.ensures))
 
