@@ -67,7 +67,7 @@ def listed():
     for line in ROOT.joinpath("crates.txt").read_text(encoding="utf-8").splitlines():
         name, colon, needs = line.split("#")[0].partition(":")
         if colon:
-            crates[name.strip()] = needs.split()
+            crates[name.split()[0]] = needs.split()
     return crates
 
 

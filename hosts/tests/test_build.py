@@ -34,8 +34,9 @@ class Build(unittest.TestCase):
         self.scratch.write("hosts/c/foil.h", HEADER.read_text(encoding="utf-8"))
         shutil.copy(program.ROOT / "hosts" / "build", self.scratch.root / "hosts")
         crates = self.scratch.root / "crates.txt"
-        self.scratch.write("crates.txt", crates.read_text() + "host: foil laws\n")
+        self.scratch.write("crates.txt", crates.read_text() + "host: foil laws\nhost_c staticlib: host\n")
         self.scratch.write("crates/host/src/lib.rt", "// the calls\n")
+        self.scratch.write("crates/host_c/src/lib.rt", "// the same for C\n")
         self.scratch.write("../tools/rt", RT).chmod(0o755)
 
     def build(self, *words, **how):
