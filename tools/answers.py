@@ -60,7 +60,7 @@ def items(text):
         if first:
             head = com
             first = False
-        if re.match(r"(module|open|record|data|private|mutual|infix)", b):
+        if re.match(r"(module|open|record|data|private|mutual|infix)\s", b):
             raise Odd("block " + b.split("\n")[0])
         m = re.match(r"unfolding (.*)", b, re.S)
         if m:

@@ -20,7 +20,6 @@ use Rattle.foil_spec.specs.Sheet.{SheetLent, view, sheet_step, unless_whole, she
 use Rattle.ledger_laws.proofs.Refusals.{none-applies}
 use Rattle.ledger_laws.proofs.Lending.{board-first, own-checks}
 use Rattle.job.specs.Contract.{next_of}
-use Rattle.job.specs.declared.Next.{Next}
 use Rattle.job.specs.declared.Next.TheVariants.{At, Nowhere}
 
 pub record Later (bs : List ℕ) (at n : ℕ) : Type 0 where

@@ -2,11 +2,9 @@
 use Prim.Native.Nat.{ℕ, zero, suc, ◌+◌, ◌≤◌, ◌<◌}
 use native.Mathlib.Omega.{arith}
 use mathlib.Core.Path.{◌≡◌, refl, sym, ap, ◌∙◌, subst}
-use mathlib.Core.Logic.{inl, inr}
 use mathlib.Core.List.{List, [], ◌∷◌, ◌++◌, append-nil}
 use mathlib.Core.Option.{none}
 use lib.ListN.{length}
-use types.Run.{OneOf}
 use Rattle.foil_spec.specs.Lists.{range, each}
 use Rattle.foil_spec.specs.Corners.{corners_in}
 use Rattle.foil_spec.specs.Job.{map_bits, step_bits, field_count, field, step_at}
@@ -39,13 +37,6 @@ number-other Accepted h = refl
 number-other (Laid k n) h = refl
 number-other (Found k) h = refl
 number-other (Wrote k) h = refl
-
--- 2 is the key of a lay that was accepted
-pub no-laid : OneOf (0 ∷ 1 ∷ 3 ∷ 4 ∷ []) 2 → ⊥
-no-laid (inl e) = omega arith
-no-laid (inr (inl e)) = omega arith
-no-laid (inr (inr (inl e))) = omega arith
-no-laid (inr (inr (inr e))) = omega arith
 
 -- ---- the line of a track
 

@@ -4,14 +4,14 @@ use native.Mathlib.Omega.{arith}
 use mathlib.Core.Path.{◌≡◌, refl, sym, ap, ap₂, ◌∙◌, subst}
 use mathlib.Core.Bool.{Bool, true, false, not, ◌||◌}
 use mathlib.Core.List.{List, [], ◌∷◌}
-use mathlib.Core.Option.{Option, none, some}
+use mathlib.Core.Option.{none}
 use lib.ListN.{length, get_or}
 use borrow.Author.Tests.{lt-ltb, le-ltb}
-use Rattle.foil_spec.specs.Lists.{each, any}
+use Rattle.foil_spec.specs.Lists.{any}
 use Rattle.foil_spec.specs.Limits.{table_size, sheet_foils}
 use Rattle.foil_spec.specs.Ledger.{Room, Answer, refused, accepted, laid, found, wrote, booked, first, after_lent}
 use Rattle.foil_spec.specs.Ledger.{After}
-use Rattle.foil_spec.specs.Lent.{Lent, lent, sound, room_in, step_on, over_front, output_after, numbers_out}
+use Rattle.foil_spec.specs.Lent.{Lent, lent, room_in, step_on, output_after}
 use Rattle.foil_spec.specs.Wishes.{wishes, too_many}
 use Rattle.foil_spec.specs.Calls.{lay_list, Reply, laid_all, act_each, act_list, list_refusals, reply, call_on, answers_in}
 use Rattle.foil_spec.specs.Calls.{output_by}
@@ -21,19 +21,19 @@ use Rattle.foil.specs.Contract.{answer_of}
 use Rattle.foil.specs.declared.Answer.TheVariants.{Accepted}
 use Rattle.foil.specs.declared.lent.Checked.{Checked}
 use Rattle.foil.specs.declared.lent.Checked.TheVariants as checked
-use Rattle.listing.specs.Contract.{in_numbers, answer_numbers, took, ListGave, ListIn}
+use Rattle.listing.specs.Contract.{in_numbers, took, ListGave, ListIn}
 use Rattle.listing.specs.declared.Listed.{Listed}
 use Rattle.sheet_laws.specs.Answers.{taken}
 use Rattle.sheet_laws.specs.Back.{writing, rewrote}
 use Rattle.sheet_laws.proofs.Alone.{room-view}
 use Rattle.sheet_rows.specs.Rows.{sheet_lent}
 use Rattle.sheet_rows.specs.declared.Sheet.{Sheet}
-use Rattle.sheet.specs.Contract.{on_sheet, ListTells, refused-whole, told-each, SheetListDone}
-use Rattle.sheet.specs.Parts.{Opened, reads_foil, refused_on, Opening, ListOpening, accepts, Closable, Closed}
+use Rattle.sheet.specs.Contract.{on_sheet, refused-whole, told-each, SheetListDone}
+use Rattle.sheet.specs.Parts.{Opened, reads_foil, refused_on, Opening, ListOpening, Closable, Closed}
 use Rattle.sheet.specs.Parts.{refused_by}
 use Rattle.sheet.specs.declared.SheetDone.{SheetDone}
 use Rattle.sheet.proofs.Checking.{room, refused-on, out-long, foil-is, list-goes}
-use Rattle.sheet.proofs.Closing.{accepts-taken, answers, may-close, leaves}
+use Rattle.sheet.proofs.Closing.{answers, may-close, leaves}
 
 -- ---- 23, the list's own 12, and the checks that other calls begin with too
 
