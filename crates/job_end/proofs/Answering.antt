@@ -2,10 +2,8 @@
 use Prim.Native.Nat.{ℕ, ◌+◌, ◌^◌, ◌≤◌, ◌<◌}
 use native.Mathlib.Omega.{arith}
 use mathlib.Core.Path.{◌≡◌, refl, sym, ap, ◌∙◌, subst}
-use mathlib.Core.List.{List, [], ◌∷◌, ◌++◌}
-use mathlib.Core.Logic.{inl, inr}
+use mathlib.Core.List.{List, ◌∷◌, ◌++◌}
 use mathlib.Core.Option.{Option, none, some}
-use types.Run.{OneOf}
 use lib.IntN.{ℤ, pos}
 use lib.ListN.{length, take, drop, replicate, length-append}
 use lib.Seq.{take_all, take-append_seam}
@@ -35,7 +33,7 @@ use Rattle.job_report.specs.Told.{number_in}
 use Rattle.job_report.specs.Writing.{NextOf}
 use Rattle.job_report.proofs.Writing.{put_front}
 use Rattle.job_end.specs.Left.{ended_of, job_end, board_left, JobLeft}
-use Rattle.job_end.specs.Asked.{unused, end_of, Said, to_output, to_error, step_of, word_of, bytes_of, asked_of}
+use Rattle.job_end.specs.Asked.{unused, end_of, Said, to_error, step_of, word_of, bytes_of, asked_of}
 use Rattle.job_end.specs.Asked.{answer_said, reply_said, end_said, said_of, Reached}
 use Rattle.job_end.specs.Asked.{Given, given-number, given-bytes}
 use Rattle.job_end.specs.declared.Ended.{Ended}
@@ -73,13 +71,6 @@ module _ (x : Said) (line : List ℕ) (is : x ≡ to_error line) {o o' : List �
       (omega (arith, put.fits, put.next, put-length put)) (put_front put) written none_yet
 
 -- ---- an answer
-
--- 4 is the key of bytes, 0 to 3 those of the other answers
-pub no_bytes : OneOf (0 ∷ 1 ∷ 2 ∷ 3 ∷ []) 4 → ⊥
-no_bytes (inl e) = omega arith
-no_bytes (inr (inl e)) = omega arith
-no_bytes (inr (inr (inl e))) = omega arith
-no_bytes (inr (inr (inr e))) = omega arith
 
 pub number-said : (x : Said) (word out : List ℕ) (r : Answer) → Given x word out r → ((k : ℕ) → r ≡ Wrote k → ⊥)
     → (n : ℕ) → n ≡ number_in r → x ≡ to_error (word ++ item n ++ ascii "\n")
