@@ -4,21 +4,16 @@ use native.Mathlib.Nat.{not-suc-le-zero}
 use native.Mathlib.Decide.{ℕ_discrete}
 use native.Mathlib.Omega.{arith}
 use mathlib.Core.Path.{◌≡◌, refl, sym, ap, ap₂, ◌∙◌}
-use mathlib.Core.Bool.{Bool, true, false}
-use mathlib.Core.Logic.{by_cases, ⊎_elim, ◌≢◌}
+use mathlib.Core.Logic.{by_cases, ⊎_elim}
 use mathlib.Core.List.{List, [], ◌∷◌, ◌++◌, map}
-use lib.Dec.{eqb}
 use lib.ListN.{length, set, get_or, take, drop, replicate, length-set, length-replicate, length-drop, take-append-drop}
 use lib.Seq.{sets, length-sets, get_or-set_same, get_or-set_other, set-get_or, get_or-drop, take-suc, take_all, ext_get_or}
-use borrow.Author.Tests.{eqb-true, eqb-false}
-use lib.ListN.{length-map}
 use mir.Val.{Val}
 use denote.Laws.{Is}
 use denote.Struct.Laws as LL
 use Rattle.foil_spec.specs.Lists.{range, each}
 use Rattle.foil_spec.specs.Foil.{Entry, entry_numbers}
 use Rattle.foil_spec.specs.Lent.{entry_at}
-use Rattle.strips.specs.Decided.{Decided}
 use Rattle.ledger_laws.proofs.Sound.{read-numbers}
 use Rattle.list_laws.proofs.Members.{map_last}
 use Rattle.list_laws.proofs.Places.{entry-put, entry_kept}
@@ -28,19 +23,6 @@ use Rattle.host.specs.Flats.{places_lent, numbers_lent, entries_of, no_entry}
 use Rattle.host.specs.Flats.{load_to, store_to, front_of, with_front}
 use Rattle.host.specs.contracts.flat.Flat as T
 use Rattle.host.proofs.flat.Flat.TheLaws as T'
-
--- ---- one entry
-
--- two entries whose first four numbers are equal are one exactly if their last numbers are
-module _ (a b : Entry) (net : a.net ≡ b.net) (x0 : a.x0 ≡ b.x0) (y0 : a.y0 ≡ b.y0) (x1 : a.x1 ≡ b.x1) where
-  last-told : (t : Bool) → eqb a.y1 b.y1 ≡ t → Decided (a ≡ b) t
-  last-told true e =
-      let y1 = eqb-true a.y1 b.y1 e in
-      λ i. record { net = net i; x0 = x0 i; y0 = y0 i; x1 = x1 i; y1 = y1 i }
-  last-told false e = λ q. eqb-false a.y1 b.y1 e (ap (λ (x : Entry). x.y1) q)
-
-  pub last-tells : Decided (a ≡ b) (eqb a.y1 b.y1)
-  last-tells = last-told (eqb a.y1 b.y1) refl
 
 -- ---- one place more
 
@@ -68,7 +50,7 @@ pub store-none : (f : Flat) (es : List Entry) → es ≡ store_to f es 0
 unfolding store_to
 store-none f es = refl
 
-pub store_length : (f : Flat) (es : List Entry) (k : ℕ) → length (store_to f es k) ≡ length es
+store_length : (f : Flat) (es : List Entry) (k : ℕ) → length (store_to f es k) ≡ length es
 unfolding store_to
 store_length f es zero = refl
 store_length f es (suc k) =
@@ -165,8 +147,7 @@ stored f es p =
 
 -- an array of the code has its length
 pub full : (f : Flat) {w : List Val} → Is T.the_row f w → length f.at ≡ 2560
-full f is =
-    sym (length-map f.at (λ (v : ℕ). v)) ∙ (LL.owed T.the_type T'.the_laws f _ is).0.1.0.1
+full f is = (LL.owed T.the_type T'.the_laws f _ is).0.1.0.1
 
 -- the numbers that are lent on are those of the entries
 pub lent-on : (f : Flat) → length f.at ≡ 2560 → take (numbers_lent f.len) f.at ≡ each entry_numbers (entries_of f)

@@ -187,11 +187,13 @@ module _ (k : ℕ) (c : Step) (b : Sheet) (s out : List ℕ) (a : Answer) (out' 
         output = d.output ∙ ap (λ (x : Reply). output_by x out) (sym l.answer);
       }
 
-pub whole-read : (k : ℕ) (c : Step) (b : Sheet) (es : List Entry) (t : Flat) (s out : List ℕ) (a : Answer)
-    (out' : List ℕ) → length b.boards ≡ sheet_foils → t ≡ front_of es → HostRead k c b (entries_of t) s out a out'
-    → HostRead k c b es s out a out'
-whole-read k c b es t s out a out' eight front d =
-    on-table (Reads k c b s out a out') (reads_more k c b s out a out' eight) es _ t t front refl refl d
+-- it is done on a copy d of the records
+pub whole-read : (k : ℕ) (c : Step) (b d : Sheet) (es : List Entry) (t : Flat) (s out : List ℕ) (a : Answer)
+    (out' : List ℕ) → d ≡ b → length d.boards ≡ sheet_foils → t ≡ front_of es
+    → HostRead k c d (entries_of t) s out a out' → HostRead k c b es s out a out'
+whole-read k c b d es t s out a out' same eight front r =
+    subst (λ (x : Sheet). HostRead k c x es s out a out') same
+    (on-table (Reads k c d s out a out') (reads_more k c d s out a out' eight) es _ t t front refl refl r)
 
 pub flat-read : (k : ℕ) (c : Step) (b : Sheet) (t : Flat) (s out : List ℕ) (a : Answer) (out' : List ℕ) (n : ℕ)
     → length t.at ≡ sheet_size → n ≡ numbers_lent t.len
@@ -214,11 +216,12 @@ module _ (k net : ℕ) (i : Ink) (b : Sheet) (s : List ℕ) (r : Resistance) whe
         state = ap (longer rest) d.state ∙ sym l.state;
       }
 
-pub whole-ohms : (k net : ℕ) (i : Ink) (b : Sheet) (es : List Entry) (t : Flat) (s : List ℕ) (r : Resistance)
-    → length b.boards ≡ sheet_foils → t ≡ front_of es → HostOhms k net i b (entries_of t) s r
+pub whole-ohms : (k net : ℕ) (i : Ink) (b d : Sheet) (es : List Entry) (t : Flat) (s : List ℕ) (r : Resistance)
+    → d ≡ b → length d.boards ≡ sheet_foils → t ≡ front_of es → HostOhms k net i d (entries_of t) s r
     → HostOhms k net i b es s r
-whole-ohms k net i b es t s r eight front d =
-    on-table (Measures k net i b s r) (measures-more k net i b s r eight) es _ t t front refl refl d
+whole-ohms k net i b d es t s r same eight front m =
+    subst (λ (x : Sheet). HostOhms k net i x es s r) same
+    (on-table (Measures k net i d s r) (measures-more k net i d s r eight) es _ t t front refl refl m)
 
 pub flat-ohms : (k net : ℕ) (i : Ink) (b : Sheet) (t : Flat) (s : List ℕ) (r : Resistance) (n : ℕ)
     → length t.at ≡ sheet_size → n ≡ numbers_lent t.len

@@ -86,6 +86,7 @@ pub fn flat_of(at: [u16; SHEET_SIZE], len: usize) -> Flat
 }
 
 // The entry at place i.
+#[tactic(auto, unfolding(foil_spec::specs::Lent::entry_at))]
 pub fn pick(a: &[u16; SHEET_SIZE], i: usize) -> Entry
     requires { i < sheet_entries }
     ensures { result ≡ entry_at a.now i }
@@ -120,6 +121,7 @@ pub fn same(a: Entry, b: Entry) -> bool
 }
 
 // How many numbers are lent on of a table of n places: five for each of its first 512.
+#[tactic(auto, unfolding(crate::specs::Flats::numbers_lent))]
 pub fn numbers_lent(n: usize) -> usize
     ensures { result ≡ numbers_lent n }
 {
@@ -127,6 +129,7 @@ pub fn numbers_lent(n: usize) -> usize
 }
 
 // The numbers of an answer.
+#[tactic(auto, unfolding(crate::specs::Calls::said_of))]
 pub fn said_of(answer: Answer) -> Said
     ensures { result ≡ said_of answer }
 {
@@ -172,6 +175,7 @@ fn leave(done: SheetDone, at: [u16; SHEET_SIZE], len: usize) -> Left
 }
 
 // Begins the foil.
+#[tactic(auto, unfolding(crate::specs::Flats::numbers_lent))]
 pub fn new_foil(
     s: Sheet,
     t: Flat,
@@ -192,6 +196,7 @@ pub fn new_foil(
 }
 
 // Draws a patch.
+#[tactic(auto, unfolding(crate::specs::Flats::numbers_lent))]
 pub fn draw(
     s: Sheet,
     t: Flat,
@@ -211,6 +216,7 @@ pub fn draw(
 }
 
 // Lays a track.
+#[tactic(auto, unfolding(crate::specs::Flats::numbers_lent))]
 pub fn lay(
     s: Sheet,
     t: Flat,
@@ -233,6 +239,7 @@ pub fn lay(
 }
 
 // Lays a list of nets.
+#[tactic(auto, unfolding(crate::specs::Flats::numbers_lent))]
 pub fn lay_list(
     s: Sheet,
     t: Flat,
@@ -253,6 +260,7 @@ pub fn lay_list(
 }
 
 // Joins a point to a net.
+#[tactic(auto, unfolding(crate::specs::Flats::numbers_lent))]
 pub fn join(
     s: Sheet,
     t: Flat,
@@ -273,6 +281,7 @@ pub fn join(
 }
 
 // Finds a track.
+#[tactic(auto, unfolding(crate::specs::Flats::numbers_lent))]
 pub fn find(
     s: Sheet,
     t: Flat,
@@ -293,6 +302,7 @@ pub fn find(
 }
 
 // Books a drawn track.
+#[tactic(auto, unfolding(crate::specs::Flats::numbers_lent))]
 pub fn book(s: Sheet, t: Flat, strips: &mut [u16], corners: &[u16], k: usize, net: u16) -> Left
     ensures { FlatDone k (books net corners.now) s t strips.old result strips.new }
 {
@@ -303,6 +313,7 @@ pub fn book(s: Sheet, t: Flat, strips: &mut [u16], corners: &[u16], k: usize, ne
 }
 
 // Lifts a net.
+#[tactic(auto, unfolding(crate::specs::Flats::numbers_lent))]
 pub fn lift(s: Sheet, t: Flat, strips: &mut [u16], k: usize, net: u16) -> Left
     ensures { FlatDone k (lifts net) s t strips.old result strips.new }
 {
@@ -313,6 +324,7 @@ pub fn lift(s: Sheet, t: Flat, strips: &mut [u16], k: usize, net: u16) -> Left
 }
 
 // Appends a leg as booked.
+#[tactic(auto, unfolding(crate::specs::Flats::numbers_lent))]
 pub fn put_leg(s: Sheet, t: Flat, strips: &mut [u16], k: usize, leg: Entry) -> Left
     ensures { FlatDone k (put_leg leg) s t strips.old result strips.new }
 {
@@ -323,6 +335,7 @@ pub fn put_leg(s: Sheet, t: Flat, strips: &mut [u16], k: usize, leg: Entry) -> L
 }
 
 // Looks a point up.
+#[tactic(auto, unfolding(crate::specs::Flats::numbers_lent))]
 pub fn look_up(s: Sheet, t: Flat, strips: &[u16], k: usize, x: u16, y: u16) -> Answer
     ensures { HostRead k (look_up (point x y)) s (entries_of t) strips.now [] result [] }
 {
@@ -332,6 +345,7 @@ pub fn look_up(s: Sheet, t: Flat, strips: &[u16], k: usize, x: u16, y: u16) -> A
 }
 
 // Saves the foil as a job file.
+#[tactic(auto, unfolding(crate::specs::Flats::numbers_lent))]
 pub fn save(s: Sheet, t: Flat, strips: &[u16], out: &mut [u8], k: usize) -> Answer
     ensures { HostRead k saves s (entries_of t) strips.now out.old result out.new }
 {
@@ -341,6 +355,7 @@ pub fn save(s: Sheet, t: Flat, strips: &[u16], out: &mut [u8], k: usize) -> Answ
 }
 
 // Writes the slip.
+#[tactic(auto, unfolding(crate::specs::Flats::numbers_lent))]
 pub fn slip(s: Sheet, t: Flat, strips: &[u16], out: &mut [u8], k: usize) -> Answer
     ensures { HostRead k slips s (entries_of t) strips.now out.old result out.new }
 {
@@ -350,6 +365,7 @@ pub fn slip(s: Sheet, t: Flat, strips: &[u16], out: &mut [u8], k: usize) -> Answ
 }
 
 // The ohms of a net.
+#[tactic(auto, unfolding(crate::specs::Flats::numbers_lent))]
 pub fn ohms(s: Sheet, t: Flat, strips: &[u16], k: usize, net: u16, ink: Ink) -> Resistance
     ensures { HostOhms k net ink s (entries_of t) strips.now result }
 {
@@ -359,6 +375,7 @@ pub fn ohms(s: Sheet, t: Flat, strips: &[u16], k: usize, net: u16, ink: Ink) -> 
 }
 
 // The numbers of an answer for ohms.
+#[tactic(auto, unfolding(crate::specs::Calls::ohms_said))]
 pub fn ohms_said(answer: Resistance) -> OhmsSaid
     ensures { result ≡ ohms_said answer }
 {
@@ -386,6 +403,7 @@ fn bring(done: Done, at: [u16; SHEET_SIZE], len: usize) -> Brought
 }
 
 // Carries an old foil over.
+#[tactic(auto, unfolding(crate::specs::Flats::numbers_lent))]
 pub fn carry(
     b: Board,
     t: Flat,

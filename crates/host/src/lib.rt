@@ -1,15 +1,14 @@
 // The calls on a foil of a sheet as a host program uses them: the records of the eight foils are lent by
 // `&mut`, the table that they share as a slice of entry structs, the strip list of the foil called, and
-// the foil's number. Each has the contract of the call of `sheet` on numbers. `exported` has the same
-// calls for programs in C.
+// the foil's number. Each has the contract of the call of `sheet` on numbers. The crate `host_c` has the
+// same calls for programs in C.
 #![tactic(auto)]
 
-mod exported;
 mod flat;
 mod records;
 mod table;
 
-ghost use Rattle.std.specs.Prelude.{[]};
+ghost use Rattle.std.specs.Prelude.{◌≡◌, []};
 ghost use Rattle.foil_spec.specs.Foil.{point, pen};
 ghost use Rattle.foil_spec.specs.Ledger.{by_pen, new_foil, draw as draws, lay as lays, lift as lifts, put_leg};
 ghost use Rattle.foil_spec.specs.Ledger.{join as joins, save as saves, find as finds, book as books, slip as slips};
@@ -18,10 +17,12 @@ ghost use Rattle.host.specs.Calls.{HostDone, HostWrote, HostListed, HostRead, Ho
 ghost use Rattle.host.specs.Records.{HostRan};
 ghost use Rattle.host.specs.Carried.{old_of, HostCarried};
 
+pub use flat::{OhmsSaid, Said, ohms_said, said_of};
 use foil::Answer;
 use foil_spec::{Board, Entry, Ink, OldBoard};
 use job::Reply;
 use ohms::Resistance;
+pub use records::{RecordSaid, StepSaid, record_said_of};
 use sheet_rows::Sheet;
 use table::load;
 
@@ -136,6 +137,13 @@ pub fn join(
     out.answer
 }
 
+// The records of a sheet that is only read: by value, they are known to be eight.
+fn copy_of(sheet: &Sheet) -> Sheet
+    ensures { result ≡ sheet.now }
+{
+    *sheet
+}
+
 // Finds the track from (sx, sy) to (tx, ty): writes its corners to the front of the corner list. The
 // foil is not changed.
 pub fn find(
@@ -153,7 +161,7 @@ pub fn find(
         sheet.now table.now strips.now corners.old
         result corners.new }
 {
-    let s = *sheet;
+    let s = copy_of(sheet);
     let t = load(table);
     flat::find(s, t, strips, corners, k, sx, sy, tx, ty)
 }
@@ -219,7 +227,7 @@ pub fn look_up(sheet: &Sheet, table: &[Entry], strips: &[u16], k: usize, x: u16,
     ensures { HostRead k (look_up (point x y))
         sheet.now table.now strips.now [] result [] }
 {
-    let s = *sheet;
+    let s = copy_of(sheet);
     let t = load(table);
     flat::look_up(s, t, strips, k, x, y)
 }
@@ -229,7 +237,7 @@ pub fn save(sheet: &Sheet, table: &[Entry], strips: &[u16], out: &mut [u8], k: u
     ensures { HostRead k saves sheet.now table.now strips.now out.old
         result out.new }
 {
-    let s = *sheet;
+    let s = copy_of(sheet);
     let t = load(table);
     flat::save(s, t, strips, out, k)
 }
@@ -239,7 +247,7 @@ pub fn slip(sheet: &Sheet, table: &[Entry], strips: &[u16], out: &mut [u8], k: u
     ensures { HostRead k slips sheet.now table.now strips.now out.old
         result out.new }
 {
-    let s = *sheet;
+    let s = copy_of(sheet);
     let t = load(table);
     flat::slip(s, t, strips, out, k)
 }
@@ -255,7 +263,7 @@ pub fn ohms(
 ) -> Resistance
     ensures { HostOhms k net ink sheet.now table.now strips.now result }
 {
-    let s = *sheet;
+    let s = copy_of(sheet);
     let t = load(table);
     flat::ohms(s, t, strips, k, net, ink)
 }

@@ -54,6 +54,7 @@ fn nothing_said() -> Said
 }
 
 // The numbers of a step.
+#[tactic(auto, unfolding(crate::specs::Records::step_said_of))]
 fn step_said_of(told: Told) -> StepSaid
     ensures { result ≡ step_said_of told }
 {
@@ -70,6 +71,7 @@ fn step_said_of(told: Told) -> StepSaid
 }
 
 // The numbers of a record that was not run.
+#[tactic(auto, unfolding(crate::specs::Records::ran_said, crate::specs::Records::goes_on, crate::specs::Records::place_next, crate::specs::Records::step_said_of))]
 fn not_run(number: u8, end: bool) -> RecordSaid
     ensures { result ≡ ran_said number end no_answers Next.Nowhere }
 {
@@ -91,6 +93,7 @@ fn not_run(number: u8, end: bool) -> RecordSaid
 }
 
 // The numbers of a record that was run.
+#[tactic(auto, unfolding(crate::specs::Records::ran_said, crate::specs::Records::goes_on, crate::specs::Records::place_next))]
 fn run(answers: Answers, next: Next) -> RecordSaid
     ensures { result ≡ ran_said 0 false answers next }
 {
@@ -131,6 +134,7 @@ fn run(answers: Answers, next: Next) -> RecordSaid
 }
 
 // The numbers of a reply.
+#[tactic(auto, unfolding(crate::specs::Records::record_said_of))]
 pub fn record_said_of(reply: Reply) -> RecordSaid
     ensures { result ≡ record_said_of reply }
 {
@@ -159,6 +163,7 @@ fn leave(done: SheetReplied, at: [u16; SHEET_SIZE], len: usize) -> Ran
 }
 
 // Runs the record at a place of the bytes.
+#[tactic(auto, unfolding(crate::specs::Flats::numbers_lent))]
 pub fn run_record(
     s: Sheet,
     t: Flat,

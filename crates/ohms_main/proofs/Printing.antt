@@ -3,10 +3,9 @@ use Prim.Native.Nat.{ℕ, zero, suc, ◌+◌, ◌-◌, ◌^◌, ◌≤◌, ◌<�
 use native.Mathlib.Omega.{arith}
 use native.Mathlib.Nat.{add-zero, zero-add}
 use mathlib.Core.Path.{◌≡◌, refl, sym, ap, ◌∙◌, subst}
-use mathlib.Core.Bool.{Bool, true, false, not}
+use mathlib.Core.Bool.{Bool, true, false}
 use mathlib.Core.List.{List, [], ◌∷◌, ◌++◌, map, append_assoc, append-nil}
 use lib.ListN.{length, replicate, length-append}
-use borrow.Author.Tests.{not-true, not-false}
 use Rattle.foil_spec.specs.Lists.{range}
 use Rattle.foil_spec.specs.Limits.{max_entries, strips_size, sheet_size}
 use Rattle.foil_spec.specs.Text.{ascii}
@@ -131,10 +130,10 @@ module _ (given bs : List ℕ) (b : Board) (t s : List ℕ) (here : Reached bs b
   -- net k + 1
   module _ (k written : ℕ) (to : WrittenTo given bs written k) (u : Bool)
       (found : u ≡ in_use (k + 1) (map (entry_at t) (range 0 max_entries))) where
-    pub not_there : not u ≡ true → WrittenTo given bs written (k + 1)
+    pub not_there : u ≡ false → WrittenTo given bs written (k + 1)
     unfolding line_of
     not_there h =
-        let none-there : used_after bs (k + 1) ≡ false = used-is (k + 1) u found ∙ not-true u h in
+        let none-there : used_after bs (k + 1) ≡ false = used-is (k + 1) u found ∙ h in
         let empty : line_of (ink_in given) bs (k + 1) ≡ [] = rw none-there refl in
         record {
           count =
@@ -145,12 +144,12 @@ module _ (given bs : List ℕ) (b : Board) (t s : List ℕ) (here : Reached bs b
           few = omega (arith, to.few);
         }
 
-    module _ (there : not u ≡ false) (r : Resistance) (answered : r ≡ ohms_after (ink_in given) bs (k + 1))
+    module _ (there : u ≡ true) (r : Resistance) (answered : r ≡ ohms_after (ink_in given) bs (k + 1))
         {o o' : List ℕ} {n : ℕ} (put : Put o 0 (net_line (k + 1) r) o' n) (short : n ≤ 64) where
       line-is : line_of (ink_in given) bs (k + 1) ≡ net_line (k + 1) r
       unfolding line_of
       line-is =
-          let used : used_after bs (k + 1) ≡ true = used-is (k + 1) u found ∙ not-false u there in
+          let used : used_after bs (k + 1) ≡ true = used-is (k + 1) u found ∙ there in
           rw used (ap (net_line (k + 1)) (sym answered))
 
       with-line : lines_to given bs (k + 1) ≡ lines_to given bs k ++ net_line (k + 1) r

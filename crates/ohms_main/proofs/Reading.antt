@@ -7,7 +7,7 @@ use mathlib.Core.Path.{◌≡◌, refl, ap, ◌∙◌}
 use mathlib.Core.Bool.{Bool, true, false, not, cond}
 use mathlib.Core.List.{List}
 use lib.Dec.{eqb}
-use lib.Ieee.{Float, nan, inf, binary64, odd, div, of_fields, of_bits}
+use lib.Ieee.{Float, nan, inf, binary64, prec, low, odd, div, of_fields, of_bits}
 use lib.Ieee.Scale.{finite}
 use borrow.Author.Tests.{eq-eqb, ne_eqb}
 use Rattle.foil_spec.specs.declared.Ink.{Ink}
@@ -21,7 +21,7 @@ odd-finite d s (suc q) k l = refl
 -- a field of ones is that of an infinity or a NaN
 fields-finite : (s : Bool) (x t : ℕ) → finite (of_fields binary64 s x t) ≡ not (eqb x 2047)
 unfolding of_fields
-fields-finite s zero t = odd-finite _ s t _ _
+fields-finite s zero t = odd-finite (prec binary64) s t 0 (low binary64)
 fields-finite s (suc x) t = go (eqb (suc x) 2047) (eqb t 0)
   where
     go : (b c : Bool) → finite (cond b (cond c (inf s) nan) (odd 53 s (4503599627370496 + t) x 1074)) ≡ not b
