@@ -9,7 +9,10 @@ use job::Next;
 use job_report::{OUT_SIZE, report_record};
 use places::no_board;
 use putting::put_bytes;
+use reading::read_full;
 use sheet_rows::SHEET_SIZE;
+use std::fs;
+use std::rt::Files;
 
 // How many bytes of what a job gives are as stored, before one is not; and whether that is all of both.
 #[derive(Clone, Copy)]
@@ -18,62 +21,65 @@ struct Agreed {
     all: bool,
 }
 
-fn main() {
-    sample(b"board-clearance");
-    sample(b"board-size");
-    sample(b"bytes-after-end");
-    sample(b"cut-short");
-    sample(b"document-01");
-    sample(b"full-table");
-    sample(b"less-ink");
-    sample(b"reader-keys");
-    sample(b"reader-more");
-    sample(b"reader-relaid");
-    sample(b"refusals");
-    sample(b"second-board");
-    sample(b"too-fine");
-    sample(b"too-long");
-    sample(b"unknown-bit");
-    sample(b"wide-pen");
-    sample(b"window");
+fn main(rt: HostRuntime) {
+    sample(&rt, b"board-clearance");
+    sample(&rt, b"board-size");
+    sample(&rt, b"bytes-after-end");
+    sample(&rt, b"cut-short");
+    sample(&rt, b"document-01");
+    sample(&rt, b"full-table");
+    sample(&rt, b"less-ink");
+    sample(&rt, b"reader-keys");
+    sample(&rt, b"reader-more");
+    sample(&rt, b"reader-relaid");
+    sample(&rt, b"refusals");
+    sample(&rt, b"second-board");
+    sample(&rt, b"too-fine");
+    sample(&rt, b"too-long");
+    sample(&rt, b"unknown-bit");
+    sample(&rt, b"wide-pen");
+    sample(&rt, b"window");
 }
 
 // Runs the job of a sample, and writes whether it gives just the bytes of the sample's `.out`.
-fn sample(name: &[u8])
+fn sample(rt: &impl Files, name: &[u8])
     requires { length name.now ≤ 60 }
 {
     let mut job = [0u8; INPUT_SIZE];
     let mut stored = [0u8; OUT_SIZE];
-    let n = read(&mut job, name, b".job");
-    let m = read(&mut stored, name, b".out");
+    let n = read(rt, &mut job, name, b".job");
+    let m = read(rt, &mut stored, name, b".out");
     show(name, compare(&job[..n], &stored[..m]));
 }
 
 // Reads the file of a name and an ending to the front of a list; how many bytes are read.
-fn read(list: &mut [u8], name: &[u8], ending: &[u8]) -> usize
+fn read(rt: &impl Files, list: &mut [u8], name: &[u8], ending: &[u8]) -> usize
     requires { length name.now + length ending.now ≤ 64 }
     ensures { IsPrefixLen result list.new }
 {
     let mut path = [0u8; 64];
     let a = put_bytes(&mut path, 0, name);
     let n = put_bytes(&mut path, a, ending);
-    read_file(list, &path[..n])
+    read_file(rt, list, &path[..n])
 }
 
 // Reads a file to the front of a list, and writes a line if it is not there; how many bytes are read.
-fn read_file(list: &mut [u8], path: &[u8]) -> usize
+fn read_file(rt: &impl Files, list: &mut [u8], path: &[u8]) -> usize
     ensures { IsPrefixLen result list.new }
 {
-    let fd = os::open_read(path);
-    if fd < 0 {
+    let Some(mut file) = open(rt, path) else {
         io::write_all(1, b"no ");
         io::write_all(1, path);
         io::write_all(1, b"\n");
         return 0;
-    }
-    let n = io::read_full(fd, list);
-    libc::close(fd);
-    n
+    };
+    read_full(&mut file, list)
+}
+
+// The file of that name, if it is there.
+fn open<R: Files>(rt: &R, path: &[u8]) -> Option<R::File> {
+    let text = std::str::from_utf8(path).ok()?;
+    fs::open(rt, text).ok()
 }
 
 // Writes a line on a sample.
