@@ -1,4 +1,4 @@
-/* The calls on a foil of a sheet, for C and C++: the functions that crates/host/src/exported.rt exports, in libfoil.
+/* The calls on a foil of a sheet, for C and C++: the functions that crates/host_c/src/lib.rt exports, in libfoil.
    docs/HOST.md says how it is built, and more on what follows.
 
    A sheet is eight foils, numbered 0 to 7: their records, and one table for all of them, foil after foil by number,
@@ -11,10 +11,8 @@
    _BYTES are lengths that are enough, in that unit.
 
    A call may be lent any lists: one that is too short is refused by 12, and of a longer one the places past the first
-   FOIL_PLACES (of a carry's tables FOIL_ENTRIES) or FOIL_STRIPS are neither read nor written. Numbers at the end of a
-   list that are too few for a place are none: not for a strip, a corner or an answer, and no wish; but an odd number of
-   corner numbers to book is refused by 19. Lists must not overlap each other nor the records. A refused call writes to
-   no list, and to the records what they held; a foil number above 7 is refused by 23, before all else.
+   FOIL_PLACES or FOIL_STRIPS are neither read nor written. Lists must not overlap each other nor the records. A refused
+   call writes to no list, and to the records what they held; a foil number above 7 is refused by 23, before all else.
 
    Nothing is kept between calls but what is lent: sheets that share no list may be called from several threads at once.
    A call needs up to FOIL_STACK bytes of stack. */
@@ -59,8 +57,8 @@ enum foil_refusal {
 
 /* the foils of a sheet, and the places of their table; the entries that a foil may have, and those that it is sure of
    whatever the others have; the strips that a foil's list must have room for; the corners that are enough for any lay
-   or find, for a join unless its net cannot be lifted (11), and with FOIL_ENTRIES and one a net more for a list; the
-   nets that a list has at most; the nets that a report must have room for */
+   or find, and for a join unless its net cannot be lifted (11); the nets that a list has at most; the nets that a report
+   must have room for */
 enum {
     FOIL_FOILS = 8,
     FOIL_PLACES = 512,
@@ -176,9 +174,9 @@ struct foil_said foil_lay(struct foil_sheet *sheet, struct foil_entry *table, si
 /* lays the nets of a list one after the other, as foil_lay would, each with the corner places that those before it have
    left: `wishes` has five numbers for each, those of a struct foil_wish, and `answers` gets three for each, those of a
    struct foil_answer. A net that is refused uses no corner place, and the next one is tried. The corners stand one after
-   the other. What is lent past the last corner and the last answer is not touched. The list as a whole is refused by
-   23; by 12 if it has more than FOIL_WISHES nets or more than places for answers, or if table or strips are too short;
-   then by 13, also without nets. Else it is answered 0, and has no corners nor bends of its own */
+   the other. What is lent past the last corner and the last answer is not touched. The list as a whole is refused by 12
+   if it has more than FOIL_WISHES nets, or more than places for answers; else it is answered 0, and has no corners nor
+   bends of its own */
 struct foil_said foil_lay_list(struct foil_sheet *sheet, struct foil_entry *table, size_t places, uint16_t *strips,
                                size_t strip_numbers, uint16_t *corners, size_t corner_numbers, uint16_t *answers,
                                size_t answer_numbers, const uint16_t *wishes, size_t wish_numbers, size_t foil);

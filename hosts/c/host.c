@@ -941,10 +941,6 @@ static struct foil_old_board old;
 static struct foil_entry *old_table;
 static uint16_t *old_strips, *report;
 
-/* one of which a carry lifts two nets */
-static const struct foil_entry falling[] = {{0, 2, 0, 3, 3}, {9, 2, 0, 3, 3}, {5, 0, 0, 6, 1}, {9, 5, 3, 6, 4}};
-static const uint16_t falling_strips[] = {0, 1, 2, 3, 3, 1, 6, 3, 0, 3, 5, 4};
-
 #define OLD old_table, FOIL_ENTRIES
 #define OLD_STRIPS old_strips, FOIL_STRIP_NUMBERS, old
 
@@ -1001,6 +997,8 @@ static void carried(struct pages t, struct pages ot, struct pages os)
     static const uint16_t patched_strips[] = {4, 0, 12, 2};
     static const struct foil_entry edged[] = {{0, 4, 3, 6, 4}, {3, 1, 3, 11, 4}, {7, 1, 1, 2, 5}, {3, 8, 1, 9, 2}};
     static const uint16_t edged_strips[] = {3, 0, 7, 2, 10, 0, 12, 2};
+    static const struct foil_entry falling[] = {{0, 2, 0, 3, 3}, {9, 2, 0, 3, 3}, {5, 0, 0, 6, 1}, {9, 5, 3, 6, 4}};
+    static const uint16_t falling_strips[] = {0, 1, 2, 3, 3, 1, 6, 3, 0, 3, 5, 4};
     static const struct foil_entry of_job[] = {{0, 2, 0, 3, 3}, {5, 0, 0, 1, 4}, {5, 0, 3, 5, 4}, {5, 4, 0, 5, 4}};
     static const uint16_t job_strips[] = {1, 0, 2, 3, 3, 0, 4, 3, 5, 0, 6, 4};
     static const uint16_t square[] = {0, 0, 4, 4};
@@ -1139,43 +1137,15 @@ static void refused_carries(struct pages t, struct pages s, struct pages r, stru
     show_foil();
 }
 
-/* carries from and to tables of 600 places and strip lists of 5,000, with a report of 200: the places past 128, 4,096
-   and 128 may neither be read nor written */
-static void long_carries(struct pages t, struct pages s, struct pages r, struct pages ot, struct pages os)
-{
-    const struct pages lists[] = {t, s, r, ot, os};
-    size_t k;
-    memset(&sheet, 0, sizeof sheet);
-    on(0);
-    table = (struct foil_entry *)(void *)t.border - FOIL_ENTRIES;
-    strips = (uint16_t *)(void *)s.border - FOIL_STRIP_NUMBERS;
-    report = (uint16_t *)(void *)r.border - FOIL_REPORT;
-    memset(report, 0xff, FOIL_REPORT * sizeof *report);
-    old_foil(ot, os, 6, 4, 0, falling, 4, falling_strips, 3);
-    for (k = 0; k < sizeof lists / sizeof *lists; k++)
-        protect(lists[k].border, lists[k].behind, PROT_NONE);
-    show_carried(foil_carry(&BOARD, table, 600, old_table, 600, strips, 4 * 5000, report, 200, old_strips, 4 * 5000,
-                            old));
-    show_foil();
-    /* strips that are not the old foil's */
-    old.strips = 2;
-    show_carried(foil_carry(&BOARD, table, 600, old_table, 600, strips, 4 * 5000, report, 200, old_strips, 4 * 5000,
-                            old));
-    for (k = 0; k < sizeof lists / sizeof *lists; k++)
-        writable(lists[k]);
-    printf("past 128: %s, old %s; past 4096: %s, old %s; past the report: %s\n", kept(t), kept(ot), kept(s), kept(os),
-           kept(r));
-}
-
 int main(void)
 {
     struct pages t = parted(FOIL_PLACES * sizeof(struct foil_entry), 88 * sizeof(struct foil_entry));
     struct pages s = parted(FOIL_STRIP_NUMBERS * sizeof(uint16_t), 4 * 904 * sizeof(uint16_t));
     struct pages c = parted(FOIL_CORNER_NUMBERS * sizeof(uint16_t), 0);
     struct pages b = parted(FOIL_BYTES, 64);
-    struct pages r = parted(FOIL_REPORT * sizeof(uint16_t), 72 * sizeof(uint16_t));
-    struct pages ot = parted(FOIL_ENTRIES * sizeof(struct foil_entry), 472 * sizeof(struct foil_entry));
-    struct pages os = parted(FOIL_STRIP_NUMBERS * sizeof(uint16_t), 4 * 904 * sizeof(uint16_t));
+    struct pages r = parted(FOIL_REPORT * sizeof(uint16_t), 0);
+    struct pages ot = parted(FOIL_ENTRIES * sizeof(struct foil_entry), 0);
+    struct pages os = parted(FOIL_STRIP_NUMBERS * sizeof(uint16_t), 0);
     document_01();
     drawn();
     saved();
@@ -1196,6 +1166,5 @@ int main(void)
     report = (uint16_t *)(void *)r.border - FOIL_REPORT;
     carried(t, ot, os);
     refused_carries(t, s, r, ot, os);
-    long_carries(t, s, r, ot, os);
     return 0;
 }

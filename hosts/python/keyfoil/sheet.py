@@ -220,7 +220,7 @@ class Foil:
         nets = len(flat) // 5
         answers = (ctypes.c_uint16 * (3 * nets))()
         # a longer list is refused
-        corners = (ctypes.c_uint16 * (2 * (limits.CORNERS + limits.ENTRIES + min(nets, limits.WISHES))))()
+        corners = (ctypes.c_uint16 * (2 * limits.CORNERS * min(nets, limits.WISHES)))()
         with self.sheet.lock:
             said = self.sheet.library.foil_lay_list(*self._lent(), corners, len(corners), answers, len(answers), flat,
                                                     len(flat), self.k)

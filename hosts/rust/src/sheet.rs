@@ -118,7 +118,7 @@ impl Sheet {
         let flat: Vec<u16> = wishes.iter().flat_map(|w| [w.net, w.start.0, w.start.1, w.end.0, w.end.1]).collect();
         let mut answers = vec![0; 3 * wishes.len()];
         // a longer list is refused
-        let mut corners = vec![0; CORNER_NUMBERS + 2 * (ENTRIES + wishes.len().min(WISHES))];
+        let mut corners = vec![0; CORNER_NUMBERS * wishes.len().min(WISHES)];
         lent::lay_list(self.lent(k), &mut corners, &mut answers, &flat, k)?;
         let mut rest = &corners[..];
         Ok(answers
