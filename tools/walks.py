@@ -1,5 +1,7 @@
 #!/usr/bin/env python3
-"""Writes the proofs of the crate `host` that are walks of a function's MIR: crates/host/proofs/**/Proof.antt of the
+"""For the older Rattle alone: today no proof of `host` is a walk, nothing calls this, and what it writes does not check.
+
+Writes the proofs of the crate `host` that are walks of a function's MIR: crates/host/proofs/**/Proof.antt of the
 functions named at the end of this file. Run it at the repository's root when one of these functions or its parameters
 is changed, or a call is added. With --check it writes nothing: it prints the files that are not as it would write them,
 and ends with 1 if there are any. What it writes is formatted by `rt fmt`, and checked like any proof.
