@@ -1,7 +1,7 @@
 // Boards for tests, up to 40 by 40, made from a number: the same number always gives the same board.
 #![tactic(auto)]
 
-ghost use Rattle.std.specs.Prelude.{◌≡◌, ◌<◌, ◌≤◌, min};
+ghost use Rattle.std.specs.Prelude.{◌≡◌, ◌<◌, ◌≤◌, IfSome};
 ghost use Rattle.boards.specs.Board.{OnBoard};
 
 // A board: its width, height and clearance, how many entries it has, two points on it that may be blocked, and the
@@ -19,6 +19,32 @@ pub struct Made {
     pub seed: u32,
 }
 
+// A size: how wide and how high.
+#[derive(Clone, Copy)]
+struct Size {
+    width: u16,
+    height: u16,
+}
+
+impl Size {
+    // A size of this width and height.
+    fn of(width: u16, height: u16) -> Size
+        ensures { (result.width ≡ width) × (result.height ≡ height) }
+    {
+        Size { width, height }
+    }
+
+    // The same, with its sides exchanged.
+    fn turned(self) -> Size
+        ensures { (result.width ≡ self.height) × (result.height ≡ self.width) }
+    {
+        Size {
+            width: self.height,
+            height: self.width,
+        }
+    }
+}
+
 // How many entries were drawn, and the number that is left.
 #[derive(Clone, Copy)]
 struct Drawn {
@@ -28,7 +54,7 @@ struct Drawn {
 
 // The number after `seed` in a fixed row of numbers: D. H. Lehmer's, modulo the prime 2^31 - 1.
 pub fn next(seed: u32) -> u32 {
-    ((seed as u64) * 48271 % 2147483647) as u32
+    (u64::from(seed) * 48271 % 2147483647) as u32
 }
 
 // A number below n.
@@ -36,14 +62,7 @@ pub fn below(seed: u32, n: u16) -> u16
     requires { 0 < n }
     ensures { result < n }
 {
-    (seed % (n as u32)) as u16
-}
-
-// The smaller of two numbers.
-fn least(a: u16, b: u16) -> u16
-    ensures { result ≡ min a b }
-{
-    if a < b { a } else { b }
+    (seed % u32::from(n)) as u16
 }
 
 // Where a side ends that begins at `start`: at most `most` further, and not past `size`.
@@ -51,7 +70,7 @@ fn end_of(start: u16, size: u16, most: u16, seed: u32) -> u16
     requires { (start < size) × (0 < most) }
     ensures { (start < result) × (result ≤ size) }
 {
-    start + least(1 + below(seed, most), size - start)
+    start + (1 + below(seed, most)).min(size - start)
 }
 
 // Puts a patch at place i of the table.
@@ -65,56 +84,37 @@ fn put(table: &mut [u16; 640], i: usize, x0: u16, y0: u16, x1: u16, y1: u16)
     table[i * 5 + 4] = y1;
 }
 
-// Puts a patch somewhere on the board, at most `across` wide and `down` high, and gives the number that is left.
-fn patch(
-    table: &mut [u16; 640],
-    i: usize,
-    width: u16,
-    height: u16,
-    across: u16,
-    down: u16,
-    seed: u32,
-) -> u32
-    requires { (i < 128) × (0 < width) × (0 < height) × (0 < across) × (0 < down) }
+// Puts a patch somewhere on the board, at most as large as `most`, and gives the number that is left.
+fn patch(table: &mut [u16; 640], i: usize, board: Size, most: Size, seed: u32) -> u32
+    requires { (i < 128) × (0 < board.width) × (0 < board.height) × (0 < most.width) × (0 < most.height) }
 {
     let a = next(seed);
     let b = next(a);
     let c = next(b);
     let e = next(c);
-    let x0 = below(a, width);
-    let y0 = below(b, height);
+    let x0 = below(a, board.width);
+    let y0 = below(b, board.height);
     put(
         table,
         i,
         x0,
         y0,
-        end_of(x0, width, across, c),
-        end_of(y0, height, down, e),
+        end_of(x0, board.width, most.width, c),
+        end_of(y0, board.height, most.height, e),
     );
     e
 }
 
-// Draws n patches anywhere, alternately at most `long` by `short` and `short` by `long`.
-fn scatter(
-    table: &mut [u16; 640],
-    width: u16,
-    height: u16,
-    n: u16,
-    long: u16,
-    short: u16,
-    seed: u32,
-) -> Drawn
-    requires { (0 < width) × (0 < height) × (n ≤ 128) × (0 < long) × (0 < short) }
+// Draws n patches anywhere, alternately at most as large as `most` and as that turned.
+fn scatter(table: &mut [u16; 640], board: Size, n: u16, most: Size, seed: u32) -> Drawn
+    requires { (0 < board.width) × (0 < board.height) × (n ≤ 128) × (0 < most.width) × (0 < most.height) }
     ensures { result.entries ≤ 128 }
 {
-    let entries = n as usize;
+    let entries = usize::from(n);
     let mut s = seed;
     for i in 0..entries {
-        if i % 2 == 0 {
-            s = patch(table, i, width, height, long, short, s);
-        } else {
-            s = patch(table, i, width, height, short, long, s);
-        }
+        let largest = if i % 2 == 0 { most } else { most.turned() };
+        s = patch(table, i, board, largest, s);
     }
     Drawn { entries, seed: s }
 }
@@ -132,24 +132,18 @@ fn tooth(table: &mut [u16; 640], i: usize, x: u16, height: u16, gap: u16, lower:
 }
 
 // Draws two combs, one in the other, so that a path winds between their teeth, off the board's edge by d.
-fn combs(table: &mut [u16; 640], width: u16, height: u16, d: u16, seed: u32) -> Drawn
-    requires { (width ≤ 64) × (0 < height) × (height ≤ 64) × (d ≤ 15) }
+fn combs(table: &mut [u16; 640], board: Size, d: u16, seed: u32) -> Drawn
+    requires { (board.width ≤ 64) × (0 < board.height) × (board.height ≤ 64) × (d ≤ 15) }
     ensures { result.entries ≤ 128 }
 {
     let mut s = seed;
     let mut i: usize = 0;
     let off = d + d + 1;
     let mut x = off;
-    while x < width {
+    while x < board.width {
         s = next(s);
-        tooth(
-            table,
-            i,
-            x,
-            height,
-            least(off + below(s, 3), height - 1),
-            i % 2 == 0,
-        );
+        let gap = (off + below(s, 3)).min(board.height - 1);
+        tooth(table, i, x, board.height, gap, i % 2 == 0);
         i += 1;
         x += off + 1;
     }
@@ -160,18 +154,18 @@ fn combs(table: &mut [u16; 640], width: u16, height: u16, d: u16, seed: u32) -> 
 }
 
 // Draws the board's patches, of one of five kinds: boxes of any size, few of them; dots; lines; small boxes; combs.
-fn patches(table: &mut [u16; 640], width: u16, height: u16, d: u16, seed: u32) -> Drawn
-    requires { (0 < width) × (width ≤ 64) × (0 < height) × (height ≤ 64) × (d ≤ 15) }
+fn patches(table: &mut [u16; 640], board: Size, d: u16, seed: u32) -> Drawn
+    requires { (0 < board.width) × (0 < board.height) × (board.width ≤ 64) × (board.height ≤ 64) × (d ≤ 15) }
     ensures { result.entries ≤ 128 }
 {
     let a = next(seed);
     let b = next(a);
     match below(a, 5) {
-        0 => scatter(table, width, height, below(b, 7), 40, 40, b),
-        1 => scatter(table, width, height, below(b, 101), 2, 2, b),
-        2 => scatter(table, width, height, below(b, 31), 40, 1, b),
-        3 => scatter(table, width, height, below(b, 21), 12, 4, b),
-        _ => combs(table, width, height, d, b),
+        0 => scatter(table, board, below(b, 7), Size::of(40, 40), b),
+        1 => scatter(table, board, below(b, 101), Size::of(2, 2), b),
+        2 => scatter(table, board, below(b, 31), Size::of(40, 1), b),
+        3 => scatter(table, board, below(b, 21), Size::of(12, 4), b),
+        _ => combs(table, board, d, b),
     }
 }
 
@@ -186,7 +180,7 @@ pub fn make(table: &mut [u16; 640], seed: u32) -> Made
     let width = 1 + below(a, 40);
     let height = 1 + below(b, 40);
     let clearance = below(c, 1 + below(e, 4));
-    let drawn = patches(table, width, height, clearance, e);
+    let drawn = patches(table, Size::of(width, height), clearance, e);
     let p = next(drawn.seed);
     let q = next(p);
     let r = next(q);
@@ -204,17 +198,12 @@ pub fn make(table: &mut [u16; 640], seed: u32) -> Made
     }
 }
 
-// The first free place of a map from the place `from` on, or 4,096 where there is none.
-fn first_free(map: &[bool; 4096], from: usize) -> usize
+// The first free place of a map from the place `from` on.
+fn first_free(map: &[bool; 4096], from: usize) -> Option<usize>
     requires { from ≤ 4096 }
-    ensures { result ≤ 4096 }
+    ensures { IfSome result (λ p. p < 4096) }
 {
-    for p in from..4096 {
-        if map[p] {
-            return p;
-        }
-    }
-    4096
+    (from..4096).find(|p| map[*p])
 }
 
 // A free place of the map, where the point (x, y) stands at y * 64 + x: the first from that point on, or else of all;
@@ -223,9 +212,6 @@ pub fn choose(map: &[bool; 4096], x: u16, y: u16) -> usize
     requires { (x < 64) × (y < 64) }
     ensures { result ≤ 4096 }
 {
-    let p = first_free(map, (y as usize) * 64 + (x as usize));
-    if p < 4096 {
-        return p;
-    }
-    first_free(map, 0)
+    let later = first_free(map, usize::from(y) * 64 + usize::from(x));
+    later.or(first_free(map, 0)).unwrap_or(4096)
 }

@@ -4,8 +4,7 @@ use native.Mathlib.Omega.{arith}
 use mathlib.Core.Path.{◌≡◌, sym, ap, ◌∙◌, refl, subst}
 use mathlib.Core.Bool.{Bool, true}
 use mathlib.Core.List.{List, ◌++◌, map}
-use lib.ListN.{length, replicate, length-append, length-map}
-use lib.Seq.{paste}
+use lib.ListN.{length, take, length-append, length-map}
 use Rattle.foil_spec.specs.Lists.{range, all}
 use Rattle.foil_spec.specs.Limits.{max_entries, table_size, strips_size}
 use Rattle.foil_spec.specs.Foil.{Point, Layout, entry_ok, pen_rule}
@@ -24,8 +23,8 @@ use Rattle.ledger_laws.proofs.Sound.{Sound, of-sound, sound-long, length-read}
 use Rattle.tables.specs.Rows.{rows_of}
 use Rattle.tables.specs.Booked.{Booking}
 use Rattle.tables.specs.Legs.{Corners, Legs}
-use Rattle.tables.specs.declared.Booked.{Booked}
-use Rattle.foil.proofs.Making.{rows-again, rows-layout, rows-table, copied-rows}
+use Rattle.std.specs.Prelude.{Option}
+use Rattle.foil.proofs.Making.{rows-again, rows-layout, rows-table, front-rows}
 use Rattle.foil.proofs.Limits.{Held, held-limits}
 use Rattle.booking.specs.Booking.{with_legs, MayBook}
 
@@ -83,11 +82,11 @@ module _ (b : Board) (t s : List ℕ) (net : ℕ) (path : List ℕ) (k : ℕ) (y
         small-y = λ i u. omega (arith, (y.inside _ _ (at i u)).1, limits.sized.height);
       }
 
-  module _ (old rows : List ℕ) (all-rows : ℕ) (copied : old ≡ paste (replicate table_size 0) 0 t table_size)
+  module _ (old rows : List ℕ) (all-rows : ℕ) (copied : old ≡ take table_size t)
       (added : Legs old rows b.entries net path k all-rows) where
     booked-rows : rows ≡ rows_of (l.entries ++ legs net cs)
     unfolding held layout_of
-    booked-rows = added.rows l.entries (length-read t b.entries) (copied-rows m old facts copied)
+    booked-rows = added.rows l.entries (length-read t b.entries) (copied ∙ front-rows m facts)
 
     booked-count : length (l.entries ++ legs net cs) ≡ all-rows
     unfolding held layout_of
@@ -117,7 +116,7 @@ module _ (b : Board) (t s : List ℕ) (net : ℕ) (path : List ℕ) (k : ℕ) (y
         rows-layout rows (l.entries ++ legs net cs) all-rows booked-count booked-rows
         b.width b.height (pen_in b)
 
-    pub booked-is : (t' s' : List ℕ) (r : Booked)
+    pub booked-is : (t' s' : List ℕ) (r : Option Board)
         → Booking (layout_of b.width b.height (pen_in b) all-rows rows) t s t' s' r
         → Booking (with_legs l net cs) t s t' s' r
     booked-is t' s' r k = subst (λ (x : Layout). Booking x t s t' s' r) layout_is k

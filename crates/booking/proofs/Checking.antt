@@ -23,9 +23,9 @@ use Rattle.zones.proofs.Free.{free-inside}
 use Rattle.ledger_laws.proofs.CornerLists.{drawn-whole, drawn-half}
 use Rattle.ledger_laws.proofs.Drawn.{book-from-19}
 use Rattle.tables.specs.Booked.{Stored, Unchanged}
-use Rattle.foil.specs.Contract.{answer_of, Gave, StepIn, refused_by}
-use Rattle.foil.specs.declared.Answer.TheVariants.{Laid}
-use Rattle.foil.specs.declared.Done.{Done}
+use Rattle.std.specs.Prelude.{Ok, Err}
+use Rattle.foil.specs.Contract.{answer_of, Gave, StepIn}
+use Rattle.foil.specs.declared.Accepted.TheVariants.{Laid}
 use Rattle.foil.proofs.Giving.{own-done, own-step}
 use Rattle.booking.specs.Booking.{with_legs, MayBook}
 use Rattle.booking.proofs.Booking.{corners-count, some-corner, entries-count}
@@ -55,19 +55,19 @@ module _ (b : Board) (t s ks : List ℕ) (net limit : ℕ) (limited : limit ≤ 
     c = book net ks
 
     -- what the call is to give where it is refused: all stays as it is
-    abbrev Refused : Done → Type 0
-    Refused r = StepIn c limit m r t s
+    abbrev Refused : ℕ → Type 0
+    Refused n = StepIn c limit m (Err n) b t s
 
     module _ (o : Bool) (o_is : o ≡ net_ok net) where
-      pub no-net : not o ≡ true → (r : Done) → r ≡ refused_by 4 b → Refused r
+      pub no-net : not o ≡ true → Refused 4
       unfolding first refusals
-      no-net n r q room long _ = own-done c m 4 r q y room long (rw (sym o_is ∙ not-true o n) refl)
+      no-net n room long _ = own-done c m 4 y room long (rw (sym o_is ∙ not-true o n) refl)
 
       module _ (ok : not o ≡ false) (u : Bool)
           (u-is : u ≡ in_use net (map (entry_at t) (range 0 b.entries))) where
-        pub used : u ≡ true → (r : Done) → r ≡ refused_by 5 b → Refused r
+        pub used : u ≡ true → Refused 5
         unfolding first refusals held layout_of
-        used e r q room long _ = own-done c m 5 r q y room long (rw (sym o_is ∙ not-false o ok, sym u-is ∙ e) refl)
+        used e room long _ = own-done c m 5 y room long (rw (sym o_is ∙ not-false o ok, sym u-is ∙ e) refl)
 
         module _ (unused : u ≡ false) (w : Bool)
             (w-is : w ≡ is_way (free (layout_of b.width b.height (pen_in b) b.entries t)) (drawn ks)) where
@@ -79,9 +79,9 @@ module _ (b : Board) (t s ks : List ℕ) (net limit : ℕ) (limited : limit ≤ 
               ∙ ap (λ (x : Bool).
               first ((not x ⇒ 19) ∷ (too_long room (next c l) ⇒ 10) ∷ (is_too_fine (next c l) ⇒ 11) ∷ [])) (sym w-is)
 
-          pub no_way : not w ≡ true → (r : Done) → r ≡ refused_by 19 b → Refused r
+          pub no_way : not w ≡ true → Refused 19
           unfolding first
-          no_way e r q room long _ = own-done c m 19 r q y room long (from-19 room ∙ rw (not-true w e) refl)
+          no_way e room long _ = own-done c m 19 y room long (from-19 room ∙ rw (not-true w e) refl)
 
           module _ (drew : not w ≡ false) where
             way : is_way (free l) (drawn ks) ≡ true
@@ -112,11 +112,10 @@ module _ (b : Board) (t s ks : List ℕ) (net limit : ℕ) (limited : limit ≤ 
             unfolding first
             from-10 room = from-19 room ∙ rw (not-false w drew) refl
 
-            pub table-full : (n : ℕ) → n ≡ max 1 (k - 1) → limit < b.entries + n → (r : Done) → r ≡ refused_by 10 b
-                → Refused r
+            pub table-full : (n : ℕ) → n ≡ max 1 (k - 1) → limit < b.entries + n → Refused 10
             unfolding first too_long
-            table-full n e h r q room long is =
-                own-done c m 10 r q y room long
+            table-full n e h room long is =
+                own-done c m 10 y room long
                 (from-10 room
                 ∙ rw (lt-ltb (min max_entries room.limit) (length (next c l).entries)
                 (omega (arith, entries-after))) refl)
@@ -146,12 +145,12 @@ module _ (b : Board) (t s ks : List ℕ) (net limit : ℕ) (limited : limit ≤ 
               unfolding next
               layout_is = ap (λ (cs : List Point). with_legs l net cs) (sym drawn-is)
 
-              pub too_fine : (r : Done) (t' s' : List ℕ) → Unchanged (with_legs l net (corners_in ks k)) t s t' s'
-                  → r ≡ refused_by 11 b → StepIn c limit m r t' s'
+              pub too_fine : (t' s' : List ℕ) → Unchanged (with_legs l net (corners_in ks k)) t s t' s'
+                  → StepIn c limit m (Err 11) b t' s'
               unfolding first
-              too_fine r t' s' u q room long is =
+              too_fine t' s' u room long is =
                   let n = subst (λ (x : Layout). Unchanged x t s t' s') layout_is u in
-                  let g = own-done c m 11 r q y room long (from-11 room is ∙ rw n.many refl) in
+                  let g = own-done c m 11 y room long (from-11 room is ∙ rw n.many refl) in
                   record {
                     answer = g.answer;
                     board = g.board;
@@ -161,7 +160,7 @@ module _ (b : Board) (t s ks : List ℕ) (net limit : ℕ) (limited : limit ≤ 
 
               pub booked-done : (after : Board) (t' s' : List ℕ) (j : ℕ) → j ≡ k - 2
                   → Stored (with_legs l net (corners_in ks k)) t s t' s' after
-                  → StepIn c limit m (record { answer = Laid k j; board = after }) t' s'
+                  → StepIn c limit m (Ok (Laid k j)) after t' s'
               unfolding settle answer_of store first says bends
               booked-done after t' s' j j-is u room long is =
                   let d = subst (λ (x : Layout). Stored x t s t' s' after) layout_is u in
@@ -169,9 +168,9 @@ module _ (b : Board) (t s ks : List ℕ) (net limit : ℕ) (limited : limit ≤ 
                   let o : step_on room c m
                   ≡ record { answer = booked (length (drawn ks)) (bends (drawn ks)); state = store (next c l) m } =
                   own-step room c m y long ∙ rw (from-11 room is, d.fine) refl in
-                  subst (λ (a : After Answer Lent). Gave a (record { answer = Laid k j; board = after }) t' s') (sym o)
+                  subst (λ (a : After Answer Lent). Gave a (Ok (Laid k j)) after t' s') (sym o)
                   (record {
-                    answer = λ i. Laid (sym count i) (e i);
+                    answer = λ i. Ok (Laid (sym count i) (e i));
                     board = d.board;
                     table = d.table;
                     strips = d.strips;

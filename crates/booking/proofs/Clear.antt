@@ -1,12 +1,17 @@
 -- A box has free points only just if it is on the foil and meets none of the blocked boxes.
-use Prim.Native.Nat.{ℕ, ◌+◌, ◌≤◌, ◌<◌, max}
+use Prim.Native.Nat.{ℕ, ◌≤◌, ◌<◌, max}
 use native.Mathlib.Omega.{arith}
-use mathlib.Core.Path.{◌≡◌, refl, sym, ap, ◌∙◌}
-use mathlib.Core.Bool.{Bool, true, false, and-false}
+use native.Mathlib.Nat.{zero-add}
+use mathlib.Core.Path.{◌≡◌, refl, ◌∙◌, subst}
+use mathlib.Core.Bool.{Bool, true, false, not}
 use mathlib.Core.List.{List}
+use mathlib.Core.Logic.{◌⊎◌, inl, inr}
 use lib.Dec.{leb, ltb}
-use borrow.Author.Count.{below_more}
-use borrow.Author.Tests.{le-leb, lt-ltb, lt-leb, le-ltb, leb-true, ltb-true}
+use lib.ListN.{length, get_or}
+use Rattle.std.specs.Bool.{MatchBool}
+use Rattle.std.specs.List.{range_with_len, HoldsAt, AllWithin}
+use Rattle.std.proofs.lemmas.List.FromFn.{length-range_with_len, get_or-range_with_len}
+use borrow.Author.Tests.{le-leb, lt-ltb, leb-true, ltb-true}
 use Rattle.foil_spec.specs.Foil.{Point, Entry}
 use Rattle.foil_spec.specs.Lent.{entry_at}
 use Rattle.list_laws.proofs.Tests.{both, clash, and_l, and_r, parts}
@@ -53,43 +58,14 @@ module _ (e : Entry) (a b : Point) where
             (inside-yes e.y0 e.y1 (max a.y e.y0) (omega arith) (omega arith)),
       )
 
-  -- return by return
-  pub right_of : b.x < e.x0 → false ≡ meets e a b
-  unfolding meets
-  right_of l = simp (lt-leb e.x0 b.x l)
-
-  pub left-of : e.x1 ≤ a.x → false ≡ meets e a b
-  unfolding meets
-  left-of l = simp (le-ltb a.x e.x1 l, and-false)
-
-  pub below : b.y < e.y0 → false ≡ meets e a b
-  unfolding meets
-  below l = simp (lt-leb e.y0 b.y l, and-false)
-
-  pub by_end : e.x0 ≤ b.x → a.x < e.x1 → e.y0 ≤ b.y → ltb a.y e.y1 ≡ meets e a b
-  unfolding meets
-  by_end l m u = simp (le-leb e.x0 b.x l, lt-ltb a.x e.x1 m, le-leb e.y0 b.y u)
-
 -- ---- a box against all that are blocked
 
--- none of the first k boxes is met
-pub record Missed (z : List ℕ) (n : ℕ) (a b : Point) (k : ℕ) : Type 0 where
-  pub le : k ≤ n
-  pub none : (i : ℕ) → i < k → meets (entry_at z i) a b ≡ false
+-- whether box k of the table z is met
+abbrev pub Hit : List ℕ → Point → Point → ℕ → Type 0
+Hit z a b k = meets (entry_at z k) a b ≡ true
 
-module _ (z : List ℕ) (n : ℕ) (a b : Point) where
-  pub missed-none : Missed z n a b 0
-  missed-none = record { le = omega arith; none = λ i l. absurd (omega arith) }
-
-  pub missed_more : (k : ℕ) → k < n → (e : Entry) → e ≡ entry_at z k → (r : Bool) → r ≡ meets e a b → r ≡ false
-      → Missed z n a b k → Missed z n a b (k + 1)
-  missed_more k l e e-is r is clear m =
-      record {
-        le = omega arith;
-        none =
-            below_more (λ (i : ℕ). meets (entry_at z i) a b ≡ false) k m.none
-            (ap (λ (x : Entry). meets x a b) (sym e-is) ∙ sym is ∙ clear);
-      }
+abbrev pub Missed : List ℕ → Point → Point → ℕ → Type 0
+Missed z a b k = meets (entry_at z k) a b ≡ false
 
 module _ (z : List ℕ) (n w h : ℕ) (B : Boxes z n w h) (a b : Point) (lx : a.x ≤ b.x) (ly : a.y ≤ b.y) where
   -- the corner b is in the box
@@ -99,33 +75,44 @@ module _ (z : List ℕ) (n w h : ℕ) (B : Boxes z n w h) (a b : Point) (lx : a.
   not_free : box_free w h n z b.x b.y ≡ false → Cleared (box_free w h n z) a b false
   not_free f = record { yes = λ t. clash t refl; no = λ t. (b.x, b.y, corner, f) }
 
-  pub past-right : w ≤ b.x → Cleared (box_free w h n z) a b false
-  past-right l =
+  pub past-end : (w ≤ b.x) ⊎ ((b.x < w) × (h ≤ b.y)) → Cleared (box_free w h n z) a b false
+  past-end (inl l) =
       not_free
       (both (box_free w h n z b.x b.y)
       (λ t. absurd (omega (arith, (not_covered w h n z b.x b.y t).0))) (λ t. t))
-
-  pub past-below : h ≤ b.y → Cleared (box_free w h n z) a b false
-  past-below l =
+  past-end (inr l) =
       not_free
       (both (box_free w h n z b.x b.y)
-      (λ t. absurd (omega (arith, (not_covered w h n z b.x b.y t).1))) (λ t. t))
+      (λ t. absurd (omega (arith, l.1, (not_covered w h n z b.x b.y t).1))) (λ t. t))
 
-  pub met : (k : ℕ) → k < n → (e : Entry) → e ≡ entry_at z k → (r : Bool) → r ≡ meets e a b → r ≡ true
-      → Cleared (box_free w h n z) a b false
-  met k l e e-is r is hit =
-      let m : meets (entry_at z k) a b ≡ true = ap (λ (x : Entry). meets x a b) (sym e-is) ∙ sym is ∙ hit in
+  met : (k : ℕ) → k < n → Hit z a b k → Cleared (box_free w h n z) a b false
+  met k l m =
       let at = shared (entry_at z k) a b (B.x-order k l) (B.y-order k l) lx ly m in
       record {
         yes = λ t. clash t refl;
         no = λ t. (_, _, at.0, covered-at w h n z _ _ (record { place = k; lt = l; yes = at.1 }));
       }
 
-  pub missed-all : b.x < w → b.y < h → (k : ℕ) → n ≤ k → Missed z n a b k → Cleared (box_free w h n z) a b true
-  missed-all rx ry k l m =
+  missed-all : b.x < w → b.y < h → ((k : ℕ) → k < n → Missed z a b k) → Cleared (box_free w h n z) a b true
+  missed-all rx ry m =
       record {
         yes = λ t x y i.
             box-free-at w h n z x y (omega (arith, i.right)) (omega (arith, i.bottom))
-            (λ j u. missed (entry_at z j) a b (m.none j (omega arith)) x y i);
+            (λ j u. missed (entry_at z j) a b (m j u) x y i);
         no = λ t. clash refl t;
       }
+
+  place-is : (k : ℕ) → k < n → get_or (range_with_len 0 n) k 0 ≡ k
+  place-is k l = get_or-range_with_len 0 n k 0 l ∙ zero-add k
+
+  -- r says whether one of them is met
+  pub cleared-by : b.x < w → b.y < h → (r : Bool)
+      → MatchBool r ((k : ℕ) × (k < length (range_with_len 0 n)) × HoldsAt (Hit z a b) (range_with_len 0 n) k)
+      (AllWithin (Missed z a b) (range_with_len 0 n) 0 (length (range_with_len 0 n)))
+      → Cleared (box_free w h n z) a b (not r)
+  cleared-by rx ry true m =
+      let l : m.0 < n = omega (arith, m.1, length-range_with_len 0 n) in
+      met m.0 l (subst (Hit z a b) (place-is m.0 l) (m.2 0))
+  cleared-by rx ry false m =
+      missed-all rx ry
+      (λ i l. subst (Missed z a b) (place-is i l) (m i 0 (omega arith) (omega (arith, length-range_with_len 0 n))))

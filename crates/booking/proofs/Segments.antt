@@ -4,32 +4,13 @@ use native.Mathlib.Omega.{arith}
 use mathlib.Core.Path.{◌≡◌, refl, sym, ◌∙◌, subst, subst₂}
 use mathlib.Core.Bool.{Bool, true, false, not, and-false, or-false}
 use lib.Dec.{eqb}
-use borrow.Author.Tests.{eqb-true, eq-eqb, ne_eqb, not-true, not-false}
+use borrow.Author.Tests.{eqb-true, not-true, not-false}
 use Rattle.foil_spec.specs.Foil.{Point}
 use Rattle.foil_spec.specs.Paths.{either, between, level_free, upright_free, after, segment}
 use Rattle.list_laws.proofs.Tests.{both, clash, and_l}
 use Rattle.path_laws.proofs.Segments.{between-at, between-to, of-level, of-upright, after-level, after-upright}
 use Rattle.booking.specs.Clear.{low_of, high_of, Cleared}
 use Rattle.booking.specs.Segments.{headed, heads}
-
--- ---- which way a segment goes, return by return
-
-module _ (p q : Point) where
-  pub no-column : (u : Bool) → u ≡ true → (p.x ≡ q.x → ⊥) → false ≡ heads u p q
-  unfolding heads
-  no-column u e n = rw (e, ne_eqb p.x q.x n) refl
-
-  pub in-column : (u : Bool) → u ≡ true → p.x ≡ q.x → not (eqb p.y q.y) ≡ heads u p q
-  unfolding heads
-  in-column u e s = rw (e, eq-eqb p.x q.x s) refl
-
-  pub no_row : (u : Bool) → u ≡ false → (p.y ≡ q.y → ⊥) → false ≡ heads u p q
-  unfolding heads
-  no_row u e n = rw (e, ne_eqb p.y q.y n) refl
-
-  pub in_row : (u : Bool) → u ≡ false → p.y ≡ q.y → not (eqb p.x q.x) ≡ heads u p q
-  unfolding heads
-  in_row u e s = rw (e, eq-eqb p.y q.y s) refl
 
 -- ---- its points
 

@@ -17,10 +17,10 @@ ghost use Rattle.tables.specs.Booked.{Booking};
 ghost use Rattle.foil.specs.Contract.{StepIn};
 ghost use Rattle.booking.specs.Booking.{with_legs, MayBook};
 
-use foil::{Answer, Done, refuse};
-use foil_spec::{Board, TABLE_SIZE};
+use foil::{Accepted, Answer};
+use foil_spec::{Board, Reason, TABLE_SIZE};
 use state::net_ok;
-use tables::{Booked, append_legs, bend_count, copy_front, in_use, leg_count, take_over};
+use tables::{append_legs, bend_count, in_use, leg_count, take_over};
 pub use tracks::{PATH_SIZE, book_found};
 pub use way::is_way;
 use zones::{BOXES_SIZE, pen_zones};
@@ -30,37 +30,31 @@ use zones::{BOXES_SIZE, pen_zones};
 pub fn book_in(
     table: &mut [u16],
     strips: &mut [u16],
-    board: Board,
+    board: &mut Board,
     limit: usize,
     net: u16,
     corners: &[u16],
-) -> Done
-    requires strips_value { sound (lent board table.old strips.old) ≡ true }
+) -> Answer
+    requires strips_value { sound (lent board.old table.old strips.old) ≡ true }
     requires limit_le_max_entries { limit ≤ max_entries }
     ensures { StepIn (books net corners.now) limit
-        (lent board table.old strips.old) result table.new strips.new }
+        (lent board.old table.old strips.old) result board.new table.new strips.new }
 {
     if !net_ok(net) {
-        return refuse(4, board);
+        return Err(Reason::BadNet.into());
     }
     if in_use(table, board.entries, net) {
-        return refuse(5, board);
+        return Err(Reason::NetOnFoil.into());
     }
-    if !draws_way(table, board, corners) {
-        return refuse(19, board);
+    if !draws_way(table, *board, corners) {
+        return Err(Reason::NotAWay.into());
     }
     let k = corners.len() / 2;
     if limit < board.entries + leg_count(k) {
-        return refuse(10, board);
+        return Err(Reason::TableFull.into());
     }
-    let booked = book_path(table, strips, board, net, corners, k);
-    let Booked::Taken(after) = booked else {
-        return refuse(11, board);
-    };
-    Done {
-        answer: Answer::Laid(k, bend_count(k)),
-        board: after,
-    }
+    *board = book_path(table, strips, *board, net, corners, k).ok_or(Reason::TooManyStrips)?;
+    Ok(Accepted::Laid(k, bend_count(k)))
 }
 
 // Whether the list, all of it, draws a way over the free points of a table.
@@ -83,14 +77,14 @@ pub fn book_path(
     net: u16,
     path: &[u16],
     k: usize,
-) -> Booked
+) -> Option<Board>
     requires { MayBook (lent board table.old strips.old) net path.now k }
     ensures { Booking (with_legs (held (lent board table.old strips.old)) net
         (corners_in path.now k))
         table.old strips.old table.new strips.new result }
 {
     let mut rows = [0u16; TABLE_SIZE];
-    copy_front(&mut rows, table, TABLE_SIZE);
+    rows.copy_from_slice(&table[..TABLE_SIZE]);
     let all = append_legs(&mut rows, board.entries, net, path, k);
     take_over(table, strips, &rows, all, board)
 }

@@ -8,7 +8,7 @@ ghost use Rattle.booking.specs.Clear.{low_of, high_of, meets, Cleared};
 ghost use Rattle.booking.specs.Segments.{headed, heads, corners_from};
 
 use foil_spec::{Entry, Point};
-use places::{corner_at, entry_at, larger, smaller};
+use places::{corner_at, entry_at};
 
 // Whether the numbers of the list, all of them, are the corners of a way over free points: on a foil of w by h, and in
 // none of the n boxes.
@@ -17,10 +17,7 @@ pub fn is_way(boxes: &[u16], n: usize, w: u16, h: u16, list: &[u16]) -> bool
     ensures { result ≡ is_way (box_free w h n boxes.now) (drawn list.now) }
 {
     let k = list.len() / 2;
-    if list.len() % 2 != 0 {
-        return false;
-    }
-    if k == 0 {
+    if list.len() % 2 != 0 || k == 0 {
         return false;
     }
     let first = corner_at(list, 0);
@@ -43,15 +40,13 @@ fn goes_on(boxes: &[u16], n: usize, w: u16, h: u16, list: &[u16], k: usize, firs
         (corner_at list.now 0) (corners_from list.now k 1) }
 {
     let mut upright = first;
-    let mut j = 0;
-    while j + 1 < k {
+    for j in 0..k - 1 {
         let p = corner_at(list, j);
         let q = corner_at(list, j + 1);
         if !segment(boxes, n, w, h, upright, p, q) {
             return false;
         }
         upright = !upright;
-        j += 1;
     }
     true
 }
@@ -61,44 +56,38 @@ fn segment(boxes: &[u16], n: usize, w: u16, h: u16, upright: bool, p: Point, q: 
     requires { Boxes boxes.now n w h }
     ensures { result ≡ joins (box_free w h n boxes.now) (headed upright) p q }
 {
-    if !heads(upright, p, q) {
-        return false;
-    }
-    clear(boxes, n, w, h, low_of(p, q), high_of(p, q))
+    heads(upright, p, q) && clear(boxes, n, w, h, low_of(p, q), high_of(p, q))
 }
 
 // Whether q lies straight above or below p, or else straight beside it.
+#[tactic(auto, unfolding(crate::specs::Segments::heads))]
 fn heads(upright: bool, p: Point, q: Point) -> bool
     ensures { result ≡ heads upright p q }
 {
     if upright {
-        if p.x != q.x {
-            return false;
-        }
-        return p.y != q.y;
+        p.x == q.x && p.y != q.y
+    } else {
+        p.y == q.y && p.x != q.x
     }
-    if p.y != q.y {
-        return false;
-    }
-    p.x != q.x
 }
 
-// The low corner of the box that two points span, and the high one.
+// The low corner of the box that two points span.
 fn low_of(p: Point, q: Point) -> Point
     ensures { result ≡ low_of p q }
 {
     Point {
-        x: smaller(p.x, q.x),
-        y: smaller(p.y, q.y),
+        x: p.x.min(q.x),
+        y: p.y.min(q.y),
     }
 }
 
+// The high corner of the box that two points span.
 fn high_of(p: Point, q: Point) -> Point
     ensures { result ≡ high_of p q }
 {
     Point {
-        x: larger(p.x, q.x),
-        y: larger(p.y, q.y),
+        x: p.x.max(q.x),
+        y: p.y.max(q.y),
     }
 }
 
@@ -108,34 +97,16 @@ fn clear(boxes: &[u16], n: usize, w: u16, h: u16, a: Point, b: Point) -> bool
     requires x_le_x { (a.x ≤ b.x) × (a.y ≤ b.y) }
     ensures { Cleared (box_free w h n boxes.now) a b result }
 {
-    if w <= b.x {
+    if w <= b.x || h <= b.y {
         return false;
     }
-    if h <= b.y {
-        return false;
-    }
-    let mut k = 0;
-    while k < n {
-        if meets(entry_at(boxes, k), a, b) {
-            return false;
-        }
-        k += 1;
-    }
-    true
+    !(0..n).any(|k| meets(entry_at(boxes, k), a, b))
 }
 
 // Whether the box e has a point of the box from a to b.
+#[tactic(auto, unfolding(crate::specs::Clear::meets))]
 fn meets(e: Entry, a: Point, b: Point) -> bool
     ensures { result ≡ meets e a b }
 {
-    if b.x < e.x0 {
-        return false;
-    }
-    if e.x1 <= a.x {
-        return false;
-    }
-    if b.y < e.y0 {
-        return false;
-    }
-    a.y < e.y1
+    (e.x0 <= b.x && a.x < e.x1) && (e.y0 <= b.y && a.y < e.y1)
 }

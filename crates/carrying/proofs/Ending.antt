@@ -34,12 +34,10 @@ use Rattle.zones.specs.Table.{Table}
 use Rattle.zones.proofs.Tables.{table_of, pen-small, foil-sized}
 use Rattle.tables.specs.Rows.{rows_of}
 use Rattle.tables.specs.Booked.{Stored, Booking}
-use Rattle.tables.specs.declared.Booked.{Booked}
-use Rattle.tables.specs.declared.Booked.TheVariants.{Taken, TooFine}
+use Rattle.std.specs.Prelude.{Option, Some, None, Ok, Err}
 use Rattle.tables.proofs.Filling.{read-rows, length-rows}
-use Rattle.foil.specs.Contract.{answer_of, Gave, Wrote, refused_by, TooShort}
-use Rattle.foil.specs.declared.Answer.TheVariants.{Wrote as WroteNets}
-use Rattle.foil.specs.declared.Done.{Done}
+use Rattle.foil.specs.Contract.{Answer, answer_of, Gave, Wrote, TooShort}
+use Rattle.foil.specs.declared.Accepted.TheVariants.{Wrote as WroteNets}
 use Rattle.foil.proofs.Giving.{gave-refused, wrote-refused}
 use Rattle.putting.specs.Put.{Put}
 use Rattle.carrying.specs.Marks.{mark_places, marked, SmallNets, MarkedTo, unmarked, Unmarked}
@@ -183,28 +181,28 @@ module _ (t : List ℕ) (b : OldBoard) (o : OldRows t b) where
         ns = blocked_nets b.reach es
 
         -- the rows were taken over with this result
-        abbrev Over : List ℕ → List ℕ → Booked → Type 0
+        abbrev Over : List ℕ → List ℕ → Option Board → Type 0
         Over t₁ s₁ x = Booking (layout_of b.width b.height (pen 0 b.reach) j rows) t₀ s₀ t₁ s₁ x
 
-        pub too_fine : (t₁ s₁ : List ℕ) (d : Done) (x : Booked) → Over t₁ s₁ x → x ≡ TooFine
-            → d ≡ refused_by 11 board → CarriedAs l ns lists out d t₁ s₁ out
+        pub too_fine : (t₁ s₁ : List ℕ) (x : Option Board) → Over t₁ s₁ x → x ≡ None
+            → CarriedAs l ns lists out (Err 11) board t₁ s₁ out
         unfolding first settle output_after
-        too_fine t₁ s₁ d x over e q =
+        too_fine t₁ s₁ x over e =
             let k = subst (Over t₁ s₁) e over in
             let many : is_too_fine l ≡ true = ap is_too_fine (sym layout_is) ∙ k.many in
             record {
               gave =
-                  subst (λ (x : List ℕ). Gave (carried_to l ns lists) d x s₁) (sym k.table)
-                  (subst (λ (x : List ℕ). Gave (carried_to l ns lists) d t₀ x) (sym k.strips)
+                  subst (λ (x : List ℕ). Gave (carried_to l ns lists) (Err 11) board x s₁) (sym k.table)
+                  (subst (λ (x : List ℕ). Gave (carried_to l ns lists) (Err 11) board t₀ x) (sym k.strips)
                   (gave-refused (first ((is_too_fine l ⇒ 11) ∷ []))
-                  (record { answer = wrote ns; state = store l lists }) lists 11 d
-                  (rw many refl) q));
+                  (record { answer = wrote ns; state = store l lists }) lists 11
+                  (rw many refl)));
               output = rw many refl;
             }
 
-        pub taken : (t₁ s₁ out₁ : List ℕ) (after : Board) (count : ℕ) (x : Booked) → Over t₁ s₁ x → x ≡ Taken after
+        pub taken : (t₁ s₁ out₁ : List ℕ) (after : Board) (count : ℕ) (x : Option Board) → Over t₁ s₁ x → x ≡ Some after
             → Put out 0 (keep (marked ms) (range 1 999)) out₁ count
-            → CarriedAs l ns lists out (record { answer = WroteNets count; board = after }) t₁ s₁ out₁
+            → CarriedAs l ns lists out (Ok (WroteNets count)) after t₁ s₁ out₁
         unfolding first settle output_after answer_of store
         taken t₁ s₁ out₁ after count x over e p =
             let q = subst (λ (y : Layout). Stored y t₀ s₀ t₁ s₁ after) layout_is (subst (Over t₁ s₁) e over) in
@@ -214,7 +212,7 @@ module _ (t : List ℕ) (b : OldBoard) (o : OldRows t b) where
               gave =
                   rw q.fine
                   (record {
-                    answer = ap WroteNets counted;
+                    answer = ap (λ (n : ℕ). Ok (WroteNets n)) counted;
                     board = q.board;
                     table = q.table;
                     strips = q.strips;
@@ -261,16 +259,16 @@ module _ (ob : OldBoard) (ot os : List ℕ) (board : Board) (t s out : List ℕ)
   r = room_of m (length out)
 
   -- the call gave this
-  abbrev Given : Done → List ℕ → List ℕ → List ℕ → Type 0
-  Given d t₁ s₁ out₁ = Wrote (carry from) r m out d t₁ s₁ out₁
+  abbrev Given : Answer → Board → List ℕ → List ℕ → List ℕ → Type 0
+  Given d b₁ t₁ s₁ out₁ = Wrote (carry from) r m out d b₁ t₁ s₁ out₁
 
-  module _ (d : Done) (k : Bool) (f : TooShort t s k) where
+  module _ (k : Bool) (f : TooShort t s k) where
     short-is : k ≡ short r
     short-is = f.is board max_entries (length out)
 
-    pub short-new : k ≡ true → d ≡ refused_by 12 board → Given d t s out
-    short-new e q =
-        wrote-refused (carry from) m 12 d q r out
+    pub short-new : k ≡ true → Given (Err 12) board t s out
+    short-new e =
+        wrote-refused (carry from) m 12 r out
         (short-refused r (carry from) (held m) (not (sound m)) (sym short-is ∙ e))
 
     module _ (long : k ≡ false) where
@@ -283,22 +281,22 @@ module _ (ob : OldBoard) (ot os : List ℕ) (board : Board) (t s out : List ℕ)
         old-is : old_short from ≡ g
         old-is = old-short-is ob board ot os max_entries (length out) ∙ sym (h.is board max_entries (length out))
 
-        pub short-old : g ≡ true → d ≡ refused_by 12 board → Given d t s out
+        pub short-old : g ≡ true → Given (Err 12) board t s out
         unfolding refusals first
-        short-old e q = wrote-refused (carry from) m 12 d q r out (own ∙ rw (old-is, e) refl)
+        short-old e = wrote-refused (carry from) m 12 r out (own ∙ rw (old-is, e) refl)
 
         module _ (olds : g ≡ false) where
-          pub short-report : length out < report_places → d ≡ refused_by 12 board → Given d t s out
+          pub short-report : length out < report_places → Given (Err 12) board t s out
           unfolding refusals first room_in
-          short-report l q =
-              wrote-refused (carry from) m 12 d q r out
+          short-report l =
+              wrote-refused (carry from) m 12 r out
               (own ∙ rw (old-is, olds, lt-ltb (length out) report_places l) refl)
 
           module _ (report : report_places ≤ length out) (z : Bool) (is : z ≡ old_sound from) where
-            pub old-broken : z ≡ false → d ≡ refused_by 13 board → Given d t s out
+            pub old-broken : z ≡ false → Given (Err 13) board t s out
             unfolding refusals first room_in
-            old-broken e q =
-                wrote-refused (carry from) m 13 d q r out
+            old-broken e =
+                wrote-refused (carry from) m 13 r out
                 (own ∙ rw (old-is, olds, le-ltb (length out) report_places report, sym is ∙ e) refl)
 
             only-11 : old_sound from ≡ true
@@ -318,14 +316,14 @@ module _ (ob : OldBoard) (ot os : List ℕ) (board : Board) (t s out : List ℕ)
             unfolding step_on says next
             step_is e = rw (only-11 e) refl
 
-            pub carried_on : z ≡ true → (t₁ s₁ out₁ : List ℕ)
+            pub carried_on : z ≡ true → (d : Answer) (b₁ : Board) (t₁ s₁ out₁ : List ℕ)
                 → CarriedAs (carried_layout ob (map (entry_at ot) (range 0 ob.entries)))
-                (blocked_nets ob.reach (map (entry_at ot) (range 0 ob.entries))) m out d t₁ s₁ out₁
-                → Given d t₁ s₁ out₁
+                (blocked_nets ob.reach (map (entry_at ot) (range 0 ob.entries))) m out d b₁ t₁ s₁ out₁
+                → Given d b₁ t₁ s₁ out₁
             unfolding carried lifted_nets old_entries
-            carried_on e t₁ s₁ out₁ c =
+            carried_on e d b₁ t₁ s₁ out₁ c =
                 let q = step_is (kept_by z from is e) in
                 record {
-                  gave = subst (λ (a : After Outcome Lent). Gave a d t₁ s₁) (sym q) c.gave;
+                  gave = subst (λ (a : After Outcome Lent). Gave a d b₁ t₁ s₁) (sym q) c.gave;
                   output = c.output ∙ ap (λ (a : After Outcome Lent). output_after a.answer out) (sym q);
                 }

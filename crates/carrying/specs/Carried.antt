@@ -8,13 +8,13 @@ use Rattle.foil_spec.specs.Ledger.{is_too_fine, carry, wrote, ◌⇒◌, first, 
 use Rattle.foil_spec.specs.Ledger.{Answer as Outcome}
 use Rattle.foil_spec.specs.Lent.{Lent, entry_at, store, room_of, output_after}
 use Rattle.foil_spec.specs.declared.OldBoard.{OldBoard}
-use Rattle.foil.specs.Contract.{Gave, Wrote}
-use Rattle.foil.specs.declared.Done.{Done}
+use Rattle.foil_spec.specs.declared.Board.{Board}
+use Rattle.foil.specs.Contract.{Answer, Gave, Wrote}
 
 -- the call for the old foil o: what it was lent of a foil, on which it may fill the table, was m, and the report out;
 -- it is left so
-abbrev pub CarryDone : Old → Lent → List ℕ → Done → List ℕ → List ℕ → List ℕ → Type 0
-CarryDone o m out d t s out' = Wrote (carry o) (room_of m (length out)) m out d t s out'
+abbrev pub CarryDone : Old → Lent → List ℕ → Answer → Board → List ℕ → List ℕ → List ℕ → Type 0
+CarryDone o m out a b t s out' = Wrote (carry o) (room_of m (length out)) m out a b t s out'
 
 -- an old record and table keep document 01's limits
 pub record OldRows (t : List ℕ) (b : OldBoard) : Type 0 where
@@ -35,6 +35,7 @@ abbrev pub carried_to : Layout → List ℕ → Lent → After Outcome Lent
 carried_to l ns m = settle (first ((is_too_fine l ⇒ 11) ∷ [])) (record { answer = wrote ns; state = store l m }) m
 
 -- answer, record, table and strips are those, and the report, which was out, is left as out'
-pub record CarriedAs (l : Layout) (ns : List ℕ) (m : Lent) (out : List ℕ) (d : Done) (t s out' : List ℕ) : Type 0 where
-  pub gave : Gave (carried_to l ns m) d t s
+pub record CarriedAs (l : Layout) (ns : List ℕ) (m : Lent) (out : List ℕ) (a : Answer) (b : Board) (t s out' : List ℕ)
+    : Type 0 where
+  pub gave : Gave (carried_to l ns m) a b t s
   pub output : out' ≡ output_after (carried_to l ns m).answer out

@@ -12,11 +12,11 @@ ghost use Rattle.foil_spec.specs.Carrying.{old as old_state, blocked_nets};
 ghost use Rattle.foil_spec.specs.Lent.{lent, entry_at};
 ghost use Rattle.carrying.specs.Carried.{CarryDone, OldRows, carried_layout, CarriedAs};
 
-use foil::{Answer, Done, lists_short, refuse};
-use foil_spec::{Board, OldBoard, REPORT_PLACES, TABLE_SIZE};
+use foil::{Accepted, Answer, lists_short};
+use foil_spec::{Board, OldBoard, REPORT_PLACES, Reason, TABLE_SIZE};
 use nets::{MARK_PLACES, keep_unmarked, mark_nets, report_nets};
 use state::old_sound;
-use tables::{Booked, take_over};
+use tables::take_over;
 
 // Carries the old foil over: writes it by today's rules to the record, the table and the strips, and the nets that are
 // lifted, rising, to the front of the report. Where it is refused, nothing is changed.
@@ -24,26 +24,23 @@ pub fn carry(
     table: &mut [u16],
     strips: &mut [u16],
     report: &mut [u16],
-    board: Board,
+    board: &mut Board,
     old_table: &[u16],
     old_strips: &[u16],
     old: OldBoard,
-) -> Done
+) -> Answer
     ensures { CarryDone (old_state old old_table.now old_strips.now)
-        (lent board table.old strips.old) report.old
-        result table.new strips.new report.new }
+        (lent board.old table.old strips.old) report.old
+        result board.new table.new strips.new report.new }
 {
-    if lists_short(table, strips) {
-        return refuse(12, board);
-    }
-    if lists_short(old_table, old_strips) {
-        return refuse(12, board);
-    }
-    if report.len() < REPORT_PLACES {
-        return refuse(12, board);
+    if lists_short(table, strips)
+        || lists_short(old_table, old_strips)
+        || report.len() < REPORT_PLACES
+    {
+        return Err(Reason::LentTooLittle.into());
     }
     if !old_sound(old_table, old_strips, old) {
-        return refuse(13, board);
+        return Err(Reason::BrokenState.into());
     }
     carry_rows(table, strips, report, board, old_table, old)
 }
@@ -53,18 +50,18 @@ fn carry_rows(
     table: &mut [u16],
     strips: &mut [u16],
     report: &mut [u16],
-    board: Board,
+    board: &mut Board,
     old_table: &[u16],
     old: OldBoard,
-) -> Done
+) -> Answer
     requires old_rows { OldRows old_table.now old }
     requires table_size_in_bounds { (table_size ≤ length table.old) × (strips_size ≤ length strips.old)
         × (report_places ≤ length report.old) }
     ensures { CarriedAs
         (carried_layout old (map (entry_at old_table.now) (range 0 old.entries)))
         (blocked_nets old.reach (map (entry_at old_table.now) (range 0 old.entries)))
-        (lent board table.old strips.old) report.old
-        result table.new strips.new report.new }
+        (lent board.old table.old strips.old) report.old
+        result board.new table.new strips.new report.new }
 {
     let mut marks = [0u16; MARK_PLACES];
     mark_nets(&mut marks, old_table, old.entries, old.reach);
@@ -78,13 +75,6 @@ fn carry_rows(
         entries: left,
         strips: 0,
     };
-    let booked = take_over(table, strips, &rows, left, today);
-    let Booked::Taken(after) = booked else {
-        return refuse(11, board);
-    };
-    let count = report_nets(report, &marks);
-    Done {
-        answer: Answer::Wrote(count),
-        board: after,
-    }
+    *board = take_over(table, strips, &rows, left, today).ok_or(Reason::TooManyStrips)?;
+    Ok(Accepted::Wrote(report_nets(report, &marks)))
 }

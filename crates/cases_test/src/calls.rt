@@ -1,10 +1,10 @@
 // The calls, with the lists that they are lent.
-use crate::lists::{LIST, PAGE, RECORDS, least, size};
+use crate::lists::{LIST, PAGE, RECORDS, size};
 use crate::reading::{Line, NUMBERS};
 use crate::{lists, show};
 use foil::Answer;
-use foil_spec::{Entry, Ink, OldBoard};
-use sheet::{Sheet, SheetDone};
+use foil_spec::{Entry, Ink, OldBoard, Point};
+use sheet::Sheet;
 use sheet_rows::{board_at, only_foil_0};
 
 // Makes the call of a line with as much of each list as is lent, writes its answer, and keeps the records.
@@ -18,49 +18,42 @@ pub(crate) fn lend(
     line: Line,
 ) {
     let k = size(line.numbers[0]) % 8;
-    let t = least(lent[0], table.len());
-    let from = least(k * LIST, strips.len());
-    let to = from + least(lent[1], strips.len() - from);
-    let c = least(lent[2], corners.len());
-    let left = call(
+    let t = lent[0].min(table.len());
+    let from = (k * LIST).min(strips.len());
+    let to = from + lent[1].min(strips.len() - from);
+    let c = lent[2].min(corners.len());
+    let mut sheet = lists::sheet_of(records);
+    call(
         &mut table[..t],
         &mut strips[from..to],
         &mut corners[..c],
         file,
-        lists::sheet_of(records),
+        &mut sheet,
         lent,
         line,
     );
-    lists::keep(records, left);
+    lists::keep(records, sheet);
     show::points(corners);
 }
 
-// Makes it with these lists. The records that it leaves.
+// Makes it with these lists.
 fn call(
     table: &mut [u16],
     strips: &mut [u16],
     corners: &mut [u16],
     file: &[u8],
-    sheet: Sheet,
+    sheet: &mut Sheet,
     lent: [usize; 5],
     line: Line,
-) -> Sheet {
-    let row = line.row;
-    match row {
+) {
+    match line.row {
         // new, draw, leg, lift, book, lay, join
-        0..=6 => {
-            let done = change(table, strips, corners, sheet, line);
-            show::done(done);
-            done.sheet
-        }
+        0..=6 => show::answer(change(table, strips, corners, sheet, line)),
         // list, record, carry
         8 => nets(table, strips, corners, sheet, lent[3], line),
         9 => record(table, strips, corners, sheet, file, line),
         14 => old_foil(table, strips, sheet, line),
-        _ => {
-            read(table, strips, corners, sheet, lent[4], line);
-            sheet
-        }
+        _ => read(table, strips, corners, *sheet, lent[4], line),
     }
 }
 
@@ -69,23 +62,27 @@ fn change(
     table: &mut [u16],
     strips: &mut [u16],
     corners: &mut [u16],
-    sheet: Sheet,
+    sheet: &mut Sheet,
     line: Line,
-) -> SheetDone {
-    let row = line.row;
+) -> Answer {
     let n = line.numbers;
     let k = size(n[0]);
-    match row {
+    match line.row {
         // new, draw, leg, lift, book, lay, join
         0 => sheet::new_foil(table, strips, sheet, k, n[1], n[2], n[3], n[4]),
         1 => sheet::draw(table, strips, sheet, k, n[1], n[2], n[3], n[4]),
         2 => sheet::put_leg(table, strips, sheet, k, leg(n)),
         3 => sheet::lift(table, strips, sheet, k, n[1]),
         4 => sheet::book(table, strips, sheet, k, n[1], part(&n, 2, line.count)),
-        5 => sheet::lay(
-            table, strips, corners, sheet, k, n[1], n[2], n[3], n[4], n[5],
-        ),
-        _ => sheet::join(table, strips, corners, sheet, k, n[1], n[2], n[3]),
+        5 => {
+            let from = Point { x: n[2], y: n[3] };
+            let to = Point { x: n[4], y: n[5] };
+            sheet::lay(table, strips, corners, sheet, k, n[1], from, to)
+        }
+        _ => {
+            let from = Point { x: n[2], y: n[3] };
+            sheet::join(table, strips, corners, sheet, k, n[1], from)
+        }
     }
 }
 
@@ -102,8 +99,8 @@ fn leg(n: [u16; NUMBERS]) -> Entry {
 
 // The numbers of a line from one on.
 fn part(n: &[u16], from: usize, to: usize) -> &[u16] {
-    let end = least(to, n.len());
-    let begin = least(from, end);
+    let end = to.min(n.len());
+    let begin = from.min(end);
     &n[begin..end]
 }
 
@@ -112,40 +109,23 @@ fn nets(
     table: &mut [u16],
     strips: &mut [u16],
     corners: &mut [u16],
-    sheet: Sheet,
+    sheet: &mut Sheet,
     room: usize,
     line: Line,
-) -> Sheet {
+) {
     let mut answers = [65535u16; NUMBERS];
     let n = line.numbers;
-    let done = nets_in(
+    let a = room.min(NUMBERS);
+    show::answer(sheet::lay_list(
         table,
         strips,
         corners,
-        &mut answers,
-        room,
+        &mut answers[..a],
         sheet,
         size(n[0]),
         part(&n, 1, line.count),
-    );
-    show::done(done);
+    ));
     show::items(&answers, 0, show::written(&answers), 3);
-    done.sheet
-}
-
-// The same with a part of the answers.
-fn nets_in(
-    table: &mut [u16],
-    strips: &mut [u16],
-    corners: &mut [u16],
-    answers: &mut [u16],
-    room: usize,
-    sheet: Sheet,
-    k: usize,
-    wishes: &[u16],
-) -> SheetDone {
-    let a = least(room, answers.len());
-    sheet::lay_list(table, strips, corners, &mut answers[..a], sheet, k, wishes)
 }
 
 // Runs the record at a place of the file.
@@ -153,28 +133,31 @@ fn record(
     table: &mut [u16],
     strips: &mut [u16],
     corners: &mut [u16],
-    sheet: Sheet,
+    sheet: &mut Sheet,
     file: &[u8],
     line: Line,
-) -> Sheet {
+) {
     let n = line.numbers;
-    let done = sheet::run_record(table, strips, corners, sheet, size(n[0]), file, size(n[1]));
-    let reply = done.reply;
-    show::reply(reply);
-    done.sheet
+    show::reply(sheet::run_record(table, strips, corners, sheet, size(n[0]), file, size(n[1])));
 }
 
 // Makes a call that only reads.
 fn read(table: &[u16], strips: &[u16], corners: &mut [u16], sheet: Sheet, room: usize, line: Line) {
-    let row = line.row;
     let n = line.numbers;
     let k = size(n[0]);
-    match row {
+    match line.row {
         // find, lookup, ohms, save, slip
-        7 => show::answer(sheet::find(corners, table, strips, sheet, k, n[1], n[2], n[3], n[4])),
-        10 => show::answer(sheet::look_up(table, strips, sheet, k, n[1], n[2])),
+        7 => {
+            let from = Point { x: n[1], y: n[2] };
+            let to = Point { x: n[3], y: n[4] };
+            show::answer(sheet::find(corners, table, strips, sheet, k, from, to))
+        }
+        10 => {
+            let point = Point { x: n[1], y: n[2] };
+            show::answer(sheet::look_up(table, strips, sheet, k, point))
+        }
         11 => show::ohms(sheet::ohms(table, strips, sheet, k, n[1], ink(n))),
-        _ => page(table, strips, sheet, room, k, row == 13),
+        _ => page(table, strips, sheet, room, k, line.row == 13),
     }
 }
 
@@ -198,31 +181,18 @@ fn signed(n: u16) -> f64 {
 // Saves a foil or asks for its slip, with so many bytes lent, and writes what was written to them.
 fn page(table: &[u16], strips: &[u16], sheet: Sheet, room: usize, k: usize, slip: bool) {
     let mut out = [b'.'; PAGE];
-    let answer = page_in(&mut out, room, table, strips, sheet, k, slip);
-    show::answer(answer);
-    show::page(&out, slip);
-}
-
-// The same with a part of the page.
-fn page_in(
-    out: &mut [u8],
-    room: usize,
-    table: &[u16],
-    strips: &[u16],
-    sheet: Sheet,
-    k: usize,
-    slip: bool,
-) -> Answer {
-    let n = least(room, out.len());
+    let n = room.min(PAGE);
     if slip {
-        return sheet::slip(&mut out[..n], table, strips, sheet, k);
+        show::answer(sheet::slip(&mut out[..n], table, strips, sheet, k));
+    } else {
+        show::answer(sheet::save(&mut out[..n], table, strips, sheet, k));
     }
-    sheet::save(&mut out[..n], table, strips, sheet, k)
+    show::page(&out, slip);
 }
 
 // Carries an old foil over to foil 0 of a sheet with no other foil, and writes the nets that are lifted. The line has
 // the old record, then the entries and the strips.
-fn old_foil(table: &mut [u16], strips: &mut [u16], sheet: Sheet, line: Line) -> Sheet {
+fn old_foil(table: &mut [u16], strips: &mut [u16], sheet: &mut Sheet, line: Line) {
     let mut old_table = [0u16; 640];
     let mut old_strips = [0u16; 16384];
     let mut report = [65535u16; 128];
@@ -238,18 +208,17 @@ fn old_foil(table: &mut [u16], strips: &mut [u16], sheet: Sheet, line: Line) -> 
         entries,
         strips: size(n[5]),
     };
-    let board = board_at(sheet, 0);
-    let done = carrying::carry(
+    let mut board = board_at(*sheet, 0);
+    let answer = carrying::carry(
         table,
         strips,
         &mut report,
-        board,
+        &mut board,
         &old_table,
         &old_strips,
         old,
     );
-    let answer = done.answer;
     show::answer(answer);
     show::items(&report, 0, show::written(&report), 1);
-    only_foil_0(done.board)
+    *sheet = only_foil_0(board);
 }

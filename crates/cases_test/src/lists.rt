@@ -29,33 +29,23 @@ pub(crate) const ALL_LENT: [usize; 5] = [2565, 16388, 16384, 256, 8192];
 pub(crate) fn size(n: u16) -> usize
     ensures { result < 65536 }
 {
-    n as usize
-}
-
-// The smaller of two numbers.
-pub(crate) fn least(a: usize, b: usize) -> usize
-    ensures { (result ≤ a) × (result ≤ b) }
-{
-    if a < b { a } else { b }
+    usize::from(n)
 }
 
 // Fills a list from a place on.
 pub(crate) fn fill(list: &mut [u16], from: usize, n: u16) {
-    for i in from..list.len() {
-        list[i] = n;
-    }
+    let begin = from.min(list.len());
+    list[begin..].fill(n);
 }
 
 // Puts the numbers of a line from the one at `from` up to the one at `to` into a list, as far as there is room.
 pub(crate) fn put(list: &mut [u16], at: usize, line: Line, from: usize, to: usize) {
     let numbers = line.numbers;
-    let end = least(to, least(line.count, NUMBERS));
-    let begin = least(from, end);
-    let first = least(at, list.len());
-    let n = least(end - begin, list.len() - first);
-    for i in 0..n {
-        list[first + i] = numbers[begin + i];
-    }
+    let end = to.min(line.count.min(NUMBERS));
+    let begin = from.min(end);
+    let first = at.min(list.len());
+    let n = (end - begin).min(list.len() - first);
+    list[first..first + n].copy_from_slice(&numbers[begin..begin + n]);
 }
 
 // The records of a sheet, from their list.
@@ -91,36 +81,15 @@ pub(crate) fn keep(records: &mut [u16; RECORDS], sheet: Sheet) {
     }
 }
 
-// Writes the name of a list if it differs from what it was, and keeps it for the next time. 1 if it differs, else 0.
-fn settle(name: &[u8], old: &mut [u16], new: &[u16]) -> usize
-    ensures { result ≤ 1 }
-{
-    let mut differs: usize = 0;
-    let end = least(old.len(), new.len());
-    for i in 0..end {
-        differs = more(differs, old[i], new[i]);
-        old[i] = new[i];
-    }
-    say_if(name, differs);
-    differs
-}
-
-// 1 if two numbers differ, or others did.
-fn more(differs: usize, old: u16, new: u16) -> usize
-    requires { differs ≤ 1 }
-    ensures { result ≤ 1 }
-{
-    if old != new {
-        return 1;
-    }
-    differs
-}
-
-// Writes a name if something differs.
-fn say_if(name: &[u8], differs: usize) {
-    if differs != 0 {
+// Writes the name of a list if it differs from what it was, and keeps it for the next time. Whether it differs.
+fn settle(name: &[u8], old: &mut [u16], new: &[u16]) -> bool {
+    let end = old.len().min(new.len());
+    let differs = old[..end] != new[..end];
+    old[..end].copy_from_slice(&new[..end]);
+    if differs {
         io::write_all(1, name);
     }
+    differs
 }
 
 // The same of a list whose numbers from one place to another are the foil's own, and of all others.
@@ -131,11 +100,9 @@ pub(crate) fn settle_parts(
     new: &[u16],
     from: usize,
     to: usize,
-) -> usize
-    ensures { result ≤ 2 }
-{
-    let end = least(to, least(old.len(), new.len()));
-    let begin = least(from, end);
+) -> bool {
+    let end = to.min(old.len().min(new.len()));
+    let begin = from.min(end);
     let own = settle(name, &mut old[begin..end], &new[begin..end]);
-    own + settle(others, old, new)
+    settle(others, old, new) || own
 }

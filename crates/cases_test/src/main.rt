@@ -28,9 +28,8 @@ mod show;
 
 ghost use Rattle.std.specs.Prelude.{◌≤◌, length};
 
-use lists::{ALL_LENT, CORNERS, FILE, LIST, RECORDS, STRIPS, TABLE, least, size};
+use lists::{ALL_LENT, CORNERS, FILE, LIST, RECORDS, STRIPS, TABLE, size};
 use reading::{Line, NUMBERS};
-use std::num::{wrapping_add_u16, wrapping_add_usize};
 
 // What is kept from line to line: the line's number, how many bytes the file has, how much of each list the next call
 // is lent, how often the next line is played, and by how much its numbers grow from one time to the next.
@@ -137,8 +136,8 @@ fn rounds(
     let mut next = player;
     let mut grown = line;
     next.times = 1;
-    next.line = wrapping_add_usize(player.line, 1);
-    for _ in 0..least(player.times, 65535) {
+    next.line = player.line.wrapping_add(1);
+    for _ in 0..player.times.min(65535) {
         next = turn(records, table, strips, file, next, grown);
         grown = grow(grown, growth);
     }
@@ -149,7 +148,7 @@ fn rounds(
 fn grow(line: Line, growth: [u16; NUMBERS]) -> Line {
     let mut grown = line;
     for i in 0..8 {
-        grown.numbers[i] = wrapping_add_u16(line.numbers[i], growth[i + 1]);
+        grown.numbers[i] = line.numbers[i].wrapping_add(growth[i + 1]);
     }
     grown
 }
@@ -201,7 +200,7 @@ fn call(
 ) {
     let mut corners = [65535u16; CORNERS];
     let lent = player.lent;
-    let n = least(player.file, file.len());
+    let n = player.file.min(file.len());
     calls::lend(records, table, strips, &mut corners, &file[..n], lent, line);
 }
 
@@ -226,14 +225,14 @@ fn entries(records: &[u16; RECORDS]) -> usize
 {
     let mut n: u16 = 0;
     for i in 0..8 {
-        n = wrapping_add_u16(n, records[i * 6 + 4]);
+        n = n.wrapping_add(records[i * 6 + 4]);
     }
     size(n)
 }
 
 // Runs the file once or many times.
 fn run_file(file: &mut [u8], end: usize, line: Line) {
-    let n = least(end, file.len());
+    let n = end.min(file.len());
     let row = line.row;
     match row {
         23 => jobs::job(&file[..n]),
@@ -324,7 +323,7 @@ fn news(
         k * LIST,
         k * LIST + 16384,
     );
-    if a + b + c == 0 {
+    if !(a || b || c) {
         io::write_all(1, b"; nothing new");
     }
 }

@@ -172,7 +172,7 @@ fn with_byte(read: Reading, byte: u8) -> Reading {
 // With a letter more: twelve have room, and none comes after a number.
 fn with_letter(read: Reading, letter: u64) -> Reading {
     let mut more = read;
-    more.letters = std::num::wrapping_add_u64(read.letters % 36028797018963968 * 32, letter);
+    more.letters = (read.letters % 36028797018963968 * 32).wrapping_add(letter);
     more.bad = read.bad || 0 < read.count;
     more
 }
@@ -182,7 +182,7 @@ fn with_digit(read: Reading, digit: u16) -> Reading {
     let mut more = read;
     let mut at = read.count;
     if read.digit {
-        at = std::num::wrapping_sub_usize(at, 1);
+        at = at.wrapping_sub(1);
     }
     if NUMBERS <= at {
         more.bad = true;

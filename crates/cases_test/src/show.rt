@@ -1,12 +1,10 @@
 // What is written.
 ghost use Rattle.std.specs.Prelude.{◌≤◌};
 
-use crate::lists::least;
 use crate::reading::{BAD, FEW, UNKNOWN};
-use foil::Answer;
-use job::{Answers, Next, Reply, Told, told_by};
+use foil::{Accepted, Answer};
+use job::{Answers, Progress, Reply};
 use ohms::Resistance;
-use sheet::SheetDone;
 
 // Words, and a number behind them.
 pub(crate) fn number(words: &[u8], n: u64) {
@@ -17,11 +15,11 @@ pub(crate) fn number(words: &[u8], n: u64) {
 // An answer: 0 or the number of a refusal, and what it carries.
 pub(crate) fn answer(answer: Answer) {
     match answer {
-        Answer::Refused(n) => number(b" ", n as u64),
-        Answer::Accepted => number(b" ", 0),
-        Answer::Found(place) => number(b" 0 strip ", place as u64),
-        Answer::Wrote(n) => number(b" 0 wrote ", n as u64),
-        Answer::Laid(corners, bends) => {
+        Err(refusal) => number(b" ", u64::from(refusal.number())),
+        Ok(Accepted::Done) => number(b" ", 0),
+        Ok(Accepted::Found(place)) => number(b" 0 strip ", place as u64),
+        Ok(Accepted::Wrote(n)) => number(b" 0 wrote ", n as u64),
+        Ok(Accepted::Laid(corners, bends)) => {
             number(b" 0 with ", bends as u64);
             number(b" bends ", corners as u64);
             io::write_all(1, b" corners");
@@ -29,18 +27,12 @@ pub(crate) fn answer(answer: Answer) {
     }
 }
 
-// The answer of a call that may change a foil.
-pub(crate) fn done(done: SheetDone) {
-    let said = done.answer;
-    answer(said);
-}
-
 // The reply to a record: where the next begins, and the answers of its steps.
 pub(crate) fn reply(reply: Reply) {
     match reply {
-        Reply::Refused(n) => number(b" ", n as u64),
-        Reply::AtEnd => number(b" end mark ", 0),
-        Reply::Ran(answers, next) => {
+        Err(refusal) => number(b" ", u64::from(refusal.number())),
+        Ok(Progress::AtEnd) => number(b" end mark ", 0),
+        Ok(Progress::Ran(answers, next)) => {
             place(next);
             steps(answers);
         }
@@ -48,25 +40,25 @@ pub(crate) fn reply(reply: Reply) {
 }
 
 // Where the next record begins.
-fn place(next: Next) {
+fn place(next: Option<usize>) {
     match next {
-        Next::At(at) => number(b" 0 next ", at as u64),
-        Next::Nowhere => number(b" over ", 0),
+        Some(at) => number(b" 0 next ", at as u64),
+        None => number(b" over ", 0),
     }
 }
 
 // The answers of a record's steps.
 fn steps(answers: Answers) {
-    step(b"; board", told_by(answers, 0));
-    step(b"; patch", told_by(answers, 1));
-    step(b"; track", told_by(answers, 2));
-    step(b"; lift", told_by(answers, 3));
-    step(b"; leg", told_by(answers, 4));
+    step(b"; board", answers.board);
+    step(b"; patch", answers.patch);
+    step(b"; track", answers.track);
+    step(b"; lift", answers.lift);
+    step(b"; leg", answers.leg);
 }
 
 // The answer of a step, if the record has it.
-fn step(name: &[u8], told: Told) {
-    if let Told::Said(said) = told {
+fn step(name: &[u8], told: Option<Answer>) {
+    if let Some(said) = told {
         io::write_all(1, name);
         answer(said);
     }
@@ -75,7 +67,7 @@ fn step(name: &[u8], told: Told) {
 // A resistance as the bits of its f64, or the number of its refusal.
 pub(crate) fn ohms(r: Resistance) {
     match r {
-        Resistance::Refused(n) => number(b" ", n as u64),
+        Resistance::Refused(n) => number(b" ", u64::from(n)),
         Resistance::Ohms(x) => bits(x),
     }
 }
@@ -91,20 +83,13 @@ fn bits(x: f64) {
     io::print_hex(1, pattern, 16);
 }
 
-// A number of a list, as print_decimal takes it.
-fn wide(n: u16) -> u64 {
-    n as u64
-}
-
 // The numbers of a list from one place to another, so many to an item; a point is an item of two.
 pub(crate) fn items(list: &[u16], from: usize, to: usize, of: usize)
     requires { 1 ≤ of }
 {
-    for i in from..list.len() {
-        if i < to {
-            between(of, (i - from) % of == 0);
-            io::print_decimal(1, wide(list[i]));
-        }
+    for i in from..to.min(list.len()) {
+        between(of, (i - from) % of == 0);
+        io::print_decimal(1, u64::from(list[i]));
     }
 }
 
@@ -120,15 +105,19 @@ fn between(of: usize, first: bool) {
     io::write_all(1, b" ");
 }
 
-// How many numbers of a list there are up to the last that is not 65535, with which it was lent.
-pub(crate) fn written(list: &[u16]) -> usize {
-    let mut n: usize = 0;
-    for i in 0..list.len() {
-        if list[i] != 65535 {
-            n = i + 1;
+// How many items of a list there are up to the last that is not the one with which it was lent.
+fn used<T: PartialEq + Copy>(list: &[T], unused: T) -> usize {
+    for i in (0..list.len()).rev() {
+        if list[i] != unused {
+            return i + 1;
         }
     }
-    n
+    0
+}
+
+// How many numbers of a list there are up to the last that is not 65535, with which it was lent.
+pub(crate) fn written(list: &[u16]) -> usize {
+    used(list, 65535)
 }
 
 // The points of a corner list that were written.
@@ -142,11 +131,9 @@ pub(crate) fn points(corners: &[u16]) {
 
 // Whether the numbers of a list from one place to another are all the same as n.
 pub(crate) fn all_are(list: &[u16], from: usize, to: usize, n: u16) -> bool {
-    for i in from..list.len() {
-        if i < to {
-            if list[i] != n {
-                return false;
-            }
+    for i in from..to.min(list.len()) {
+        if list[i] != n {
+            return false;
         }
     }
     true
@@ -164,7 +151,7 @@ pub(crate) fn counts(counts: &[u64; 32]) {
 
 // The bytes of a page up to the last that is not the stop with which it was lent: as text, or in two digits each.
 pub(crate) fn page(out: &[u8], text: bool) {
-    let n = least(page_end(out), out.len());
+    let n = used(out, b'.').min(out.len());
     if n == 0 {
         return;
     }
@@ -175,24 +162,8 @@ pub(crate) fn page(out: &[u8], text: bool) {
     }
     io::write_all(1, b" ");
     for i in 0..n {
-        io::print_hex(1, wide_byte(out[i]), 2);
+        io::print_hex(1, u64::from(out[i]), 2);
     }
-}
-
-// Where the written part of a page ends.
-fn page_end(out: &[u8]) -> usize {
-    let mut n: usize = 0;
-    for i in 0..out.len() {
-        if out[i] != b'.' {
-            n = i + 1;
-        }
-    }
-    n
-}
-
-// A byte of a list.
-fn wide_byte(n: u8) -> u64 {
-    n as u64
 }
 
 // The entries of a table in so many numbers, and whether those behind them are as they are to be.

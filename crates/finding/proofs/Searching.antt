@@ -1,25 +1,18 @@
 -- The boxes of a table leave free what its layout has free, so the first path between them is the layout's.
 use Prim.Native.Nat.{ℕ}
-use mathlib.Core.Path.{◌≡◌, sym, ap, ◌∙◌, subst}
-use mathlib.Core.Bool.{Bool, true≢false}
-use mathlib.Core.List.{List, []}
-use mathlib.Core.Option.{Option, none, some, get_or}
-use lib.Dec.{eqb}
-use lib.ListN.{length}
-use borrow.Author.Tests.{eq-eqb, ne_eqb}
+use mathlib.Core.Path.{◌≡◌, ap, ◌∙◌, subst}
+use mathlib.Core.Bool.{Bool}
+use mathlib.Core.List.{List}
+use mathlib.Core.Option.{Option}
+use Rattle.std.specs.Prelude as std
 use Rattle.foil_spec.specs.Foil.{Point, Pen, free}
 use Rattle.foil_spec.specs.Paths.{first_path}
-use Rattle.foil_spec.specs.Ledger.{path_of, no_path, corners_of}
+use Rattle.foil_spec.specs.Ledger.{path_of}
 use Rattle.foil_spec.specs.Lent.{layout_of}
 use Rattle.zones.specs.Boxes.{box_free, Zoned}
 use Rattle.search.specs.Grid as boxes
 use Rattle.search.specs.Search as search
 use Rattle.finding.specs.Found.{Posed, Found}
-
-no-path : (o : Option (List Point)) (k : ℕ) → (k ≡ 0 → o ≡ none) → k ≡ length (get_or o []) → no_path o ≡ eqb k 0
-unfolding no_path
-no-path none k e n = sym (eq-eqb k 0 n)
-no-path (some cs) k e n = sym (ne_eqb k 0 (λ z. true≢false (sym (ap no_path (e z)))))
 
 module _ {t : List ℕ} {n : ℕ} {p : Pen} {w h : ℕ} {S T : Point} (P : Posed t n p w h S T) {z : List ℕ} {c : ℕ}
     (Z : Zoned (free (layout_of w h p n t)) w h z c) where
@@ -35,14 +28,8 @@ module _ {t : List ℕ} {n : ℕ} {p : Pen} {w h : ℕ} {S T : Point} (P : Posed
   unfolding path_of layout_of
   path-is = ap (λ (f : ℕ → ℕ → Bool). first_path f w h S T) Z.same
 
-  pub layout-found : {out out' : List ℕ} {k : ℕ} → search.PathFound (first_path (box_free w h c z) w h S T) out out' k
+  pub layout-found : {out out' : List ℕ} {k : std.Option ℕ}
+      → search.PathFound (first_path (box_free w h c z) w h S T) out out' k
       → Found (layout_of w h p n t) S T out out' k
-  unfolding corners_of
   layout-found {out} {out'} {k} F =
-      let G = subst (λ (o : Option (List Point)). search.PathFound o out out' k) path-is F in
-      record {
-        none = no-path (path_of (layout_of w h p n t) S T) k G.nowhere G.count;
-        count = G.count;
-        corners = G.corners;
-        untouched = G.untouched;
-      }
+      subst (λ (o : Option (List Point)). search.PathFound o out out' k) path-is F

@@ -4,8 +4,8 @@ use native.Mathlib.Omega.{arith}
 use mathlib.Core.Path.{◌≡◌, refl, sym, ap, ◌∙◌, subst}
 use mathlib.Core.Bool.{Bool, true, false}
 use mathlib.Core.List.{List, [], ◌∷◌, ◌++◌, map}
-use lib.ListN.{length, replicate, length-append}
-use lib.Seq.{paste, sets}
+use lib.ListN.{length, take, length-append}
+use lib.Seq.{sets}
 use borrow.Author.Tests.{lt-ltb, le-ltb}
 use Rattle.foil_spec.specs.Lists.{range, all}
 use Rattle.foil_spec.specs.Limits.{max_entries, table_size}
@@ -22,10 +22,10 @@ use Rattle.ledger_laws.proofs.Sound.{Sound, of-sound, length-read}
 use Rattle.zones.specs.Table.{Table}
 use Rattle.tables.specs.Rows.{rows_of}
 use Rattle.tables.proofs.Filling.{appended, length-rows}
-use Rattle.foil.specs.Contract.{Gave, StepIn, refused_by, taken_over, with_entry, entry_added}
-use Rattle.foil.specs.declared.Done.{Done}
+use Rattle.std.specs.Prelude.{Err}
+use Rattle.foil.specs.Contract.{Answer, Gave, StepIn, taken_over, with_entry, entry_added}
 use Rattle.foil.proofs.Giving.{gave-refused, own-done, own-step}
-use Rattle.foil.proofs.Making.{rows-again, rows-layout, rows-table, copied-rows}
+use Rattle.foil.proofs.Making.{rows-again, rows-layout, rows-table, front-rows}
 use Rattle.foil.proofs.Limits.{Held, held-limits}
 
 module _ (b : Board) (t s : List ℕ) (g : sound (lent b t s) ≡ true) (limit : ℕ) (limited : limit ≤ max_entries) where
@@ -39,28 +39,27 @@ module _ (b : Board) (t s : List ℕ) (g : sound (lent b t s) ≡ true) (limit :
 
   module _ (e : Entry) where
     -- what the call is to give, in each room of the limit
-    abbrev Added : Done → List ℕ → List ℕ → Type 0
-    Added r t' s' = (room : Room) → room.limit ≡ limit → Gave (entry_added room e m) r t' s'
+    abbrev Added : Answer → Board → List ℕ → List ℕ → Type 0
+    Added r b' t' s' = (room : Room) → room.limit ≡ limit → Gave (entry_added room e m) r b' t' s'
 
     one-longer : length ((held m).entries ++ e ∷ []) ≡ b.entries + 1
     unfolding held layout_of
     one-longer = length-append (held m).entries (e ∷ []) ∙ omega (arith, length-read t b.entries)
 
-    pub table-full : limit ≤ b.entries → (r : Done) → r ≡ refused_by 10 b → Added r t s
+    pub table-full : limit ≤ b.entries → Added (Err 10) b t s
     unfolding first too_long
-    table-full l r q room is =
-        gave-refused _ _ m 10 r
+    table-full l room is =
+        gave-refused _ _ m 10
         (rw (lt-ltb (min max_entries room.limit) (length ((held m).entries ++ e ∷ [])) (omega (arith, one-longer)))
         refl)
-        q
 
     module _ (few : b.entries < limit) (ok : entry_ok b.width b.height e ≡ true) (rows : List ℕ) (old : List ℕ)
-        (copied : old ≡ paste (replicate table_size 0) 0 t table_size)
+        (copied : old ≡ take table_size t)
         (put : rows ≡ sets old (b.entries * 5) (entry_numbers e)) where
       added-rows : rows ≡ rows_of ((held m).entries ++ e ∷ [])
       unfolding held layout_of
       added-rows =
-          let old-is = copied-rows m old facts copied in
+          let old-is = copied ∙ front-rows m facts in
           let count = length-read t b.entries in
           let long = length-rows (held m).entries (omega (arith, count)) in
           (appended e b.entries old rows (omega arith) (long ∙ ap length (sym old-is)) put).rows _ count old-is
@@ -87,13 +86,13 @@ module _ (b : Board) (t s : List ℕ) (g : sound (lent b t s) ≡ true) (limit :
           rows-layout rows ((held m).entries ++ e ∷ []) (b.entries + 1) one-longer added-rows
           b.width b.height (pen_in b)
 
-      pub entry-added : (r : Done) (t' s' : List ℕ)
-          → Gave (taken_over (layout_of b.width b.height (pen_in b) (b.entries + 1) rows) m) r t' s'
-          → Added r t' s'
+      pub entry-added : (r : Answer) (b' : Board) (t' s' : List ℕ)
+          → Gave (taken_over (layout_of b.width b.height (pen_in b) (b.entries + 1) rows) m) r b' t' s'
+          → Added r b' t' s'
       unfolding first too_long
-      entry-added r t' s' k room is =
+      entry-added r b' t' s' k room is =
           rw (le-ltb (min max_entries room.limit) (length ((held m).entries ++ e ∷ [])) (omega (arith, one-longer)))
-          (subst (λ (l : Layout). Gave (taken_over l m) r t' s') layout_is k)
+          (subst (λ (l : Layout). Gave (taken_over l m) r b' t' s') layout_is k)
 
   -- ---- a step that adds an entry
 
@@ -106,17 +105,17 @@ module _ (b : Board) (t s : List ℕ) (g : sound (lent b t s) ≡ true) (limit :
         (record { answer = says c (held m); state = store (next c (held m)) m }) m
         ≡ entry_added room e m
 
-    step_added : PastOwn → (r : Done) (t' s' : List ℕ) → Added e r t' s' → StepIn c limit m r t' s'
-    step_added past r t' s' k room long is =
-        subst (λ (a : After Outcome Lent). Gave a r t' s') (sym (own-step room c m g long ∙ past room)) (k room is)
+    step_added : PastOwn → (r : Answer) (b' : Board) (t' s' : List ℕ) → Added e r b' t' s' → StepIn c limit m r b' t' s'
+    step_added past r b' t' s' k room long is =
+        subst (λ (a : After Outcome Lent). Gave a r b' t' s') (sym (own-step room c m g long ∙ past room)) (k room is)
 
   -- ---- a patch
 
   module _ (x0 y0 x1 y1 : ℕ) (o : Bool) (o_is : o ≡ box_ok b.width b.height (entry 0 x0 y0 x1 y1)) where
-    pub no-patch : o ≡ false → (r : Done) → r ≡ refused_by 3 b → StepIn (draw x0 y0 x1 y1) limit m r t s
+    pub no-patch : o ≡ false → StepIn (draw x0 y0 x1 y1) limit m (Err 3) b t s
     unfolding first refusals held layout_of
-    no-patch n r q room long is =
-        own-done (draw x0 y0 x1 y1) m 3 r q g room long (rw (sym o_is ∙ n) refl)
+    no-patch n room long is =
+        own-done (draw x0 y0 x1 y1) m 3 g room long (rw (sym o_is ∙ n) refl)
 
     module _ (box : o ≡ true) where
       pub is-entry : entry_ok b.width b.height (entry 0 x0 y0 x1 y1) ≡ true
@@ -129,32 +128,32 @@ module _ (b : Board) (t s : List ℕ) (g : sound (lent b t s) ≡ true) (limit :
             ap (λ (x : ℕ). over_leg x (map (entry_at t) (range 0 b.entries)) (entry 0 x0 y0 x1 y1)) (sym d-is)
             ∙ sym v-is
 
-        pub patch-across : v ≡ true → (r : Done) → r ≡ refused_by 21 b → StepIn (draw x0 y0 x1 y1) limit m r t s
+        pub patch-across : v ≡ true → StepIn (draw x0 y0 x1 y1) limit m (Err 21) b t s
         unfolding first refusals held layout_of
-        patch-across y r q room long is =
-            own-done (draw x0 y0 x1 y1) m 21 r q g room long (rw (sym o_is ∙ box, over-is ∙ y) refl)
+        patch-across y room long is =
+            own-done (draw x0 y0 x1 y1) m 21 g room long (rw (sym o_is ∙ box, over-is ∙ y) refl)
 
         module _ (clear : v ≡ false) where
           past-21 : PastOwn (draw x0 y0 x1 y1) (entry 0 x0 y0 x1 y1)
           unfolding refusals first says next held layout_of
           past-21 room = rw (sym o_is ∙ box, over-is ∙ clear) refl
 
-          pub drawn : (r : Done) (t' s' : List ℕ) → Added (entry 0 x0 y0 x1 y1) r t' s'
-              → StepIn (draw x0 y0 x1 y1) limit m r t' s'
+          pub drawn : (r : Answer) (b' : Board) (t' s' : List ℕ) → Added (entry 0 x0 y0 x1 y1) r b' t' s'
+              → StepIn (draw x0 y0 x1 y1) limit m r b' t' s'
           drawn = step_added (draw x0 y0 x1 y1) (entry 0 x0 y0 x1 y1) past-21
 
   -- ---- a leg
 
   module _ (e : Entry) (n : Bool) (n-is : n ≡ net_ok e.net) where
-    pub no-net : n ≡ false → (r : Done) → r ≡ refused_by 4 b → StepIn (put_leg e) limit m r t s
+    pub no-net : n ≡ false → StepIn (put_leg e) limit m (Err 4) b t s
     unfolding first refusals
-    no-net f r q room long is = own-done (put_leg e) m 4 r q g room long (rw (sym n-is ∙ f) refl)
+    no-net f room long is = own-done (put_leg e) m 4 g room long (rw (sym n-is ∙ f) refl)
 
     module _ (named : n ≡ true) (o : Bool) (o_is : o ≡ entry_ok b.width b.height e) where
-      pub no-leg : o ≡ false → (r : Done) → r ≡ refused_by 3 b → StepIn (put_leg e) limit m r t s
+      pub no-leg : o ≡ false → StepIn (put_leg e) limit m (Err 3) b t s
       unfolding first refusals held layout_of
-      no-leg f r q room long is =
-          own-done (put_leg e) m 3 r q g room long (rw (sym n-is ∙ named, sym o_is ∙ f) refl)
+      no-leg f room long is =
+          own-done (put_leg e) m 3 g room long (rw (sym n-is ∙ named, sym o_is ∙ f) refl)
 
       module _ (ok : o ≡ true) where
         module _ (d : ℕ) (d-is : d ≡ patch_margin (pen_in b)) (v : Bool)
@@ -163,10 +162,10 @@ module _ (b : Board) (t s : List ℕ) (g : sound (lent b t s) ≡ true) (limit :
           under-is =
               ap (λ (x : ℕ). under_patch x (map (entry_at t) (range 0 b.entries)) e) (sym d-is) ∙ sym v-is
 
-          pub leg-across : v ≡ true → (r : Done) → r ≡ refused_by 21 b → StepIn (put_leg e) limit m r t s
+          pub leg-across : v ≡ true → StepIn (put_leg e) limit m (Err 21) b t s
           unfolding first refusals held layout_of
-          leg-across y r q room long is =
-              own-done (put_leg e) m 21 r q g room long
+          leg-across y room long is =
+              own-done (put_leg e) m 21 g room long
               (rw (sym n-is ∙ named, sym o_is ∙ ok, under-is ∙ y) refl)
 
           module _ (clear : v ≡ false) where
@@ -175,5 +174,6 @@ module _ (b : Board) (t s : List ℕ) (g : sound (lent b t s) ≡ true) (limit :
             past-4-3-and-21 room =
                 rw (sym n-is ∙ named, sym o_is ∙ ok, under-is ∙ clear) refl
 
-            pub leg-put : (r : Done) (t' s' : List ℕ) → Added e r t' s' → StepIn (put_leg e) limit m r t' s'
+            pub leg-put : (r : Answer) (b' : Board) (t' s' : List ℕ) → Added e r b' t' s'
+                → StepIn (put_leg e) limit m r b' t' s'
             leg-put = step_added (put_leg e) e past-4-3-and-21

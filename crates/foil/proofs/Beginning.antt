@@ -8,8 +8,8 @@ use mathlib.Core.Option.{none, some}
 use lib.ListN.{replicate}
 use Rattle.foil_spec.specs.Limits.{table_size}
 use Rattle.foil_spec.specs.Foil.{Pen, size_ok, pen_ok, pen_rule}
-use Rattle.foil_spec.specs.Ledger.{Room, short, Clearance, pen_of, clearance_refusal, new_foil, next, says, first, reads}
-use Rattle.foil_spec.specs.Ledger.{refusals, after_lent, settle, refusal_of}
+use Rattle.foil_spec.specs.Ledger.{Room, short, Clearance, pen_of, clearance_refusal, new_foil, next, says, first}
+use Rattle.foil_spec.specs.Ledger.{reads, refusals, after_lent, settle, refusal_of}
 use Rattle.foil_spec.specs.Lent.{lent, store, layout_of, sound, held, step_on}
 use Rattle.foil_spec.specs.declared.Board.{Board}
 use Rattle.ledger_laws.proofs.Refusals.{no-rule}
@@ -17,8 +17,8 @@ use Rattle.ledger_laws.proofs.Line.{new-fine, pen-allowed}
 use Rattle.zones.specs.Table.{Table}
 use Rattle.zones.proofs.Tables.{pen-small, foil-sized}
 use Rattle.tables.proofs.Filling.{no_rows}
-use Rattle.foil.specs.Contract.{Gave, refused_by, taken_over}
-use Rattle.foil.specs.declared.Done.{Done}
+use Rattle.std.specs.Prelude.{Err}
+use Rattle.foil.specs.Contract.{Answer, Gave, taken_over}
 use Rattle.foil.proofs.Giving.{step-refused}
 use Rattle.foil.proofs.Making.{rows-table}
 
@@ -34,8 +34,8 @@ bare-table w h p a e g =
 
 module _ (b : Board) (t s : List ℕ) (w h : ℕ) (c : Clearance) (room : Room) (long : short room ≡ false) where
   -- the call on what it is lent, and its refusals
-  abbrev Given : Done → List ℕ → List ℕ → Type 0
-  Given r t' s' = Gave (step_on room (new_foil w h c) (lent b t s)) r t' s'
+  abbrev Given : Answer → Board → List ℕ → List ℕ → Type 0
+  Given r b' t' s' = Gave (step_on room (new_foil w h c) (lent b t s)) r b' t' s'
 
   from-1 : refusal_of room (not (sound (lent b t s))) (new_foil w h c) (held (lent b t s))
       ≡ first (refusals (new_foil w h c) room (held (lent b t s)))
@@ -43,16 +43,16 @@ module _ (b : Board) (t s : List ℕ) (w h : ℕ) (c : Clearance) (room : Room) 
   from-1 = rw (long, and-false (not (sound (lent b t s)))) refl
 
   module _ (u : Bool) (u-is : u ≡ size_ok w) where
-    pub no-width : u ≡ false → (r : Done) → r ≡ refused_by 1 b → Given r t s
+    pub no-width : u ≡ false → Given (Err 1) b t s
     unfolding first refusals
-    no-width n r q =
-        step-refused (new_foil w h c) (lent b t s) 1 r q room (from-1 ∙ rw (sym u-is ∙ n) refl)
+    no-width n =
+        step-refused (new_foil w h c) (lent b t s) 1 room (from-1 ∙ rw (sym u-is ∙ n) refl)
 
     module _ (wide : u ≡ true) (v : Bool) (v-is : v ≡ size_ok h) where
-      pub no-height : v ≡ false → (r : Done) → r ≡ refused_by 1 b → Given r t s
+      pub no-height : v ≡ false → Given (Err 1) b t s
       unfolding first refusals
-      no-height n r q =
-          step-refused (new_foil w h c) (lent b t s) 1 r q room
+      no-height n =
+          step-refused (new_foil w h c) (lent b t s) 1 room
           (from-1 ∙ rw (sym u-is ∙ wide, sym v-is ∙ n) refl)
 
       module _ (high : v ≡ true) where
@@ -61,13 +61,13 @@ module _ (b : Board) (t s : List ℕ) (w h : ℕ) (c : Clearance) (room : Room) 
         unfolding first refusals
         past-1 = rw (sym u-is ∙ wide, sym v-is ∙ high) refl
 
-        pub no-pen : (n : ℕ) → first (clearance_refusal c ∷ []) ≡ some n → (r : Done) → r ≡ refused_by n b → Given r t s
-        no-pen n e r q = step-refused (new_foil w h c) (lent b t s) n r q room (from-1 ∙ past-1 ∙ e)
+        pub no-pen : (n : ℕ) → first (clearance_refusal c ∷ []) ≡ some n → Given (Err n) b t s
+        no-pen n e = step-refused (new_foil w h c) (lent b t s) n room (from-1 ∙ past-1 ∙ e)
 
         pub begun : first (clearance_refusal c ∷ []) ≡ none → (p : Pen) → p ≡ pen_of c
-            → (bare : Board) (r : Done) (t' s' : List ℕ)
-            → Gave (taken_over (layout_of w h p 0 (replicate table_size 0)) (lent bare t s)) r t' s' → Given r t' s'
+            → (r : Answer) (b' : Board) (t' s' : List ℕ)
+            → Gave (taken_over (layout_of w h p 0 (replicate table_size 0)) (lent b t s)) r b' t' s' → Given r b' t' s'
         unfolding step_on settle next says store layout_of first
-        begun clear p e bare r t' s' k =
+        begun clear p e r b' t' s' k =
             rw (from-1 ∙ past-1 ∙ clear, sym e)
             (rw (new-fine w h p) at k)

@@ -21,12 +21,9 @@ use Rattle.ledger_laws.proofs.Refusals.{own-refused}
 use Rattle.ledger_laws.proofs.Stored.{Long}
 use Rattle.ledger_laws.proofs.Lending.{long-lists}
 use Rattle.tables.specs.Booked.{Stored, Unchanged}
-use Rattle.foil.specs.declared.Answer.TheVariants.{Accepted}
-use Rattle.foil.specs.declared.Done.{Done}
-use Rattle.foil.specs.declared.lent.Checked.{Checked}
-use Rattle.foil.specs.declared.lent.Checked.TheVariants as checked
-use Rattle.foil.specs.Contract.{answer_of, Gave, Wrote, refused_by, TooShort, FirstChecked, LentChecked}
-use Rattle.foil.specs.Contract.{taken_over}
+use Rattle.std.specs.Prelude.{Ok, Err}
+use Rattle.foil.specs.declared.Accepted.TheVariants.{Done}
+use Rattle.foil.specs.Contract.{answer_of, Gave, Wrote, TooShort, Checked, FirstChecked, LentChecked, taken_over}
 
 -- ---- the lists' lengths
 
@@ -59,10 +56,10 @@ long-room m n limit output =
 
 -- refusals of which none applies, and of which the first has a number
 module _ (rs : List Refusal) (k : Checked) (f : FirstChecked rs k) where
-  pub none_first : k ≡ checked.Passed → first rs ≡ none
-  none_first e = subst (FirstChecked rs) e f
+  pub none_first : (u : Unit {0}) → k ≡ Ok u → first rs ≡ none
+  none_first u e = subst (FirstChecked rs) e f
 
-  pub number-first : (n : ℕ) → k ≡ checked.Refused n → first rs ≡ some n
+  pub number-first : (n : ℕ) → k ≡ Err n → first rs ≡ some n
   number-first n e = subst (FirstChecked rs) e f
 
 -- the room of a call has the limit and the output that it was given
@@ -77,39 +74,32 @@ module _ (limit : ℕ) (m : Lent) (output : ℕ) where
 
 -- ---- a step that is refused
 
-pub gave-refused : (o : Option ℕ) (done : After Outcome Lent) (m : Lent) (n : ℕ) (d : Done) → o ≡ some n
-    → d ≡ refused_by n m.board → Gave (settle o done m) d m.table m.strips
+pub gave-refused : (o : Option ℕ) (done : After Outcome Lent) (m : Lent) (n : ℕ) → o ≡ some n
+    → Gave (settle o done m) (Err n) m.board m.table m.strips
 unfolding settle answer_of
-gave-refused o done m n d e q =
-    rw e
-    (record {
-      answer = ap (λ (x : Done). x.answer) q;
-      board = ap (λ (x : Done). x.board) q;
-      table = refl;
-      strips = refl;
-    })
+gave-refused o done m n e = rw e (record { answer = refl; board = refl; table = refl; strips = refl })
 
-module _ (c : Step) (m : Lent) (n : ℕ) (d : Done) (q : d ≡ refused_by n m.board) where
+module _ (c : Step) (m : Lent) (n : ℕ) where
   pub step-refused : (r : Room) → refusal_of r (not (sound m)) c (held m) ≡ some n
-      → Gave (step_on r c m) d m.table m.strips
+      → Gave (step_on r c m) (Err n) m.board m.table m.strips
   unfolding step_on
-  step-refused r e = gave-refused _ _ m n d e q
+  step-refused r e = gave-refused _ _ m n e
 
   -- the same with an output list, which stays as it is
   pub wrote-refused : (r : Room) (out : List ℕ) → refusal_of r (not (sound m)) c (held m) ≡ some n
-      → Wrote c r m out d m.table m.strips out
+      → Wrote c r m out (Err n) m.board m.table m.strips out
   unfolding step_on settle output_after
   wrote-refused r out e = record { gave = step-refused r e; output = rw e refl }
 
   -- on a state that keeps the rules, refused by one of its own refusals
   pub own-done : sound m ≡ true → (r : Room) → short r ≡ false → first (refusals c r (held m)) ≡ some n
-      → Gave (step_on r c m) d m.table m.strips
+      → Gave (step_on r c m) (Err n) m.board m.table m.strips
   own-done g r long e =
       step-refused r
       (ap (λ (b : Bool). refusal_of r (not b) c (held m)) g ∙ own-refused r c (held m) false long refl ∙ e)
 
   pub own-wrote : sound m ≡ true → (r : Room) (out : List ℕ) → short r ≡ false → first (refusals c r (held m)) ≡ some n
-      → Wrote c r m out d m.table m.strips out
+      → Wrote c r m out (Err n) m.board m.table m.strips out
   own-wrote g r out long e =
       wrote-refused r out
       (ap (λ (b : Bool). refusal_of r (not b) c (held m)) g ∙ own-refused r c (held m) false long refl ∙ e)
@@ -120,12 +110,12 @@ module _ (b : Board) (t s : List ℕ) (k : Bool) (k-is : TooShort t s k) where
   pub long-enough : k ≡ false → Long (lent b t s)
   long-enough e = long-lists max_entries (lent b t s) 0 (sym (k-is.is b max_entries 0) ∙ e)
 
-  pub too_short : k ≡ true → LentChecked (lent b t s) (checked.Refused 12)
+  pub too_short : k ≡ true → LentChecked (lent b t s) (Err 12)
   unfolding after_lent first
   too_short e limit output rs = rw (sym (k-is.is b limit output) ∙ e) refl
 
   pub broken : k ≡ false → (g : Bool) → g ≡ sound (lent b t s) → g ≡ false
-      → LentChecked (lent b t s) (checked.Refused 13)
+      → LentChecked (lent b t s) (Err 13)
   unfolding after_lent first
   broken e g g-is y limit output rs = rw (sym (k-is.is b limit output) ∙ e, sym g-is ∙ y) refl
 
@@ -140,16 +130,16 @@ own-step r c m g long = rw (g, own-refused r c (held m) false long refl) refl
 
 -- ---- a layout that is taken over, or refused by 11
 
-module _ (l : Layout) (b : Board) (t s t' s' : List ℕ) (d : Done) where
-  pub taken : Stored l t s t' s' d.board → d.answer ≡ Accepted → Gave (taken_over l (lent b t s)) d t' s'
+module _ (l : Layout) (b : Board) (t s t' s' : List ℕ) where
+  pub taken : (after : Board) → Stored l t s t' s' after → Gave (taken_over l (lent b t s)) (Ok Done) after t' s'
   unfolding first settle answer_of store
-  taken k q =
+  taken after k =
       rw k.fine
-      (record { answer = q; board = k.board; table = k.table; strips = k.strips })
+      (record { answer = refl; board = k.board; table = k.table; strips = k.strips })
 
-  pub not_taken : Unchanged l t s t' s' → d ≡ refused_by 11 b → Gave (taken_over l (lent b t s)) d t' s'
+  pub not_taken : Unchanged l t s t' s' → Gave (taken_over l (lent b t s)) (Err 11) b t' s'
   unfolding first
-  not_taken k q =
-      subst (λ (x : List ℕ). Gave (taken_over l (lent b t s)) d x s') (sym k.table)
-      (subst (λ (x : List ℕ). Gave (taken_over l (lent b t s)) d t x) (sym k.strips)
-      (gave-refused _ _ (lent b t s) 11 d (rw k.many refl) q))
+  not_taken k =
+      subst (λ (x : List ℕ). Gave (taken_over l (lent b t s)) (Err 11) b x s') (sym k.table)
+      (subst (λ (x : List ℕ). Gave (taken_over l (lent b t s)) (Err 11) b t x) (sym k.strips)
+      (gave-refused _ _ (lent b t s) 11 (rw k.many refl)))

@@ -16,8 +16,8 @@ use Rattle.ledger_laws.proofs.Rules.{of-ok}
 use Rattle.ledger_laws.proofs.Sound.{Sound, of-sound}
 use Rattle.zones.specs.Table.{Table}
 use Rattle.tables.specs.Rows.{rows_of, other_nets, Kept}
-use Rattle.foil.specs.Contract.{Gave, refused_by, taken_over}
-use Rattle.foil.specs.declared.Done.{Done}
+use Rattle.std.specs.Prelude.{Err}
+use Rattle.foil.specs.Contract.{Answer, Gave, taken_over}
 use Rattle.foil.proofs.Giving.{own-done, own-step}
 use Rattle.foil.proofs.Making.{rows-again, rows-layout, rows-table}
 use Rattle.foil.proofs.Limits.{Held, held-limits}
@@ -27,23 +27,23 @@ module _ (b : Board) (t s : List ℕ) (net : ℕ) (g : sound (lent b t s) ≡ tr
   m = lent b t s
 
   -- what the call is to give, in each room that is long enough
-  abbrev Lifted : Done → List ℕ → List ℕ → Type 0
-  Lifted r t' s' = (room : Room) → short room ≡ false → Gave (step_on room (lift net) m) r t' s'
+  abbrev Lifted : Answer → Board → List ℕ → List ℕ → Type 0
+  Lifted r b' t' s' = (room : Room) → short room ≡ false → Gave (step_on room (lift net) m) r b' t' s'
 
   facts : Sound m
   facts = of-sound m g
 
   module _ (o : Bool) (o_is : o ≡ net_ok net) where
-    pub no-net : o ≡ false → (r : Done) → r ≡ refused_by 4 b → Lifted r t s
+    pub no-net : o ≡ false → Lifted (Err 4) b t s
     unfolding first refusals
-    no-net n r q room long = own-done (lift net) m 4 r q g room long (rw (sym o_is ∙ n) refl)
+    no-net n room long = own-done (lift net) m 4 g room long (rw (sym o_is ∙ n) refl)
 
     module _
         (allowed : o ≡ true) (u : Bool) (u-is : u ≡ in_use net (map (entry_at t) (range 0 b.entries))) where
-      pub not_there : u ≡ false → (r : Done) → r ≡ refused_by 6 b → Lifted r t s
+      pub not_there : u ≡ false → Lifted (Err 6) b t s
       unfolding first refusals held layout_of
-      not_there n r q room long =
-          own-done (lift net) m 6 r q g room long (rw (sym o_is ∙ allowed, sym u-is ∙ n) refl)
+      not_there n room long =
+          own-done (lift net) m 6 g room long (rw (sym o_is ∙ allowed, sym u-is ∙ n) refl)
 
       module _ (used : u ≡ true) (rows : List ℕ) (n : ℕ) (kept : Kept rows t net b.entries n) where
         abbrev es : List Entry
@@ -75,9 +75,9 @@ module _ (b : Board) (t s : List ℕ) (net : ℕ) (g : sound (lent b t s) ≡ tr
         unfolding refusals first says held layout_of
         past-6 room = rw (sym o_is ∙ allowed, sym u-is ∙ used) refl
 
-        pub lifted : (r : Done) (t' s' : List ℕ)
-            → Gave (taken_over (layout_of b.width b.height (pen_in b) n rows) m) r t' s' → Lifted r t' s'
-        lifted r t' s' k room long =
-            subst (λ (a : After Outcome Lent). Gave a r t' s')
+        pub lifted : (r : Answer) (b' : Board) (t' s' : List ℕ)
+            → Gave (taken_over (layout_of b.width b.height (pen_in b) n rows) m) r b' t' s' → Lifted r b' t' s'
+        lifted r b' t' s' k room long =
+            subst (λ (a : After Outcome Lent). Gave a r b' t' s')
             (ap (λ (l : Layout). taken_over l m) layout_is
             ∙ sym (own-step room (lift net) m g long ∙ past-6 room)) k

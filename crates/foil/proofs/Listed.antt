@@ -6,13 +6,13 @@ use Rattle.foil_spec.specs.Ledger.{Step, Answer, After}
 use Rattle.foil_spec.specs.Lent.{Lent, lent, step_on}
 use Rattle.foil_spec.specs.Calls.{Call, step, Reply, answered, reply, call_on, output_by}
 use Rattle.foil_spec.specs.Sequence.{Lending, front, room_for, back, lend, Left, leaves, run_lent}
-use Rattle.foil.specs.Contract.{Gave}
+use Rattle.foil_spec.specs.declared.Board.{Board}
+use Rattle.foil.specs.Contract.{Answer as Told, Gave}
 use Rattle.foil.specs.Listed.{WroteListed}
-use Rattle.foil.specs.declared.Done.{Done}
 
 -- what a step gave
-gave-state : (a : After Answer Lent) (d : Done) (t s : List ℕ) → Gave a d t s → a.state ≡ lent d.board t s
-gave-state a d t s g = sym (λ i. lent (g.board i) (g.table i) (g.strips i))
+gave-state : (a : After Answer Lent) (r : Told) (b : Board) (t s : List ℕ) → Gave a r b t s → a.state ≡ lent b t s
+gave-state a r b t s g = sym (λ i. lent (g.board i) (g.table i) (g.strips i))
 
 module _ (c : Lending) (m : Lent) (a : Step) (is : c.call ≡ step a) where
   -- what the step does to what it is lent
@@ -37,7 +37,7 @@ module _ (c : Lending) (m : Lent) (a : Step) (is : c.call ≡ step a) where
 
 pub wrote-listed : WroteListed
 unfolding run_lent
-wrote-listed c cs m o os e a d t s out' is w =
+wrote-listed c cs m o os e a r b t s out' is w =
     let first : leaves c (lend c m).answer (lend c m).state ≡ o = cc in
     let is-left : o ≡ leaves c (answered (done c m a is).answer) (back c m (done c m a is).state) =
     sym first ∙ left_step c m a is in
@@ -47,6 +47,6 @@ wrote-listed c cs m o os e a d t s out' is w =
       answer = w.gave.answer;
       lists =
           ap (λ (x : Left). x.lists) is-left
-          ∙ unfold leaves in ap (back c m) (gave-state (done c m a is) d t s w.gave);
+          ∙ unfold leaves in ap (back c m) (gave-state (done c m a is) r b t s w.gave);
       output = ap (λ (x : Left). x.output) is-left ∙ unfold leaves output_by in sym w.output;
     }

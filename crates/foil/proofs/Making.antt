@@ -1,22 +1,20 @@
 -- The rows that a call makes are those of the layout that its step leaves.
 use Prim.Native.Nat.{ℕ, ◌-◌, ◌≤◌}
 use native.Mathlib.Omega.{arith}
-use mathlib.Core.Path.{◌≡◌, refl, sym, ap, ◌∙◌}
+use mathlib.Core.Path.{◌≡◌, sym, ap, ◌∙◌}
 use mathlib.Core.Bool.{true}
-use mathlib.Core.List.{List, [], ◌++◌, map}
-use lib.ListN.{length, drop, replicate}
-use lib.Seq.{paste}
+use mathlib.Core.List.{List, ◌++◌, map, append-nil}
+use lib.ListN.{length, take, replicate}
 use Rattle.foil_spec.specs.Lists.{range, all, each}
 use Rattle.foil_spec.specs.Limits.{max_entries, table_size}
 use Rattle.foil_spec.specs.Foil.{Entry, entry_numbers, Pen, Rule, entry_ok}
 use Rattle.foil_spec.specs.Lent.{Lent, written, store, entry_at, layout_of, held}
 use Rattle.ledger_laws.proofs.Stored.{entries_fit}
-use Rattle.ledger_laws.proofs.Sound.{Sound}
+use Rattle.ledger_laws.proofs.Sound.{Sound, front-written}
 use Rattle.zones.specs.Table.{Small, Sized, Table}
 use Rattle.zones.proofs.Tables.{table_of}
 use Rattle.tables.specs.Rows.{rows_of}
 use Rattle.tables.proofs.Filling.{length-rows, read-rows}
-use Rattle.tables.proofs.Taking.{copied}
 
 -- rows of some entries, as a list that is read by place
 module _ (rows : List ℕ) (es : List Entry) (n : ℕ) (count : length es ≡ n) (is : rows ≡ rows_of es) where
@@ -35,13 +33,11 @@ module _ (rows : List ℕ) (es : List Entry) (n : ℕ) (count : length es ≡ n)
       table_of rows n r w h few (omega (arith, length-rows es (omega arith), ap length is)) small sized
       (ap (all (entry_ok w h)) (read-rows rows es n count is) ∙ ok)
 
--- the front of a sound table, copied to zeros, is rows of its entries
-pub copied-rows : (m : Lent) (rows : List ℕ) → Sound m → rows ≡ paste (replicate table_size 0) 0 m.table table_size
-    → rows ≡ rows_of (held m).entries
+-- the front of a sound table is rows of its entries
+pub front-rows : (m : Lent) → Sound m → take table_size m.table ≡ rows_of (held m).entries
 unfolding store rows_of written
-copied-rows m rows k e =
+front-rows m k =
     let ns : List ℕ = each entry_numbers (held m).entries in
-    let z : drop {A = ℕ} table_size (replicate table_size 0) ≡ [] = refl in
-    e ∙ ap (λ (x : List ℕ). paste (replicate table_size 0) 0 x table_size) k.table_is
-    ∙ copied table_size ns m.table (replicate table_size 0) (entries_fit (held m) k.kept)
-    ∙ ap (λ (x : List ℕ). ns ++ (replicate (table_size - length ns) 0 ++ x)) z
+    ap (take table_size) k.table_is
+    ∙ front-written table_size ns m.table (entries_fit (held m) k.kept)
+    ∙ ap (λ (x : List ℕ). ns ++ x) (sym (append-nil (replicate (table_size - length ns) 0)))

@@ -5,9 +5,8 @@ use Rattle.foil_spec.specs.Ledger.{Answer as Outcome}
 use Rattle.foil_spec.specs.Lent.{Lent, lent}
 use Rattle.foil_spec.specs.Calls.{step, answered}
 use Rattle.foil_spec.specs.Sequence.{Lending, front, room_for, back, Left, run_lent}
-use Rattle.foil.specs.Contract.{answer_of, Wrote}
-use Rattle.foil.specs.declared.Answer.{Answer}
-use Rattle.foil.specs.declared.Done.{Done}
+use Rattle.foil_spec.specs.declared.Board.{Board}
+use Rattle.foil.specs.Contract.{Answer, answer_of, Wrote}
 
 -- o has the answer that r tells, the whole lists m with what the call c left of its front part put back, and the output
 -- list out'
@@ -22,6 +21,6 @@ pub record Listed (c : Lending) (m : Lent) (o : Left) (r : Answer) (left : Lent)
 abbrev pub WroteListed : Type 0
 WroteListed =
     (c : Lending) (cs : List Lending) (m : Lent) (o : Left) (os : List Left) → run_lent m (c ∷ cs) ≡ o ∷ os
-    → (a : Step) (d : Done) (t s out' : List ℕ) → c.call ≡ step a
-    → Wrote a (room_for c m) (front c m) c.output d t s out'
-    → Listed c m o d.answer (lent d.board t s) out'
+    → (a : Step) (r : Answer) (b : Board) (t s out' : List ℕ) → c.call ≡ step a
+    → Wrote a (room_for c m) (front c m) c.output r b t s out'
+    → Listed c m o r (lent b t s) out'

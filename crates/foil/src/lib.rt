@@ -10,67 +10,55 @@ mod pens;
 ghost use Rattle.std.specs.Prelude.{◌≡◌, ◌≤◌, true, false, [], map, length};
 ghost use Rattle.foil_spec.specs.Lists.{range};
 ghost use Rattle.foil_spec.specs.Limits.{max_entries, table_size, strips_size};
-ghost use Rattle.foil_spec.specs.Foil.{point, entry_ok, pen_rule};
+ghost use Rattle.foil_spec.specs.Foil.{entry_ok, pen_rule};
 ghost use Rattle.foil_spec.specs.Ledger.{new_foil, draw as draws, lift as lifts, look_up, put_leg, Room, short};
 ghost use Rattle.foil_spec.specs.Lent.{lent, entry_at, layout_of, pen_in, sound, step_on};
 ghost use Rattle.zones.specs.Table.{Table};
 ghost use Rattle.tables.specs.Rows.{rows_of};
 ghost use Rattle.foil.specs.Contract.{clearance_of, Gave, StepIn, ReadIn, taken_over};
-ghost use Rattle.foil.specs.Contract.{entry_added, refused_by};
+ghost use Rattle.foil.specs.Contract.{entry_added};
 
-use foil_spec::{Board, Entry, TABLE_SIZE};
-pub use lent::{Checked, lent_refusal, lists_short};
+use foil_spec::{Board, Entry, Point, Reason, Refusal, TABLE_SIZE};
+pub use lent::{lent_refusal, lists_short};
 pub use pens::Clearance;
 use pens::{clearance_refusal, pen_of};
 use places::put_entry;
 use state::{box_ok, entry_ok, net_ok, over_leg, patch_margin, size_ok, under_patch};
-use strips::{Place, locate};
-use tables::{Booked, copy_front, in_use, take_over, without};
+use strips::locate;
+use tables::{in_use, take_over, without};
 
-// What a call answers: the number of a refusal, or that it is accepted, with the numbers of corners
-// and bends after a lay, a find or a booking, with the strip's place after a look up, and with the
-// number of bytes after a save or a slip.
+// What an accepted call answers: the numbers of corners and bends after a lay, a join, a find or a booking, the strip's
+// place after a look up, the number of bytes after a save or a slip, and of nets after a carry.
 #[derive(Clone, Copy)]
-pub enum Answer {
-    Refused(u8),
-    Accepted,
+pub enum Accepted {
+    Done,
     Laid(usize, usize),
     Found(usize),
     Wrote(usize),
 }
 
-// An answer, and the board's record after it.
-#[derive(Clone, Copy)]
-pub struct Done {
-    pub answer: Answer,
-    pub board: Board,
-}
+// What a call answers.
+pub type Answer = Result<Accepted, Refusal>;
 
 // Begins a foil of w by h on lists that are long enough, whatever they hold: an empty table, and one
 // strip, what the edge leaves, or none.
 pub fn new_foil_in(
     table: &mut [u16],
     strips: &mut [u16],
-    board: Board,
+    board: &mut Board,
     w: u16,
     h: u16,
     clearance: Clearance,
-) -> Done
+) -> Answer
     requires { (table_size ≤ length table.old) × (strips_size ≤ length strips.old) }
     ensures { (room : Room) → short room ≡ false
         → Gave (step_on room (new_foil w h (clearance_of clearance))
-        (lent board table.old strips.old)) result table.new strips.new }
+        (lent board.old table.old strips.old)) result board.new table.new strips.new }
 {
-    if !size_ok(w) {
-        return refuse(1, board);
+    if !size_ok(w) || !size_ok(h) {
+        return Err(Reason::BadSize.into());
     }
-    if !size_ok(h) {
-        return refuse(1, board);
-    }
-    let checked = clearance_refusal(clearance);
-    if let Checked::Refused(number) = checked {
-        return refuse(number, board);
-    }
+    clearance_refusal(clearance)?;
     let pen = pen_of(clearance);
     let rows = [0u16; TABLE_SIZE];
     let bare = Board {
@@ -81,28 +69,25 @@ pub fn new_foil_in(
         entries: 0,
         strips: 0,
     };
-    settle(table, strips, &rows, 0, bare)
+    settle(table, strips, board, &rows, 0, bare)
 }
 
 // Draws a patch on a foil that keeps the rules and may have so many entries: appends an entry of net 0.
 pub fn draw_in(
     table: &mut [u16],
     strips: &mut [u16],
-    board: Board,
+    board: &mut Board,
     limit: usize,
     x0: u16,
     y0: u16,
     x1: u16,
     y1: u16,
-) -> Done
-    requires strips_value { sound (lent board table.old strips.old) ≡ true }
+) -> Answer
+    requires strips_value { sound (lent board.old table.old strips.old) ≡ true }
     requires limit_le_max_entries { limit ≤ max_entries }
-    ensures { StepIn (draws x0 y0 x1 y1) limit (lent board table.old strips.old)
-        result table.new strips.new }
+    ensures { StepIn (draws x0 y0 x1 y1) limit (lent board.old table.old strips.old)
+        result board.new table.new strips.new }
 {
-    if !box_ok(board.width, board.height, x0, y0, x1, y1) {
-        return refuse(3, board);
-    }
     let patch = Entry {
         net: 0,
         x0,
@@ -110,8 +95,11 @@ pub fn draw_in(
         x1,
         y1,
     };
-    if over_leg(table, board.entries, patch_margin(board), patch) {
-        return refuse(21, board);
+    if !box_ok(board.width, board.height, patch) {
+        return Err(Reason::BadShape.into());
+    }
+    if over_leg(table, board.entries, patch_margin(*board), patch) {
+        return Err(Reason::Crossed.into());
     }
     add_entry(table, strips, board, limit, patch)
 }
@@ -121,23 +109,23 @@ pub fn draw_in(
 pub fn put_leg_in(
     table: &mut [u16],
     strips: &mut [u16],
-    board: Board,
+    board: &mut Board,
     limit: usize,
     leg: Entry,
-) -> Done
-    requires strips_value { sound (lent board table.old strips.old) ≡ true }
+) -> Answer
+    requires strips_value { sound (lent board.old table.old strips.old) ≡ true }
     requires limit_le_max_entries { limit ≤ max_entries }
-    ensures { StepIn (put_leg leg) limit (lent board table.old strips.old)
-        result table.new strips.new }
+    ensures { StepIn (put_leg leg) limit (lent board.old table.old strips.old)
+        result board.new table.new strips.new }
 {
     if !net_ok(leg.net) {
-        return refuse(4, board);
+        return Err(Reason::BadNet.into());
     }
     if !entry_ok(leg, board.width, board.height) {
-        return refuse(3, board);
+        return Err(Reason::BadShape.into());
     }
-    if under_patch(table, board.entries, patch_margin(board), leg) {
-        return refuse(21, board);
+    if under_patch(table, board.entries, patch_margin(*board), leg) {
+        return Err(Reason::Crossed.into());
     }
     add_entry(table, strips, board, limit, leg)
 }
@@ -147,90 +135,75 @@ pub fn put_leg_in(
 fn add_entry(
     table: &mut [u16],
     strips: &mut [u16],
-    board: Board,
+    board: &mut Board,
     limit: usize,
     entry: Entry,
-) -> Done
-    requires strips_value { sound (lent board table.old strips.old) ≡ true }
-    requires limit_le_max_entries { (limit ≤ max_entries) × (entry_ok board.width board.height entry ≡ true) }
+) -> Answer
+    requires strips_value { sound (lent board.old table.old strips.old) ≡ true }
+    requires limit_le_max_entries { (limit ≤ max_entries) × (entry_ok board.old.width board.old.height entry ≡ true) }
     ensures { (room : Room) → room.limit ≡ limit
-        → Gave (entry_added room entry (lent board table.old strips.old))
-        result table.new strips.new }
+        → Gave (entry_added room entry (lent board.old table.old strips.old))
+        result board.new table.new strips.new }
 {
     let n = board.entries;
     if limit <= n {
-        return refuse(10, board);
+        return Err(Reason::TableFull.into());
     }
     let mut rows = [0u16; TABLE_SIZE];
-    copy_front(&mut rows, table, TABLE_SIZE);
+    rows.copy_from_slice(&table[..TABLE_SIZE]);
     put_entry(&mut rows, n, entry);
-    settle(table, strips, &rows, n + 1, board)
+    settle(table, strips, board, &rows, n + 1, *board)
 }
 
 // Lifts a net from a foil that keeps the rules, however many entries it may have: takes out all its
 // entries, the rest keeping their order.
-pub fn lift_in(table: &mut [u16], strips: &mut [u16], board: Board, net: u16) -> Done
-    requires { sound (lent board table.old strips.old) ≡ true }
+pub fn lift_in(table: &mut [u16], strips: &mut [u16], board: &mut Board, net: u16) -> Answer
+    requires { sound (lent board.old table.old strips.old) ≡ true }
     ensures { (room : Room) → short room ≡ false
-        → Gave (step_on room (lifts net) (lent board table.old strips.old))
-        result table.new strips.new }
+        → Gave (step_on room (lifts net) (lent board.old table.old strips.old))
+        result board.new table.new strips.new }
 {
     if !net_ok(net) {
-        return refuse(4, board);
+        return Err(Reason::BadNet.into());
     }
     let n = board.entries;
     if !in_use(table, n, net) {
-        return refuse(6, board);
+        return Err(Reason::NetNotOnFoil.into());
     }
     let mut rows = [0u16; TABLE_SIZE];
     let left = without(&mut rows, table, n, net);
-    settle(table, strips, &rows, left, board)
+    settle(table, strips, board, &rows, left, *board)
 }
 
 // Looks a point up on a foil that keeps the rules: the place of the one strip that holds it. Nothing
 // is changed.
-pub fn look_up_in(table: &[u16], strips: &[u16], board: Board, x: u16, y: u16) -> Answer
+pub fn look_up_in(table: &[u16], strips: &[u16], board: Board, point: Point) -> Answer
     requires { sound (lent board table.now strips.now) ≡ true }
-    ensures { ReadIn (look_up (point x y)) (lent board table.now strips.now) [] result [] }
+    ensures { ReadIn (look_up point) (lent board table.now strips.now) [] result [] }
 {
-    if board.width <= x {
-        return Answer::Refused(7);
+    if board.width <= point.x || board.height <= point.y {
+        return Err(Reason::OffFoil.into());
     }
-    if board.height <= y {
-        return Answer::Refused(7);
-    }
-    let place = locate(strips, board.strips, x, y);
-    let Place::At(k) = place else {
-        return Answer::Refused(8);
-    };
-    Answer::Found(k)
+    let place = locate(strips, board.strips, point).ok_or(Reason::NotFree)?;
+    Ok(Accepted::Found(place))
 }
 
-// A refusal by its number; the record stays as it is.
-pub fn refuse(number: u8, board: Board) -> Done
-    ensures { result ≡ refused_by number board }
-{
-    Done {
-        answer: Answer::Refused(number),
-        board,
-    }
-}
-
-// Takes the rows' n entries over, or refuses by 11.
-fn settle(table: &mut [u16], strips: &mut [u16], rows: &[u16], n: usize, board: Board) -> Done
-    requires table { Table rows.now n (pen_rule (pen_in board)) board.width board.height }
+// Takes the rows' n entries over on a board of the size and the pen that are asked for, or refuses by 11.
+fn settle(
+    table: &mut [u16],
+    strips: &mut [u16],
+    board: &mut Board,
+    rows: &[u16],
+    n: usize,
+    asked: Board,
+) -> Answer
+    requires table { Table rows.now n (pen_rule (pen_in asked)) asked.width asked.height }
     requires rows_value { rows.now ≡ rows_of (map (entry_at rows.now) (range 0 n)) }
     requires table_size_in_bounds { (table_size ≤ length table.old) × (strips_size ≤ length strips.old) }
     ensures { Gave (taken_over
-        (layout_of board.width board.height (pen_in board) n rows.now)
-        (lent board table.old strips.old)) result table.new strips.new }
+        (layout_of asked.width asked.height (pen_in asked) n rows.now)
+        (lent board.old table.old strips.old)) result board.new table.new strips.new }
 {
-    let booked = take_over(table, strips, rows, n, board);
-    let Booked::Taken(after) = booked else {
-        return refuse(11, board);
-    };
-    Done {
-        answer: Answer::Accepted,
-        board: after,
-    }
+    *board = take_over(table, strips, rows, n, asked).ok_or(Reason::TooManyStrips)?;
+    Ok(Accepted::Done)
 }

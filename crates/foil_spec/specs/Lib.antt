@@ -7,6 +7,7 @@ pub mod Paths
 pub mod Corners
 pub mod Nets
 pub mod Text
+pub mod Refusals
 pub mod Saving
 pub mod Slip
 pub mod Sound

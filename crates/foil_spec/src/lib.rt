@@ -1,6 +1,10 @@
-// The definitions of document 01, in specs/, and what they and the calls share: the limits, and the structs (the
-// board's record and that of document 01, an entry of the patch table, a strip, a point, the figures of an ink).
+// The definitions of document 01, in specs/, and what they and the calls share: the limits, the refusals, and the structs
+// (the board's record and that of document 01, an entry of the patch table, a strip, a point, the figures of an ink).
 #![tactic(auto)]
+
+mod refusal;
+
+pub use refusal::{Reason, Refusal};
 
 // How many entries a table holds, and how many numbers they are in a flat list.
 pub const MAX_ENTRIES: usize = 128;
@@ -34,7 +38,7 @@ pub const CORNERS_SIZE: usize = 16384;
 // The board's record: its width and height, the pen's half width and gap, and how many entries and
 // strips the lent lists hold.
 #[repr(C)]
-#[derive(Clone, Copy)]
+#[derive(Clone, Copy, PartialEq, Eq)]
 pub struct Board {
     pub width: u16,
     pub height: u16,
@@ -72,7 +76,7 @@ pub struct Rule {
 
 // An entry of the patch table: its net, and the points with x0 <= x < x1 and y0 <= y < y1.
 #[repr(C)]
-#[derive(Clone, Copy)]
+#[derive(Clone, Copy, PartialEq, Eq)]
 pub struct Entry {
     pub net: u16,
     pub x0: u16,
@@ -91,7 +95,7 @@ pub struct Ink {
 }
 
 // A strip of free points: those with x0 <= x < x1 and y0 <= y < y1.
-#[derive(Clone, Copy)]
+#[derive(Clone, Copy, PartialEq, Eq)]
 pub struct Strip {
     pub x0: u16,
     pub y0: u16,
@@ -100,7 +104,7 @@ pub struct Strip {
 }
 
 // A point of the foil.
-#[derive(Clone, Copy)]
+#[derive(Clone, Copy, PartialEq, Eq)]
 pub struct Point {
     pub x: u16,
     pub y: u16,

@@ -3,9 +3,9 @@
 ghost use Rattle.std.specs.Prelude.{◌+◌, ◌<◌, ◌≤◌};
 ghost use Rattle.foil_spec.specs.Limits.{max_bytes};
 
-use crate::run::{Ended, Job, run_front};
+use crate::run::{Ended, run_front};
 use crate::{file, show};
-use foil_spec::INPUT_SIZE;
+use foil_spec::{INPUT_SIZE, Refusal};
 
 pub(crate) fn all() {
     cuts();
@@ -29,12 +29,11 @@ fn small_job(bytes: &mut [u8; INPUT_SIZE]) {
 }
 
 // Where the way that a job ended is counted: under its number, or 20 for the end mark and 21 for a board that ended it.
-fn place_of(job: Job) -> usize {
-    let how = job.ended;
+fn place_of(how: Result<Ended, Refusal>) -> usize {
     match how {
-        Ended::By(number) => number as usize,
-        Ended::Mark => 20,
-        Ended::Board => 21,
+        Err(refusal) => usize::from(refusal.number()),
+        Ok(Ended::AtMark(_)) => 20,
+        Ok(Ended::ByBoard) => 21,
     }
 }
 
@@ -45,7 +44,7 @@ fn tally(ends: &mut [u64; 32], bytes: &[u8; INPUT_SIZE], n: usize)
     let mut counts = [0u64; 32];
     let k = place_of(run_front(&mut counts, bytes, n));
     if k < 32 {
-        ends[k] = std::num::wrapping_add_u64(ends[k], 1);
+        ends[k] = ends[k].wrapping_add(1);
     }
 }
 

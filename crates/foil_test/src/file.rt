@@ -8,8 +8,7 @@ use foil_spec::INPUT_SIZE;
 fn put(bytes: &mut [u8; INPUT_SIZE], at: usize, n: u16)
     requires { at < max_bytes }
 {
-    bytes[at] = (n % 256) as u8;
-    bytes[at + 1] = (n / 256) as u8;
+    bytes[at..at + 2].copy_from_slice(&n.to_le_bytes());
 }
 
 // A record with a board.

@@ -1,10 +1,11 @@
 // Calls on foil 0 of a sheet else empty that are lent too little, or a state that is broken, and records at any place.
 // All lists are lent full of sevens.
-use crate::run::number;
 use crate::show;
-use foil_spec::INPUT_SIZE;
-use job::{Next, Reply};
-use sheet::{Sheet, SheetDone, SheetReplied, lay, new_foil, run_record};
+use foil::Answer;
+use foil_spec::{INPUT_SIZE, Point};
+use job::{Progress, Reply};
+use job_report::number_of;
+use sheet::{Sheet, lay, new_foil, run_record};
 use sheet_rows::{board_at, no_foils};
 
 pub(crate) fn all() {
@@ -16,41 +17,30 @@ pub(crate) fn all() {
 }
 
 // A line on an answer: the number of a refusal, 0 if it is accepted.
-fn answer(words: &[u8], done: SheetDone) {
-    let said = done.answer;
-    show::line(words, number(said));
+fn answer(words: &[u8], said: Answer) {
+    show::line(words, usize::from(number_of(said)));
 }
 
 // A line on how many entries foil 0 has after a call.
-fn entries_line(done: SheetDone) {
-    let board = board_at(done.sheet, 0);
-    show::line(b"entries after that: ", board.entries);
+fn entries_line(sheet: Sheet) {
+    show::line(b"entries after that: ", board_at(sheet, 0).entries);
 }
 
 // A line on a number of a list.
 fn number_line(words: &[u8], n: u16) {
-    show::count(words, n as u64);
+    show::count(words, u64::from(n));
     show::end();
 }
 
 // A line on the reply to a record: 0 and the next place, 0 at the end mark, or the number that refuses it.
-fn reply(words: &[u8], done: SheetReplied) {
-    let said = done.reply;
+fn reply(words: &[u8], said: Reply) {
     io::write_all(1, words);
     match said {
-        Reply::Refused(number) => show::line(b"", number as usize),
-        Reply::AtEnd => show::line(b"end mark ", 0),
-        Reply::Ran(_, next) => place(next),
+        Err(refusal) => show::line(b"", usize::from(refusal.number())),
+        Ok(Progress::AtEnd) => show::line(b"end mark ", 0),
+        Ok(Progress::Ran(_, Some(place))) => show::line(b"0, next place ", place),
+        Ok(Progress::Ran(_, None)) => show::line(b"ended by its board ", 0),
     }
-}
-
-// Ends a line on a record that was run.
-fn place(next: Next) {
-    let Next::At(place) = next else {
-        show::line(b"ended by its board ", 0);
-        return;
-    };
-    show::line(b"0, next place ", place);
 }
 
 // Lays net 1 from (0, 0) to (2, 2).
@@ -58,9 +48,11 @@ fn lay_across(
     table: &mut [u16],
     strips: &mut [u16],
     corners: &mut [u16],
-    sheet: Sheet,
-) -> SheetDone {
-    lay(table, strips, corners, sheet, 0, 1, 0, 0, 2, 2)
+    sheet: &mut Sheet,
+) -> Answer {
+    let from = Point { x: 0, y: 0 };
+    let to = Point { x: 2, y: 2 };
+    lay(table, strips, corners, sheet, 0, 1, from, to)
 }
 
 // A table that is a number short: lay and run a record answer 12, and 18 comes before it.
@@ -68,21 +60,24 @@ fn short_table() {
     let mut table = [7u16; 2559];
     let mut strips = [7u16; 16384];
     let mut corners = [7u16; 4];
+    let mut sheet = no_foils();
     let long = [0u8; INPUT_SIZE];
-    let done = lay_across(&mut table, &mut strips, &mut corners, no_foils());
-    answer(b"lay, 2559 numbers of a table: ", done);
-    let ran = run_record(&mut table, &mut strips, &mut corners, no_foils(), 0, b"", 0);
-    reply(b"no bytes, 2559 numbers of a table: ", ran);
-    let last = run_record(
+    let laid = lay_across(&mut table, &mut strips, &mut corners, &mut sheet);
+    answer(b"lay, 2559 numbers of a table: ", laid);
+    sheet = no_foils();
+    let none = run_record(&mut table, &mut strips, &mut corners, &mut sheet, 0, b"", 0);
+    reply(b"no bytes, 2559 numbers of a table: ", none);
+    sheet = no_foils();
+    let many = run_record(
         &mut table,
         &mut strips,
         &mut corners,
-        no_foils(),
+        &mut sheet,
         0,
         &long,
         0,
     );
-    reply(b"60001 bytes, 2559 numbers of a table: ", last);
+    reply(b"60001 bytes, 2559 numbers of a table: ", many);
 }
 
 // A strip list that is a number short.
@@ -90,10 +85,12 @@ fn short_strips() {
     let mut table = [7u16; 2560];
     let mut strips = [7u16; 16383];
     let mut corners = [7u16; 4];
-    let done = lay_across(&mut table, &mut strips, &mut corners, no_foils());
-    answer(b"lay, 16383 numbers of a strip list: ", done);
-    let ran = run_record(&mut table, &mut strips, &mut corners, no_foils(), 0, b"", 0);
-    reply(b"no bytes, 16383 numbers of a strip list: ", ran);
+    let mut sheet = no_foils();
+    let laid = lay_across(&mut table, &mut strips, &mut corners, &mut sheet);
+    answer(b"lay, 16383 numbers of a strip list: ", laid);
+    sheet = no_foils();
+    let none = run_record(&mut table, &mut strips, &mut corners, &mut sheet, 0, b"", 0);
+    reply(b"no bytes, 16383 numbers of a strip list: ", none);
 }
 
 // A path of three corners on a 3 by 3 foil, lent 5 numbers, which are two places, and then 6.
@@ -102,15 +99,16 @@ fn short_corners() {
     let mut strips = [7u16; 16384];
     let mut few = [7u16; 5];
     let mut enough = [7u16; 6];
-    let begun = new_foil(&mut table, &mut strips, no_foils(), 0, 3, 3, 0, 0);
-    let first = lay_across(&mut table, &mut strips, &mut few, begun.sheet);
+    let mut sheet = no_foils();
+    let _ = new_foil(&mut table, &mut strips, &mut sheet, 0, 3, 3, 0, 0);
+    let first = lay_across(&mut table, &mut strips, &mut few, &mut sheet);
     answer(b"lay, 5 numbers of a corner list: ", first);
     number_line(b"its first number after that: ", few[0]);
-    entries_line(first);
-    let second = lay_across(&mut table, &mut strips, &mut enough, first.sheet);
+    entries_line(sheet);
+    let second = lay_across(&mut table, &mut strips, &mut enough, &mut sheet);
     answer(b"lay, 6 numbers of a corner list: ", second);
     number_line(b"its last x after that: ", enough[4]);
-    entries_line(second);
+    entries_line(sheet);
 }
 
 // The bytes of a board, a lift and the end mark, run at place 0, at the lift, at place 0 again, and at other places.
@@ -120,29 +118,23 @@ fn record_places() {
     let mut corners = [7u16; 4];
     let bytes = b"\x01\x03\x00\x03\x00\x00\x00\x08\x01\x00\x00";
     let mut sheet = no_foils();
-    sheet = record_at(&mut table, &mut strips, &mut corners, sheet, bytes, 0);
-    sheet = record_at(&mut table, &mut strips, &mut corners, sheet, bytes, 7);
-    sheet = record_at(&mut table, &mut strips, &mut corners, sheet, bytes, 0);
-    sheet = record_at(&mut table, &mut strips, &mut corners, sheet, bytes, 10);
-    sheet = record_at(&mut table, &mut strips, &mut corners, sheet, bytes, 11);
-    sheet = record_at(&mut table, &mut strips, &mut corners, sheet, bytes, 12);
-    sheet = record_at(&mut table, &mut strips, &mut corners, sheet, bytes, 1);
-    record_at(&mut table, &mut strips, &mut corners, sheet, bytes, 2);
+    for at in [0usize, 7, 0, 10, 11, 12, 1, 2] {
+        record_at(&mut table, &mut strips, &mut corners, &mut sheet, bytes, at);
+    }
 }
 
-// Runs the record at a place and writes the reply. The sheet's records after it.
+// Runs the record at a place and writes the reply.
 fn record_at(
     table: &mut [u16; 2560],
     strips: &mut [u16; 16384],
     corners: &mut [u16; 4],
-    sheet: Sheet,
+    sheet: &mut Sheet,
     bytes: &[u8],
     at: usize,
-) -> Sheet {
-    let done = run_record(table, strips, corners, sheet, 0, bytes, at);
+) {
+    let said = run_record(table, strips, corners, sheet, 0, bytes, at);
     show::count(b"record at ", at as u64);
-    reply(b": ", done);
-    done.sheet
+    reply(b": ", said);
 }
 
 // A foil that is not begun: 13 at each place but 0, and before 14; at place 0 it is begun.
@@ -151,12 +143,11 @@ fn record_spoilt() {
     let mut strips = [7u16; 16384];
     let mut corners = [7u16; 4];
     let bytes = b"\x01\x03\x00\x03\x00\x00\x00\x00";
-    io::write_all(1, b"broken, ");
-    let first = record_at(&mut table, &mut strips, &mut corners, no_foils(), bytes, 7);
-    io::write_all(1, b"broken, ");
-    let second = record_at(&mut table, &mut strips, &mut corners, first, bytes, 9);
-    io::write_all(1, b"broken, ");
-    let third = record_at(&mut table, &mut strips, &mut corners, second, bytes, 0);
+    let mut sheet = no_foils();
+    for at in [7usize, 9, 0] {
+        io::write_all(1, b"broken, ");
+        record_at(&mut table, &mut strips, &mut corners, &mut sheet, bytes, at);
+    }
     io::write_all(1, b"begun, ");
-    record_at(&mut table, &mut strips, &mut corners, third, bytes, 7);
+    record_at(&mut table, &mut strips, &mut corners, &mut sheet, bytes, 7);
 }

@@ -31,17 +31,22 @@ fn boards() {
 fn board(words: &[u8], w: u16, h: u16, d: u16) {
     let mut bytes = [0u8; INPUT_SIZE];
     let a = file::board(&mut bytes, 0, w, h, d);
-    let b = file::patch(&mut bytes, a, 0, 0, 1, 1);
-    let n = file::end(&mut bytes, b);
-    show::job(words, &bytes, n);
+    show_patch(words, &mut bytes, a);
 }
 
 fn pen_board(words: &[u8], w: u16, h: u16, half: u16, gap: u16) {
     let mut bytes = [0u8; INPUT_SIZE];
     let a = file::pen_board(&mut bytes, 0, w, h, half, gap);
-    let b = file::patch(&mut bytes, a, 0, 0, 1, 1);
-    let n = file::end(&mut bytes, b);
-    show::job(words, &bytes, n);
+    show_patch(words, &mut bytes, a);
+}
+
+// The job whose first bytes are the board's, with a patch behind them.
+fn show_patch(words: &[u8], bytes: &mut [u8; INPUT_SIZE], at: usize)
+    requires { at ≤ 11 }
+{
+    let place = file::patch(bytes, at, 0, 0, 1, 1);
+    let n = file::end(bytes, place);
+    show::job(words, bytes, n);
 }
 
 // Puts 128 entries, of which the last is a track of one point.

@@ -2,8 +2,8 @@
 ghost use Rattle.std.specs.Prelude.{◌+◌, ◌≤◌};
 ghost use Rattle.foil_spec.specs.Limits.{max_bytes};
 
-use crate::run::{Ended, Job, run_front};
-use foil_spec::{Board, INPUT_SIZE};
+use crate::run::{Ended, run_front};
+use foil_spec::{Board, INPUT_SIZE, Refusal};
 
 // Words, then a number.
 pub(crate) fn count(words: &[u8], n: u64) {
@@ -34,12 +34,11 @@ pub(crate) fn numbers(counts: &[u64; 32]) {
 }
 
 // How a job ended.
-pub(crate) fn ended(job: Job) {
-    let how = job.ended;
+pub(crate) fn ended(how: Result<Ended, Refusal>) {
     match how {
-        Ended::By(number) => count(b"; file ", number as u64),
-        Ended::Board => end_of_board(),
-        Ended::Mark => foil(job.board),
+        Err(refusal) => count(b"; file ", u64::from(refusal.number())),
+        Ok(Ended::ByBoard) => end_of_board(),
+        Ok(Ended::AtMark(board)) => foil(board),
     }
 }
 
@@ -59,9 +58,9 @@ pub(crate) fn job(words: &[u8], bytes: &[u8; INPUT_SIZE], n: usize)
     requires { n ≤ max_bytes + 1 }
 {
     let mut counts = [0u64; 32];
-    let done = run_front(&mut counts, bytes, n);
+    let how = run_front(&mut counts, bytes, n);
     io::write_all(1, words);
     numbers(&counts);
-    ended(done);
+    ended(how);
     end();
 }

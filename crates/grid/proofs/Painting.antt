@@ -3,88 +3,55 @@ use Prim.Native.Nat.{ℕ, suc, ◌+◌, ◌-◌, ◌*◌, ◌≤◌, ◌<◌, ma
 use native.Mathlib.Omega.{arith}
 use native.Mathlib.Decide.{dec_le, dec_lt}
 use mathlib.Core.Path.{◌≡◌, refl, sym, ◌∙◌}
-use mathlib.Core.Bool.{Bool, not}
+use mathlib.Core.Bool.{Bool, true, false, not}
 use mathlib.Core.List.{List}
-use lib.ListN.{get_or, set, length, length-set}
-use lib.Seq.{get_or-set_same, get_or-set_other}
+use lib.ListN.{get_or, length, take}
 use borrow.Author.Count.{below_more}
+use borrow.Author.Tests.{lt-ltb, ltb-true, ltb-false}
+use Rattle.std.proofs.Common.{nat_lt}
+use Rattle.std.proofs.lemmas.List.{get_or-take, get_or_default, length-take-le}
+use Rattle.std.specs.List.Sorted.{IsPartitionedBy, IsPartitionPoint}
 use Rattle.foil_spec.specs.Lent.{entry_at}
 use Rattle.list_laws.proofs.Tests.{clash, and_i}
 use Rattle.zones.proofs.Free.{inside-yes}
 use Rattle.grid.specs.Size.{stride}
 use Rattle.grid.specs.Extent.{extent, Solid}
-use Rattle.grid.specs.Lines.{Rising}
-use Rattle.grid.specs.Links.{Filled, Block, FirstFrom, Paint, hit, missed, Missed, BoxPainted, Painted}
+use Rattle.grid.specs.Lines.{Rising, Lines}
+use Rattle.grid.specs.Links.{Block, FirstFrom, Paint, hit, missed, Missed, BoxPainted, Painted}
 use Rattle.grid.proofs.Covers.{turned-covers, misses-ahead, misses-past, misses-above, misses-under}
 
--- Places of a list set to one number.
-pub filled_none : (a v : ℕ) (l : List ℕ) → Filled a a v l l
-filled_none a v l = record {
-  size = refl;
-  inside = λ i p q. absurd (omega arith);
-  low = λ i p. refl;
-  high = λ i p. refl;
-}
-
-pub filled_more : {a b v : ℕ} {l₀ : List ℕ} (l : List ℕ) → a ≤ b → b < length l₀ → Filled a b v l₀ l →
-    Filled a (b + 1) v l₀ (set l b v)
-filled_more {a} {b} {v} l p fit F = record {
-  size = length-set l b v ∙ F.size;
-  inside = below_more (λ i. a ≤ i → get_or (set l b v) i 0 ≡ v) b
-      (λ i u w. get_or-set_other l b i v 0 (omega arith) ∙ F.inside i u w)
-      (λ w. get_or-set_same l b v 0 (let s = F.size in omega arith));
-  low = λ i u. get_or-set_other l b i v 0 (omega arith) ∙ F.low i u;
-  high = λ i u. get_or-set_other l b i v 0 (omega arith) ∙ F.high i (omega arith);
-}
-
-pub filled-done : {a b c v : ℕ} {l₀ l : List ℕ} → b ≡ c → Filled a b v l₀ l → Filled a c v l₀ l
-filled-done e h = rw (← e) h
-
 -- A rectangle of links.
-pub block_none : (a lo hi : ℕ) (e : List ℕ) → Block a a lo hi e e
-block_none a lo hi e = record { size = refl; cut = λ j l p. absurd (omega arith); kept = λ j i l out. refl }
-
-pub block_more : {a b lo hi : ℕ} {e₀ e e' : List ℕ} → a ≤ b → lo ≤ stride → hi ≤ stride → Block a b lo hi e₀ e →
-    Filled (b * stride + lo) (max (b * stride + lo) (b * stride + hi)) 0 e e' → Block a (b + 1) lo hi e₀ e'
-block_more {a} {b} {lo} {hi} {e₀} {e} {e'} p flo fhi K F = record {
-  size = F.size ∙ K.size;
-  cut = below_more (λ j. a ≤ j → (i : ℕ) → lo ≤ i → i < hi → get_or e' (j * stride + i) 0 ≡ 0) b
-      (λ j lj aj i li hi'. F.low (j * stride + i) (omega arith) ∙ K.cut j lj aj i li hi')
-      (λ aj i li hi'. F.inside (b * stride + i) (omega arith) (omega arith));
-  kept = λ j i li out. same j i li out (dec_lt j b) (dec_lt b j) (dec_lt i lo)
-      ∙ K.kept j i li (λ u v w x. out (omega arith) v w x);
-}
-  where
-    same : (j i : ℕ) → i < stride → (j < b + 1 → a ≤ j → lo ≤ i → i < hi → ⊥) → Dec (j < b) → Dec (b < j) →
-        Dec (i < lo) → get_or e' (j * stride + i) 0 ≡ get_or e (j * stride + i) 0
-    same j i li out (yes u) v w = F.low (j * stride + i) (omega arith)
-    same j i li out (no u) (yes v) w = F.high (j * stride + i) (omega arith)
-    same j i li out (no u) (no v) (yes w) = F.low (j * stride + i) (omega arith)
-    same j i li out (no u) (no v) (no w) = F.high (j * stride + i) (right (dec_le hi i))
-      where
-        right : Dec (hi ≤ i) → max (b * stride + lo) (b * stride + hi) ≤ j * stride + i
-        right (yes z) = omega arith
-        right (no z) = absurd (out (omega arith) (omega arith) (omega arith) (omega arith))
-
 pub block-done : {a b c lo hi : ℕ} {e₀ e : List ℕ} → b ≡ c → Block a b lo hi e₀ e → Block a c lo hi e₀ e
 block-done e h = rw (← e) h
 
--- The first line at a number or after it.
-pub high-from : (lines : List ℕ) (n v r : ℕ) → Rising lines n → r < n → v ≤ get_or lines r 0 →
-    (k : ℕ) → r ≤ k → k < n → v ≤ get_or lines k 0
-high-from lines n v r R l h k a b = pick (dec_lt r k)
-  where
-    pick : Dec (r < k) → v ≤ get_or lines k 0
-    pick (yes q) = let u = R.up r k q b in omega arith
-    pick (no q) = let w : k ≡ r = omega arith in rw w h
+-- The first line at a number or after it: the lines rise, so those below the number come first.
+module _ {lines : List ℕ} {n : ℕ} (v : ℕ) (L : Lines lines n) where
+  pub lines-part : IsPartitionedBy (λ (x : ℕ). nat_lt x v) (take n lines)
+  lines-part i j d le lt h = lt-ltb (get_or (take n lines) i d) v (up (dec_lt i j))
+    where
+      last : get_or (take n lines) j d < v
+      last = ltb-true (get_or (take n lines) j d) v h
 
-pub low-to : (lines : List ℕ) (n v r : ℕ) → Rising lines n → r < n → get_or lines r 0 < v →
-    (k : ℕ) → k < r + 1 → get_or lines k 0 < v
-low-to lines n v r R l h k a = pick (dec_lt k r)
-  where
-    pick : Dec (k < r) → get_or lines k 0 < v
-    pick (yes q) = let u = R.up k r q l in omega arith
-    pick (no q) = let w : k ≡ r = omega arith in rw w h
+      fits : j < n
+      fits = omega (arith, length-take-le n lines L.fit)
+
+      is : (k : ℕ) → k < n → get_or (take n lines) k d ≡ get_or lines k 0
+      is k l = let f = L.fit in get_or-take n lines k d l ∙ get_or_default lines k d 0 (omega arith)
+
+      up : Dec (i < j) → get_or (take n lines) i d < v
+      up (yes p) = omega (arith, L.rising.up i j p fits, is i (omega (arith, fits)), is j fits, last)
+      up (no p) = let e : i ≡ j = omega arith in rw e last
+
+  pub first-split : {r : ℕ} → r ≤ length (take n lines) →
+      IsPartitionPoint (λ (x : ℕ). nat_lt x v ≡ true) (λ (x : ℕ). nat_lt x v ≡ false) (take n lines) r →
+      FirstFrom lines n v r
+  first-split {r} b P = record {
+    le = omega (arith, length-take-le n lines L.fit);
+    low = λ k l. let f = length-take-le n lines L.fit in
+        omega (arith, ltb-true (get_or (take n lines) k 0) v (P.0 k 0 (omega arith) l), get_or-take n lines k 0 (omega arith));
+    high = λ k l m. let f = length-take-le n lines L.fit in
+        omega (arith, ltb-false (get_or (take n lines) k 0) v (P.1 k 0 l (omega arith)), get_or-take n lines k 0 m);
+  }
 
 -- One box.
 module _ (z : List ℕ) {upright : Bool} {lines : List ℕ} {m : ℕ} {cross : List ℕ} {n : ℕ} (k : ℕ)
@@ -139,13 +106,6 @@ module _ (z : List ℕ) {upright : Bool} {lines : List ℕ} {m : ℕ} {cross : L
 
 -- All boxes.
 module _ {z : List ℕ} {upright : Bool} {lines : List ℕ} {m : ℕ} {cross : List ℕ} {n : ℕ} where
-  pub painted-none : (e₀ e : List ℕ) → n ≤ stride → Filled 0 (max 0 (m * stride)) 1 e₀ e →
-      Painted z upright lines m cross n 0 e
-  painted-none e₀ e ln F = record {
-    free = λ j lj i li h b l. absurd (omega arith);
-    one = λ j lj i li h. F.inside (j * stride + i) (omega arith) (omega arith);
-  }
-
   pub painted-more : {k : ℕ} {e e' : List ℕ} → Painted z upright lines m cross n k e →
       BoxPainted z upright lines m cross n k e e' → Painted z upright lines m cross n (k + 1) e'
   painted-more {k} {e} {e'} P E = record {
@@ -163,7 +123,3 @@ module _ {z : List ℕ} {upright : Bool} {lines : List ℕ} {m : ℕ} {cross : L
           u ≡ get_or e (j * stride + i) 0 → ((b : ℕ) → b < k + 1 → Missed z upright lines cross b j i) → v ≡ 1
       opens j lj i li u v (hit x) q h = absurd (x (h k (omega arith)))
       opens j lj i li u v (missed M) q h = q ∙ P.one j lj i li (λ b l. h b (omega arith))
-
-  pub painted-done : {k l : ℕ} {e : List ℕ} → k ≡ l → Painted z upright lines m cross n k e →
-      Painted z upright lines m cross n l e
-  painted-done e h = rw (← e) h

@@ -13,13 +13,6 @@ pub record Crossed (lines : List ℕ) (m : ℕ) (cross : List ℕ) (n : ℕ) (li
   pub across : Lines cross n
   pub room : m * stride ≤ length link
 
--- the places a to b, b excluded, of a list are set to v
-pub record Filled (a b v : ℕ) (l₀ l : List ℕ) : Type 0 where
-  pub size : length l ≡ length l₀
-  pub inside : (i : ℕ) → i < b → a ≤ i → get_or l i 0 ≡ v
-  pub low : (i : ℕ) → i < a → get_or l i 0 ≡ get_or l₀ i 0
-  pub high : (i : ℕ) → b ≤ i → get_or l i 0 ≡ get_or l₀ i 0
-
 -- the links lo to hi, hi excluded, of the lines a to b, b excluded, are cut
 pub record Block (a b lo hi : ℕ) (e₀ e : List ℕ) : Type 0 where
   pub size : length e ≡ length e₀

@@ -27,15 +27,11 @@ use Rattle.ledger_laws.proofs.Refusals.{none-applies, unrefused-own}
 use Rattle.ledger_laws.proofs.Stored.{read_back}
 use Rattle.ledger_laws.proofs.Sound.{SoundAs, of-sound-as, to-sound-as, length-read}
 use Rattle.ledger_laws.proofs.Replies.{shown_by}
-use Rattle.foil.specs.Contract.{Gave}
+use Rattle.foil.specs.Contract.{Answer as Answered, Gave}
 use Rattle.carrying.specs.Carried.{CarryDone}
-use Rattle.foil.specs.declared.Done.{Done}
-use Rattle.host.specs.declared.flat.Flat.{Flat}
-use Rattle.host.specs.declared.flat.Brought.{Brought}
-use Rattle.host.specs.Flats.{numbers_lent, entries_of, front_of, with_front}
-use Rattle.host.specs.Carried.{old_of, HostCarried, FlatCarried}
-use Rattle.host.proofs.Flats.{lent-on}
-use Rattle.host.proofs.Tables.{numbers, on-entries, on-table, written_over}
+use Rattle.host.specs.Flats.{numbers_lent, front_of}
+use Rattle.host.specs.Carried.{old_of, HostCarried}
+use Rattle.host.proofs.Tables.{Stored, on-table, as-loaded}
 
 -- what is written to a front leaves the rest
 written-longer : (n : ℕ) (ns t rest : List ℕ) → n ≤ length t → written n ns (t ++ rest) ≡ written n ns t ++ rest
@@ -89,14 +85,14 @@ module _ (o : Old) (b : Board) (t s rest : List ℕ) (n : ℕ) (long : table_siz
   unfolding step_on next
   step-longer = rw same-refusal (settled (refusal_of (room_of m n) (not (sound m)) (carry o) (held m)))
 
-carried-longer : (o : Old) (b : Board) (s out : List ℕ) (d : Done) (s' out' t t' rest : List ℕ) → length t ≡ sheet_size
-    → CarryDone o (lent b t s) out d t' s' out'
-    → CarryDone o (lent b (t ++ rest) s) out d (t' ++ rest) s' out'
+carried-longer : (o : Old) (b : Board) (s out : List ℕ) (r : Answered) (b' : Board) (s' out' t t' rest : List ℕ)
+    → length t ≡ sheet_size → CarryDone o (lent b t s) out r b' t' s' out'
+    → CarryDone o (lent b (t ++ rest) s) out r b' (t' ++ rest) s' out'
 unfolding shown_by
-carried-longer o b s out d s' out' t t' rest full w =
+carried-longer o b s out r b' s' out' t t' rest full w =
     let e = step-longer o b t s rest (length out) (omega (arith, full)) in
     record {
-      gave = subst (λ (a : After Outcome Lent). Gave a d (t' ++ rest) s') (sym e)
+      gave = subst (λ (a : After Outcome Lent). Gave a r b' (t' ++ rest) s') (sym e)
           (record {
             answer = w.gave.answer;
             board = w.gave.board;
@@ -246,57 +242,27 @@ module _ (ob : OldBoard) (t os rest : List ℕ) (long : table_size ≤ length t)
       ap₂ (λ (ns : List ℕ) (l : Layout). record { answer = wrote ns; state = store l m })
       (same-nets r (not (sound m)) (held m) g) (same_left r (not (sound m)) (held m) g)))
 
-old-longer : (ob : OldBoard) (os : List ℕ) (m : Lent) (out : List ℕ) (d : Done) (t' s' out' t rest : List ℕ)
-    → length t ≡ sheet_size → CarryDone (old ob t os) m out d t' s' out'
-    → CarryDone (old ob (t ++ rest) os) m out d t' s' out'
-old-longer ob os m out d t' s' out' t rest full w =
+old-longer : (ob : OldBoard) (os : List ℕ) (m : Lent) (out : List ℕ) (r : Answered) (b : Board)
+    (t' s' out' t rest : List ℕ) → length t ≡ sheet_size → CarryDone (old ob t os) m out r b t' s' out'
+    → CarryDone (old ob (t ++ rest) os) m out r b t' s' out'
+old-longer ob os m out r b t' s' out' t rest full w =
     let e = step-near ob t os rest (omega (arith, full)) (room_of m (length out)) m in
     record {
-      gave = subst (λ (a : After Outcome Lent). Gave a d t' s') (sym e) w.gave;
+      gave = subst (λ (a : After Outcome Lent). Gave a r b t' s') (sym e) w.gave;
       output = w.output ∙ ap (λ (a : After Outcome Lent). output_after a.answer out) (sym e);
     }
 
 -- ---- from numbers to entries
 
-pub whole-carried : (o : Old) (b : Board) (es : List Entry) (t : Flat) (s out : List ℕ) (r : Brought)
-    (es' : List Entry) (s' out' : List ℕ) → t ≡ front_of es → FlatCarried o b t s out r s' out'
-    → es' ≡ with_front r.table es → HostCarried o b es s out r.answer r.board es' s' out'
-whole-carried o b es t s out r es' s' out' front d e =
-    let done : Done = record { answer = r.answer; board = r.board } in
-    on-table (λ x y. CarryDone o (lent b x s) out done y s' out')
-    (λ x y rest full w. carried-longer o b s out done s' out' x y rest full w) es es' t r.table front d.places e
-    d.done
-
-pub loaded-carried : (ob : OldBoard) (es : List Entry) (u : Flat) (os : List ℕ) (b : Board) (t : Flat) (s out : List ℕ)
-    (r : Brought) (s' out' : List ℕ) → u ≡ front_of es → FlatCarried (old_of ob (entries_of u) os) b t s out r s' out'
-    → FlatCarried (old_of ob es os) b t s out r s' out'
-loaded-carried ob es u os b t s out r s' out' front d =
-    let done : Done = record { answer = r.answer; board = r.board } in
-    let m : Lent = lent b (numbers (entries_of t)) s in
-    let t' : List ℕ = numbers (entries_of r.table) in
-    record {
-      places = d.places;
-      done =
-          on-table (λ x y. CarryDone (old ob x os) m out done t' s' out')
-          (λ x y rest full w. old-longer ob os m out done t' s' out' x rest full w) es _ u u front refl refl d.done;
-    }
-
-module _ (ob : OldBoard) (os : List ℕ) (b : Board) (t u : Flat) (s out : List ℕ) (d : Done) (s' out' new : List ℕ)
-    (n k : ℕ) where
-  abbrev after : Brought
-  after = record { board = d.board; answer = d.answer; table = written_over t new n }
-
-  pub flat-carried : (r : Brought) → length t.at ≡ sheet_size → n ≡ numbers_lent t.len
-      → length new ≡ length (take n t.at) → length u.at ≡ sheet_size → k ≡ numbers_lent u.len
-      → CarryDone (old ob (take k u.at) os) (lent b (take n t.at) s) out d new s' out' → r ≡ after
-      → FlatCarried (old_of ob (entries_of u) os) b t s out r s' out'
-  flat-carried r full e l full' e' w is =
-      subst (λ (x : Brought). FlatCarried (old_of ob (entries_of u) os) b t s out x s' out') (sym is)
-      (record {
-        places = refl;
-        done =
-            on-entries
-            (λ x y. CarryDone (old ob (numbers (entries_of u)) os) (lent b x s) out d y s' out') t new n full e l
-            (subst (λ (x : List ℕ). CarryDone (old ob x os) (lent b (take n t.at) s) out d new s' out')
-            (ap (λ (i : ℕ). take i u.at) e' ∙ lent-on u full') w);
-      })
+-- of the old table the first m of its numbers os are lent on
+pub whole-carried : (ob : OldBoard) (olds : List Entry) (os : List ℕ) (m : ℕ) → os ≡ front_of olds
+    → m ≡ numbers_lent (length olds) → (listed : List ℕ) (b : Board) (s out : List ℕ) (r : Answered) (b' : Board)
+    (s' out' : List ℕ) (es : List Entry) (ns : List ℕ) (n : ℕ) (new : List ℕ) (es' : List Entry)
+    → Stored es ns n new es' → CarryDone (old ob (take m os) listed) (lent b (take n ns) s) out r b' new s' out'
+    → HostCarried (old_of ob olds listed) b es s out r b' es' s' out'
+whole-carried ob olds os m front e listed b s out r b' s' out' es ns n new es' w d =
+    on-table (λ x y. CarryDone (old_of ob olds listed) (lent b x s) out r b' y s' out')
+    (carried-longer (old_of ob olds listed) b s out r b' s' out') es ns n new es' w
+    (on-table (λ x y. CarryDone (old ob x listed) (lent b (take n ns) s) out r b' new s' out')
+    (λ x y rest full c. old-longer ob listed (lent b (take n ns) s) out r b' new s' out' x rest full c) olds os m _ _
+    (as-loaded olds os m front e) d)

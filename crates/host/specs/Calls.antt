@@ -1,23 +1,20 @@
 -- What the calls over structs have done: the same as the calls on numbers, `on_sheet` of the table's numbers.
-use Rattle.std.specs.Prelude.{ℕ, ◌≡◌, List}
+use Rattle.std.specs.Prelude.{ℕ, ◌≡◌, List, Ok, Err}
 use Rattle.foil_spec.specs.Lists.{each}
 use Rattle.foil_spec.specs.Foil.{Entry, entry_numbers}
 use Rattle.foil_spec.specs.Ledger.{Step}
 use Rattle.foil_spec.specs.Ohms.{whole}
 use Rattle.foil_spec.specs.Sheet.{SheetLent}
 use Rattle.foil_spec.specs.declared.Ink.{Ink}
-use Rattle.foil.specs.declared.Answer.{Answer}
-use Rattle.foil.specs.declared.Answer.TheVariants.{Refused, Accepted, Laid, Found, Wrote}
+use Rattle.foil.specs.Contract.{Answer}
+use Rattle.foil.specs.declared.Accepted.TheVariants.{Done, Laid, Found, Wrote}
 use Rattle.ohms.specs.declared.Resistance.{Resistance}
 use Rattle.ohms.specs.declared.Resistance.TheVariants.{Refused as RefusedOhms, Ohms}
 use Rattle.sheet_rows.specs.declared.Sheet.{Sheet}
 use Rattle.sheet_rows.specs.Rows.{sheet_lent}
 use Rattle.sheet.specs.Contract.{SheetStepDone, SheetOutputDone, SheetReadDone, SheetOhmsDone, SheetListDone}
-use Rattle.host.specs.declared.flat.Flat.{Flat}
-use Rattle.host.specs.declared.flat.Said.{Said}
-use Rattle.host.specs.declared.flat.OhmsSaid.{OhmsSaid}
-use Rattle.host.specs.declared.flat.Left.{Left}
-use Rattle.host.specs.Flats.{entries_of}
+use Rattle.host.specs.declared.said.Said.{Said}
+use Rattle.host.specs.declared.said.OhmsSaid.{OhmsSaid}
 
 -- what a call on a foil is lent: the records b, the numbers of the table es, and the foil's strips s
 abbrev pub lent_of : Sheet → List Entry → List ℕ → SheetLent
@@ -26,20 +23,20 @@ lent_of b es s = sheet_lent b.boards (each entry_numbers es) s
 -- a step on foil k: records, table and strips were b, es and s; it answered a and left b', es' and s'
 abbrev pub HostDone : ℕ → Step → Sheet → List Entry → List ℕ → Answer → Sheet → List Entry → List ℕ → Type 0
 HostDone k c b es s a b' es' s' =
-    SheetStepDone k c (lent_of b es s) (record { answer = a; sheet = b' }) (each entry_numbers es') s'
+    SheetStepDone k c (lent_of b es s) a b' (each entry_numbers es') s'
 
 -- the same of a step with an output list, which was out and is left as out'
 abbrev pub HostWrote : ℕ → Step → Sheet → List Entry → List ℕ → List ℕ → Answer → Sheet → List Entry → List ℕ
     → List ℕ → Type 0
 HostWrote k c b es s out a b' es' s' out' =
-    SheetOutputDone k c (lent_of b es s) out (record { answer = a; sheet = b' }) (each entry_numbers es') s' out'
+    SheetOutputDone k c (lent_of b es s) out a b' (each entry_numbers es') s' out'
 
 -- the list of the wishes ws on foil k was lent the corner list out and the answers' list ans besides, and left them as
 -- out' and ans'
 abbrev pub HostListed : ℕ → List ℕ → Sheet → List Entry → List ℕ → List ℕ → List ℕ → Answer → Sheet → List Entry
     → List ℕ → List ℕ → List ℕ → Type 0
 HostListed k ws b es s out ans a b' es' s' out' ans' =
-    SheetListDone k ws (lent_of b es s) out ans (record { answer = a; sheet = b' }) (each entry_numbers es') s' out' ans'
+    SheetListDone k ws (lent_of b es s) out ans a b' (each entry_numbers es') s' out' ans'
 
 -- a step that only reads what it is lent of the sheet answered a and left its output list out as out'
 abbrev pub HostRead : ℕ → Step → Sheet → List Entry → List ℕ → List ℕ → Answer → List ℕ → Type 0
@@ -57,11 +54,11 @@ nothing_said = record { number = 0; corners = 0; bends = 0; place = 0; bytes = 0
 
 -- an answer's numbers: 0 is no refusal
 unfoldable pub said_of : Answer → Said
-said_of (Refused n) = record { number = n; corners = 0; bends = 0; place = 0; bytes = 0 }
-said_of Accepted = nothing_said
-said_of (Laid k n) = record { number = 0; corners = k; bends = n; place = 0; bytes = 0 }
-said_of (Found k) = record { number = 0; corners = 0; bends = 0; place = k; bytes = 0 }
-said_of (Wrote n) = record { number = 0; corners = 0; bends = 0; place = 0; bytes = n }
+said_of (Err n) = record { number = n; corners = 0; bends = 0; place = 0; bytes = 0 }
+said_of (Ok Done) = nothing_said
+said_of (Ok (Laid k n)) = record { number = 0; corners = k; bends = n; place = 0; bytes = 0 }
+said_of (Ok (Found k)) = record { number = 0; corners = 0; bends = 0; place = k; bytes = 0 }
+said_of (Ok (Wrote n)) = record { number = 0; corners = 0; bends = 0; place = 0; bytes = n }
 
 -- the number of a refusal, 0 for none, and the ohms, 0 where they are refused
 unfoldable pub ohms_said : Resistance → OhmsSaid
@@ -73,22 +70,3 @@ pub record ToldBy {A B : Type 0} (say : A → B) (P : A → Type 0) (r : B) : Ty
   pub answer : A
   pub said : r ≡ say answer
   pub holds : P answer
-
--- ---- what the calls on the table's numbers leave
-
--- a step on the table's numbers by value, whose places stay as many, left r and s'
-pub record FlatDone (k : ℕ) (c : Step) (b : Sheet) (t : Flat) (s : List ℕ) (r : Left) (s' : List ℕ) : Type 0 where
-  pub places : r.table.len ≡ t.len
-  pub done : HostDone k c b (entries_of t) s r.answer r.sheet (entries_of r.table) s'
-
--- the same of a step with an output list
-pub record FlatWrote (k : ℕ) (c : Step) (b : Sheet) (t : Flat) (s out : List ℕ) (r : Left) (s' out' : List ℕ)
-    : Type 0 where
-  pub places : r.table.len ≡ t.len
-  pub done : HostWrote k c b (entries_of t) s out r.answer r.sheet (entries_of r.table) s' out'
-
--- the same of a list of nets
-pub record FlatListed (k : ℕ) (ws : List ℕ) (b : Sheet) (t : Flat) (s out ans : List ℕ) (r : Left)
-    (s' out' ans' : List ℕ) : Type 0 where
-  pub places : r.table.len ≡ t.len
-  pub done : HostListed k ws b (entries_of t) s out ans r.answer r.sheet (entries_of r.table) s' out' ans'

@@ -1,16 +1,13 @@
 -- What carrying a foil over has done over structs: the same as on numbers.
-use Rattle.std.specs.Prelude.{ℕ, ◌≡◌, List}
+use Rattle.std.specs.Prelude.{ℕ, List}
 use Rattle.foil_spec.specs.Lists.{each}
 use Rattle.foil_spec.specs.Foil.{Entry, entry_numbers}
 use Rattle.foil_spec.specs.Carrying.{Old, old}
 use Rattle.foil_spec.specs.Lent.{lent}
 use Rattle.foil_spec.specs.declared.Board.{Board}
 use Rattle.foil_spec.specs.declared.OldBoard.{OldBoard}
-use Rattle.foil.specs.declared.Answer.{Answer}
+use Rattle.foil.specs.Contract.{Answer}
 use Rattle.carrying.specs.Carried.{CarryDone}
-use Rattle.host.specs.declared.flat.Flat.{Flat}
-use Rattle.host.specs.declared.flat.Brought.{Brought}
-use Rattle.host.specs.Flats.{entries_of}
 
 -- an old state whose table is the entries es
 abbrev pub old_of : OldBoard → List Entry → List ℕ → Old
@@ -21,11 +18,4 @@ old_of b es s = old b (each entry_numbers es) s
 abbrev pub HostCarried : Old → Board → List Entry → List ℕ → List ℕ → Answer → Board → List Entry → List ℕ → List ℕ
     → Type 0
 HostCarried o b es s out a b' es' s' out' =
-    CarryDone o (lent b (each entry_numbers es) s) out (record { answer = a; board = b' })
-    (each entry_numbers es') s' out'
-
--- the same on the table's numbers by value, whose places stay as many
-pub record FlatCarried (o : Old) (b : Board) (t : Flat) (s out : List ℕ) (r : Brought) (s' out' : List ℕ)
-    : Type 0 where
-  pub places : r.table.len ≡ t.len
-  pub done : HostCarried o b (entries_of t) s out r.answer r.board (entries_of r.table) s' out'
+    CarryDone o (lent b (each entry_numbers es) s) out a b' (each entry_numbers es') s' out'

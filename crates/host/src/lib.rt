@@ -4,11 +4,12 @@
 // same calls for programs in C.
 #![tactic(auto)]
 
-mod flat;
 mod records;
+mod said;
 mod table;
 
-ghost use Rattle.std.specs.Prelude.{◌≡◌, []};
+ghost use Rattle.std.specs.Prelude.{◌≡◌, [], length};
+ghost use Rattle.foil_spec.specs.Limits.{sheet_foils};
 ghost use Rattle.foil_spec.specs.Foil.{point, pen};
 ghost use Rattle.foil_spec.specs.Ledger.{by_pen, new_foil, draw as draws, lay as lays, lift as lifts, put_leg};
 ghost use Rattle.foil_spec.specs.Ledger.{join as joins, save as saves, find as finds, book as books, slip as slips};
@@ -17,14 +18,19 @@ ghost use Rattle.host.specs.Calls.{HostDone, HostWrote, HostListed, HostRead, Ho
 ghost use Rattle.host.specs.Records.{HostRan};
 ghost use Rattle.host.specs.Carried.{old_of, HostCarried};
 
-pub use flat::{OhmsSaid, Said, ohms_said, said_of};
 use foil::Answer;
-use foil_spec::{Board, Entry, Ink, OldBoard};
+use foil_spec::{Board, Entry, Ink, OldBoard, Point};
 use job::Reply;
 use ohms::Resistance;
 pub use records::{RecordSaid, StepSaid, record_said_of};
-use sheet_rows::Sheet;
-use table::load;
+pub use said::{OhmsSaid, Said, ohms_said, said_of};
+use sheet_rows::{FOILS, Sheet};
+use table::{load, numbers_lent, store};
+
+// A lent array is known to have its length: the records of a sheet are eight.
+fn eight(boards: &[Board; FOILS])
+    ensures { length boards.now ≡ sheet_foils }
+{}
 
 // Begins foil k, w by h with a pen of this half width and gap: no entries, and one strip, what the edge
 // leaves, or none.
@@ -42,10 +48,12 @@ pub fn new_foil(
         sheet.old table.old strips.old
         result sheet.new table.new strips.new }
 {
-    let s = *sheet;
-    let out = table::clear(s, table, strips, k, w, h, half, gap);
-    *sheet = out.sheet;
-    out.answer
+    eight(&sheet.boards);
+    let mut numbers = load(table);
+    let n = numbers_lent(table.len());
+    let answer = sheet::new_foil(&mut numbers[..n], strips, sheet, k, w, h, half, gap);
+    store(table, &numbers);
+    answer
 }
 
 // Draws a patch: appends an entry of net 0.
@@ -63,10 +71,12 @@ pub fn draw(
         sheet.old table.old strips.old
         result sheet.new table.new strips.new }
 {
-    let s = *sheet;
-    let out = table::append(s, table, strips, k, x0, y0, x1, y1);
-    *sheet = out.sheet;
-    out.answer
+    eight(&sheet.boards);
+    let mut numbers = load(table);
+    let n = numbers_lent(table.len());
+    let answer = sheet::draw(&mut numbers[..n], strips, sheet, k, x0, y0, x1, y1);
+    store(table, &numbers);
+    answer
 }
 
 // Lays a track of the net from (sx, sy) to (tx, ty): writes its corners to the front of the corner
@@ -87,10 +97,14 @@ pub fn lay(
         sheet.old table.old strips.old corners.old
         result sheet.new table.new strips.new corners.new }
 {
-    let s = *sheet;
-    let out = table::append_track(s, table, strips, corners, k, net, sx, sy, tx, ty);
-    *sheet = out.sheet;
-    out.answer
+    eight(&sheet.boards);
+    let mut numbers = load(table);
+    let n = numbers_lent(table.len());
+    let from = Point { x: sx, y: sy };
+    let to = Point { x: tx, y: ty };
+    let answer = sheet::lay(&mut numbers[..n], strips, corners, sheet, k, net, from, to);
+    store(table, &numbers);
+    answer
 }
 
 // Lays the nets of a list, five numbers each, one after the other: writes their corners one after the
@@ -109,10 +123,20 @@ pub fn lay_list(
         sheet.old table.old strips.old corners.old answers.old
         result sheet.new table.new strips.new corners.new answers.new }
 {
-    let s = *sheet;
-    let out = table::append_list(s, table, strips, corners, answers, wishes, k);
-    *sheet = out.sheet;
-    out.answer
+    eight(&sheet.boards);
+    let mut numbers = load(table);
+    let n = numbers_lent(table.len());
+    let answer = sheet::lay_list(
+        &mut numbers[..n],
+        strips,
+        corners,
+        answers,
+        sheet,
+        k,
+        wishes,
+    );
+    store(table, &numbers);
+    answer
 }
 
 // Joins the point (sx, sy) to the net, which has legs: writes the corners of the way to them to the
@@ -131,17 +155,13 @@ pub fn join(
         sheet.old table.old strips.old corners.old
         result sheet.new table.new strips.new corners.new }
 {
-    let s = *sheet;
-    let out = table::append_join(s, table, strips, corners, k, net, sx, sy);
-    *sheet = out.sheet;
-    out.answer
-}
-
-// The records of a sheet that is only read: by value, they are known to be eight.
-fn copy_of(sheet: &Sheet) -> Sheet
-    ensures { result ≡ sheet.now }
-{
-    *sheet
+    eight(&sheet.boards);
+    let mut numbers = load(table);
+    let n = numbers_lent(table.len());
+    let from = Point { x: sx, y: sy };
+    let answer = sheet::join(&mut numbers[..n], strips, corners, sheet, k, net, from);
+    store(table, &numbers);
+    answer
 }
 
 // Finds the track from (sx, sy) to (tx, ty): writes its corners to the front of the corner list. The
@@ -161,9 +181,12 @@ pub fn find(
         sheet.now table.now strips.now corners.old
         result corners.new }
 {
-    let s = copy_of(sheet);
-    let t = load(table);
-    flat::find(s, t, strips, corners, k, sx, sy, tx, ty)
+    eight(&sheet.boards);
+    let numbers = load(table);
+    let n = numbers_lent(table.len());
+    let from = Point { x: sx, y: sy };
+    let to = Point { x: tx, y: ty };
+    sheet::find(corners, &numbers[..n], strips, *sheet, k, from, to)
 }
 
 // Books the way that the corner list draws, all of it, as a track of the net: appends an entry for each
@@ -180,10 +203,12 @@ pub fn book(
         sheet.old table.old strips.old
         result sheet.new table.new strips.new }
 {
-    let s = *sheet;
-    let out = table::append_way(s, table, strips, corners, k, net);
-    *sheet = out.sheet;
-    out.answer
+    eight(&sheet.boards);
+    let mut numbers = load(table);
+    let n = numbers_lent(table.len());
+    let answer = sheet::book(&mut numbers[..n], strips, sheet, k, net, corners);
+    store(table, &numbers);
+    answer
 }
 
 // Lifts a net: takes out all its entries, the rest keeping their order.
@@ -198,10 +223,12 @@ pub fn lift(
         sheet.old table.old strips.old
         result sheet.new table.new strips.new }
 {
-    let s = *sheet;
-    let out = table::lift(s, table, strips, k, net);
-    *sheet = out.sheet;
-    out.answer
+    eight(&sheet.boards);
+    let mut numbers = load(table);
+    let n = numbers_lent(table.len());
+    let answer = sheet::lift(&mut numbers[..n], strips, sheet, k, net);
+    store(table, &numbers);
+    answer
 }
 
 // Puts a leg as booked: appends its entry, without any search.
@@ -216,10 +243,12 @@ pub fn put_leg(
         sheet.old table.old strips.old
         result sheet.new table.new strips.new }
 {
-    let s = *sheet;
-    let out = table::append_leg(s, table, strips, k, leg);
-    *sheet = out.sheet;
-    out.answer
+    eight(&sheet.boards);
+    let mut numbers = load(table);
+    let n = numbers_lent(table.len());
+    let answer = sheet::put_leg(&mut numbers[..n], strips, sheet, k, leg);
+    store(table, &numbers);
+    answer
 }
 
 // Looks a point up: the place of the one strip that holds it. Nothing is changed.
@@ -227,9 +256,10 @@ pub fn look_up(sheet: &Sheet, table: &[Entry], strips: &[u16], k: usize, x: u16,
     ensures { HostRead k (look_up (point x y))
         sheet.now table.now strips.now [] result [] }
 {
-    let s = copy_of(sheet);
-    let t = load(table);
-    flat::look_up(s, t, strips, k, x, y)
+    eight(&sheet.boards);
+    let numbers = load(table);
+    let n = numbers_lent(table.len());
+    sheet::look_up(&numbers[..n], strips, *sheet, k, Point { x, y })
 }
 
 // Saves the foil: writes it as a job file to the front of `out`. The foil is not changed.
@@ -237,9 +267,10 @@ pub fn save(sheet: &Sheet, table: &[Entry], strips: &[u16], out: &mut [u8], k: u
     ensures { HostRead k saves sheet.now table.now strips.now out.old
         result out.new }
 {
-    let s = copy_of(sheet);
-    let t = load(table);
-    flat::save(s, t, strips, out, k)
+    eight(&sheet.boards);
+    let numbers = load(table);
+    let n = numbers_lent(table.len());
+    sheet::save(out, &numbers[..n], strips, *sheet, k)
 }
 
 // Writes the slip of the foil's tracks to the front of `out`. The foil is not changed.
@@ -247,9 +278,10 @@ pub fn slip(sheet: &Sheet, table: &[Entry], strips: &[u16], out: &mut [u8], k: u
     ensures { HostRead k slips sheet.now table.now strips.now out.old
         result out.new }
 {
-    let s = copy_of(sheet);
-    let t = load(table);
-    flat::slip(s, t, strips, out, k)
+    eight(&sheet.boards);
+    let numbers = load(table);
+    let n = numbers_lent(table.len());
+    sheet::slip(out, &numbers[..n], strips, *sheet, k)
 }
 
 // The ohms of a net. Nothing is changed.
@@ -263,9 +295,10 @@ pub fn ohms(
 ) -> Resistance
     ensures { HostOhms k net ink sheet.now table.now strips.now result }
 {
-    let s = copy_of(sheet);
-    let t = load(table);
-    flat::ohms(s, t, strips, k, net, ink)
+    eight(&sheet.boards);
+    let numbers = load(table);
+    let n = numbers_lent(table.len());
+    sheet::ohms(&numbers[..n], strips, *sheet, k, net, ink)
 }
 
 // Runs the record that begins at place `at` of a job file's bytes.
@@ -282,10 +315,12 @@ pub fn run_record(
         sheet.old table.old strips.old corners.old
         result sheet.new table.new strips.new corners.new }
 {
-    let s = *sheet;
-    let out = table::run_record(s, table, strips, corners, bytes, k, at);
-    *sheet = out.sheet;
-    out.reply
+    eight(&sheet.boards);
+    let mut numbers = load(table);
+    let n = numbers_lent(table.len());
+    let reply = sheet::run_record(&mut numbers[..n], strips, corners, sheet, k, bytes, at);
+    store(table, &numbers);
+    reply
 }
 
 // Carries a foil over that was begun under document 01's rules: its record, table and strips are only read. It is
@@ -304,8 +339,19 @@ pub fn carry(
         board.old table.old strips.old report.old
         result board.new table.new strips.new report.new }
 {
-    let b = *board;
-    let out = table::carry(b, table, entries, strips, report, listed, old);
-    *board = out.board;
-    out.answer
+    let old_numbers = load(entries);
+    let m = numbers_lent(entries.len());
+    let mut numbers = load(table);
+    let n = numbers_lent(table.len());
+    let answer = carrying::carry(
+        &mut numbers[..n],
+        strips,
+        report,
+        board,
+        &old_numbers[..m],
+        listed,
+        old,
+    );
+    store(table, &numbers);
+    answer
 }

@@ -1,12 +1,10 @@
-// A record of a job file on the table's numbers by value, and its reply as numbers.
-ghost use Rattle.std.specs.Prelude.{◌≡◌, true, false};
-ghost use Rattle.host.specs.Calls.{nothing_said};
-ghost use Rattle.host.specs.Records.{step_said_of, no_answers, ran_said, record_said_of, FlatRan};
+// The reply to a record of a job file as numbers, for programs in C.
+ghost use Rattle.std.specs.Prelude.{◌≡◌};
+ghost use Rattle.host.specs.Records.{step_said_of, ran_said, record_said_of};
 
-use crate::flat::{Flat, Said, numbers_lent, said_of};
-use job::{Answers, Next, Reply, Told};
-use sheet::SheetReplied;
-use sheet_rows::{SHEET_SIZE, Sheet};
+use crate::said::{NOTHING_SAID, Said, said_of};
+use foil::Answer;
+use job::{Answers, Progress, Reply};
 
 // A step of a record: whether it was run, and its answer as numbers, zeros if it was not.
 #[repr(C)]
@@ -32,106 +30,14 @@ pub struct RecordSaid {
     pub next: usize,
 }
 
-// What a record leaves: the records of the foils, its reply, and the table's numbers.
-#[derive(Clone, Copy)]
-pub struct Ran {
-    pub sheet: Sheet,
-    pub reply: Reply,
-    pub table: Flat,
-}
-
-// No numbers.
-fn nothing_said() -> Said
-    ensures { result ≡ nothing_said }
-{
-    Said {
-        number: 0,
-        corners: 0,
-        bends: 0,
-        place: 0,
-        bytes: 0,
-    }
-}
-
-// The numbers of a step.
-#[tactic(auto, unfolding(crate::specs::Records::step_said_of))]
-fn step_said_of(told: Told) -> StepSaid
-    ensures { result ≡ step_said_of told }
-{
-    let Told::Said(answer) = told else {
-        return StepSaid {
-            ran: false,
-            said: nothing_said(),
-        };
-    };
-    StepSaid {
-        ran: true,
-        said: said_of(answer),
-    }
-}
-
-// The numbers of a record that was not run.
-#[tactic(auto, unfolding(crate::specs::Records::ran_said, crate::specs::Records::goes_on, crate::specs::Records::place_next, crate::specs::Records::step_said_of))]
-fn not_run(number: u8, end: bool) -> RecordSaid
-    ensures { result ≡ ran_said number end no_answers Next.Nowhere }
-{
-    let none = StepSaid {
-        ran: false,
-        said: nothing_said(),
-    };
-    RecordSaid {
-        number,
-        end,
-        board: none,
-        patch: none,
-        track: none,
-        lift: none,
-        leg: none,
-        more: false,
-        next: 0,
-    }
-}
-
-// The numbers of a record that was run.
-#[tactic(auto, unfolding(crate::specs::Records::ran_said, crate::specs::Records::goes_on, crate::specs::Records::place_next))]
-fn run(answers: Answers, next: Next) -> RecordSaid
-    ensures { result ≡ ran_said 0 false answers next }
-{
-    let told = answers.board;
-    let board = step_said_of(told);
-    let told = answers.patch;
-    let patch = step_said_of(told);
-    let told = answers.track;
-    let track = step_said_of(told);
-    let told = answers.lift;
-    let lift = step_said_of(told);
-    let told = answers.leg;
-    let leg = step_said_of(told);
-    let Next::At(place) = next else {
-        return RecordSaid {
-            number: 0,
-            end: false,
-            board,
-            patch,
-            track,
-            lift,
-            leg,
-            more: false,
-            next: 0,
-        };
-    };
-    RecordSaid {
-        number: 0,
-        end: false,
-        board,
-        patch,
-        track,
-        lift,
-        leg,
-        more: true,
-        next: place,
-    }
-}
+// No step was run.
+const NO_ANSWERS: Answers = Answers {
+    board: None,
+    patch: None,
+    track: None,
+    lift: None,
+    leg: None,
+};
 
 // The numbers of a reply.
 #[tactic(auto, unfolding(crate::specs::Records::record_said_of))]
@@ -139,45 +45,43 @@ pub fn record_said_of(reply: Reply) -> RecordSaid
     ensures { result ≡ record_said_of reply }
 {
     match reply {
-        Reply::Refused(n) => not_run(n, false),
-        Reply::Ran(answers, next) => run(answers, next),
-        Reply::AtEnd => not_run(0, true),
+        Err(refusal) => ran_said(refusal.number(), false, NO_ANSWERS, None),
+        Ok(Progress::Ran(answers, next)) => ran_said(0, false, answers, next),
+        Ok(Progress::AtEnd) => ran_said(0, true, NO_ANSWERS, None),
     }
 }
 
-// What a record on the table's numbers has left.
-fn leave(done: SheetReplied, at: [u16; SHEET_SIZE], len: usize) -> Ran
-    ensures { result ≡ record {
-      sheet = done.sheet;
-      reply = done.reply;
-      table = record { at = at; len = len };
-    } }
+// The numbers of a reply with these answers.
+#[tactic(auto, unfolding(crate::specs::Records::ran_said, crate::specs::Records::goes_on, crate::specs::Records::place_next))]
+fn ran_said(number: u8, end: bool, answers: Answers, next: Option<usize>) -> RecordSaid
+    ensures { result ≡ ran_said number end answers next }
 {
-    let sheet = done.sheet;
-    let reply = done.reply;
-    Ran {
-        sheet,
-        reply,
-        table: Flat { at, len },
+    RecordSaid {
+        number,
+        end,
+        board: step_said_of(answers.board),
+        patch: step_said_of(answers.patch),
+        track: step_said_of(answers.track),
+        lift: step_said_of(answers.lift),
+        leg: step_said_of(answers.leg),
+        more: next.is_some(),
+        next: next.unwrap_or(0),
     }
 }
 
-// Runs the record at a place of the bytes.
-#[tactic(auto, unfolding(crate::specs::Flats::numbers_lent))]
-pub fn run_record(
-    s: Sheet,
-    t: Flat,
-    strips: &mut [u16],
-    corners: &mut [u16],
-    bytes: &[u8],
-    k: usize,
-    at: usize,
-) -> Ran
-    ensures { FlatRan k bytes.now at s t strips.old corners.old
-        result strips.new corners.new }
+// The numbers of a step.
+#[tactic(auto, unfolding(crate::specs::Records::step_said_of))]
+fn step_said_of(told: Option<Answer>) -> StepSaid
+    ensures { result ≡ step_said_of told }
 {
-    let mut a = t.at;
-    let n = numbers_lent(t.len);
-    let done = sheet::run_record(&mut a[..n], strips, corners, s, k, bytes, at);
-    leave(done, a, t.len)
+    match told {
+        None => StepSaid {
+            ran: false,
+            said: NOTHING_SAID,
+        },
+        Some(answer) => StepSaid {
+            ran: true,
+            said: said_of(answer),
+        },
+    }
 }

@@ -36,8 +36,7 @@ pub extern "C" fn foil_new_foil(
         sheet.old table.old strips.old
         a sheet.new table.new strips.new) result }
 {
-    let answer = new_foil(sheet, table, strips, k, w, h, half, gap);
-    said_of(answer)
+    said_of(new_foil(sheet, table, strips, k, w, h, half, gap))
 }
 
 // Draws a patch: appends an entry of net 0.
@@ -56,8 +55,7 @@ pub extern "C" fn foil_draw(
         sheet.old table.old strips.old
         a sheet.new table.new strips.new) result }
 {
-    let answer = draw(sheet, table, strips, k, x0, y0, x1, y1);
-    said_of(answer)
+    said_of(draw(sheet, table, strips, k, x0, y0, x1, y1))
 }
 
 // Lays a track of the net from (sx, sy) to (tx, ty): writes its corners to the front of the corner
@@ -79,8 +77,7 @@ pub extern "C" fn foil_lay(
         sheet.old table.old strips.old corners.old
         a sheet.new table.new strips.new corners.new) result }
 {
-    let answer = lay(sheet, table, strips, corners, k, net, sx, sy, tx, ty);
-    said_of(answer)
+    said_of(lay(sheet, table, strips, corners, k, net, sx, sy, tx, ty))
 }
 
 // Lays the nets of a list, five numbers each, one after the other: writes their corners one after the
@@ -100,8 +97,7 @@ pub extern "C" fn foil_lay_list(
         answers.old a sheet.new table.new strips.new
         corners.new answers.new) result }
 {
-    let answer = lay_list(sheet, table, strips, corners, answers, wishes, k);
-    said_of(answer)
+    said_of(lay_list(sheet, table, strips, corners, answers, wishes, k))
 }
 
 // Joins the point (sx, sy) to the net, which has legs: writes the corners of the way to them to the
@@ -121,8 +117,7 @@ pub extern "C" fn foil_join(
         sheet.old table.old strips.old corners.old
         a sheet.new table.new strips.new corners.new) result }
 {
-    let answer = join(sheet, table, strips, corners, k, net, sx, sy);
-    said_of(answer)
+    said_of(join(sheet, table, strips, corners, k, net, sx, sy))
 }
 
 // Finds the track from (sx, sy) to (tx, ty): writes its corners to the front of the corner list. The
@@ -143,8 +138,7 @@ pub extern "C" fn foil_find(
         sheet.now table.now strips.now corners.old
         a corners.new) result }
 {
-    let answer = find(sheet, table, strips, corners, k, sx, sy, tx, ty);
-    said_of(answer)
+    said_of(find(sheet, table, strips, corners, k, sx, sy, tx, ty))
 }
 
 // Books the way that the corner list draws, all of it, as a track of the net: appends an entry for each
@@ -162,8 +156,7 @@ pub extern "C" fn foil_book(
         sheet.old table.old strips.old
         a sheet.new table.new strips.new) result }
 {
-    let answer = book(sheet, table, strips, corners, k, net);
-    said_of(answer)
+    said_of(book(sheet, table, strips, corners, k, net))
 }
 
 // Lifts a net: takes out all its entries, the rest keeping their order.
@@ -179,8 +172,7 @@ pub extern "C" fn foil_lift(
         sheet.old table.old strips.old
         a sheet.new table.new strips.new) result }
 {
-    let answer = lift(sheet, table, strips, k, net);
-    said_of(answer)
+    said_of(lift(sheet, table, strips, k, net))
 }
 
 // Puts a leg as booked: appends its entry, without any search.
@@ -196,8 +188,7 @@ pub extern "C" fn foil_put_leg(
         sheet.old table.old strips.old
         a sheet.new table.new strips.new) result }
 {
-    let answer = put_leg(sheet, table, strips, k, leg);
-    said_of(answer)
+    said_of(put_leg(sheet, table, strips, k, leg))
 }
 
 // Looks a point up: the place of the one strip that holds it. Nothing is changed.
@@ -213,8 +204,7 @@ pub extern "C" fn foil_look_up(
     ensures { ToldBy said_of (λ a. HostRead k (look_up (point x y))
         sheet.now table.now strips.now [] a []) result }
 {
-    let answer = look_up(sheet, table, strips, k, x, y);
-    said_of(answer)
+    said_of(look_up(sheet, table, strips, k, x, y))
 }
 
 // Saves the foil: writes it as a job file to the front of `out`. The foil is not changed.
@@ -230,8 +220,7 @@ pub extern "C" fn foil_save(
         sheet.now table.now strips.now out.old
         a out.new) result }
 {
-    let answer = save(sheet, table, strips, out, k);
-    said_of(answer)
+    said_of(save(sheet, table, strips, out, k))
 }
 
 // Writes the slip of the foil's tracks to the front of `out`. The foil is not changed.
@@ -247,8 +236,7 @@ pub extern "C" fn foil_slip(
         sheet.now table.now strips.now out.old
         a out.new) result }
 {
-    let answer = slip(sheet, table, strips, out, k);
-    said_of(answer)
+    said_of(slip(sheet, table, strips, out, k))
 }
 
 // The ohms of a net. Nothing is changed.
@@ -264,8 +252,7 @@ pub extern "C" fn foil_ohms(
     ensures { ToldBy ohms_said (λ a. HostOhms k net ink
         sheet.now table.now strips.now a) result }
 {
-    let answer = ohms(sheet, table, strips, k, net, ink);
-    ohms_said(answer)
+    ohms_said(ohms(sheet, table, strips, k, net, ink))
 }
 
 // Runs the record that begins at place `at` of a job file's bytes.
@@ -283,8 +270,7 @@ pub extern "C" fn foil_run_record(
         sheet.old table.old strips.old corners.old
         a sheet.new table.new strips.new corners.new) result }
 {
-    let reply = run_record(sheet, table, strips, corners, bytes, k, at);
-    record_said_of(reply)
+    record_said_of(run_record(sheet, table, strips, corners, bytes, k, at))
 }
 
 // Carries a foil over that was begun under document 01's rules: its record, table and strips are only read. It is
@@ -304,6 +290,5 @@ pub extern "C" fn foil_carry(
         board.old table.old strips.old report.old
         a board.new table.new strips.new report.new) result }
 {
-    let answer = carry(board, table, entries, strips, report, listed, old);
-    said_of(answer)
+    said_of(carry(board, table, entries, strips, report, listed, old))
 }

@@ -2,32 +2,30 @@
 use Prim.Native.Nat.{ℕ, zero, suc, ◌≤◌, ◌<◌}
 use native.Mathlib.Omega.{arith}
 use mathlib.Core.Path.{◌≡◌, refl, sym, ap, ◌∙◌, fun_ext}
-use mathlib.Core.Bool.{Bool, true, cond}
+use mathlib.Core.Bool.{Bool, true}
 use mathlib.Core.List.{List, [], ◌∷◌, ◌++◌}
 use mathlib.Core.Logic.{by_cases, ⊎_elim}
 use native.Mathlib.Decide.{ℕ_discrete}
-use lib.Dec.{eqb}
 use borrow.Author.Tests.{eq-eqb, ne_eqb}
 use lib.ListN.{length, drop}
 use Rattle.foil_spec.specs.Ledger.{Answer}
 use Rattle.foil_spec.specs.Job.{step_bits}
+use Rattle.std.specs.Prelude.{Some, None}
 use Rattle.foil.specs.Contract.{answer_of}
-use Rattle.foil.specs.declared.Answer.{Answer as Answered}
+use Rattle.foil.specs.Contract.{Answer as Answered}
 use Rattle.list_laws.proofs.Tests.{both, lt-or-le}
 use Rattle.job.specs.Contract.{set_below, said_at, told_at, by_bit, told_by_bits, answers_of}
 use Rattle.job.specs.Parts.{told_with_more, ToldMore}
-use Rattle.job.specs.declared.Told.{Told}
-use Rattle.job.specs.declared.Told.TheVariants.{Nothing, Said}
 use Rattle.job.specs.declared.Answers.{Answers}
 
 -- ---- before any step
 
-told_none : (on : ℕ → Bool) (k : ℕ) → Nothing ≡ told_at on [] k
+told_none : (on : ℕ → Bool) (k : ℕ) → None ≡ told_at on [] k
 unfolding told_at said_at
 told_none on k = both (on k) (λ e. rw e refl) (λ e. rw e refl)
 
 pub none_told : (on : ℕ → Bool)
-    → record { board = Nothing; patch = Nothing; track = Nothing; lift = Nothing; leg = Nothing } ≡ answers_of on []
+    → record { board = None; patch = None; track = None; lift = None; leg = None } ≡ answers_of on []
 unfolding answers_of by_bit
 none_told on =
     λ i. record {
@@ -40,7 +38,7 @@ none_told on =
 
 -- ---- the answer of one step more
 
-said-last : (given : List Answer) (a : Answer) → said_at (given ++ (a ∷ [])) (length given) ≡ Said (answer_of a)
+said-last : (given : List Answer) (a : Answer) → said_at (given ++ (a ∷ [])) (length given) ≡ Some (answer_of a)
 unfolding said_at
 said-last [] a = refl
 said-last (x ∷ given) a = said-last given a
@@ -64,7 +62,7 @@ below-rises on j (suc k) e h =
 
 module _ (on : ℕ → Bool) (given : List Answer) (k : ℕ) (a : Answer) (set : on k ≡ true)
     (count : length given ≡ set_below on k) where
-  told_more : (j : ℕ) → told_with_more (told_at on given) k (Said (answer_of a)) j ≡ told_at on (given ++ (a ∷ [])) j
+  told_more : (j : ℕ) → told_with_more (told_at on given) k (Some (answer_of a)) j ≡ told_at on (given ++ (a ∷ [])) j
   unfolding told_with_more told_at
   told_more j =
       by_cases (ℕ_discrete j k)
@@ -82,33 +80,25 @@ module _ (on : ℕ → Bool) (given : List Answer) (k : ℕ) (a : Answer) (set :
       rw o (sym (said-other given a (set_below on j) other)))
       (λ o. rw o refl)))
 
-  pub answers-more : (old new : Answers) → old ≡ answers_of on given → ToldMore old k (Said (answer_of a)) new
+  pub answers-more : (old new : Answers) → old ≡ answers_of on given → ToldMore old k (Some (answer_of a)) new
       → new ≡ answers_of on (given ++ (a ∷ []))
   unfolding answers_of
   answers-more old new e t = t.is (told_at on given) e ∙ ap by_bit (fun_ext told_more)
 
--- ---- the fields, each told anew or not
-
-pub tell-all : (a : Answers) (k : ℕ) (t b p c l n : Told) → b ≡ cond (eqb 0 k) t a.board
-    → p ≡ cond (eqb 1 k) t a.patch → c ≡ cond (eqb 2 k) t a.track → l ≡ cond (eqb 3 k) t a.lift
-    → n ≡ cond (eqb 4 k) t a.leg → ToldMore a k t (record { board = b; patch = p; track = c; lift = l; leg = n })
-unfolding by_bit told_with_more
-tell-all a k t b p c l n e f g h i = record { is = λ d q. rw (e, f, g, h, i, q) refl }
-
 -- ---- the answer that a bit told
 
-pub said-none : (given : List Answer) (i : ℕ) → drop i given ≡ [] → said_at given i ≡ Nothing
+pub said-none : (given : List Answer) (i : ℕ) → drop i given ≡ [] → said_at given i ≡ None
 unfolding said_at
 said-none [] i e = refl
 said-none (x ∷ given) zero e = absurd (let z = ap length e in omega arith)
 said-none (x ∷ given) (suc i) e = said-none given i e
 
 pub said_here : (given : List Answer) (i : ℕ) (x : Answer) (rest : List Answer) → drop i given ≡ x ∷ rest
-    → said_at given i ≡ Said (answer_of x)
+    → said_at given i ≡ Some (answer_of x)
 unfolding said_at
 said_here [] zero x rest e = absurd (let z = ap length e in omega arith)
 said_here [] (suc i) x rest e = absurd (let z = ap length e in omega arith)
-said_here (y ∷ given) zero x rest e = let q : y ≡ x = cc in ap (λ (z : Answer). Said (answer_of z)) q
+said_here (y ∷ given) zero x rest e = let q : y ≡ x = cc in ap (λ (z : Answer). Some (answer_of z)) q
 said_here (y ∷ given) (suc i) x rest e = said_here given i x rest e
 
 -- it is the first of those that are left after the bits below
@@ -119,14 +109,14 @@ pub record SaidBy (on : ℕ → Bool) (given : List Answer) (k : ℕ) (y : Answe
   pub from : drop (set_below on k) given ≡ answer ∷ rest
   pub is : answer_of answer ≡ y
 
-said-by : (given : List Answer) (i : ℕ) (y : Answered) → said_at given i ≡ Said y
+said-by : (given : List Answer) (i : ℕ) (y : Answered) → said_at given i ≡ Some y
     → (x : Answer) × (rest : List Answer) × (drop i given ≡ x ∷ rest) × (answer_of x ≡ y)
 unfolding said_at
 said-by [] i y e = absurd (let z : ◌≡◌ {A = ℕ} 0 1 = cc in omega arith)
 said-by (x ∷ given) zero y e = (x, given, refl, cc)
 said-by (x ∷ given) (suc i) y e = said-by given i y e
 
-pub told-by : (on : ℕ → Bool) (given : List Answer) (k : ℕ) (y : Answered) → told_at on given k ≡ Said y
+pub told-by : (on : ℕ → Bool) (given : List Answer) (k : ℕ) (y : Answered) → told_at on given k ≡ Some y
     → SaidBy on given k y
 unfolding told_at
 told-by on given k y e =
@@ -134,7 +124,7 @@ told-by on given k y e =
     (λ o.
     let s = said-by given (set_below on k) y (rw o at e) in
     record { set = o; answer = s.0; rest = s.1; from = s.2; is = s.3 })
-    (λ o. absurd (let f : Nothing ≡ Said y = rw o at e in let z : ◌≡◌ {A = ℕ} 0 1 = cc in omega arith))
+    (λ o. absurd (let f : None ≡ Some y = rw o at e in let z : ◌≡◌ {A = ℕ} 0 1 = cc in omega arith))
 
 -- ---- a bit's field
 
@@ -147,23 +137,3 @@ told_in on given (suc (suc zero)) h = refl
 told_in on given (suc (suc (suc zero))) h = refl
 told_in on given (suc (suc (suc (suc zero)))) h = refl
 told_in on given (suc (suc (suc (suc (suc k))))) h = absurd (omega arith)
-
-pub in-board : (a : Answers) (k : ℕ) → k ≡ 0 → a.board ≡ told_by_bits a k
-unfolding told_by_bits
-in-board a k e = rw e refl
-
-pub in-patch : (a : Answers) (k : ℕ) → k ≡ 1 → a.patch ≡ told_by_bits a k
-unfolding told_by_bits
-in-patch a k e = rw e refl
-
-pub in-track : (a : Answers) (k : ℕ) → k ≡ 2 → a.track ≡ told_by_bits a k
-unfolding told_by_bits
-in-track a k e = rw e refl
-
-pub in-lift : (a : Answers) (k : ℕ) → k ≡ 3 → a.lift ≡ told_by_bits a k
-unfolding told_by_bits
-in-lift a k e = rw e refl
-
-pub in-leg : (a : Answers) (k : ℕ) → k ≡ 4 → a.leg ≡ told_by_bits a k
-unfolding told_by_bits
-in-leg a k e = rw e refl

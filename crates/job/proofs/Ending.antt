@@ -1,43 +1,35 @@
 -- The answers that end the job are the refusals by 1, 2 and 20.
 use Prim.Native.Nat.{ℕ}
-use native.Mathlib.Omega.{arith}
 use mathlib.Core.Path.{◌≡◌, refl, sym, ◌∙◌}
-use mathlib.Core.Bool.{true, false, ◌||◌}
+use mathlib.Core.Bool.{Bool, false, ◌||◌}
 use lib.Dec.{eqb}
-use borrow.Author.Tests.{eq-eqb, ne_eqb}
-use Rattle.foil_spec.specs.Ledger.{Answer, refused, accepted, laid, found, wrote, booked}
+use Rattle.std.specs.Prelude.{Ok, Err}
+use Rattle.foil_spec.specs.Ledger.{Answer as Outcome, refused, accepted, laid, found, wrote, booked}
 use Rattle.foil_spec.specs.Calls.{ends_job}
-use Rattle.foil.specs.Contract.{answer_of}
-use Rattle.foil.specs.declared.Answer.{Answer as Answered}
-use Rattle.foil.specs.declared.Answer.TheVariants.{Refused}
+use Rattle.foil.specs.Contract.{Answer, answer_of}
+use Rattle.foil.specs.declared.Accepted.{Accepted}
 use Rattle.job.specs.Parts.{Ends}
 
-pub ends-other : (a : Answered) → ((n : ℕ) → a ≡ Refused n → ⊥) → Ends a false
-ends-other a none = record { is = λ o e. other o (λ n f. none n (e ∙ f)) }
-  where
-    other : (o : Answer) → ((n : ℕ) → answer_of o ≡ Refused n → ⊥) → false ≡ ends_job o
-    other (refused n) h = unfold answer_of in absurd (h n refl)
-    other accepted h = unfold ends_job in refl
-    other (laid cs n) h = unfold ends_job in refl
-    other (found n) h = unfold ends_job in refl
-    other (wrote bs) h = unfold ends_job in refl
-    other (booked k n) h = unfold ends_job in refl
-
-ends-number : (a : Answered) (n : ℕ) → a ≡ Refused n → (o : Answer) → a ≡ answer_of o
-    → (eqb n 1 || eqb n 2 || eqb n 20) ≡ ends_job o
+not-ok : (o : Outcome) (x : Accepted) → answer_of o ≡ Ok x → false ≡ ends_job o
 unfolding answer_of ends_job
-ends-number a n q (refused k) e = let h : n ≡ k = cc in rw h refl
-ends-number a n q accepted e = absurd (let z : ◌≡◌ {A = ℕ} 0 1 = cc in omega arith)
-ends-number a n q (laid cs k) e = absurd (let z : ◌≡◌ {A = ℕ} 0 1 = cc in omega arith)
-ends-number a n q (found k) e = absurd (let z : ◌≡◌ {A = ℕ} 0 1 = cc in omega arith)
-ends-number a n q (wrote bs) e = absurd (let z : ◌≡◌ {A = ℕ} 0 1 = cc in omega arith)
-ends-number a n q (booked k j) e = absurd (let z : ◌≡◌ {A = ℕ} 0 1 = cc in omega arith)
+not-ok (refused n) x h = cc
+not-ok accepted x h = refl
+not-ok (laid cs n) x h = refl
+not-ok (found n) x h = refl
+not-ok (wrote bs) x h = refl
+not-ok (booked k n) x h = refl
 
-pub ends-1 : (a : Answered) (n : ℕ) → a ≡ Refused n → n ≡ 1 → Ends a true
-ends-1 a n q z = record { is = λ o e. sym (rw (eq-eqb n 1 z) refl) ∙ ends-number a n q o e }
+by-number : (o : Outcome) (n : ℕ) → answer_of o ≡ Err n → (eqb n 1 || eqb n 2 || eqb n 20) ≡ ends_job o
+unfolding answer_of ends_job
+by-number (refused k) n h = let same : k ≡ n = cc in rw same refl
+by-number accepted n h = cc
+by-number (laid cs k) n h = cc
+by-number (found k) n h = cc
+by-number (wrote bs) n h = cc
+by-number (booked k j) n h = cc
 
-pub ends-2 : (a : Answered) (n : ℕ) → a ≡ Refused n → n ≡ 2 → Ends a true
-ends-2 a n q z = record { is = λ o e. sym (rw z refl) ∙ ends-number a n q o e }
+pub ends-other : (a : Answer) (x : Accepted) → a ≡ Ok x → Ends a false
+ends-other a x q = record { is = λ o e. not-ok o x (sym e ∙ q) }
 
-pub ends-20 : (a : Answered) (n : ℕ) → a ≡ Refused n → (n ≡ 1 → ⊥) → (n ≡ 2 → ⊥) → Ends a (eqb n 20)
-ends-20 a n q y z = record { is = λ o e. sym (rw (ne_eqb n 1 y, ne_eqb n 2 z) refl) ∙ ends-number a n q o e }
+pub ends-number : (a : Answer) (n : ℕ) (r : Bool) → a ≡ Err n → r ≡ (eqb n 1 || eqb n 2 || eqb n 20) → Ends a r
+ends-number a n r q e = record { is = λ o f. e ∙ by-number o n (sym f ∙ q) }

@@ -25,50 +25,39 @@ use Rattle.ledger_laws.proofs.Refusals.{none-applies, unrefused-own}
 use Rattle.ledger_laws.proofs.CornerLists.{corners-read}
 use Rattle.ledger_laws.proofs.Lay.{lay-seeks, laid_on}
 use Rattle.ledger_laws.proofs.Opening.{end-no-board}
+use Rattle.std.specs.Prelude.{Option as Maybe, Ok, Err}
 use Rattle.job.specs.Contract.{set_below, answers_of, next_of, next_in, reply_of}
 use Rattle.job.specs.Parts.{Whole, ran_to}
 use Rattle.job.specs.declared.Answers.{Answers}
-use Rattle.job.specs.declared.Next.{Next}
-use Rattle.job.specs.declared.Next.TheVariants.{Nowhere}
-use Rattle.job.specs.declared.Reply.{Reply}
-use Rattle.job.specs.declared.Reply.TheVariants.{Refused, Ran, AtEnd}
+use Rattle.job.specs.declared.Progress.TheVariants.{Ran, AtEnd}
 use Rattle.job.proofs.Acting.{ran-from}
 use Rattle.job.proofs.Bits.{still-output}
 
 -- ---- which reply it is
 
 -- a refusal of the record as a whole
-pub was-refused : (on : ℕ → Bool) (o : RecordReply) (n : ℕ) → Refused n ≡ reply_of on o → o ≡ refused_whole n
+pub was-refused : (on : ℕ → Bool) (o : RecordReply) (n : ℕ) → Err n ≡ reply_of on o → o ≡ refused_whole n
 unfolding reply_of
 was-refused on (refused_whole k) n e = let same : k ≡ n = cc in ap refused_whole same
-was-refused on (ran_steps given p) n e = absurd (let z : ◌≡◌ {A = ℕ} 0 1 = cc in omega arith)
-was-refused on end_mark n e = absurd (let z : ◌≡◌ {A = ℕ} 0 1 = cc in omega arith)
+was-refused on (ran_steps given p) n e = cc
+was-refused on end_mark n e = cc
 
 -- the answers of the steps
-pub record HasRun (on : ℕ → Bool) (o : RecordReply) (a : Answers) (n : Next) : Type 0 where
+pub record HasRun (on : ℕ → Bool) (o : RecordReply) (a : Answers) (n : Maybe ℕ) : Type 0 where
   pub given : List Answer
   pub place : Option ℕ
   pub is : o ≡ ran_steps given place
   pub answers : a ≡ answers_of on given
   pub next : n ≡ next_of place
 
-pub has-run : (on : ℕ → Bool) (o : RecordReply) (a : Answers) (n : Next) → Ran a n ≡ reply_of on o → HasRun on o a n
+pub has-run : (on : ℕ → Bool) (o : RecordReply) (a : Answers) (n : Maybe ℕ) → Ok (Ran a n) ≡ reply_of on o
+    → HasRun on o a n
 unfolding reply_of
-has-run on (refused_whole k) a n e = absurd (let z : ◌≡◌ {A = ℕ} 0 1 = cc in omega arith)
+has-run on (refused_whole k) a n e = cc
 has-run on (ran_steps given p) a n e = record { given = given; place = p; is = refl; answers = cc; next = cc }
-has-run on end_mark a n e = absurd (let z : ◌≡◌ {A = ℕ} 0 1 = cc in omega arith)
+has-run on end_mark a n e = cc
 
 -- ---- where the job goes on
-
-pub next-run : (x : Reply) (a : Answers) (n : Next) → x ≡ Ran a n → n ≡ next_in x
-unfolding next_in
-next-run x a n e = rw e refl
-
-pub next-other : (x : Reply) → ((a : Answers) (n : Next) → x ≡ Ran a n → ⊥) → Nowhere ≡ next_in x
-unfolding next_in
-next-other (Refused n) other = refl
-next-other (Ran a n) other = absurd (other a n refl)
-next-other AtEnd other = refl
 
 pub next-is : (on : ℕ → Bool) (o : RecordReply) → next_in (reply_of on o) ≡ next_of (place_after o)
 unfolding next_in reply_of next_of place_after
@@ -94,7 +83,7 @@ module _ {S : Type 0} (act : Step → S → After Answer S) where
 
   -- the end mark that was met
   met-end : (on : ℕ → Bool) (o : Option ℕ) (e : Bool) (ss : List Step) (p : ℕ) (s : S)
-      → AtEnd ≡ reply_of on (act_record act o e ss p s).answer → (o ≡ none) × (e ≡ true)
+      → Ok AtEnd ≡ reply_of on (act_record act o e ss p s).answer → (o ≡ none) × (e ≡ true)
   unfolding act_record reply_of
   met-end on (some k) e ss p s h = absurd (let z : ◌≡◌ {A = ℕ} 0 1 = cc in omega arith)
   met-end on none true ss p s h = (refl, refl)
@@ -148,7 +137,7 @@ module _ (r : Room) (bs : List ℕ) (at : ℕ) (m : Lent) where
       go true q = q
       go false q = refl
 
-  pub ended : (on : ℕ → Bool) → AtEnd ≡ reply_of on (record_on r bs at m).answer → Ended
+  pub ended : (on : ℕ → Bool) → Ok AtEnd ≡ reply_of on (record_on r bs at m).answer → Ended
   unfolding record_on act_record whole_refusals after_lent
   ended on h =
       let a = met-end (step_on r) on (first checks) (is_end bs at) (steps bs at) (record_end bs at) m h in

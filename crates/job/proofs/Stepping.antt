@@ -3,10 +3,9 @@ use Prim.Native.Nat.{ℕ, zero, suc, ◌+◌, ◌<◌}
 use native.Mathlib.Omega.{arith}
 use native.Mathlib.Numerals.{add-one}
 use mathlib.Core.Path.{◌≡◌, refl, sym, ap, ◌∙◌, subst}
-use mathlib.Core.Bool.{Bool, true, false, cond, not, ◌&&◌, ◌||◌}
+use mathlib.Core.Bool.{Bool, true, false, cond, ◌||◌}
 use mathlib.Core.List.{List, [], ◌∷◌, ◌++◌, map}
 use mathlib.Core.Option.{none, some}
-use borrow.Author.Tests.{not-true, not-false}
 use lib.ListN.{length}
 use Rattle.foil_spec.specs.Lists.{range, any}
 use Rattle.foil_spec.specs.Ledger.{Step, Answer, reads, Room, short}
@@ -15,16 +14,14 @@ use Rattle.foil_spec.specs.Job.{map_bits, step_bits, as_step, has, fields_at, re
 use Rattle.foil_spec.specs.Job.{steps}
 use Rattle.foil_spec.specs.Calls.{as_reply, ends_job, act_all, act_record, answers_in, output_all, output_by}
 use Rattle.foil_spec.specs.declared.Board.{Board}
-use Rattle.list_laws.proofs.Tests.{both, clash, and_l, and_r, any_append}
-use Rattle.foil.specs.Contract.{Wrote, OutputIn}
-use Rattle.foil.specs.declared.Done.{Done}
+use Rattle.list_laws.proofs.Tests.{both, clash, any_append}
+use Rattle.std.specs.Prelude.{Option as Maybe, Some, None}
+use Rattle.foil.specs.Contract.{Answer as Answered, Wrote, OutputIn}
 use Rattle.foil.proofs.Giving.{long-room, limit_is, output-is}
 use Rattle.job.specs.Contract.{answers_of, next_of, reply_of}
 use Rattle.job.specs.Parts.{Ready, MayRun, ran_to, RanTo, GoesOn, ToldMore, Ends, StepsDone}
-use Rattle.job.specs.declared.Told.TheVariants.{Nothing, Said}
 use Rattle.job.specs.declared.Answers.{Answers}
-use Rattle.job.specs.declared.Next.{Next}
-use Rattle.job.specs.declared.Reply.TheVariants.{Ran}
+use Rattle.job.specs.declared.Progress.TheVariants.{Ran}
 use Rattle.job.specs.declared.running.Stepped.{Stepped}
 use Rattle.ledger_laws.proofs.StaysSound.{steps-sound, first-sound}
 use Rattle.job.proofs.Acting.{ran-unset, ran-ended, ran-more, ran-length}
@@ -32,43 +29,33 @@ use Rattle.job.proofs.ByBit.{none_told, answers-more}
 
 -- ---- before the first bit
 
-abbrev begun : Board → Stepped
-begun b =
+abbrev begun : Stepped
+begun =
     record {
-      answers = record { board = Nothing; patch = Nothing; track = Nothing; lift = Nothing; leg = Nothing };
+      answers = record { board = None; patch = None; track = None; lift = None; leg = None };
       ended = false;
-      board = b;
     }
 
 pub ran-none : (r : Room) (bs : List ℕ) (at : ℕ) (b : Board) (t s out : List ℕ)
-    → RanTo r bs at 0 (lent b t s) out (begun b) t s out
+    → RanTo r bs at 0 (lent b t s) out begun b t s out
 unfolding steps_at act_all output_all
 ran-none r bs at b t s out = record { answers = none_told (has bs at); ended = refl; state = refl; output = refl }
 
 -- ---- a bit whose step is not run
 
-ran-same : {r : Room} {bs : List ℕ} {at k : ℕ} {m : Lent} {o : List ℕ} {d : Stepped} {t s out : List ℕ}
-    → ran_to r bs at (suc k) m ≡ ran_to r bs at k m → RanTo r bs at k m o d t s out → RanTo r bs at (suc k) m o d t s out
-ran-same e j =
-    record { answers = rw e j.answers; ended = rw e j.ended; state = rw e j.state; output = rw e j.output }
+module _ (limit : ℕ) (bs : List ℕ) (at k : ℕ) (d : Stepped) (b : Board) (t s out : List ℕ) where
+  ran-same : {r : Room} {m : Lent} {o : List ℕ} → ran_to r bs at (suc k) m ≡ ran_to r bs at k m
+      → RanTo r bs at k m o d b t s out → RanTo r bs at (k + 1) m o d b t s out
+  ran-same {r} {m} {o} e j =
+      subst (λ (i : ℕ). RanTo r bs at i m o d b t s out) (sym (add-one k))
+      (record { answers = rw e j.answers; ended = rw e j.ended; state = rw e j.state; output = rw e j.output })
 
-one_more : {r : Room} {bs : List ℕ} {at k : ℕ} {m : Lent} {o : List ℕ} {d : Stepped} {t s out : List ℕ}
-    → RanTo r bs at (suc k) m o d t s out → RanTo r bs at (k + 1) m o d t s out
-one_more {r} {bs} {at} {k} {m} {o} {d} {t} {s} {out} j =
-    subst (λ (i : ℕ). RanTo r bs at i m o d t s out) (sym (add-one k)) j
+  pub bit-over : d.ended ≡ true → GoesOn limit bs at k d b t s out d b t s out
+  bit-over over =
+      record { is = λ r m o long few room j. ran-same (ran-ended bs at r m k (sym j.ended ∙ over)) j }
 
-pub bit-skipped : (limit : ℕ) (bs : List ℕ) (at k : ℕ) (d : Stepped) (t s out : List ℕ) (go : Bool)
-    → go ≡ (has bs at k && not d.ended) → not go ≡ true → GoesOn limit bs at k d t s out d t s out
-bit-skipped limit bs at k d t s out go q n =
-    record {
-      is = λ r m o long few room j.
-          both (has bs at k)
-          (λ set.
-          let over : not d.ended ≡ false =
-          ap (λ (b : Bool). b && not d.ended) (sym set) ∙ sym q ∙ not-true go n in
-          one_more (ran-same (ran-ended bs at r m k (sym j.ended ∙ not-false d.ended over)) j))
-          (λ unset. one_more (ran-same (ran-unset bs at r m k unset) j));
-    }
+  pub bit-unset : has bs at k ≡ false → GoesOn limit bs at k d b t s out d b t s out
+  bit-unset unset = record { is = λ r m o long few room j. ran-same (ran-unset bs at r m k unset) j }
 
 -- ---- a bit whose step is run
 
@@ -86,46 +73,37 @@ ends_last given a e = any_append ends_job given (a ∷ []) ∙ rw e (or-none (en
     or-none true = refl
     or-none false = refl
 
-module _ (bs : List ℕ) (at k : ℕ) (ended go : Bool) (q : go ≡ (has bs at k && not ended)) (n : not go ≡ false) where
-  goes : (has bs at k && not ended) ≡ true
-  goes = sym q ∙ not-false go n
-
-  pub is_set : has bs at k ≡ true
-  is_set = and_l (has bs at k) (not ended) goes
-
-  pub not-ended : ended ≡ false
-  not-ended = not-true ended (and_r (has bs at k) (not ended) goes)
-
-module _ (limit : ℕ) (bs : List ℕ) (at k : ℕ) (d : Stepped) (t s out : List ℕ) (go : Bool)
-    (q : go ≡ (has bs at k && not d.ended)) (n : not go ≡ false) where
-  pub bit-run : (done : Done) (t' s' out' : List ℕ)
-      → OutputIn (as_step (step_at bs at k)) limit (lent d.board t s) out done t' s' out'
-      → (new : Answers) → ToldMore d.answers k (Said done.answer) new → (over : Bool) → Ends done.answer over
-      → GoesOn limit bs at k d t s out (record { answers = new; ended = over; board = done.board }) t' s' out'
-  bit-run done t' s' out' step new told over ends =
+module _ (limit : ℕ) (bs : List ℕ) (at k : ℕ) (d : Stepped) (b : Board) (t s out : List ℕ)
+    (set : has bs at k ≡ true) (going : d.ended ≡ false) where
+  pub bit-run : (x : Answered) (b' : Board) (t' s' out' : List ℕ)
+      → OutputIn (as_step (step_at bs at k)) limit (lent b t s) out x b' t' s' out'
+      → (new : Answers) → ToldMore d.answers k (Some x) new → (over : Bool) → Ends x over
+      → GoesOn limit bs at k d b t s out (record { answers = new; ended = over }) b' t' s' out'
+  bit-run x b' t' s' out' step new told over ends =
       record {
         is = λ r m o long few room j.
             let given : List Answer = (ran_to r bs at k m).answer in
-            let set : has bs at k ≡ true = is_set bs at k d.ended go q n in
-            let before : any ends_job given ≡ false = sym j.ended ∙ not-ended bs at k d.ended go q n in
+            let before : any ends_job given ≡ false = sym j.ended ∙ going in
             let a : Answer = (step_on r (as_step (step_at bs at k)) (ran_to r bs at k m).state).answer in
-            let w : Wrote (as_step (step_at bs at k)) r (ran_to r bs at k m).state out done t' s' out' =
-            subst (λ (x : Lent). Wrote (as_step (step_at bs at k)) r x out done t' s' out') j.state
+            let w : Wrote (as_step (step_at bs at k)) r (ran_to r bs at k m).state out x b' t' s' out' =
+            subst (λ (y : Lent). Wrote (as_step (step_at bs at k)) r y out x b' t' s' out') j.state
             (step r long few room) in
             let more = ran-more bs at r m k set before in
-            one_more (record {
+            subst (λ (i : ℕ).
+            RanTo r bs at i m o (record { answers = new; ended = over }) b' t' s' out') (sym (add-one k))
+            (record {
               answers =
                   answers-more (has bs at) given k a set (ran-length bs at r m k before) d.answers new j.answers
-                  (subst (λ x. ToldMore d.answers k (Said x) new) w.gave.answer told)
-                  ∙ ap (λ x. answers_of (has bs at) x.answer) (sym more);
+                  (subst (λ y. ToldMore d.answers k (Some y) new) w.gave.answer told)
+                  ∙ ap (λ y. answers_of (has bs at) y.answer) (sym more);
               ended =
                   ends.is a w.gave.answer ∙ sym (ends_last given a before)
-                  ∙ ap (λ x. any ends_job x.answer) (sym more);
+                  ∙ ap (λ y. any ends_job y.answer) (sym more);
               state =
-                  (λ i. lent (w.gave.board i) (w.gave.table i) (w.gave.strips i)) ∙ ap (λ x. x.state) (sym more);
+                  (λ i. lent (w.gave.board i) (w.gave.table i) (w.gave.strips i)) ∙ ap (λ y. y.state) (sym more);
               output =
                   w.output ∙ ap (output_after a) j.output ∙ sym (outputs-append given a o)
-                  ∙ ap (λ x. output_all x.answer o) (sym more);
+                  ∙ ap (λ y. output_all y.answer o) (sym more);
             });
       }
 
@@ -161,9 +139,9 @@ ready-long : (bs : List ℕ) (at : ℕ) (m : Lent) → Ready bs at m → (limit 
 ready-long bs at m y limit n = long-room m (record { table = y.table; strips = y.strips }) limit n
 
 pub bit-ready : (limit : ℕ) (bs : List ℕ) (at : ℕ) (m : Lent) (o : List ℕ) → Ready bs at m
-    → (k : ℕ) (d : Stepped) (t s out : List ℕ) → RanTo (room_in limit m (length o)) bs at k m o d t s out → k < step_bits
-    → length t ≡ length m.table → length s ≡ length m.strips → MayRun bs at k d.ended (lent d.board t s)
-bit-ready limit bs at m o y k d t s out j l e f =
+    → (k : ℕ) (d : Stepped) (b : Board) (t s out : List ℕ) → RanTo (room_in limit m (length o)) bs at k m o d b t s out
+    → k < step_bits → length t ≡ length m.table → length s ≡ length m.strips → MayRun bs at k d.ended (lent b t s)
+bit-ready limit bs at m o y k d b t s out j l e f =
     let r : Room = room_in limit m (length o) in
     record {
       begun = y.whole.begun;
@@ -184,25 +162,25 @@ bit-ready limit bs at m o y k d t s out j l e f =
 -- ---- the next bit in the room of the record
 
 pub next_bit : (limit : ℕ) (bs : List ℕ) (at : ℕ) (m : Lent) (o : List ℕ) → Ready bs at m
-    → (k : ℕ) (d : Stepped) (t s out : List ℕ) (d' : Stepped) (t' s' out' : List ℕ)
-    → GoesOn limit bs at k d t s out d' t' s' out' → length out ≡ length o
-    → RanTo (room_in limit m (length o)) bs at k m o d t s out
-    → RanTo (room_in limit m (length o)) bs at (k + 1) m o d' t' s' out'
-next_bit limit bs at m o y k d t s out d' t' s' out' g e j =
+    → (k : ℕ) (d : Stepped) (b : Board) (t s out : List ℕ) (d' : Stepped) (b' : Board) (t' s' out' : List ℕ)
+    → GoesOn limit bs at k d b t s out d' b' t' s' out' → length out ≡ length o
+    → RanTo (room_in limit m (length o)) bs at k m o d b t s out
+    → RanTo (room_in limit m (length o)) bs at (k + 1) m o d' b' t' s' out'
+next_bit limit bs at m o y k d b t s out d' b' t' s' out' g e j =
     g.is (room_in limit m (length o)) m o (ready-long bs at m y limit (length o)) (limit_is limit m (length o))
     (output-is limit m (length o) ∙ sym e) j
 
 -- ---- after the last bit
 
-pub steps-done : (limit : ℕ) (bs : List ℕ) (at : ℕ) (m : Lent) (o : List ℕ) (k : ℕ) (d : Stepped) (t s out : List ℕ)
-    → RanTo (room_in limit m (length o)) bs at k m o d t s out → k ≡ step_bits
-    → (p : ℕ) → p ≡ fields_at bs at map_bits → (n : Next) → n ≡ next_of (cond d.ended none (some p))
-    → StepsDone limit bs at m o (record { reply = Ran d.answers n; board = d.board }) t s out
+pub steps-done : (limit : ℕ) (bs : List ℕ) (at : ℕ) (m : Lent) (o : List ℕ) (k : ℕ) (d : Stepped) (b : Board)
+    (t s out : List ℕ) → RanTo (room_in limit m (length o)) bs at k m o d b t s out → k ≡ step_bits
+    → (n : Maybe ℕ) → n ≡ next_of (cond d.ended none (some (fields_at bs at map_bits)))
+    → StepsDone limit bs at m o (Ran d.answers n) b t s out
 unfolding act_record as_reply reply_of steps record_steps record_end output_by answers_in
-steps-done limit bs at m o k d t s out j last p e n f =
-    let a = subst (λ (i : ℕ). RanTo (room_in limit m (length o)) bs at i m o d t s out) last j in
+steps-done limit bs at m o k d b t s out j last n f =
+    let a = subst (λ (i : ℕ). RanTo (room_in limit m (length o)) bs at i m o d b t s out) last j in
     record {
-      reply = rw (f, e, a.ended, a.answers) refl;
+      reply = rw (f, a.ended, a.answers) refl;
       board = ap (λ x. x.board) a.state;
       table = ap (λ x. x.table) a.state;
       strips = ap (λ x. x.strips) a.state;

@@ -1,6 +1,5 @@
 -- A record as a whole, return by return.
 use Prim.Native.Nat.{ℕ, ◌<◌}
-use native.Mathlib.Omega.{arith}
 use native.Mathlib.Decide.{ℕ_discrete}
 use mathlib.Core.Path.{◌≡◌, refl, sym, ap, ◌∙◌, subst}
 use mathlib.Core.Bool.{Bool, true, false, not, ◌&&◌, ◌||◌, and-false, xor}
@@ -19,25 +18,25 @@ use Rattle.foil_spec.specs.Calls.{output_by}
 use Rattle.foil_spec.specs.declared.Board.{Board}
 use Rattle.list_laws.proofs.Tests.{clash, or_l}
 use Rattle.ledger_laws.proofs.Refusals.{none-applies}
-use Rattle.foil.specs.declared.lent.Checked.{Checked}
-use Rattle.foil.specs.declared.lent.Checked.TheVariants.{Passed, Refused}
+use Rattle.std.specs.Prelude.{Ok, Err}
+use Rattle.foil.specs.Contract.{Checked}
 use Rattle.foil.proofs.Giving.{long-room}
-use Rattle.job.specs.Contract.{reply_of, Replies, RecordIn}
-use Rattle.job.specs.Parts.{Lends, Ready, checked_of, refused_by, StepsDone}
-use Rattle.job.specs.declared.Reply.TheVariants.{AtEnd}
-use Rattle.job.specs.declared.Replied.{Replied}
+use Rattle.job.specs.Contract.{Reply, reply_of, Replies, RecordIn}
+use Rattle.job.specs.Parts.{Lends, Ready, checked_of, StepsDone}
+use Rattle.job.specs.declared.Progress.{Progress}
+use Rattle.job.specs.declared.Progress.TheVariants.{AtEnd}
 
 -- ---- checks by the first that is not passed
 
-checked-some : (o : Option ℕ) (n : ℕ) → Refused n ≡ checked_of o → o ≡ some n
+checked-some : (o : Option ℕ) (n : ℕ) → Err n ≡ checked_of o → o ≡ some n
 unfolding checked_of
 checked-some (some k) n e = let h : k ≡ n = cc in ap some h
-checked-some none n e = absurd (let z : ◌≡◌ {A = ℕ} 0 1 = cc in omega arith)
+checked-some none n e = cc
 
-checked-none : (o : Option ℕ) → Passed ≡ checked_of o → o ≡ none
+checked-none : (o : Option ℕ) (u : Unit {0}) → Ok u ≡ checked_of o → o ≡ none
 unfolding checked_of
-checked-none (some k) e = absurd (let z : ◌≡◌ {A = ℕ} 0 1 = cc in omega arith)
-checked-none none e = refl
+checked-none (some k) u e = cc
+checked-none none u e = refl
 
 -- 13 does not apply to what may be lent
 unbroken : (bs : List ℕ) (at : ℕ) (m : Lent) → Lends bs at m → (not (sound m) && not (eqb at 0)) ≡ false
@@ -48,51 +47,51 @@ unbroken bs at m l =
 
 -- ---- the record's own checks
 
-module _ (bs : List ℕ) (at : ℕ) (q : Checked) (q-is : q ≡ checked_of (first (record_checks bs at))) (checked : q ≡ Passed)
-  where
-    passed : first (record_checks bs at) ≡ none
-    passed = checked-none _ (sym checked ∙ q-is)
+module _ (bs : List ℕ) (at : ℕ) (q : Checked) (q-is : q ≡ checked_of (first (record_checks bs at))) (u : Unit {0})
+    (checked : q ≡ Ok u) where
+  passed : first (record_checks bs at) ≡ none
+  passed = checked-none _ u (sym checked ∙ q-is)
 
-    pub there : at < length bs
+  pub there : at < length bs
+  unfolding record_checks
+  there =
+      let e = passed in
+      let h : leb (length bs) at ≡ false = search none-applies in
+      leb-false (length bs) at h
+
+  -- the first record has a board
+  board-first : at ≡ 0 → has bs at 0 ≡ true
+  unfolding record_checks xor
+  board-first z =
+      let e = passed in
+      let h : (xor (eqb at 0) (has bs at 0) || has bs at 5 && not (has bs at 0)) ≡ false = search none-applies in
+      only (has bs at 0) (rw (eq-eqb at 0 z) at (or_l (xor (eqb at 0) (has bs at 0)) _ h))
+    where
+      only : (t : Bool) → xor true t ≡ false → t ≡ true
+      only true x = refl
+      only false x = clash refl x
+
+  module _ (more : get_or bs at 0 ≡ 0 → ⊥) where
+    not_end : is_end bs at ≡ false
+    unfolding is_end map_byte
+    not_end = ne_eqb (get_or bs at 0) 0 more
+
+    pub ready : (m : Lent) → Lends bs at m → Ready bs at m
     unfolding record_checks
-    there =
+    ready m l =
         let e = passed in
-        let h : leb (length bs) at ≡ false = search none-applies in
-        leb-false (length bs) at h
-
-    -- the first record has a board
-    board-first : at ≡ 0 → has bs at 0 ≡ true
-    unfolding record_checks xor
-    board-first z =
-        let e = passed in
-        let h : (xor (eqb at 0) (has bs at 0) || has bs at 5 && not (has bs at 0)) ≡ false = search none-applies in
-        only (has bs at 0) (rw (eq-eqb at 0 z) at (or_l (xor (eqb at 0) (has bs at 0)) _ h))
-      where
-        only : (t : Bool) → xor true t ≡ false → t ≡ true
-        only true x = refl
-        only false x = clash refl x
-
-    module _ (more : get_or bs at 0 ≡ 0 → ⊥) where
-      not_end : is_end bs at ≡ false
-      unfolding is_end map_byte
-      not_end = ne_eqb (get_or bs at 0) 0 more
-
-      pub ready : (m : Lent) → Lends bs at m → Ready bs at m
-      unfolding record_checks
-      ready m l =
-          let e = passed in
-          let h : (not (is_end bs at) && ltb (length bs) (record_end bs at)) ≡ false = search none-applies depth 9 in
-          record {
-            whole =
-                record {
-                  begun = record { there = there; few = l.few };
-                  ends = ltb-false (length bs) (record_end bs at) (rw not_end at h);
-                };
-            table = l.table;
-            strips = l.strips;
-            fine = λ unset.
-                by_cases (ℕ_discrete at 0) (λ z. clash (board-first z) unset) (λ ne. l.fine ne);
-          }
+        let h : (not (is_end bs at) && ltb (length bs) (record_end bs at)) ≡ false = search none-applies depth 9 in
+        record {
+          whole =
+              record {
+                begun = record { there = there; few = l.few };
+                ends = ltb-false (length bs) (record_end bs at) (rw not_end at h);
+              };
+          table = l.table;
+          strips = l.strips;
+          fine = λ unset.
+              by_cases (ℕ_discrete at 0) (λ z. clash (board-first z) unset) (λ ne. l.fine ne);
+        }
 
 -- ---- the returns
 
@@ -104,21 +103,16 @@ module _ (limit : ℕ) (bs : List ℕ) (at : ℕ) (b : Board) (t s out : List �
   room = room_in limit m (length out)
 
   call-done : (o : Option ℕ) → first (whole_refusals room (not (sound m)) bs at) ≡ o
-      → (r : Replied) (t' s' out' : List ℕ)
-      → Replies (has bs at) (act_record (step_on room) o (is_end bs at) (steps bs at) (record_end bs at) m) out r t' s' out'
-      → RecordIn limit bs at m out r t' s' out'
+      → (r : Reply) (b' : Board) (t' s' out' : List ℕ)
+      → Replies (has bs at) (act_record (step_on room) o (is_end bs at) (steps bs at) (record_end bs at) m) out r b' t' s'
+      out'
+      → RecordIn limit bs at m out r b' t' s' out'
   unfolding record_on
-  call-done o e r t' s' out' d =
+  call-done o e r b' t' s' out' d =
       subst (λ (x : Option ℕ).
-      Replies (has bs at) (act_record (step_on room) x (is_end bs at) (steps bs at) (record_end bs at) m) out r t' s' out')
+      Replies (has bs at) (act_record (step_on room) x (is_end bs at) (steps bs at) (record_end bs at) m) out r b' t' s'
+      out')
       (sym e) d
-
-  refused-done : (n : ℕ) → first (whole_refusals room (not (sound m)) bs at) ≡ some n → (r : Replied) → r ≡ refused_by n b
-      → RecordIn limit bs at m out r t s out
-  unfolding act_record as_reply reply_of output_by answers_in output_all output_after
-  refused-done n e r q =
-      call-done (some n) e r t s out
-      (rw q (record { reply = refl; board = refl; table = refl; strips = refl; output = refl }))
 
   module _ (l : Lends bs at m) where
     -- the checks that are left are the record's own
@@ -133,20 +127,22 @@ module _ (limit : ℕ) (bs : List ℕ) (at : ℕ) (b : Board) (t s out : List �
         refl
 
     module _ (q : Checked) (q-is : q ≡ checked_of (first (record_checks bs at))) where
-      pub record-refused : (n : ℕ) → q ≡ Refused n → (r : Replied) → r ≡ refused_by n b
-          → RecordIn limit bs at m out r t s out
-      record-refused n e r f = refused-done n (own-left ∙ checked-some _ n (sym e ∙ q-is)) r f
+      pub record-refused : (n : ℕ) → q ≡ Err n → RecordIn limit bs at m out (Err n) b t s out
+      unfolding act_record as_reply reply_of output_by answers_in output_all output_after
+      record-refused n e =
+          call-done (some n) (own-left ∙ checked-some _ n (sym e ∙ q-is)) (Err n) b t s out
+          (record { reply = refl; board = refl; table = refl; strips = refl; output = refl })
 
-      module _ (checked : q ≡ Passed) where
-        pub at-end : get_or bs at 0 ≡ 0 → RecordIn limit bs at m out (record { reply = AtEnd; board = b }) t s out
+      module _ (u : Unit {0}) (checked : q ≡ Ok u) where
+        pub at-end : get_or bs at 0 ≡ 0 → RecordIn limit bs at m out (Ok AtEnd) b t s out
         unfolding act_record as_reply is_end map_byte reply_of output_by answers_in output_all
         at-end z =
-            call-done none (own-left ∙ passed bs at q q-is checked) _ t s out
+            call-done none (own-left ∙ passed bs at q q-is u checked) _ b t s out
             (rw (eq-eqb (get_or bs at 0) 0 z)
             (record { reply = refl; board = refl; table = refl; strips = refl; output = refl }))
 
-        pub ran-done : (get_or bs at 0 ≡ 0 → ⊥) → (r : Replied) (t' s' out' : List ℕ)
-            → StepsDone limit bs at m out r t' s' out' → RecordIn limit bs at m out r t' s' out'
-        ran-done more r t' s' out' d =
-            call-done none (own-left ∙ passed bs at q q-is checked) r t' s' out'
-            (rw (not_end bs at q q-is checked more) d)
+        pub ran-done : (get_or bs at 0 ≡ 0 → ⊥) → (r : Progress) (b' : Board) (t' s' out' : List ℕ)
+            → StepsDone limit bs at m out r b' t' s' out' → RecordIn limit bs at m out (Ok r) b' t' s' out'
+        ran-done more r b' t' s' out' d =
+            call-done none (own-left ∙ passed bs at q q-is u checked) (Ok r) b' t' s' out'
+            (rw (not_end bs at q q-is u checked more) d)

@@ -1,22 +1,19 @@
 -- What the contracts of a record's parts say.
 use Rattle.std.specs.Prelude.{ℕ, ◌+◌, ◌*◌, ◌≤◌, ◌<◌, ◌≡◌, Bool, true, false, cond, List, map, eqb, length}
+use Rattle.std.specs.Prelude.{Ok, Err}
 use Rattle.std.proofs.Math.Option.{Option, none, some}
 use Rattle.foil_spec.specs.Lists.{range, any}
 use Rattle.foil_spec.specs.Limits.{table_size, strips_size, max_bytes}
-use Rattle.foil_spec.specs.Ledger.{Answer, reads, Room, short, After}
+use Rattle.foil_spec.specs.Ledger.{reads, Room, short, After}
+use Rattle.foil_spec.specs.Ledger.{Answer as Outcome}
 use Rattle.foil_spec.specs.Lent.{Lent, lent, sound, room_in, step_on}
 use Rattle.foil_spec.specs.Job.{map_bits, step_bits, as_step, has, fields_at, record_end, step_at, steps_at, steps}
 use Rattle.foil_spec.specs.Calls.{ends_job, act_all, act_record, output_all}
 use Rattle.foil_spec.specs.declared.Board.{Board}
-use Rattle.foil.specs.Contract.{answer_of}
-use Rattle.foil.specs.declared.Answer.{Answer as Answered}
-use Rattle.foil.specs.declared.lent.Checked.{Checked}
-use Rattle.foil.specs.declared.lent.Checked.TheVariants as checked
-use Rattle.job.specs.Contract.{by_bit, answers_of, Replies}
-use Rattle.job.specs.declared.Told.{Told}
+use Rattle.foil.specs.Contract.{Answer, Checked, answer_of}
+use Rattle.job.specs.Contract.{Told, by_bit, answers_of, Replies}
 use Rattle.job.specs.declared.Answers.{Answers}
-use Rattle.job.specs.declared.Reply.TheVariants.{Refused as RefusedWhole}
-use Rattle.job.specs.declared.Replied.{Replied}
+use Rattle.job.specs.declared.Progress.{Progress}
 use Rattle.job.specs.declared.running.Stepped.{Stepped}
 
 -- ---- the fields
@@ -42,8 +39,8 @@ pub record Given (bs : List ℕ) (at k i : ℕ) : Type 0 where
 
 -- whether checks are passed, by the number of the first that is not
 unfoldable pub checked_of : Option ℕ → Checked
-checked_of none = checked.Passed
-checked_of (some n) = checked.Refused n
+checked_of none = Ok tt
+checked_of (some n) = Err n
 
 -- 18, 12 and 13 do not refuse the record at a place of the bytes that is lent m
 pub record Lends (bs : List ℕ) (at : ℕ) (m : Lent) : Type 0 where
@@ -51,10 +48,6 @@ pub record Lends (bs : List ℕ) (at : ℕ) (m : Lent) : Type 0 where
   pub table : table_size ≤ length m.table
   pub strips : strips_size ≤ length m.strips
   pub fine : (at ≡ 0 → ⊥) → sound m ≡ true
-
--- a record that is refused as a whole
-abbrev pub refused_by : ℕ → Board → Replied
-refused_by n b = record { reply = RefusedWhole n; board = b }
 
 -- ---- the steps
 
@@ -82,23 +75,24 @@ pub record MayRun (bs : List ℕ) (at k : ℕ) (ended : Bool) (m : Lent) : Type 
   pub ready : has bs at k ≡ true → ended ≡ false → BitReady bs at k m
 
 -- the steps of the bits below k, run in the room r on m
-abbrev pub ran_to : Room → List ℕ → ℕ → ℕ → Lent → After (List Answer) Lent
+abbrev pub ran_to : Room → List ℕ → ℕ → ℕ → Lent → After (List Outcome) Lent
 ran_to r bs at k m = act_all (step_on r) (map as_step (steps_at bs at (range 0 k))) m
 
--- they were run, and m was lent with the output list out: they left d, the table t, the strips s and the output list
--- out'
-pub record RanTo (r : Room) (bs : List ℕ) (at k : ℕ) (m : Lent) (out : List ℕ) (d : Stepped) (t s out' : List ℕ)
-    : Type 0 where
+-- they were run, and m was lent with the output list out: they left d, the record b, the table t, the strips s and the
+-- output list out'
+pub record RanTo (r : Room) (bs : List ℕ) (at k : ℕ) (m : Lent) (out : List ℕ) (d : Stepped) (b : Board)
+    (t s out' : List ℕ) : Type 0 where
   pub answers : d.answers ≡ answers_of (has bs at) (ran_to r bs at k m).answer
   pub ended : d.ended ≡ any ends_job (ran_to r bs at k m).answer
-  pub state : lent d.board t s ≡ (ran_to r bs at k m).state
+  pub state : lent b t s ≡ (ran_to r bs at k m).state
   pub output : out' ≡ output_all (ran_to r bs at k m).answer out
 
--- bit k was met after the bits below it had left d, t, s and out: with it the bits up to k have left d', t', s', out'
-pub record GoesOn (limit : ℕ) (bs : List ℕ) (at k : ℕ) (d : Stepped) (t s out : List ℕ) (d' : Stepped)
-    (t' s' out' : List ℕ) : Type 0 where
+-- bit k was met after the bits below it had left d, b, t, s and out: with it the bits up to k have left d', b', t', s'
+-- and out'
+pub record GoesOn (limit : ℕ) (bs : List ℕ) (at k : ℕ) (d : Stepped) (b : Board) (t s out : List ℕ) (d' : Stepped)
+    (b' : Board) (t' s' out' : List ℕ) : Type 0 where
   pub is : (r : Room) (m : Lent) (o : List ℕ) → short r ≡ false → r.limit ≡ limit → r.output ≡ length out
-      → RanTo r bs at k m o d t s out → RanTo r bs at (k + 1) m o d' t' s' out'
+      → RanTo r bs at k m o d b t s out → RanTo r bs at (k + 1) m o d' b' t' s' out'
 
 -- bit k told t, each other bit what it told before
 unfoldable pub told_with_more : (ℕ → Told) → ℕ → Told → ℕ → Told
@@ -109,12 +103,12 @@ pub record ToldMore (a : Answers) (k : ℕ) (t : Told) (r : Answers) : Type 0 wh
   pub is : (f : ℕ → Told) → a ≡ by_bit f → r ≡ by_bit (told_with_more f k t)
 
 -- r says whether the answer of a step ends the job
-pub record Ends (a : Answered) (r : Bool) : Type 0 where
-  pub is : (o : Answer) → a ≡ answer_of o → r ≡ ends_job o
+pub record Ends (a : Answer) (r : Bool) : Type 0 where
+  pub is : (o : Outcome) → a ≡ answer_of o → r ≡ ends_job o
 
 -- the steps of the record at a place were run on m and the output list out, on a foil of so many entries at most
-abbrev pub StepsDone : ℕ → List ℕ → ℕ → Lent → List ℕ → Replied → List ℕ → List ℕ → List ℕ → Type 0
-StepsDone limit bs at m out r t s out' =
+abbrev pub StepsDone : ℕ → List ℕ → ℕ → Lent → List ℕ → Progress → Board → List ℕ → List ℕ → List ℕ → Type 0
+StepsDone limit bs at m out r b t s out' =
     Replies (has bs at)
     (act_record (step_on (room_in limit m (length out))) none false (steps bs at) (record_end bs at) m)
-    out r t s out'
+    out (Ok r) b t s out'

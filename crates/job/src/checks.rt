@@ -7,32 +7,32 @@ ghost use Rattle.foil_spec.specs.Job.{has as has_bit, record_checks};
 ghost use Rattle.job.specs.Parts.{checked_of};
 
 use crate::fields::{MAP_BITS, fields_at, has};
-use foil::Checked;
+use foil_spec::{Reason, Refusal};
 
 // The checks of the record at a place.
-pub(crate) fn record_refusal(bytes: &[u8], at: usize) -> Checked
+pub(crate) fn record_refusal(bytes: &[u8], at: usize) -> Result<(), Refusal>
     requires { length bytes.now ≤ max_bytes }
     ensures { result ≡ checked_of (first (record_checks bytes.now at)) }
 {
     if bytes.len() <= at {
-        return Checked::Refused(14);
+        return Err(Reason::FileCutShort.into());
     }
     if 1 << MAP_BITS <= bytes[at] {
-        return Checked::Refused(15);
+        return Err(Reason::UnknownBit.into());
     }
     if board_misplaced(bytes, at) {
-        return Checked::Refused(16);
+        return Err(Reason::BoardMisplaced.into());
     }
     if bytes[at] == 0 {
         if at + 1 < bytes.len() {
-            return Checked::Refused(17);
+            return Err(Reason::BytesAfterEnd.into());
         }
-        return Checked::Passed;
+        return Ok(());
     }
     if bytes.len() < fields_at(bytes, at, MAP_BITS) {
-        return Checked::Refused(14);
+        return Err(Reason::FileCutShort.into());
     }
-    Checked::Passed
+    Ok(())
 }
 
 // Whether the board is absent from the first record or present in a later one, or a pen stands beside
@@ -46,8 +46,5 @@ fn board_misplaced(bytes: &[u8], at: usize) -> bool
     if at == 0 {
         return !board;
     }
-    if board {
-        return true;
-    }
-    has(bytes, at, 5)
+    board || has(bytes, at, 5)
 }

@@ -1,13 +1,14 @@
 // The fields of a record: which it has, where they begin, and their numbers. The caller names a record
 // whose map byte is among the bytes.
-ghost use Rattle.std.specs.Prelude.{◌≡◌, true, cond, ◌*◌, ◌≤◌, ◌<◌, length};
+ghost use Rattle.std.specs.Prelude.{◌≡◌, true, cond, ◌*◌, ◌+◌, ◌≤◌, ◌<◌, length};
+ghost use Rattle.foil_spec.specs.Foil.{point};
 ghost use Rattle.foil_spec.specs.Job.{map_bits, board_step, leg_step, field_count, has as has_bit, fields_at};
 ghost use Rattle.foil_spec.specs.Job.{field as field_of, step_at};
 ghost use Rattle.foil.specs.Contract.{clearance_of};
 ghost use Rattle.job.specs.Parts.{Begun, Whole, Given};
 
 use foil::Clearance;
-use foil_spec::Entry;
+use foil_spec::{Entry, Point};
 
 // How many bits a map byte may use; the last is no step of its own, but the pen of the board.
 pub(crate) const MAP_BITS: usize = 6;
@@ -53,7 +54,18 @@ pub(crate) fn field(bytes: &[u8], at: usize, k: usize, i: usize) -> u16
     ensures { result ≡ field_of bytes.now at k i }
 {
     let place = fields_at(bytes, at, k) + 2 * i;
-    bytes[place] as u16 + 256 * (bytes[place + 1] as u16)
+    u16::from(bytes[place]) + 256 * u16::from(bytes[place + 1])
+}
+
+// The point that number i of the fields of bit k and the next one give.
+pub(crate) fn point_of(bytes: &[u8], at: usize, k: usize, i: usize) -> Point
+    requires { Given bytes.now at k (i + 1) }
+    ensures { result ≡ point (field_of bytes.now at k i) (field_of bytes.now at k (i + 1)) }
+{
+    Point {
+        x: field(bytes, at, k, i),
+        y: field(bytes, at, k, i + 1),
+    }
 }
 
 // What the board of the record keeps clear: its pen by the fields of bit 5, or else its reach.

@@ -1,12 +1,15 @@
 -- The answer to a question to the foil that a job leaves is written whole, and nothing else.
-use Prim.Native.Nat.{ℕ, ◌+◌, ◌^◌, ◌≤◌, ◌<◌}
+use Prim.Native.Nat.{ℕ, ◌≤◌}
 use native.Mathlib.Omega.{arith}
 use mathlib.Core.Path.{◌≡◌, refl, sym, ap, ◌∙◌, subst}
 use mathlib.Core.List.{List, ◌∷◌, ◌++◌}
 use mathlib.Core.Option.{Option, none, some}
 use lib.IntN.{ℤ, pos}
 use lib.ListN.{length, take, drop, replicate, length-append}
-use lib.Seq.{take_all, take-append_seam}
+use lib.Seq.{length-take-le, take-append_seam}
+use Rattle.std.proofs.Common.{w32, FitsSigned, to_z, of_z}
+use Rattle.std.proofs.Math.Facts.{to_z-of_z, sfits_lit}
+use Rattle.std.proofs.lemmas.List.{take-append-le}
 use Rattle.foil_spec.specs.Limits.{strips_size, sheet_size}
 use Rattle.foil_spec.specs.Text.{ascii}
 use Rattle.foil_spec.specs.Foil.{Layout}
@@ -19,9 +22,10 @@ use Rattle.foil_spec.specs.Job.{job_room}
 use Rattle.foil_spec.specs.Calls.{step, RecordReply, refused_whole, ran_steps, end_mark, Reply, answered, reply, output_by}
 use Rattle.foil_spec.specs.Sheet.{SheetLent, no_board, counts, view, sheet_room, sheet_step, unless, sheet_call}
 use Rattle.foil_spec.specs.declared.Board.{Board}
-use Rattle.foil.specs.Contract.{answer_of}
-use Rattle.foil.specs.declared.Answer.{Answer}
-use Rattle.foil.specs.declared.Answer.TheVariants.{Refused, Wrote}
+use Rattle.std.specs.Prelude.{Ok, Err}
+use Rattle.foil.specs.Contract.{Answer, answer_of}
+use Rattle.foil.specs.declared.Accepted.{Accepted}
+use Rattle.foil.specs.declared.Accepted.TheVariants.{Wrote}
 use Rattle.lines.specs.Lines.{item, board_line, file_line}
 use Rattle.putting.specs.Put.{Put}
 use Rattle.putting.proofs.Putting.{put-length}
@@ -29,76 +33,73 @@ use Rattle.sheet_laws.specs.Jobs.{only_foil0}
 use Rattle.sheet_laws.proofs.Jobs.{all-to-one}
 use Rattle.sheet_rows.specs.Rows.{sheet_lent}
 use Rattle.sheet.specs.Contract.{on_sheet, Tells, SheetReadDone}
-use Rattle.job_report.specs.Told.{number_in}
-use Rattle.job_report.specs.Writing.{NextOf}
 use Rattle.job_report.proofs.Writing.{put_front}
 use Rattle.job_end.specs.Left.{ended_of, job_end, board_left, JobLeft}
-use Rattle.job_end.specs.Asked.{unused, end_of, Said, to_error, step_of, word_of, bytes_of, asked_of}
-use Rattle.job_end.specs.Asked.{answer_said, reply_said, end_said, said_of, Reached}
-use Rattle.job_end.specs.Asked.{Given, given-number, given-bytes}
+use Rattle.job_end.specs.Asked.{unused, end_of, Said, to_output, to_error, step_of, word_of}
+use Rattle.job_end.specs.Asked.{bytes_of, asked_on, asked_of}
+use Rattle.job_end.specs.Asked.{answer_said, reply_said, foil_said, end_said, said_of, Reached, Holds}
 use Rattle.job_end.specs.declared.Ended.{Ended}
 use Rattle.job_end.specs.declared.Ended.TheVariants.{AtMark, ByBoard, ByFile}
 use Rattle.job_end.specs.declared.asking.Question.{Question}
 use Rattle.job_end.specs.declared.asking.Question.TheVariants.{Save, Slip}
 
--- ---- bytes that are written at once, where none are written before
+-- ---- bytes that are all
 
-module _ (x : Said) (fd : ℤ) (bs : List ℕ) (is : x ≡ record { fd = fd; bytes = bs }) (list : List ℕ) (n : ℕ)
-    (sized : n ≡ length bs) (there : n ≤ length list) (front : take n list ≡ bs) (written : ℕ)
-    (none_yet : written ≡ 0) where
-  whole-next : n < 2 ^ 64 → (fd ≡ x.fd) × NextOf x.bytes written list n
-  whole-next small = (
-    ap (λ (y : Said). y.fd) (sym is),
-    subst (λ (k : ℕ). NextOf x.bytes k list n) (sym none_yet)
-        (subst (λ (y : Said). NextOf y.bytes 0 list n) (sym is)
-        (record { there = there; bytes = take_all n bs (omega arith) ∙ sym front; counted = omega arith })),
-  )
-
-  whole-written : (written' : ℕ) → written' ≡ written + n → written' ≡ length x.bytes
-  whole-written written' e = omega (arith, ap (λ (y : Said). length y.bytes) is)
+pub all-written : (list : List ℕ) (fd : ℤ) (n : ℕ) (x : Said) → Holds list fd n x → n ≡ length x.bytes
+all-written list fd n x h = sym (length-take-le n list h.there) ∙ ap length h.bytes
 
 -- a line
-module _ (x : Said) (line : List ℕ) (is : x ≡ to_error line) {o o' : List ℕ} {n : ℕ} (put : Put o 0 line o' n)
-    (written : ℕ) (none_yet : written ≡ 0) where
-  pub line-next : n < 2 ^ 64 → (pos 2 ≡ x.fd) × NextOf x.bytes written o' n
-  line-next =
-      whole-next x (pos 2) line is o' n (omega (arith, put.next)) (omega (arith, put.fits, put.next, put-length put))
-      (put_front put) written none_yet
-
-  pub line-written : (written' : ℕ) → written' ≡ written + n → written' ≡ length x.bytes
-  line-written =
-      whole-written x (pos 2) line is o' n (omega (arith, put.next))
-      (omega (arith, put.fits, put.next, put-length put)) (put_front put) written none_yet
+pub line-holds : {o o' line : List ℕ} {n : ℕ} → Put o 0 line o' n → (x : Said) → x ≡ to_error line
+    → Holds o' (pos 2) n x
+line-holds {o} {o'} {line} {n} put x is =
+    subst (Holds o' (pos 2) n) (sym is)
+    (record { to = refl; there = omega (arith, put.fits, put.next, put-length put); bytes = put_front put })
 
 -- ---- an answer
 
-pub number-said : (x : Said) (word out : List ℕ) (r : Answer) → Given x word out r → ((k : ℕ) → r ≡ Wrote k → ⊥)
-    → (n : ℕ) → n ≡ number_in r → x ≡ to_error (word ++ item n ++ ascii "\n")
-unfolding number_in
-number-said x word out r (given-number k e is) other n q = let same : n ≡ k = q ∙ ap number_in e in rw same is
-number-said x word out r (given-bytes bs e is long front) other n q = absurd (other (length bs) e)
+-- a step answered r: it was refused, and its line is to be written; or its bytes are, which are at the front of out
+pub data Given (x : Said) (word out : List ℕ) (r : Answer) : Type 0 where
+  given-number : (n : ℕ) → r ≡ Err n → x ≡ to_error (word ++ item n ++ ascii "\n") → Given x word out r
+  given-bytes : (bs : List ℕ) → r ≡ Ok (Wrote (length bs)) → x ≡ to_output bs → length bs ≤ length out
+      → take (length bs) out ≡ bs → Given x word out r
 
-same_count : (r : Answer) (n k : ℕ) → r ≡ Wrote n → r ≡ Wrote k → n ≡ k
+not-number : (r : Answer) (n : ℕ) (y : Accepted) → r ≡ Err n → r ≡ Ok y → ⊥
+not-number r n y e f = let z : ◌≡◌ {A = ℕ} 0 1 = cc in omega arith
+
+same_number : (r : Answer) (n k : ℕ) → r ≡ Err n → r ≡ Err k → n ≡ k
+same_number r n k e f = cc
+
+pub number-said : (x : Said) (word out : List ℕ) (r : Answer) (n : ℕ) → r ≡ Err n → Given x word out r
+    → x ≡ to_error (word ++ item n ++ ascii "\n")
+number-said x word out r n f (given-number k e is) = let same : n ≡ k = same_number r n k f e in rw same is
+number-said x word out r n f (given-bytes bs e is long front) = absurd (not-number r n (Wrote (length bs)) f e)
+
+same_count : (r : Answer) (n k : ℕ) → r ≡ Ok (Wrote n) → r ≡ Ok (Wrote k) → n ≡ k
 same_count r n k e f = cc
 
-not-both : (r : Answer) (n k : ℕ) → r ≡ Refused n → r ≡ Wrote k → ⊥
-not-both r n k e f = let z : ◌≡◌ {A = ℕ} 0 1 = cc in omega arith
+pub bytes-hold : (x : Said) (word out : List ℕ) (r : Answer) (n : ℕ) → r ≡ Ok (Wrote n) → Given x word out r
+    → Holds out (pos 1) n x
+bytes-hold x word out r n told (given-number k e is) = absurd (not-number r k (Wrote n) e told)
+bytes-hold x word out r n told (given-bytes bs e is long front) =
+    let same : n ≡ length bs = same_count r n (length bs) told e in
+    subst (Holds out (pos 1) n) (sym is)
+    (record { to = refl; there = omega arith; bytes = ap (λ (k : ℕ). take k out) same ∙ front })
 
-module _ (x : Said) (word out : List ℕ) (r : Answer) (n : ℕ) (told : r ≡ Wrote n) (written : ℕ)
-    (none_yet : written ≡ 0) where
-  pub bytes_next : Given x word out r → n < 2 ^ 64 → (pos 1 ≡ x.fd) × NextOf x.bytes written out n
-  bytes_next (given-number k e is) small = absurd (not-both r k n e told)
-  bytes_next (given-bytes bs e is long front) small =
-      let same : n ≡ length bs = same_count r n (length bs) told e in
-      whole-next x (pos 1) bs is out n same (omega arith) (ap (λ (k : ℕ). take k out) same ∙ front) written none_yet
-      small
+-- one in a list that begins as out does
+pub in_front : {x y : Said} {word word' out out' : List ℕ} {r r' : Answer} → Given x word out r → (rest : List ℕ)
+    → out' ≡ out ++ rest → y ≡ x → word' ≡ word → r' ≡ r → Given y word' out' r'
+in_front {out = out} (given-number n e is) rest l p q f =
+    given-number n (f ∙ e) (p ∙ is ∙ ap (λ (w : List ℕ). to_error (w ++ item n ++ ascii "\n")) (sym q))
+in_front {out = out} (given-bytes bs e is long front) rest l p q f =
+    given-bytes bs (f ∙ e) (p ∙ is) (omega (arith, ap length l, length-append out rest))
+    (ap (take (length bs)) l ∙ take-append-le (length bs) out rest long ∙ front)
 
-  pub bytes-written : Given x word out r → (written' : ℕ) → written' ≡ written + n → written' ≡ length x.bytes
-  bytes-written (given-number k e is) written' q = absurd (not-both r k n e told)
-  bytes-written (given-bytes bs e is long front) written' q =
-      let same : n ≡ length bs = same_count r n (length bs) told e in
-      whole-written x (pos 1) bs is out n same (omega arith) (ap (λ (k : ℕ). take k out) same ∙ front) written none_yet
-      written' q
+-- no answer is given but these
+pub none-else : (x : Said) (word out : List ℕ) (r : Answer) (y : Accepted) → r ≡ Ok y → ((k : ℕ) → y ≡ Wrote k → ⊥)
+    → Given x word out r → ⊥
+none-else x word out r y e other (given-number n f is) = let z : ◌≡◌ {A = ℕ} 0 1 = cc in omega arith
+none-else x word out r y e other (given-bytes bs f is long front) =
+    let same : y ≡ Wrote (length bs) = cc in other (length bs) same
 
 -- ---- a save or a slip is refused, or writes bytes
 
@@ -139,47 +140,59 @@ pub has_room : (b : Board) (t s : List ℕ) (n most : ℕ) → length t ≡ shee
 unfolding sheet_room counts job_room
 has_room b t s n most e f g = rw (e, f, g, sym (all-to-one b.entries)) refl
 
-module _ (q : Question) (bs : List ℕ) (b : Board) (t s : List ℕ) (here : Reached bs b t s) (out out' word : List ℕ)
-    (r : Answer) (named : word ≡ word_of q) where
-  said-is : said_of q bs ≡ reply_said word (asked_of q bs)
-  unfolding said_of end_said
-  said-is = ap (end_said q bs) here.ended ∙ ap (λ (w : List ℕ). reply_said w (asked_of q bs)) (sym named)
+module _ (q : Question) (b : Board) (t s out out' word : List ℕ) (r : Answer) (named : word ≡ word_of q) where
+  abbrev left : SheetLent
+  left = only_foil0 b t s
+
+  said-is : foil_said q left ≡ reply_said word (asked_on q left)
+  unfolding foil_said
+  said-is = ap (λ (w : List ℕ). reply_said w (asked_on q left)) (sym named)
 
   -- by the reply
-  by-reply : (a : Reply) → a ≡ asked_of q bs → Plain a → Tells a r → out' ≡ output_by a out
-      → Given (said_of q bs) word out' r
+  by-reply : (a : Reply) → a ≡ asked_on q left → Plain a → Tells a r → out' ≡ output_by a out
+      → Given (foil_said q left) word out' r
   unfolding reply_said answer_said answer_of output_by output_after over_front
-  by-reply a asked (plain-number n e) told left =
+  by-reply a asked (plain-number n e) told gave =
       let same : told.said ≡ refused n = same-said _ _ (sym told.is ∙ e) in
       given-number n (told.answer ∙ ap answer_of same) (said-is ∙ ap (reply_said word) (sym asked ∙ e))
-  by-reply a asked (plain-bytes x e) told left =
+  by-reply a asked (plain-bytes x e) told gave =
       let same : told.said ≡ wrote x = same-said _ _ (sym told.is ∙ e) in
-      let is : out' ≡ x ++ drop (length x) out = left ∙ ap (λ (y : Reply). output_by y out) e in
+      let is : out' ≡ x ++ drop (length x) out = gave ∙ ap (λ (y : Reply). output_by y out) e in
       given-bytes x (told.answer ∙ ap answer_of same) (said-is ∙ ap (reply_said word) (sym asked ∙ e))
       (omega (arith, ap length is, length-append x (drop (length x) out)))
       (ap (take (length x)) is ∙ take-append_seam x (drop (length x) out))
 
-  asked_is : asked_of q bs
-      ≡ (sheet_call (with_output job_room (bytes_of q)) 0 (step (step_of q)) (job_end bs unused).state).answer
-  unfolding asked_of
+  asked_is : asked_on q left ≡ (sheet_call (with_output job_room (bytes_of q)) 0 (step (step_of q)) left).answer
+  unfolding asked_on
   asked_is = refl
 
   pub asked-given : (bs₀ : List Board) → bs₀ ≡ b ∷ replicate 7 no_board → length t ≡ sheet_size → length s ≡ strips_size
       → length out ≡ bytes_of q → SheetReadDone 0 (step_of q) (sheet_lent bs₀ t s) out r out'
-      → Given (said_of q bs) word out' r
+      → Given (foil_said q left) word out' r
   asked-given bs₀ is e f g given =
       let done = subst (λ (x : List Board). SheetReadDone 0 (step_of q) (sheet_lent x t s) out r out') is given in
-      let m : SheetLent = only_foil0 b t s in
-      let a : Reply = (on_sheet 0 (step (step_of q)) m (length out)).answer in
-      let asked : a ≡ asked_of q bs =
-      ap (λ (x : Room). (sheet_call x 0 (step (step_of q)) m).answer) (has_room b t s (length out) (bytes_of q) e f g)
-      ∙ ap (λ (x : SheetLent). (sheet_call (with_output job_room (bytes_of q)) 0 (step (step_of q)) x).answer) here.left
+      let a : Reply = (on_sheet 0 (step (step_of q)) left (length out)).answer in
+      let asked : a ≡ asked_on q left =
+      ap (λ (x : Room). (sheet_call x 0 (step (step_of q)) left).answer)
+      (has_room b t s (length out) (bytes_of q) e f g)
       ∙ sym asked_is in
-      by-reply a asked (plain q _ m) done.tells done.output
+      by-reply a asked (plain q _ left) done.tells done.output
 
-pub as-asked : (q q' : Question) (bs : List ℕ) (written : ℕ) → q ≡ q' → written ≡ length (said_of q' bs).bytes
-    → written ≡ length (said_of q bs).bytes
-as-asked q q' bs written e h = h ∙ ap (λ (x : Question). length (said_of x bs).bytes) (sym e)
+-- a descriptor is 1 or 2
+said-fits : (q : Question) (m : SheetLent) → FitsSigned w32 (foil_said q m).fd
+unfolding foil_said asked_on reply_said answer_said
+said-fits q m = go _ (plain q _ m)
+  where
+    go : (a : Reply) → Plain a → FitsSigned w32 (reply_said (word_of q) a).fd
+    go a (plain-number n e) = rw e (sfits_lit tt)
+    go a (plain-bytes bs e) = rw e (sfits_lit tt)
+
+pub fd-kept : (q : Question) (m : SheetLent) (list : List ℕ) (fd : ℤ) (n : ℕ) → Holds list fd n (foil_said q m)
+    → to_z w32 (of_z w32 fd) ≡ fd
+fd-kept q m list fd n h = to_z-of_z (subst (FitsSigned w32) (sym h.to) (said-fits q m))
+
+pub said-as : (q q' : Question) (m : SheetLent) → q ≡ q' → foil_said q m ≡ foil_said q' m
+said-as q q' m e = ap (λ (x : Question). foil_said x m) e
 
 -- ---- how the job ended
 
@@ -201,6 +214,12 @@ module _ (bs : List ℕ) (x : Ended) (t s : List ℕ) (left : JobLeft bs unused 
         ended = end_is ∙ e;
         left = ap (λ (c : Board). only_foil0 c t s) (sym same) ∙ left.state;
       }
+
+  pub mark-said : (q : Question) (b : Board) → x ≡ AtMark b → said_of q bs ≡ foil_said q (only_foil0 b t s)
+  unfolding said_of end_said foil_said asked_of
+  mark-said q b e =
+      let here = reached b e in
+      ap (end_said q bs) here.ended ∙ ap (λ (m : SheetLent). reply_said (word_of q) (asked_on q m)) (sym here.left)
 
   pub board-said : (q : Question) (n : ℕ) → x ≡ ByBoard n
       → said_of q bs ≡ to_error (ascii "board" ++ item n ++ ascii "\n")

@@ -11,17 +11,18 @@ use Rattle.foil_spec.specs.Job.{job_room, has}
 use Rattle.foil_spec.specs.Calls.{RecordReply, end_mark, place_after}
 use Rattle.foil_spec.specs.Sheet.{SheetLent, no_board, view}
 use Rattle.foil_spec.specs.declared.Board.{Board}
-use Rattle.job.specs.Contract.{next_of, next_in}
-use Rattle.job.specs.declared.Next.{Next}
-use Rattle.job.specs.declared.Next.TheVariants.{At, Nowhere}
-use Rattle.job.specs.declared.Replied.{Replied}
+use Rattle.std.specs.Prelude.{Option as Maybe, Some, None, Ok, Err}
+use Rattle.job.specs.Contract.{Reply, next_of, next_in}
+use Rattle.job.specs.declared.Answers.{Answers}
+use Rattle.job.specs.declared.Progress.TheVariants.{Ran, AtEnd}
 use Rattle.job.proofs.Replies.{next-is}
 use Rattle.sheet_laws.specs.Jobs.{only_foil0}
 use Rattle.job_report.specs.Report.{ran_record, RecordRan}
 use Rattle.job_report.proofs.Places.{Later, call-later, at_place, nowhere}
 use Rattle.job_end.specs.Left.{ended_of, job_end, board_left, JobLeft}
-use Rattle.job_end.specs.Parts.{is_ended_by}
+use Rattle.job_end.specs.Parts.{number_told, is_ended_by}
 use Rattle.job_end.specs.declared.Ended.{Ended}
+use Rattle.job_end.specs.declared.Ended.TheVariants.{AtMark, ByBoard, ByFile}
 use Rattle.job_end.proofs.Reading.{last_of, from, last_one, one_more, whole}
 use Rattle.job_end.proofs.Ending.{same_end}
 
@@ -65,33 +66,55 @@ module _ (bs : List ℕ) (m₀ : SheetLent) (count at : ℕ) (m : SheetLent) (no
   over e = sym (last_one bs now.more at m end_mark e) ∙ now.comes end_mark
 
   -- a record that was run, and its reply
-  module _ (out : List ℕ) (d : Replied) (t s out' : List ℕ) (run : RecordRan bs at m out d t s out')
-      (next : Next) (told : next ≡ next_in d.reply) where
+  module _ (out : List ℕ) (r : Reply) (b : Board) (t s out' : List ℕ)
+      (run : RecordRan bs at m out r b t s out') (next : Maybe ℕ) (told : next ≡ next_in r) where
     place_is : next ≡ next_of (place_after done.answer)
     place_is = told ∙ ap next_in run.reply ∙ next-is (has bs at) done.answer
 
-    pub goes_on : (p : ℕ) → next ≡ At p → ToCome bs m₀ (count + 1) p (only_foil0 d.board t s)
+    pub goes_on : (p : ℕ) → next ≡ Some p → ToCome bs m₀ (count + 1) p (only_foil0 b t s)
     goes_on p e =
         subst (ToCome bs m₀ (count + 1) p) (sym run.state) (going p (at_place _ p (sym place_is ∙ e)))
 
-    module _ (e : next ≡ Nowhere) where
+    module _ (e : next ≡ None) where
       no_place : place_after done.answer ≡ none
       no_place = nowhere _ (sym place_is ∙ e)
 
-      left_is : only_foil0 d.board t s ≡ (job_end bs m₀).state
+      left_is : only_foil0 b t s ≡ (job_end bs m₀).state
       left_is = run.state ∙ ap (λ (y : After RecordReply SheetLent). y.state) (over no_place)
 
-      board-is : d.board ≡ board_left bs m₀
+      board-is : b ≡ board_left bs m₀
       unfolding view
       board-is = ap (λ (y : SheetLent). (view 0 y).board) left_is
 
-      pub stops : (x : Ended) → x ≡ is_ended_by d.reply d.board → JobLeft bs m₀ x t s
+      pub stops : (x : Ended) → x ≡ is_ended_by r b → JobLeft bs m₀ x t s
       stops x q =
           record {
             ended =
-                q ∙ ap (λ y. is_ended_by y d.board) run.reply
-                ∙ same_end job_room bs at m done.answer d.board refl no_place
-                ∙ ap (λ (y : After RecordReply SheetLent). ended_of y.answer d.board) (over no_place)
+                q ∙ ap (λ y. is_ended_by y b) run.reply
+                ∙ same_end job_room bs at m done.answer b refl no_place
+                ∙ ap (λ (y : After RecordReply SheetLent). ended_of y.answer b) (over no_place)
                 ∙ ap (ended_of (job_end bs m₀).answer) board-is;
             state = ap (λ (c : Board). only_foil0 c t s) (sym board-is) ∙ left_is;
           }
+
+  module _ (out : List ℕ) (r : Reply) (b : Board) (t s out' : List ℕ) (run : RecordRan bs at m out r b t s out') where
+    pub file-stops : (n : ℕ) → r ≡ Err n → JobLeft bs m₀ (ByFile n) t s
+    unfolding next_in is_ended_by
+    file-stops n e =
+        stops out r b t s out' run None (sym (ap next_in e)) refl (ByFile n) (sym (ap (λ x. is_ended_by x b) e))
+
+    pub mark-stops : r ≡ Ok AtEnd → JobLeft bs m₀ (AtMark b) t s
+    unfolding next_in is_ended_by
+    mark-stops e =
+        stops out r b t s out' run None (sym (ap next_in e)) refl (AtMark b) (sym (ap (λ x. is_ended_by x b) e))
+
+    pub board-stops : (a : Answers) (n : ℕ) → r ≡ Ok (Ran a None) → n ≡ number_told a.board
+        → JobLeft bs m₀ (ByBoard n) t s
+    unfolding next_in is_ended_by
+    board-stops a n e q =
+        stops out r b t s out' run None (sym (ap next_in e)) refl (ByBoard n)
+        (ap ByBoard q ∙ sym (ap (λ x. is_ended_by x b) e))
+
+    pub next-place : (a : Answers) (p : ℕ) → r ≡ Ok (Ran a (Some p)) → Some p ≡ next_in r
+    unfolding next_in
+    next-place a p e = sym (ap next_in e)

@@ -1,5 +1,4 @@
 -- What is proved of a job that is run whole.
-pub mod Telling
 pub mod Reading
 pub mod Ending
 pub mod Leaving

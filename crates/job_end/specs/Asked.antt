@@ -8,8 +8,6 @@ use Rattle.foil_spec.specs.Job.{job_room}
 use Rattle.foil_spec.specs.Calls.{step, Reply, answered, ran, at_end, measured, laid_all}
 use Rattle.foil_spec.specs.Sheet.{SheetLent, no_board, sheet_call}
 use Rattle.foil_spec.specs.declared.Board.{Board}
-use Rattle.foil.specs.declared.Answer.{Answer}
-use Rattle.foil.specs.declared.Answer.TheVariants.{Refused, Wrote}
 use Rattle.sheet_laws.specs.Jobs.{only_foil0}
 use Rattle.lines.specs.Lines.{item, board_line, file_line}
 use Rattle.job_end.specs.Left.{job_end, board_left, ended_of}
@@ -54,9 +52,13 @@ unfoldable pub bytes_of : Question → ℕ
 bytes_of Save = 1420
 bytes_of Slip = 4224
 
--- the reply to it on the foil that the job of a file leaves
+-- the reply to it on foil 0 of a sheet
+unfoldable pub asked_on : Question → SheetLent → Reply
+asked_on q m = (sheet_call (with_output job_room (bytes_of q)) 0 (step (step_of q)) m).answer
+
+-- that on the foil that the job of a file leaves
 unfoldable pub asked_of : Question → List ℕ → Reply
-asked_of q bs = (sheet_call (with_output job_room (bytes_of q)) 0 (step (step_of q)) (job_end bs unused).state).answer
+asked_of q bs = asked_on q (job_end bs unused).state
 
 -- what is written for a step's answer: its own bytes, or the line of a word and the number of a refusal
 unfoldable pub answer_said : List ℕ → Outcome → Said
@@ -75,6 +77,10 @@ reply_said word at_end = to_output []
 reply_said word (measured x) = to_output []
 reply_said word (laid_all given) = to_output []
 
+-- what is written for foil 0 of a sheet
+unfoldable pub foil_said : Question → SheetLent → Said
+foil_said q m = reply_said (word_of q) (asked_on q m)
+
 -- what is written for a job that ended so: the answer at its end mark, or one line
 unfoldable pub end_said : Question → List ℕ → Ended → Said
 end_said q bs (AtMark b) = reply_said (word_of q) (asked_of q bs)
@@ -90,8 +96,8 @@ pub record Reached (bs : List ℕ) (b : Board) (t s : List ℕ) : Type 0 where
   pub ended : end_of bs ≡ AtMark b
   pub left : only_foil0 b t s ≡ (job_end bs unused).state
 
--- a step answered r: it was refused, and its line is to be written; or its bytes are, which are at the front of out
-pub data Given (x : Said) (word out : List ℕ) (r : Answer) : Type 0 where
-  given-number : (n : ℕ) → r ≡ Refused n → x ≡ to_error (word ++ item n ++ ascii "\n") → Given x word out r
-  given-bytes : (bs : List ℕ) → r ≡ Wrote (length bs) → x ≡ to_output bs → length bs ≤ length out
-      → take (length bs) out ≡ bs → Given x word out r
+-- the first n bytes of a list are all that is to be written, to fd
+pub record Holds (list : List ℕ) (fd : ℤ) (n : ℕ) (x : Said) : Type 0 where
+  pub to : fd ≡ x.fd
+  pub there : n ≤ length list
+  pub bytes : take n list ≡ x.bytes

@@ -9,13 +9,12 @@ ghost use Rattle.std.specs.Prelude.{◌≡◌};
 ghost use Rattle.foil_spec.specs.Sheet.{no_board};
 ghost use Rattle.sheet_laws.specs.Jobs.{only_foil0};
 ghost use Rattle.job_end.specs.Left.{JobLeft};
-ghost use Rattle.job_end.specs.Parts.{number_told, is_ended_by};
+ghost use Rattle.job_end.specs.Parts.{number_told};
 
 pub use asking::{Question, answer_input, put_line};
-use foil::Answer;
 use foil_spec::{Board, CORNERS_SIZE, INPUT_SIZE, STRIPS_SIZE};
-use job::{Answers, Next, Replied, Reply, Told, next_of};
-use job_report::run_one;
+use job::{Answers, Progress};
+use job_report::{number_of, run_one};
 use places::no_board;
 use sheet_rows::SHEET_SIZE;
 
@@ -42,41 +41,24 @@ pub fn run_job(
     let mut at: usize = 0;
     // More records than a file has that is not too long, and one call for its end.
     for _ in 0..INPUT_SIZE {
-        let done = run_one(table, strips, &mut corners, board, bytes, at);
-        let next = next_of(done);
-        let Next::At(place) = next else {
-            return how_ended(done);
-        };
-        board = done.board;
-        at = place;
+        match run_one(table, strips, &mut corners, &mut board, bytes, at) {
+            Err(refusal) => return Ended::ByFile(refusal.number()),
+            Ok(Progress::AtEnd) => return Ended::AtMark(board),
+            Ok(Progress::Ran(answers, None)) => return Ended::ByBoard(board_number(answers)),
+            Ok(Progress::Ran(_, Some(place))) => at = place,
+        }
     }
     // No job comes here: each record takes a byte, and a file that is too long is refused by the first call.
     Ended::ByFile(18)
 }
 
-// How a job ended with its last record.
-fn how_ended(done: Replied) -> Ended
-    ensures { result ≡ is_ended_by done.reply done.board }
-{
-    let reply = done.reply;
-    let board = done.board;
-    match reply {
-        Reply::Refused(number) => Ended::ByFile(number),
-        Reply::Ran(answers, _) => Ended::ByBoard(board_number(answers)),
-        Reply::AtEnd => Ended::AtMark(board),
-    }
-}
-
 // The number of a record's board, 0 if it is accepted.
+#[tactic(auto, unfolding(crate::specs::Parts::number_told))]
 fn board_number(answers: Answers) -> u8
     ensures { result ≡ number_told answers.board }
 {
-    let told = answers.board;
-    let Told::Said(answer) = told else {
-        return 0;
-    };
-    let Answer::Refused(number) = answer else {
-        return 0;
-    };
-    number
+    match answers.board {
+        Some(answer) => number_of(answer),
+        None => 0,
+    }
 }

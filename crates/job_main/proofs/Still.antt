@@ -9,7 +9,7 @@ use Rattle.foil_spec.specs.Limits.{max_bytes, sheet_size}
 use Rattle.foil_spec.specs.Calls.{place_after}
 use Rattle.foil_spec.specs.Sheet.{SheetLent, no_board}
 use Rattle.foil_spec.specs.declared.Board.{Board}
-use Rattle.job.specs.declared.Next.TheVariants.{At, Nowhere}
+use Rattle.std.specs.Prelude.{Some, None}
 use Rattle.lines.specs.Output.{output}
 use Rattle.putting.proofs.Putting.{put-length}
 use Rattle.sheet_laws.specs.Jobs.{only_foil0}
@@ -66,8 +66,8 @@ begun bs written count at m (suc n) q going r = record { after = n; counted = q;
 
 -- it was run, and has these lines
 module _ (bs : List ℕ) (written count at : ℕ) (m : SheetLent) (now : Still bs written count at m)
-    (going : count < suc max_bytes) (out old new : List ℕ) (r : Reported) (t s out' : List ℕ)
-    (told : RecordReported bs at m out old new r t s out') (small : r.size ≤ 131072) where
+    (going : count < suc max_bytes) (out old new : List ℕ) (r : Reported) (b : Board) (t s out' : List ℕ)
+    (told : RecordReported bs at m out old new r b t s out') (small : r.size ≤ 131072) where
   abbrev this : Begun bs written count at m
   this = begun bs written count at m now.more now.counted going now.rest
 
@@ -91,7 +91,7 @@ module _ (bs : List ℕ) (written count at : ℕ) (m : SheetLent) (now : Still b
         (after-part (record_lines bs at m) (onward (place_after (ran_record bs at m).answer) later) r.size sized
         this.rest)
 
-    pub goes_on : (p : ℕ) → r.next ≡ At p → Still bs written' (count + 1) p (only_foil0 r.board t s)
+    pub goes_on : (p : ℕ) → r.next ≡ Some p → Still bs written' (count + 1) p (only_foil0 b t s)
     goes_on p e =
         record {
           more = this.after;
@@ -104,7 +104,7 @@ module _ (bs : List ℕ) (written count at : ℕ) (m : SheetLent) (now : Still b
           few = omega (arith, now.few, small, more);
         }
 
-    pub ends : r.next ≡ Nowhere → written' ≡ length (output bs)
+    pub ends : r.next ≡ None → written' ≡ length (output bs)
     ends e =
         none_rest
         (subst (Rest (output bs) written')

@@ -7,7 +7,6 @@ ghost use Rattle.lines.specs.Output.{output};
 ghost use Rattle.job_report.specs.Writing.{NextOf};
 
 use foil_spec::{CORNERS_SIZE, INPUT_SIZE, STRIPS_SIZE};
-use job::Next;
 use job_report::{OUT_SIZE, report_record};
 use places::no_board;
 use sheet_rows::SHEET_SIZE;
@@ -44,34 +43,24 @@ fn write_job(bytes: &[u8]) -> usize
             &mut table,
             &mut strips,
             &mut corners,
-            board,
+            &mut board,
             bytes,
             at,
         );
-        write_lines(&mut written, &out, done.size, bytes);
-        let next = done.next;
-        let Next::At(place) = next else {
+        written = write_front(written, &out, done.size, bytes);
+        let Some(place) = done.next else {
             return written;
         };
-        board = done.board;
         at = place;
     }
     written
 }
 
-// Writes the first n bytes of what a record gave, which are the next of the job's output, and counts them.
-fn write_lines(written: &mut usize, out: &[u8; OUT_SIZE], n: usize, bytes: &[u8])
-    requires { NextOf (output bytes.now) written.old out.now n }
-    ensures { written.new ≡ written.old + n }
-{
-    write_front(written, out, n, bytes);
-}
-
-// Writes the first n bytes of a list, which are the next of the job's output, and counts them.
-fn write_front(written: &mut usize, list: &[u8], n: usize, bytes: &[u8])
-    requires { NextOf (output bytes.now) written.old list.now n }
-    ensures { written.new ≡ written.old + n }
+// Writes the first n bytes of a list, which are the next of the job's output after so many; how many are written then.
+fn write_front(written: usize, list: &[u8], n: usize, bytes: &[u8]) -> usize
+    requires { NextOf (output bytes.now) written list.now n }
+    ensures { result ≡ written + n }
 {
     io::write_all(1, &list[..n]);
-    *written = *written + n;
+    written + n
 }

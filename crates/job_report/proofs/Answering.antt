@@ -17,12 +17,11 @@ use Rattle.foil_spec.specs.Job.{steps_at, record_steps}
 use Rattle.list_laws.proofs.Tests.{both}
 use Rattle.ledger_laws.proofs.Stored.{strips-fit, length-strips}
 use Rattle.ledger_laws.proofs.Sound.{Sound}
-use Rattle.foil.specs.Contract.{answer_of}
-use Rattle.foil.specs.declared.Answer.{Answer as Answered}
-use Rattle.foil.specs.declared.Answer.TheVariants.{Laid}
+use Rattle.std.specs.Prelude.{Some, Ok}
+use Rattle.foil.specs.Contract.{Answer as Answered, answer_of}
+use Rattle.foil.specs.declared.Accepted.TheVariants.{Laid}
 use Rattle.job.specs.Contract.{set_below, told_at, told_by_bits, answers_of}
 use Rattle.job.specs.Parts.{Whole}
-use Rattle.job.specs.declared.Told.TheVariants.{Said}
 use Rattle.job.proofs.ByBit.{said-none, said_here, SaidBy, told-by, told_in}
 use Rattle.job.proofs.Replies.{Tracked}
 use Rattle.lines.specs.Lines.{board_line, patch_line, lift_line, leg_line}
@@ -59,7 +58,7 @@ step-read (track_step net S T) room ks a t = ap₂ (track_line net) (number-in a
 step-read (lift_step net) room ks a t = ap (lift_line net) (number-in a)
 step-read (leg_step e) room ks a t = ap (leg_line e.net) (number-in a)
 
-laid-few : (room : ℕ) (ks : List ℕ) (a : Answer) (k n : ℕ) → Tracked a room ks → answer_of a ≡ Laid k n → k ≤ room / 2
+laid-few : (room : ℕ) (ks : List ℕ) (a : Answer) (k n : ℕ) → Tracked a room ks → answer_of a ≡ Ok (Laid k n) → k ≤ room / 2
 unfolding answer_of
 laid-few room ks (refused n) k i t e = absurd (let z : ◌≡◌ {A = ℕ} 0 1 = cc in omega arith)
 laid-few room ks accepted k i t e = absurd (let z : ◌≡◌ {A = ℕ} 0 1 = cc in omega arith)
@@ -154,9 +153,9 @@ module _ (bs : List ℕ) (at : ℕ) (ks : List ℕ) (room : ℕ) (given : List A
     answers-from w small long =
         record {
           bit = λ k l.
-              let by : (a : Answered) → told_by_bits (answers_of (has bs at) given) k ≡ Said a → SaidBy (has bs at) given k a =
+              let by : (a : Answered) → told_by_bits (answers_of (has bs at) given) k ≡ Some a → SaidBy (has bs at) given k a =
               λ a e. told-by (has bs at) given k a (sym (told_in (has bs at) given k l) ∙ e) in
-              let few : (a : Answered) → told_by_bits (answers_of (has bs at) given) k ≡ Said a → (i n : ℕ) → a ≡ Laid i n
+              let few : (a : Answered) → told_by_bits (answers_of (has bs at) given) k ≡ Some a → (i n : ℕ) → a ≡ Ok (Laid i n)
               → i ≤ room / 2 =
               λ a e i n q.
               let s = by a e in

@@ -21,10 +21,8 @@ use Rattle.ledger_laws.proofs.Refusals.{none-applies}
 use Rattle.ledger_laws.proofs.Lending.{Opens, opens, own-checks}
 use Rattle.ledger_laws.proofs.Replies.{shown_by}
 use Rattle.ledger_laws.proofs.StaysSound.{steps-sound, first-sound}
-use Rattle.job.specs.Contract.{next_of, next_in}
-use Rattle.job.specs.declared.Next.{Next}
-use Rattle.job.specs.declared.Next.TheVariants.{At}
-use Rattle.job.specs.declared.Replied.{Replied}
+use Rattle.std.specs.Prelude.{Option as Maybe, Some}
+use Rattle.job.specs.Contract.{Reply, next_of, next_in}
 use Rattle.job.proofs.Replies.{next-is}
 use Rattle.sheet_laws.specs.Jobs.{only_foil0}
 use Rattle.sheet_rows.specs.Rows.{sheet_lent}
@@ -98,7 +96,7 @@ module _ (bs : List ℕ) (at : ℕ) (b₀ : Board) (t₀ s₀ : List ℕ) where
       ∙ sound-after bs at (view 0 m) n (ap (λ (a : After RecordReply Lent). place_after a.answer) alone ∙ h)
 
   next-comes : sheet_size ≤ length t₀ → (b : Board) (t s : List ℕ) → only_foil0 b t s ≡ (ran_record bs at m).state
-      → (p : ℕ) → next_of (place_after (ran_record bs at m).answer) ≡ At p → MayCome p b t s
+      → (p : ℕ) → next_of (place_after (ran_record bs at m).answer) ≡ Some p → MayCome p b t s
   next-comes long b t s left p e =
       record {
         continues =
@@ -110,13 +108,14 @@ module _ (bs : List ℕ) (at : ℕ) (b₀ : Board) (t₀ s₀ : List ℕ) where
       }
 
   -- the next record after one that was reported, and after one that was run without its lines
-  pub reported-comes : (out old new : List ℕ) (r : Reported) (t s out' : List ℕ)
-      → RecordReported bs at m out old new r t s out' → (p : ℕ) → r.next ≡ At p → MayCome p r.board t s
-  reported-comes out old new r t s out' told p e =
-      next-comes told.places r.board t s told.state p (sym told.next ∙ e)
+  pub reported-comes : (out old new : List ℕ) (r : Reported) (b : Board) (t s out' : List ℕ)
+      → RecordReported bs at m out old new r b t s out' → (p : ℕ) → r.next ≡ Some p → MayCome p b t s
+  reported-comes out old new r b t s out' told p e =
+      next-comes told.places b t s told.state p (sym told.next ∙ e)
 
-  pub run-comes : (out : List ℕ) (d : Replied) (t s out' : List ℕ) → RecordRan bs at m out d t s out'
-      → (next : Next) → next ≡ next_in d.reply → (p : ℕ) → next ≡ At p → MayCome p d.board t s
-  run-comes out d t s out' run next is p e =
-      next-comes run.places d.board t s run.state p
+  pub run-comes : (out : List ℕ) (r : Reply) (b : Board) (t s out' : List ℕ)
+      → RecordRan bs at m out r b t s out' → (next : Maybe ℕ) → next ≡ next_in r → (p : ℕ) → next ≡ Some p
+      → MayCome p b t s
+  run-comes out r b t s out' run next is p e =
+      next-comes run.places b t s run.state p
       (sym (is ∙ ap next_in run.reply ∙ next-is (has bs at) (ran_record bs at m).answer) ∙ e)

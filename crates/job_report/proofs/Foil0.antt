@@ -19,15 +19,14 @@ use Rattle.foil_spec.specs.Sheet.{sheet_record}
 use Rattle.foil_spec.specs.declared.Board.{Board}
 use Rattle.list_laws.proofs.Tests.{both}
 use Rattle.ledger_laws.proofs.Replies.{shown_by, as-reply-is, reply-keeps}
-use Rattle.job.specs.Contract.{reply_of}
-use Rattle.job.specs.declared.Replied.{Replied}
+use Rattle.job.specs.Contract.{Reply as JobReply, reply_of}
 use Rattle.sheet_laws.specs.Jobs.{only_foil0}
 use Rattle.sheet_laws.proofs.Views.{Stands, stands-in}
 use Rattle.sheet_laws.proofs.Saved.{records-as-calls, record-view, record-stands}
 use Rattle.sheet_laws.proofs.Jobs.{all-to-one, kept-room, job-room}
+use Rattle.sheet_rows.specs.declared.Sheet.{Sheet}
 use Rattle.sheet_rows.specs.Rows.{sheet_lent}
 use Rattle.sheet.specs.Contract.{on_sheet, SheetRecordDone}
-use Rattle.sheet.specs.declared.SheetReplied.{SheetReplied}
 use Rattle.job_report.specs.Report.{ran_record, RecordRan}
 
 -- ---- its room
@@ -112,12 +111,13 @@ record-only bs at x e =
 
 -- ---- what `run_record` gave
 
-module _ (bs : List ℕ) (at : ℕ) (b : Board) (t s out : List ℕ) (d : SheetReplied) (t' s' out' : List ℕ) where
+module _ (bs : List ℕ) (at : ℕ) (b : Board) (t s out : List ℕ) (r : JobReply) (sheet : Sheet)
+    (t' s' out' : List ℕ) where
   abbrev m : SheetLent
   m = only_foil0 b t s
 
-  only-left : (c : Board) → c ≡ get_or d.sheet.boards 0 no_board
-      → sheet_lent d.sheet.boards t' s' ≡ (ran_record bs at m).state → only_foil0 c t' s' ≡ (ran_record bs at m).state
+  only-left : (c : Board) → c ≡ get_or sheet.boards 0 no_board
+      → sheet_lent sheet.boards t' s' ≡ (ran_record bs at m).state → only_foil0 c t' s' ≡ (ran_record bs at m).state
   only-left c is e =
       let only = subst Only (sym e) (record-only bs at m refl) in
       ap (λ (bs' : List Board). sheet_lent bs' t' s')
@@ -125,12 +125,11 @@ module _ (bs : List ℕ) (at : ℕ) (b : Board) (t s out : List ℕ) (d : SheetR
       ∙ e
 
   pub record-ran : (bs₀ : List Board) → bs₀ ≡ b ∷ replicate 7 no_board
-      → SheetRecordDone 0 bs at (sheet_lent bs₀ t s) out d t' s' out'
+      → SheetRecordDone 0 bs at (sheet_lent bs₀ t s) out r sheet t' s' out'
       → length t ≡ sheet_size → length s ≡ strips_size → length out ≡ 2 * corner_places
-      → (r : Replied) → r.reply ≡ d.reply → r.board ≡ get_or d.sheet.boards 0 no_board
-      → RecordRan bs at m out r t' s' out'
-  record-ran bs₀ q given e f g r told is =
-      let done = subst (λ (x : List Board). SheetRecordDone 0 bs at (sheet_lent x t s) out d t' s' out') q given in
+      → (c : Board) → c ≡ get_or sheet.boards 0 no_board → RecordRan bs at m out r c t' s' out'
+  record-ran bs₀ q given e f g c is =
+      let done = subst (λ (x : List Board). SheetRecordDone 0 bs at (sheet_lent x t s) out r sheet t' s' out') q given in
       let same : on_sheet 0 (run_record bs at) m (length out) ≡ replied (ran_record bs at m) =
       ap (λ (x : Room). sheet_call x 0 (run_record bs at) m) (has_room b t s (length out) e f g)
       ∙ records-as-calls job_room 0 bs at m in
@@ -138,8 +137,8 @@ module _ (bs : List ℕ) (at : ℕ) (b : Board) (t s out : List ℕ) (d : SheetR
       (sym done.tells.is ∙ ap (λ (a : After Reply SheetLent). a.answer) same) in
       record {
         places = omega (arith, e);
-        reply = told ∙ done.tells.reply ∙ ap (reply_of (has bs at)) came-to;
+        reply = done.tells.reply ∙ ap (reply_of (has bs at)) came-to;
         state =
-            only-left r.board is (done.state ∙ ap (λ (a : After Reply SheetLent). a.state) same);
+            only-left c is (done.state ∙ ap (λ (a : After Reply SheetLent). a.state) same);
         output = done.output ∙ ap (λ (a : After Reply SheetLent). output_by a.answer out) same;
       }

@@ -19,8 +19,8 @@ use Rattle.foil_spec.specs.Calls.{record_by, ledger_record, place_after}
 use Rattle.foil_spec.specs.Sheet.{SheetLent, view, sheet_step, unless_whole, sheet_record}
 use Rattle.ledger_laws.proofs.Refusals.{none-applies}
 use Rattle.ledger_laws.proofs.Lending.{board-first, own-checks}
+use Rattle.std.specs.Prelude.{Some, None}
 use Rattle.job.specs.Contract.{next_of}
-use Rattle.job.specs.declared.Next.TheVariants.{At, Nowhere}
 
 pub record Later (bs : List ℕ) (at n : ℕ) : Type 0 where
   pub after : at < n
@@ -122,12 +122,12 @@ module _ (r : Room) (bs : List ℕ) (x : SheetLent) where
 
 -- ---- the next place as the code has it
 
-pub at_place : (o : Option ℕ) (p : ℕ) → next_of o ≡ At p → o ≡ some p
+pub at_place : (o : Option ℕ) (p : ℕ) → next_of o ≡ Some p → o ≡ some p
 unfolding next_of
 at_place none p e = absurd (let z : ◌≡◌ {A = ℕ} 0 1 = cc in omega arith)
 at_place (some n) p e = let same : n ≡ p = cc in rw same refl
 
-pub nowhere : (o : Option ℕ) → next_of o ≡ Nowhere → o ≡ none
+pub nowhere : (o : Option ℕ) → next_of o ≡ None → o ≡ none
 unfolding next_of
 nowhere none e = refl
 nowhere (some n) e = absurd (let z : ◌≡◌ {A = ℕ} 0 1 = cc in omega arith)

@@ -17,13 +17,11 @@ use Rattle.foil_spec.specs.Sheet.{SheetLent, view}
 use Rattle.foil_spec.specs.declared.Board.{Board}
 use Rattle.ledger_laws.proofs.Replies.{shown_by}
 use Rattle.ledger_laws.proofs.Sound.{Sound, of-sound, strips-listed}
-use Rattle.job.specs.Contract.{set_below, next_of, reply_of}
+use Rattle.std.specs.Prelude.{Option as Maybe, None, Ok, Err}
+use Rattle.job.specs.Contract.{Reply, set_below, next_of, reply_of}
 use Rattle.job.specs.Parts.{ran_to}
 use Rattle.job.specs.declared.Answers.{Answers}
-use Rattle.job.specs.declared.Next.{Next}
-use Rattle.job.specs.declared.Next.TheVariants.{Nowhere}
-use Rattle.job.specs.declared.Reply.TheVariants.{Refused, Ran, AtEnd}
-use Rattle.job.specs.declared.Replied.{Replied}
+use Rattle.job.specs.declared.Progress.TheVariants.{Ran, AtEnd}
 use Rattle.job.proofs.Replies.{was-refused, HasRun, has-run, Stepped, stepped, Ended, ended, Tracked, bit-tracked}
 use Rattle.lines.specs.Lines.{file_line, strip_line}
 use Rattle.lines.specs.Output.{lines_of_steps, reply_lines}
@@ -35,8 +33,8 @@ use Rattle.job_report.specs.declared.Reported.{Reported}
 use Rattle.job_report.proofs.Answering.{answers-lines, answers-from, strips-few}
 use Rattle.job_report.proofs.Foil0.{unrefused-alone}
 
-module _ (bs : List ℕ) (at : ℕ) (b : Board) (t₀ s₀ out : List ℕ) (d : Replied) (t s out' : List ℕ)
-    (done : RecordRan bs at (only_foil0 b t₀ s₀) out d t s out') where
+module _ (bs : List ℕ) (at : ℕ) (b : Board) (t₀ s₀ out : List ℕ) (d : Reply) (b' : Board) (t s out' : List ℕ)
+    (done : RecordRan bs at (only_foil0 b t₀ s₀) out d b' t s out') where
   abbrev m : SheetLent
   m = only_foil0 b t₀ s₀
 
@@ -56,30 +54,30 @@ module _ (bs : List ℕ) (at : ℕ) (b : Board) (t₀ s₀ out : List ℕ) (d : 
   -- the bytes are the record's lines, and the next place is the reply's
   reported : (old new : List ℕ) (r : Reported) (o : RecordReply) (lines : List ℕ) → reply ≡ o
       → record_lines bs at m ≡ lines → Put old 0 lines new r.size → r.next ≡ next_of (place_after o)
-      → r.board ≡ d.board → RecordReported bs at m out old new r t s out'
-  reported old new r o lines e f p n c =
+      → RecordReported bs at m out old new r b' t s out'
+  reported old new r o lines e f p n =
       record {
         places = done.places;
         lines = subst (λ (x : List ℕ). Put old 0 x new r.size) (sym f) p;
         next = n ∙ ap (λ (x : RecordReply). next_of (place_after x)) (sym e);
-        state = ap (λ (x : Board). only_foil0 x t s) c ∙ done.state;
+        state = done.state;
         output = done.output;
       }
 
   -- ---- refused as a whole
 
-  pub file-reported : (n : ℕ) → d.reply ≡ Refused n → (old new : List ℕ) (size : ℕ) → Put old 0 (file_line n) new size
-      → (r : Reported) → r ≡ record { size = size; next = Nowhere; board = d.board }
-      → RecordReported bs at m out old new r t s out'
+  pub file-reported : (n : ℕ) → d ≡ Err n → (old new : List ℕ) (size : ℕ) → Put old 0 (file_line n) new size
+      → (r : Reported) → r ≡ record { size = size; next = None }
+      → RecordReported bs at m out old new r b' t s out'
   unfolding reply_lines place_after next_of
   file-reported n e old new size p r q =
       let is = was-refused (has bs at) reply n (sym e ∙ done.reply) in
-      subst (λ (x : Reported). RecordReported bs at m out old new x t s out') (sym q)
-      (reported old new _ (refused_whole n) (file_line n) is (lines-by _ is) p refl refl)
+      subst (λ (x : Reported). RecordReported bs at m out old new x b' t s out') (sym q)
+      (reported old new _ (refused_whole n) (file_line n) is (lines-by _ is) p refl)
 
   -- ---- the steps
 
-  module _ (a : Answers) (next : Next) (e : d.reply ≡ Ran a next) where
+  module _ (a : Answers) (next : Maybe ℕ) (e : d ≡ Ok (Ran a next)) where
     run : HasRun (has bs at) reply a next
     run = has-run (has bs at) reply a next (sym e ∙ done.reply)
 
@@ -131,13 +129,13 @@ module _ (bs : List ℕ) (at : ℕ) (b : Board) (t₀ s₀ out : List ℕ) (d : 
         (omega (arith, room-is)))
 
     pub steps-reported : (old new : List ℕ) (size : ℕ) → Put old 0 (answer_lines bs at out' a) new size
-        → RecordReported bs at m out old new (record { size = size; next = next; board = d.board }) t s out'
+        → RecordReported bs at m out old new (record { size = size; next = next }) b' t s out'
     unfolding reply_lines place_after
     steps-reported old new size p =
         reported old new _ (ran_steps given run.place) (answer_lines bs at out' a) run.is
         (lines-by _ run.is ∙ by_place run.place
         ∙ sym (ap (answer_lines bs at out') run.answers
-        ∙ answers-lines bs at out' job_room.output given tracked)) p run.next refl
+        ∙ answers-lines bs at out' job_room.output given tracked)) p run.next
       where
         by_place : (n : Option ℕ)
             → reply_lines (record_steps bs at) (ran_steps given n) (held after) (λ (k : ℕ). [])
@@ -147,13 +145,13 @@ module _ (bs : List ℕ) (at : ℕ) (b : Board) (t₀ s₀ out : List ℕ) (d : 
 
   -- ---- the end mark
 
-  module _ (e : d.reply ≡ AtEnd) where
+  module _ (e : d ≡ Ok AtEnd) where
     alone-is : record_on job_room bs at (view 0 m) ≡ shown_by (view 0) (ran_record bs at m)
     unfolding reply_of
     alone-is =
-        unrefused-alone bs at b t₀ s₀ done.places (λ x. AtEnd ≡ reply_of (has bs at) x) never (sym e ∙ done.reply)
+        unrefused-alone bs at b t₀ s₀ done.places (λ x. Ok AtEnd ≡ reply_of (has bs at) x) never (sym e ∙ done.reply)
       where
-        never : (n : ℕ) → AtEnd ≡ reply_of (has bs at) (refused_whole n) → ⊥
+        never : (n : ℕ) → Ok AtEnd ≡ reply_of (has bs at) (refused_whole n) → ⊥
         never n h = let z : ◌≡◌ {A = ℕ} 0 1 = cc in omega arith
 
     end : Ended job_room bs at (view 0 m)
@@ -168,7 +166,7 @@ module _ (bs : List ℕ) (at : ℕ) (b : Board) (t₀ s₀ out : List ℕ) (d : 
 
     -- the foil keeps the rules, and is the one that was left
     abbrev left : Lent
-    left = view 0 (only_foil0 d.board t s)
+    left = view 0 (only_foil0 b' t s)
 
     left_is : left ≡ after
     left_is = ap (view 0) done.state
@@ -179,18 +177,18 @@ module _ (bs : List ℕ) (at : ℕ) (b : Board) (t₀ s₀ out : List ℕ) (d : 
         of-sound left
         (ap sound (left_is ∙ ap (λ (x : After RecordReply Lent). x.state) (sym alone-is) ∙ end.state) ∙ end.fine)
 
-    pub count-few : d.board.strips ≤ max_strips
+    pub count-few : b'.strips ≤ max_strips
     unfolding view
     count-few = strips-few left fine
 
     pub strips-reported : (old new : List ℕ) (size : ℕ)
-        → Put old 0 (each strip_line (listed_strips s d.board.strips)) new size
-        → (r : Reported) → r ≡ record { size = size; next = Nowhere; board = d.board }
-        → RecordReported bs at m out old new r t s out'
+        → Put old 0 (each strip_line (listed_strips s b'.strips)) new size
+        → (r : Reported) → r ≡ record { size = size; next = None }
+        → RecordReported bs at m out old new r b' t s out'
     unfolding reply_lines place_after next_of view
     strips-reported old new size p r q =
-        subst (λ (x : Reported). RecordReported bs at m out old new x t s out') (sym q)
-        (reported old new _ end_mark (each strip_line (listed_strips s d.board.strips)) at-end
+        subst (λ (x : Reported). RecordReported bs at m out old new x b' t s out') (sym q)
+        (reported old new _ end_mark (each strip_line (listed_strips s b'.strips)) at-end
         (lines-by end_mark at-end
         ∙ ap (each strip_line) (ap (λ (x : Lent). strips_of (held x)) (sym left_is) ∙ sym (strips-listed left fine)))
-        p refl refl)
+        p refl)

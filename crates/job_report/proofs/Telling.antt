@@ -8,13 +8,13 @@ use lib.ListN.{length}
 use Rattle.foil_spec.specs.Lists.{range, each}
 use Rattle.foil_spec.specs.Corners.{corners_in}
 use Rattle.foil_spec.specs.Job.{map_bits, step_bits, field_count, field, step_at}
-use Rattle.foil.specs.declared.Answer.{Answer}
-use Rattle.foil.specs.declared.Answer.TheVariants.{Refused, Accepted, Laid, Found, Wrote}
+use Rattle.std.specs.Prelude.{Some, None, Ok, Err}
+use Rattle.foil.specs.Contract.{Answer}
+use Rattle.foil.specs.declared.Accepted.{Accepted}
+use Rattle.foil.specs.declared.Accepted.TheVariants.{Done, Laid, Found, Wrote}
 use Rattle.list_laws.proofs.Members.{each_append}
-use Rattle.job.specs.Contract.{told_by_bits}
+use Rattle.job.specs.Contract.{Told, told_by_bits}
 use Rattle.job.specs.Parts.{Given}
-use Rattle.job.specs.declared.Told.{Told}
-use Rattle.job.specs.declared.Told.TheVariants.{Nothing, Said}
 use Rattle.job.specs.declared.Answers.{Answers}
 use Rattle.job.proofs.Places.{field-given}
 use Rattle.job.proofs.Acting.{range_split}
@@ -24,44 +24,36 @@ use Rattle.putting.specs.Put.{Put}
 use Rattle.putting.proofs.Putting.{put-none, put_then}
 use Rattle.job_report.specs.Told.{number_in, track_of, lay_line, line_of, told_line, lines_of, bytes_below, FromBit}
 
--- ---- the number
-
-pub number-refused : (a : Answer) (n : ℕ) → a ≡ Refused n → n ≡ number_in a
-unfolding number_in
-number-refused a n e = rw e refl
-
-pub number-other : (a : Answer) → ((n : ℕ) → a ≡ Refused n → ⊥) → 0 ≡ number_in a
-unfolding number_in
-number-other (Refused n) h = absurd (h n refl)
-number-other Accepted h = refl
-number-other (Laid k n) h = refl
-number-other (Found k) h = refl
-number-other (Wrote k) h = refl
-
 -- ---- the line of a track
 
 module _ (net : ℕ) (ks : List ℕ) {a : Answer} {o : List ℕ} {at : ℕ} where
-  pub laid-line : {o' : List ℕ} {r k n : ℕ} → a ≡ Laid k n → Put o at (track_laid net n (corners_in ks k)) o' r
+  pub laid-line : {o' : List ℕ} {r k n : ℕ} → a ≡ Ok (Laid k n) → Put o at (track_laid net n (corners_in ks k)) o' r
       → Put o at (lay_line net ks a) o' r
   unfolding track_of track_line
   laid-line e p = rw e p
 
-no-track : (ks : List ℕ) (a : Answer) → ((k n : ℕ) → a ≡ Laid k n → ⊥) → track_of ks a ≡ none
+pub refused-line : (net : ℕ) (ks : List ℕ) (a : Answer) {o o' : List ℕ} {at r n : ℕ}
+    → ((x : Accepted) → a ≡ Ok x → ⊥) → n ≡ number_in a → Put o at (track_refused net n) o' r
+    → Put o at (lay_line net ks a) o' r
+unfolding number_in track_of track_line
+refused-line net ks (Err k) h e p = rw (← e) p
+refused-line net ks (Ok x) h e p = absurd (h x refl)
+
+no-track : (ks : List ℕ) (x : Accepted) → ((k n : ℕ) → x ≡ Laid k n → ⊥) → track_of ks (Ok x) ≡ none
 unfolding track_of
-no-track ks (Refused n) h = refl
-no-track ks Accepted h = refl
+no-track ks Done h = refl
 no-track ks (Laid k n) h = absurd (h k n refl)
 no-track ks (Found k) h = refl
 no-track ks (Wrote k) h = refl
 
-pub refused-line : (net : ℕ) (ks : List ℕ) (a : Answer) {o o' : List ℕ} {at r n : ℕ} → ((k i : ℕ) → a ≡ Laid k i → ⊥)
-    → n ≡ number_in a → Put o at (track_refused net n) o' r → Put o at (lay_line net ks a) o' r
-unfolding track_line
-refused-line net ks a h e p = rw (no-track ks a h, ← e) p
+pub unlaid-line : (net : ℕ) (ks : List ℕ) (x : Accepted) {a : Answer} {o o' : List ℕ} {at r : ℕ} → a ≡ Ok x
+    → ((k i : ℕ) → x ≡ Laid k i → ⊥) → Put o at (track_refused net 0) o' r → Put o at (lay_line net ks a) o' r
+unfolding number_in track_line
+unlaid-line net ks x e h p = rw (e, no-track ks x h) p
 
 -- ---- the net of a step that was run
 
-pub net-given : {bs : List ℕ} {at : ℕ} {ks : List ℕ} {k : ℕ} {t : Told} (a : Answer) → t ≡ Said a → FromBit bs at ks k t
+pub net-given : {bs : List ℕ} {at : ℕ} {ks : List ℕ} {k : ℕ} {t : Told} (a : Answer) → t ≡ Some a → FromBit bs at ks k t
     → (j : ℕ) → k ≡ j → j < map_bits → 0 < field_count j → Given bs at j 0
 net-given {bs} {at} {ks} {k} a e f j q l s =
     subst (λ (i : ℕ). i < map_bits → 0 < field_count i → Given bs at i 0) q
@@ -70,11 +62,11 @@ net-given {bs} {at} {ks} {k} a e f j q l s =
 -- ---- the line of a bit
 
 module _ (bs : List ℕ) (place : ℕ) (ks : List ℕ) (k : ℕ) {t : Told} {o : List ℕ} {at : ℕ} where
-  pub no_line : t ≡ Nothing → at ≤ length o → Put o at (told_line (step_at bs place k) ks t) o at
+  pub no_line : t ≡ None → at ≤ length o → Put o at (told_line (step_at bs place k) ks t) o at
   unfolding told_line
   no_line e l = rw e (put-none o at l)
 
-  module _ {o' : List ℕ} {r : ℕ} (a : Answer) (e : t ≡ Said a) where
+  module _ {o' : List ℕ} {r : ℕ} (a : Answer) (e : t ≡ Some a) where
     pub line-board : k ≡ 0 → (n : ℕ) → n ≡ number_in a → Put o at (board_line n) o' r
         → Put o at (told_line (step_at bs place k) ks t) o' r
     unfolding told_line line_of step_at

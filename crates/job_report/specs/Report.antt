@@ -9,8 +9,7 @@ use Rattle.foil_spec.specs.Job.{job_room, has, record_steps}
 use Rattle.foil_spec.specs.Calls.{RecordReply, as_reply, output_by, place_after}
 use Rattle.foil_spec.specs.Sheet.{SheetLent, view, sheet_record}
 use Rattle.foil_spec.specs.declared.Board.{Board}
-use Rattle.job.specs.Contract.{next_of, reply_of}
-use Rattle.job.specs.declared.Replied.{Replied}
+use Rattle.job.specs.Contract.{Reply, next_of, reply_of}
 use Rattle.lines.specs.Output.{reply_lines, output}
 use Rattle.putting.specs.Put.{Put}
 use Rattle.sheet.specs.Contract.{Continues}
@@ -27,12 +26,12 @@ pub record MayCome (at : ℕ) (b : Board) (t s : List ℕ) : Type 0 where
   pub continues : Continues 0 at (only_foil0 b t s)
 
 -- the record at a place was lent m, which has the 512 places of a sheet, and the corner list out: it answered r, and
--- left the corner list out' and a sheet else empty, of the table t and of foil 0's strips s
-pub record RecordRan (bs : List ℕ) (at : ℕ) (m : SheetLent) (out : List ℕ) (r : Replied) (t s out' : List ℕ)
-    : Type 0 where
+-- left the corner list out' and a sheet else empty, of the table t and of foil 0's record b and strips s
+pub record RecordRan (bs : List ℕ) (at : ℕ) (m : SheetLent) (out : List ℕ) (r : Reply) (b : Board)
+    (t s out' : List ℕ) : Type 0 where
   pub places : sheet_size ≤ length m.table
-  pub reply : r.reply ≡ reply_of (has bs at) (ran_record bs at m).answer
-  pub state : only_foil0 r.board t s ≡ (ran_record bs at m).state
+  pub reply : r ≡ reply_of (has bs at) (ran_record bs at m).answer
+  pub state : only_foil0 b t s ≡ (ran_record bs at m).state
   pub output : out' ≡ output_by (as_reply (ran_record bs at m).answer) out
 
 -- its lines
@@ -44,11 +43,11 @@ record_lines bs at m =
 -- it was lent the byte list `old` as well: it left its lines at the front of that list, which is now `new`, and
 -- answered r; all else is left so
 pub record RecordReported (bs : List ℕ) (at : ℕ) (m : SheetLent) (out old new : List ℕ) (r : Reported)
-    (t s out' : List ℕ) : Type 0 where
+    (b : Board) (t s out' : List ℕ) : Type 0 where
   pub places : sheet_size ≤ length m.table
   pub lines : Put old 0 (record_lines bs at m) new r.size
   pub next : r.next ≡ next_of (place_after (ran_record bs at m).answer)
-  pub state : only_foil0 r.board t s ≡ (ran_record bs at m).state
+  pub state : only_foil0 b t s ≡ (ran_record bs at m).state
   pub output : out' ≡ output_by (as_reply (ran_record bs at m).answer) out
 
 -- what comes from the next place on, if there is one

@@ -1,35 +1,30 @@
 -- The lines of what the steps of a record told, by the answers of the code; and what the functions that write them ask.
-use Rattle.std.specs.Prelude.{ℕ, ◌*◌, ◌≤◌, ◌<◌, ◌≡◌, true, List, [], ◌∷◌, length, get_or}
+use Rattle.std.specs.Prelude.{ℕ, ◌*◌, ◌≤◌, ◌<◌, ◌≡◌, true, List, [], ◌∷◌, length, get_or, Some, None, Ok, Err}
 use Rattle.std.proofs.Math.Option.{Option, none, some}
 use Rattle.foil_spec.specs.Lists.{range, each}
 use Rattle.foil_spec.specs.Limits.{corner_places}
 use Rattle.foil_spec.specs.Corners.{corners_in}
 use Rattle.foil_spec.specs.Job.{step_bits, RecordStep, board_step, patch_step, track_step, lift_step, leg_step, has, step_at}
-use Rattle.foil.specs.declared.Answer.{Answer}
-use Rattle.foil.specs.declared.Answer.TheVariants.{Refused, Accepted, Laid, Found, Wrote}
-use Rattle.job.specs.Contract.{told_by_bits}
+use Rattle.foil.specs.Contract.{Answer}
+use Rattle.foil.specs.declared.Accepted.TheVariants.{Done, Laid, Found, Wrote}
+use Rattle.job.specs.Contract.{Told, told_by_bits}
 use Rattle.job.specs.Parts.{Whole}
-use Rattle.job.specs.declared.Told.{Told}
-use Rattle.job.specs.declared.Told.TheVariants.{Nothing, Said}
 use Rattle.job.specs.declared.Answers.{Answers}
 use Rattle.lines.specs.Lines.{board_line, patch_line, lift_line, leg_line}
 use Rattle.lines.specs.Output.{Track, track_line}
 
 -- the refusal number, 0 if accepted
 unfoldable pub number_in : Answer → ℕ
-number_in (Refused n) = n
-number_in Accepted = 0
-number_in (Laid k n) = 0
-number_in (Found k) = 0
-number_in (Wrote k) = 0
+number_in (Err n) = n
+number_in (Ok a) = 0
 
 -- the track that an answer has, if it has one; its corners are the first of the list ks
 unfoldable pub track_of : List ℕ → Answer → Option Track
-track_of ks (Refused n) = none
-track_of ks Accepted = none
-track_of ks (Laid k n) = some (record { bends = n; corners = corners_in ks k })
-track_of ks (Found k) = none
-track_of ks (Wrote k) = none
+track_of ks (Err n) = none
+track_of ks (Ok Done) = none
+track_of ks (Ok (Laid k n)) = some (record { bends = n; corners = corners_in ks k })
+track_of ks (Ok (Found k)) = none
+track_of ks (Ok (Wrote k)) = none
 
 -- the line of a lay that was answered
 abbrev pub lay_line : ℕ → List ℕ → Answer → List ℕ
@@ -45,8 +40,8 @@ line_of (leg_step e) ks a = leg_line e.net (number_in a)
 
 -- the line of a step, if it was run
 unfoldable pub told_line : RecordStep → List ℕ → Told → List ℕ
-told_line s ks Nothing = []
-told_line s ks (Said a) = line_of s ks a
+told_line s ks None = []
+told_line s ks (Some a) = line_of s ks a
 
 -- the lines of the steps of the bits in a list that were run, of the record at a place
 unfoldable pub lines_of : List ℕ → ℕ → List ℕ → Answers → List ℕ → List ℕ
@@ -62,15 +57,15 @@ bytes_below k = get_or (0 ∷ 64 ∷ 128 ∷ 98496 ∷ 98560 ∷ 98624 ∷ []) k
 
 -- the corners of an answer stand in the list, 8,192 at most
 pub record InList (ks : List ℕ) (a : Answer) : Type 0 where
-  pub few : (k n : ℕ) → a ≡ Laid k n → k ≤ corner_places
-  pub there : (k n : ℕ) → a ≡ Laid k n → 2 * k ≤ length ks
+  pub few : (k n : ℕ) → a ≡ Ok (Laid k n) → k ≤ corner_places
+  pub there : (k n : ℕ) → a ≡ Ok (Laid k n) → 2 * k ≤ length ks
 
 -- what the step of bit k told, of a record all of whose fields are among the bytes: it has that bit, if it was run, and
 -- its corners stand in the list
 pub record FromBit (bs : List ℕ) (at : ℕ) (ks : List ℕ) (k : ℕ) (t : Told) : Type 0 where
   pub whole : Whole bs at
-  pub set : (a : Answer) → t ≡ Said a → has bs at k ≡ true
-  pub corners : (a : Answer) → t ≡ Said a → InList ks a
+  pub set : (a : Answer) → t ≡ Some a → has bs at k ≡ true
+  pub corners : (a : Answer) → t ≡ Some a → InList ks a
 
 -- the same of all its bits
 pub record FromBits (bs : List ℕ) (at : ℕ) (ks : List ℕ) (a : Answers) : Type 0 where

@@ -5,18 +5,19 @@ ghost use Rattle.putting.specs.Put.{Put};
 ghost use Rattle.job_report.specs.Told.{number_in, lay_line, told_line, answer_lines, bytes_below};
 ghost use Rattle.job_report.specs.Told.{InList, FromBit, FromBits};
 
-use foil::Answer;
-use job::{Answers, STEP_BITS, Told, net_of, told_by};
+use foil::{Accepted, Answer};
+use job::{Answers, net_of};
 use lines::{board_line, leg_line, lift_line, patch_line, track_laid, track_refused};
 
 // The number of a step's line: that of its refusal, 0 if it is accepted.
+#[tactic(auto, unfolding(crate::specs::Told::number_in))]
 pub fn number_of(answer: Answer) -> u8
     ensures { result ≡ number_in answer }
 {
-    let Answer::Refused(number) = answer else {
-        return 0;
-    };
-    number
+    match answer {
+        Ok(_) => 0,
+        Err(refusal) => refusal.number(),
+    }
 }
 
 // The lines of all steps that were run, of the record at a place.
@@ -32,13 +33,11 @@ pub(crate) fn put_answers(
     ensures { Put out.old 0
         (answer_lines bytes.now place corners.now answers) out.new result }
 {
-    let mut a = 0;
-    let mut k = 0;
-    while k < STEP_BITS {
-        a = put_bit(out, a, told_by(answers, k), corners, bytes, place, k);
-        k += 1;
-    }
-    a
+    let a = put_bit(out, 0, answers.board, corners, bytes, place, 0);
+    let b = put_bit(out, a, answers.patch, corners, bytes, place, 1);
+    let c = put_bit(out, b, answers.track, corners, bytes, place, 2);
+    let d = put_bit(out, c, answers.lift, corners, bytes, place, 3);
+    put_bit(out, d, answers.leg, corners, bytes, place, 4)
 }
 
 // The line of the step of bit k at place `at`, if the step was run, and the place after it: one arm a
@@ -46,7 +45,7 @@ pub(crate) fn put_answers(
 fn put_bit(
     out: &mut [u8],
     at: usize,
-    told: Told,
+    told: Option<Answer>,
     corners: &[u16],
     bytes: &[u8],
     place: usize,
@@ -58,7 +57,7 @@ fn put_bit(
         (told_line (step_at bytes.now place k) corners.now told) out.new result }
     ensures upper_bound { result ≤ bytes_below (k + 1) }
 {
-    let Told::Said(answer) = told else {
+    let Some(answer) = told else {
         return at;
     };
     if k == 0 {
@@ -68,15 +67,12 @@ fn put_bit(
         return patch_line(out, at, number_of(answer));
     }
     if k == 2 {
-        let net = net_of(bytes, place, 2);
-        return put_track(out, at, answer, net, corners);
+        return put_track(out, at, answer, net_of(bytes, place, 2), corners);
     }
     if k == 3 {
-        let net = net_of(bytes, place, 3);
-        return lift_line(out, at, net, number_of(answer));
+        return lift_line(out, at, net_of(bytes, place, 3), number_of(answer));
     }
-    let net = net_of(bytes, place, 4);
-    leg_line(out, at, net, number_of(answer))
+    leg_line(out, at, net_of(bytes, place, 4), number_of(answer))
 }
 
 // The line of a track, laid or refused.
@@ -86,8 +82,11 @@ fn put_track(out: &mut [u8], at: usize, answer: Answer, net: u16, corners: &[u16
     ensures put { Put out.old at (lay_line net corners.now answer) out.new result }
     ensures upper_bound { result ≤ at + 98368 }
 {
-    let Answer::Laid(count, bends) = answer else {
+    let Ok(accepted) = answer else {
         return track_refused(out, at, net, number_of(answer));
+    };
+    let Accepted::Laid(count, bends) = accepted else {
+        return track_refused(out, at, net, 0);
     };
     track_laid(out, at, net, bends, corners, count)
 }

@@ -8,14 +8,13 @@ mod answers;
 mod strip_lines;
 
 ghost use Rattle.std.specs.Prelude.{◌≡◌, ◌≤◌};
-ghost use Rattle.job.specs.declared.Next.TheVariants.{Nowhere};
 ghost use Rattle.sheet_laws.specs.Jobs.{only_foil0};
 ghost use Rattle.job_report.specs.Report.{MayCome, RecordRan, RecordReported};
 
 pub use answers::number_of;
 use answers::put_answers;
 use foil_spec::{Board, CORNERS_SIZE, STRIPS_SIZE};
-use job::{Next, Replied, Reply};
+use job::{Progress, Reply};
 use lines::file_line;
 use sheet::continue_job;
 use sheet_rows::{SHEET_SIZE, board_at, only_foil_0};
@@ -24,12 +23,11 @@ use strip_lines::put_strips;
 // How many bytes the lines of a record may take.
 pub const OUT_SIZE: usize = 131072;
 
-// How many bytes a record's lines take, the place of the next record, and foil 0's record after it.
+// How many bytes a record's lines take, and the place of the next record, if there is one.
 #[derive(Clone, Copy)]
 pub struct Reported {
     pub size: usize,
-    pub next: Next,
-    pub board: Board,
+    pub next: Option<usize>,
 }
 
 // Runs the record that begins at place `at` of the job file's bytes on foil 0 of a sheet else empty, on lists as long
@@ -39,31 +37,24 @@ pub fn report_record(
     table: &mut [u16; SHEET_SIZE],
     strips: &mut [u16; STRIPS_SIZE],
     corners: &mut [u16; CORNERS_SIZE],
-    board: Board,
+    board: &mut Board,
     bytes: &[u8],
     at: usize,
 ) -> Reported
-    requires { MayCome at board table.old strips.old }
+    requires { MayCome at board.old table.old strips.old }
     ensures record_reported { RecordReported bytes.now at
-        (only_foil0 board table.old strips.old) corners.old
+        (only_foil0 board.old table.old strips.old) corners.old
         out.old out.new result
-        table.new strips.new corners.new }
+        board.new table.new strips.new corners.new }
     ensures size_bound { result.size ≤ 131072 }
 {
-    let done = run_one(table, strips, corners, board, bytes, at);
-    let reply = done.reply;
-    let left = done.board;
-    match reply {
-        Reply::Refused(number) => ended(file_line(out, 0, number), left),
-        Reply::Ran(answers, next) => {
-            let size = put_answers(out, answers, corners, bytes, at);
-            Reported {
-                size,
-                next,
-                board: left,
-            }
-        }
-        Reply::AtEnd => ended(put_strips(out, strips, left.strips), left),
+    match run_one(table, strips, corners, board, bytes, at) {
+        Err(refusal) => ended(file_line(out, 0, refusal.number())),
+        Ok(Progress::Ran(answers, next)) => Reported {
+            size: put_answers(out, answers, corners, bytes, at),
+            next,
+        },
+        Ok(Progress::AtEnd) => ended(put_strips(out, strips, board.strips)),
     }
 }
 
@@ -72,31 +63,24 @@ pub fn run_one(
     table: &mut [u16; SHEET_SIZE],
     strips: &mut [u16; STRIPS_SIZE],
     corners: &mut [u16; CORNERS_SIZE],
-    board: Board,
+    board: &mut Board,
     bytes: &[u8],
     at: usize,
-) -> Replied
-    requires { MayCome at board table.old strips.old }
+) -> Reply
+    requires { MayCome at board.old table.old strips.old }
     ensures { RecordRan bytes.now at
-        (only_foil0 board table.old strips.old) corners.old
-        result table.new strips.new corners.new }
+        (only_foil0 board.old table.old strips.old) corners.old
+        result board.new table.new strips.new corners.new }
 {
-    let done = continue_job(table, strips, corners, only_foil_0(board), 0, bytes, at);
-    let reply = done.reply;
-    let sheet = done.sheet;
-    Replied {
-        reply,
-        board: board_at(sheet, 0),
-    }
+    let mut sheet = only_foil_0(*board);
+    let reply = continue_job(table, strips, corners, &mut sheet, 0, bytes, at);
+    *board = board_at(sheet, 0);
+    reply
 }
 
 // A record after which the job has ended.
-fn ended(size: usize, board: Board) -> Reported
-    ensures { result ≡ record { size = size; next = Nowhere; board = board } }
+fn ended(size: usize) -> Reported
+    ensures { result ≡ record { size = size; next = None } }
 {
-    Reported {
-        size,
-        next: Next::Nowhere,
-        board,
-    }
+    Reported { size, next: None }
 }

@@ -17,10 +17,8 @@ pub(crate) fn put_strips(out: &mut [u8], list: &[u16], count: usize) -> usize
     ensures upper_bound { result ≤ 122880 }
 {
     let mut a = 0;
-    let mut k = 0;
-    while k < count {
+    for k in 0..count {
         a = strip_line(out, a, strip_at(list, k));
-        k += 1;
     }
     a
 }

@@ -5,6 +5,7 @@ use mathlib.Core.Path.{◌≡◌, sym, ap, ◌∙◌, subst}
 use mathlib.Core.Bool.{Bool, true, not, and-true}
 use mathlib.Core.List.{List, [], ◌∷◌, map}
 use mathlib.Core.Option.{Option}
+use Rattle.std.specs.Prelude.{Option as Counted}
 use Rattle.foil_spec.specs.Lists.{range}
 use Rattle.foil_spec.specs.Foil.{Point, point, Entry, Pen, Rule, Layout, entry_ok, pen_rule, free_by, free}
 use Rattle.foil_spec.specs.Nets.{of_net, legs_of}
@@ -82,25 +83,25 @@ module _ {t : List ℕ} {n : ℕ} {p : Pen} {w h : ℕ} (P : Known t n p w h) {n
             legs = read-rows legs (legs_of net (map (entry_at t) (range 0 n))) k (sym O.counted) O.is;
           }
 
-      -- the search from (x, y) to the legs
-      abbrev aim : ℕ → ℕ → Aim
-      aim x y = record { n = c; k = k; w = w; h = h; sx = x; sy = y }
+      -- the search from a point to the legs
+      abbrev aim : Point → Aim
+      aim S = record { n = c; k = k; w = w; h = h; from = S }
 
-      pub net-aimed : {x y : ℕ} → free_for net l x y ≡ true → Aimed z legs (aim x y)
+      pub net-aimed : {S : Point} → free_for net l S.x S.y ≡ true → Aimed z legs (aim S)
       unfolding layout_of
-      net-aimed {x} {y} free =
+      net-aimed {S} free =
           record {
             boxes = Z.boxes;
             targets = table-boxes legs-table;
             few = omega (arith, few, both-count K O, P.table.few);
-            s-free = ap (λ (f : ℕ → ℕ → Bool). f x y) sought.zones.same ∙ free;
+            s-free = ap (λ (f : ℕ → ℕ → Bool). f S.x S.y) sought.zones.same ∙ free;
           }
 
-      pub net-found : (x y : ℕ) {out out' : List ℕ} {i : ℕ} → PathFound (path_to z legs (aim x y)) out out' i
-          → PathFound (join_of net l (point x y)) out out' i
+      pub net-found : (S : Point) {out out' : List ℕ} {i : Counted ℕ} → PathFound (path_to z legs (aim S)) out out' i
+          → PathFound (join_of net l S) out out' i
       unfolding layout_of
-      net-found x y {out} {out'} {i} F =
-          subst (λ (o : Option (List Point)). PathFound o out out' i) (join_is sought (point x y)) F
+      net-found S {out} {out'} {i} F =
+          subst (λ (o : Option (List Point)). PathFound o out out' i) (join_is sought S) F
 
 -- a foil that keeps the rules, and a point that is free for the net
 pub known : (b : Board) (t s : List ℕ) → sound (lent b t s) ≡ true

@@ -10,8 +10,8 @@ use Rattle.foil_spec.specs.Nets.{in_use}
 use Rattle.foil_spec.specs.Ledger.{join, free_for, off_foil, first, refusals}
 use Rattle.foil_spec.specs.Lent.{Lent, lent, entry_at, layout_of, pen_in, held, sound}
 use Rattle.foil_spec.specs.declared.Board.{Board}
-use Rattle.foil.specs.Contract.{OutputIn, refused_by}
-use Rattle.foil.specs.declared.Done.{Done}
+use Rattle.std.specs.Prelude.{Err}
+use Rattle.foil.specs.Contract.{OutputIn}
 use Rattle.foil.proofs.Giving.{own-wrote}
 use Rattle.joining.specs.Ready.{ReadyToJoin}
 
@@ -32,19 +32,19 @@ module _ (b : Board) (t s : List ℕ) (net : ℕ) (S : Point) (y : sound (lent b
   on-foil k l = simp (lt-leb b.width S.x k, lt-leb b.height S.y l)
 
   module _ (o : Bool) (o_is : o ≡ net_ok net) where
-    pub no-net : (ks : List ℕ) (limit : ℕ) → not o ≡ true → (r : Done) → r ≡ refused_by 4 b
-        → OutputIn (join net S) limit m ks r t s ks
+    pub no-net : (ks : List ℕ) (limit : ℕ) → not o ≡ true
+        → OutputIn (join net S) limit m ks (Err 4) b t s ks
     unfolding first refusals
-    no-net ks limit n r q room long _ _ =
-        own-wrote (join net S) m 4 r q y room ks long (rw (sym o_is ∙ not-true o n) refl)
+    no-net ks limit n room long _ _ =
+        own-wrote (join net S) m 4 y room ks long (rw (sym o_is ∙ not-true o n) refl)
 
     module _ (ok : not o ≡ false) (u : Bool)
         (u-is : u ≡ in_use net (map (entry_at t) (range 0 b.entries))) where
-      pub not_there : (ks : List ℕ) (limit : ℕ) → not u ≡ true → (r : Done) → r ≡ refused_by 6 b
-          → OutputIn (join net S) limit m ks r t s ks
+      pub not_there : (ks : List ℕ) (limit : ℕ) → not u ≡ true
+          → OutputIn (join net S) limit m ks (Err 6) b t s ks
       unfolding first refusals held layout_of
-      not_there ks limit e r q room long _ _ =
-          own-wrote (join net S) m 6 r q y room ks long (rw (sym o_is ∙ not-false o ok, sym u-is ∙ not-true u e) refl)
+      not_there ks limit e room long _ _ =
+          own-wrote (join net S) m 6 y room ks long (rw (sym o_is ∙ not-false o ok, sym u-is ∙ not-true u e) refl)
 
       module _ (used : not u ≡ false) where
         -- the net is allowed and in use
@@ -52,19 +52,18 @@ module _ (b : Board) (t s : List ℕ) (net : ℕ) (S : Point) (y : sound (lent b
         unfolding held layout_of
         in_order = (sym o_is ∙ not-false o ok, sym u-is ∙ not-false u used)
 
-        off : (ks : List ℕ) (limit : ℕ) → off_foil (held m) S ≡ true → (r : Done) → r ≡ refused_by 7 b
-            → OutputIn (join net S) limit m ks r t s ks
+        off : (ks : List ℕ) (limit : ℕ) → off_foil (held m) S ≡ true
+            → OutputIn (join net S) limit m ks (Err 7) b t s ks
         unfolding first refusals
-        off ks limit e r q room long _ _ =
-            own-wrote (join net S) m 7 r q y room ks long (rw (in_order.0, in_order.1, e) refl)
+        off ks limit e room long _ _ =
+            own-wrote (join net S) m 7 y room ks long (rw (in_order.0, in_order.1, e) refl)
 
-        pub right : (ks : List ℕ) (limit : ℕ) → b.width ≤ S.x → (r : Done) → r ≡ refused_by 7 b
-            → OutputIn (join net S) limit m ks r t s ks
+        pub right : (ks : List ℕ) (limit : ℕ) → b.width ≤ S.x → OutputIn (join net S) limit m ks (Err 7) b t s ks
         right ks limit l = off ks limit (off-right l)
 
         module _ (in-x : S.x < b.width) where
-          pub below : (ks : List ℕ) (limit : ℕ) → b.height ≤ S.y → (r : Done) → r ≡ refused_by 7 b
-              → OutputIn (join net S) limit m ks r t s ks
+          pub below : (ks : List ℕ) (limit : ℕ) → b.height ≤ S.y
+              → OutputIn (join net S) limit m ks (Err 7) b t s ks
           below ks limit l = off ks limit (off-below in-x l)
 
           module _ (in-y : S.y < b.height) (v : Bool)
@@ -73,11 +72,11 @@ module _ (b : Board) (t s : List ℕ) (net : ℕ) (S : Point) (y : sound (lent b
             unfolding held
             free-is = v-is
 
-            pub blocked-there : (ks : List ℕ) (limit : ℕ) → not v ≡ true → (r : Done) → r ≡ refused_by 8 b
-                → OutputIn (join net S) limit m ks r t s ks
+            pub blocked-there : (ks : List ℕ) (limit : ℕ) → not v ≡ true
+                → OutputIn (join net S) limit m ks (Err 8) b t s ks
             unfolding first refusals
-            blocked-there ks limit e r q room long _ _ =
-                own-wrote (join net S) m 8 r q y room ks long
+            blocked-there ks limit e room long _ _ =
+                own-wrote (join net S) m 8 y room ks long
                 (rw (in_order.0, in_order.1, on-foil in-x in-y, sym free-is ∙ not-true v e) refl)
 
             pub ready-to-join : not v ≡ false → ReadyToJoin m net S

@@ -4,7 +4,6 @@
 
 ghost use Rattle.std.specs.Prelude.{◌≡◌, ◌+◌, ◌*◌, ◌≤◌, ◌<◌, true, [], length};
 ghost use Rattle.foil_spec.specs.Limits.{max_entries};
-ghost use Rattle.foil_spec.specs.Foil.{point};
 ghost use Rattle.foil_spec.specs.Ledger.{join as joins, free_for, join_of};
 ghost use Rattle.foil_spec.specs.Lent.{lent, layout_of, pen_in, sound};
 ghost use Rattle.foil.specs.Contract.{OutputIn};
@@ -14,48 +13,44 @@ ghost use Rattle.joining.specs.Sought.{Own, Known, Asked};
 ghost use Rattle.joining.specs.Ready.{ReadyToJoin};
 
 use booking::{PATH_SIZE, book_found, is_way};
-use foil::{Done, refuse};
-use foil_spec::{Board, TABLE_SIZE};
+use foil::Answer;
+use foil_spec::{Board, Point, Reason, TABLE_SIZE};
 use places::{entry_at, put_entry};
 use search::{Aim, first_path_to};
 use state::net_ok;
 use tables::{in_use, without};
 use zones::{BOXES_SIZE, pen_rule, pen_zones, zones};
 
-// Joins the point (sx, sy) to the net on a foil that keeps the rules and may have so many entries: writes the corners
+// Joins the point to the net on a foil that keeps the rules and may have so many entries: writes the corners
 // of the way to the front of the corner list, and appends an entry of the same net for each leg.
 pub fn join_in(
     table: &mut [u16],
     strips: &mut [u16],
     corners: &mut [u16],
-    board: Board,
+    board: &mut Board,
     limit: usize,
     net: u16,
-    sx: u16,
-    sy: u16,
-) -> Done
-    requires strips_value { sound (lent board table.old strips.old) ≡ true }
+    from: Point,
+) -> Answer
+    requires strips_value { sound (lent board.old table.old strips.old) ≡ true }
     requires limit_le_max_entries { limit ≤ max_entries }
-    ensures { OutputIn (joins net (point sx sy)) limit
-        (lent board table.old strips.old) corners.old
-        result table.new strips.new corners.new }
+    ensures { OutputIn (joins net from) limit
+        (lent board.old table.old strips.old) corners.old
+        result board.new table.new strips.new corners.new }
 {
     if !net_ok(net) {
-        return refuse(4, board);
+        return Err(Reason::BadNet.into());
     }
     if !in_use(table, board.entries, net) {
-        return refuse(6, board);
+        return Err(Reason::NetNotOnFoil.into());
     }
-    if board.width <= sx {
-        return refuse(7, board);
+    if board.width <= from.x || board.height <= from.y {
+        return Err(Reason::OffFoil.into());
     }
-    if board.height <= sy {
-        return refuse(7, board);
+    if !clear_for(table, *board, net, from) {
+        return Err(Reason::NotFree.into());
     }
-    if !clear_for(table, board, net, sx, sy) {
-        return refuse(8, board);
-    }
-    join_from(table, strips, corners, board, limit, net, sx, sy)
+    join_from(table, strips, corners, board, limit, net, from)
 }
 
 // Puts entry k of the table at place j if it is of the net, and answers the next unused place.
@@ -78,28 +73,25 @@ fn own_legs(rows: &mut [u16], table: &[u16], n: usize, net: u16) -> usize
     ensures { Own rows.new table.now net n result }
 {
     let mut j = 0;
-    let mut k = 0;
-    while k < n {
+    for k in 0..n {
         j = keep_own(rows, j, table, k, net);
-        k += 1;
     }
     j
 }
 
-// Searches the first path of fewest bends and least length from (sx, sy), which is free for the net, to one of the
-// net's legs. Answers how many corners it has, 0 where there is no path. Where they fit, they are written to the front
-// of out.
+// Searches the first path of fewest bends and least length from the point, which is free for the net, to one of the
+// net's legs. Answers how many corners it has, if there is a path. Where they fit, they are written to the front of
+// out.
 pub fn path_to_net(
     out: &mut [u16],
     table: &[u16],
     board: Board,
     net: u16,
-    sx: u16,
-    sy: u16,
-) -> usize
-    requires { Asked table.now board.entries (pen_in board) board.width board.height net (point sx sy) }
+    from: Point,
+) -> Option<usize>
+    requires { Asked table.now board.entries (pen_in board) board.width board.height net from }
     ensures { PathFound (join_of net (layout_of board.width board.height (pen_in board) board.entries
-        table.now) (point sx sy)) out.old out.new result }
+        table.now) from) out.old out.new result }
 {
     let mut others = [0u16; TABLE_SIZE];
     let j = without(&mut others, table, board.entries, net);
@@ -113,23 +105,22 @@ pub fn path_to_net(
         k,
         w: board.width,
         h: board.height,
-        sx,
-        sy,
+        from,
     };
     first_path_to(out, &boxes, &legs, aim)
 }
 
 // Whether the point is free for the net: neither the edge nor an entry of another net blocks it.
-fn clear_for(table: &[u16], board: Board, net: u16, x: u16, y: u16) -> bool
+fn clear_for(table: &[u16], board: Board, net: u16, point: Point) -> bool
     requires { Known table.now board.entries (pen_in board) board.width board.height }
     ensures { result ≡ free_for net (layout_of board.width board.height (pen_in board) board.entries
-        table.now) x y }
+        table.now) point.x point.y }
 {
     let mut others = [0u16; TABLE_SIZE];
     let j = without(&mut others, table, board.entries, net);
     let mut boxes = [0u16; BOXES_SIZE];
     let n = pen_zones(&mut boxes, &others, j, board);
-    let spot = [x, y];
+    let spot = [point.x, point.y];
     is_way(&boxes, n, board.width, board.height, &spot)
 }
 
@@ -139,19 +130,18 @@ fn join_from(
     table: &mut [u16],
     strips: &mut [u16],
     corners: &mut [u16],
-    board: Board,
+    board: &mut Board,
     limit: usize,
     net: u16,
-    sx: u16,
-    sy: u16,
-) -> Done
-    requires ready_to_join { ReadyToJoin (lent board table.old strips.old) net (point sx sy) }
+    from: Point,
+) -> Answer
+    requires ready_to_join { ReadyToJoin (lent board.old table.old strips.old) net from }
     requires limit_le_max_entries { limit ≤ max_entries }
-    ensures { OutputIn (joins net (point sx sy)) limit
-        (lent board table.old strips.old) corners.old
-        result table.new strips.new corners.new }
+    ensures { OutputIn (joins net from) limit
+        (lent board.old table.old strips.old) corners.old
+        result board.new table.new strips.new corners.new }
 {
     let mut path = [0u16; PATH_SIZE];
-    let k = path_to_net(&mut path, table, board, net, sx, sy);
-    book_found(table, strips, corners, board, limit, net, &path, k)
+    let found = path_to_net(&mut path, table, *board, net, from);
+    book_found(table, strips, corners, board, limit, net, &path, found)
 }

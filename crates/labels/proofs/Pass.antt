@@ -10,6 +10,7 @@ use mathlib.Core.List.{List}
 use lib.Dec.{eqb}
 use borrow.Author.Tests.{eqb-true}
 use lib.ListN.{get_or, length}
+use Rattle.std.specs.Prelude.{Some, None}
 use Rattle.grid.specs.Size.{stride}
 use Rattle.runs.specs.Line.{along, across, Linked, RunStart, RunEnd, label_top}
 use Rattle.runs.specs.Ink.{OnLine, StopIn, Blank, RunInked, LeastInk, Inked, Lean}
@@ -18,6 +19,7 @@ use Rattle.labels.specs.Pass.{Widened, NextNew, Fill, held, fresh, RunFilled, Vi
 use Rattle.labels.specs.Pass.{OneWay, LineLists, Visiting}
 use Rattle.labels.specs.Pass.{Part, stood, got, Done, labelled, waits, NewLabel, Visited}
 use Rattle.labels.specs.Pass.{Spanned, PassTo}
+use Rattle.labels.specs.declared.Run.{Run}
 use Rattle.labels.proofs.Runs.{zeros-le}
 use Rattle.runs.proofs.Inks.{lean-low}
 use Rattle.runs.proofs.Line.{linked-sym, linked-trans, in-run, run-joined}
@@ -45,7 +47,7 @@ module _ {lab own other inks link cross : List ℕ} {m n : ℕ} (W : OneWay lab 
 
 -- a visit of a crossing whose run has labels
 pub visit-passed : {other inks link cross l w : List ℕ} {line n k v low : ℕ} → low ≡ floor v →
-    low < along l line k → Visit other inks link cross line n k v l l w w 0 0 0
+    low < along l line k → Visit other inks link cross line n k v l l w w None
 visit-passed {l = l} {line = line} {k = k} {v = v} e x = let z : floor v < along l line k = omega arith in passed z
 
 -- The run of a crossing that is visited.
@@ -303,14 +305,6 @@ visited-full {other} {link} {m} {n} {v} {l₀} {l} pos fm G twin = record {
 spanned-none : {t : List ℕ} {m n : ℕ} (l : List ℕ) → Marks t n → Spanned t m n l l
 spanned-none l M = record { fit = M; whole = λ i li k lk z y. absurd (y z) }
 
-spanned-same : {t t' : List ℕ} {m n : ℕ} {l₀ l : List ℕ} {line lo hi c : ℕ} → hi ≤ n → Widened line lo hi c t t' →
-    Spanned t m n l₀ l → Spanned t' m n l₀ l
-spanned-same le W A =
-    record {
-      fit = W.marks _ le A.fit;
-      whole = λ i li k lk z y. W.old i k (A.whole i li k lk z y);
-    }
-
 -- a run with new labels, or with none
 spanned-run : {t t' : List ℕ} {m n v line lo hi : ℕ} {l₀ l l' : List ℕ} {c : ℕ} → n ≤ stride → hi ≤ n →
     RunFilled line lo hi v l l' c → Widened line lo hi c t t' → Spanned t m n l₀ l → Spanned t' m n l₀ l'
@@ -389,10 +383,6 @@ passing-none other inks link cross m n v l w M F = record {
   spanned = spanned-none l M;
 }
 
-pub passing-at : {other inks link cross : List ℕ} {m n v p r : ℕ} {l₀ l w₀ w t : List ℕ} {c : ℕ} → p ≡ r →
-    PassTo other inks link cross m n v p l₀ l w₀ w t c → PassTo other inks link cross m n v r l₀ l w₀ w t c
-passing-at e G = rw (← e) G
-
 -- from one crossing of line h of the other direction to the next with the label v
 pub passing-next : {other inks link cross : List ℕ} {m n v h at end r : ℕ} {l₀ l w₀ w t : List ℕ} {c : ℕ} →
     m ≤ stride → NextNew other h at end v r → end ≤ m →
@@ -455,36 +445,35 @@ pub passing-few : {other inks link cross : List ℕ} {m n v p : ℕ} {l₀ l w�
 passing-few {l₀ = l₀} G = omega (arith, G.visited.count, zeros-le l₀)
 
 -- a visit takes from the places without a label as many as it gives labels
-pub visit-count : {other inks link cross : List ℕ} {line n k v lo hi c : ℕ} {l l' w w' : List ℕ} →
-    Visit other inks link cross line n k v l l' w w' lo hi c → zeros l' + c ≡ zeros l
-visit-count {l = l} (passed x) = add-zero (zeros l)
-visit-count {l = l} (left x) = add-zero (zeros l)
+pub visit-count : {other inks link cross : List ℕ} {line n k v : ℕ} {l l' w w' : List ℕ} {r : Run} →
+    Visit other inks link cross line n k v l l' w w' (Some r) → zeros l' + r.new ≡ zeros l
 visit-count (ran s e K R) = R.count
 
 -- its run is on the line
-pub visit-in : {other inks link cross : List ℕ} {line n k v lo hi c : ℕ} {l l' w w' : List ℕ} → k < n →
-    Visit other inks link cross line n k v l l' w w' lo hi c → (lo ≤ n) × (hi ≤ n)
-visit-in lk (passed x) = (omega arith, omega arith)
-visit-in lk (left x) = (omega arith, omega arith)
+pub visit-in : {other inks link cross : List ℕ} {line n k v : ℕ} {l l' w w' : List ℕ} {r : Run} → k < n →
+    Visit other inks link cross line n k v l l' w w' (Some r) → (r.lo ≤ n) × (r.hi ≤ n)
 visit-in lk (ran s e K R) = (omega (arith, s.le), e.le)
 
--- crossing h of a line is visited, and its marks are made to span the run
+-- crossing h of a line is visited, and its marks are made to span the run, if there is one
 module _ {other inks link cross : List ℕ} {m n v : ℕ} {l₀ l w₀ w t : List ℕ} {c line h : ℕ} (few : n ≤ stride)
     (fm : m ≤ stride) (ll : line < m) (lh : h < n) (ev : across other line h ≡ v)
     (G : PassTo other inks link cross m n v (h * stride + line) l₀ l w₀ w t c) where
-  pub passing-more : {l' w' t' : List ℕ} {lo hi d : ℕ} → Visit other inks link cross line n h v l l' w w' lo hi d →
-      Widened line lo hi d t t' →
-      PassTo other inks link cross m n v (h * stride + (line + 1)) l₀ l' w₀ w' t' (c + d)
-  passing-more (passed x) W = rw (add-zero c) (record {
+  pub passing-still : {l' w' : List ℕ} → Visit other inks link cross line n h v l l' w w' None →
+      PassTo other inks link cross m n v (h * stride + (line + 1)) l₀ l' w₀ w' t c
+  passing-still (passed x) = record {
     visited = visited-skip ll lh fm G.visited x;
     inked = G.inked;
-    spanned = spanned-same (omega arith) W G.spanned;
-  })
-  passing-more (left x) W = rw (add-zero c) (record {
+    spanned = G.spanned;
+  }
+  passing-still (left x) = record {
     visited = visited-as-is ll lh fm G.visited (waits x);
     inked = G.inked;
-    spanned = spanned-same (omega arith) W G.spanned;
-  })
+    spanned = G.spanned;
+  }
+
+  pub passing-more : {l' w' t' : List ℕ} {r : Run} → Visit other inks link cross line n h v l l' w w' (Some r) →
+      Widened line r.lo r.hi r.new t t' →
+      PassTo other inks link cross m n v (h * stride + (line + 1)) l₀ l' w₀ w' t' (c + r.new)
   passing-more (ran s e K R) W = record {
     visited = visited-run ll lh fm G.visited few ev s e R;
     inked = inked-run lh few G.visited s e R K G.inked;

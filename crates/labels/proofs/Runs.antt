@@ -32,17 +32,6 @@ zeros-le (suc x ∷ l) = let h = zeros-le l in omega arith
 fill-eq : {v a b a' b' : ℕ} → a ≡ a' → b ≡ b' → Fill v a b → Fill v a' b'
 fill-eq p q h = rw (← p, ← q) h
 
-pub filled_none : (line lo v : ℕ) (l : List ℕ) → RunFilled line lo lo v l l 0
-filled_none line lo v l = record {
-  size = refl;
-  fill = λ j p q. absurd (omega arith);
-  low = λ i p. refl;
-  high = λ i p. refl;
-  count = add-zero (zeros l);
-  same = λ e. refl;
-  new = λ e. absurd (e refl);
-}
-
 module _ {line lo k v : ℕ} {l₀ l : List ℕ} {c : ℕ} (R : RunFilled line lo k v l₀ l c) where
   filled-stays : along l line k ≢ 0 → RunFilled line lo (k + 1) v l₀ l c
   filled-stays x = record {
@@ -80,10 +69,6 @@ pub filled_more : {line lo k v : ℕ} {l₀ l l' : List ℕ} {c d : ℕ} → lin
 filled_more {line} {lo} {k} {v} {l₀} {l} {l'} {c} fit le R (stays x) =
     rw (add-zero c) (filled-stays R x)
 filled_more fit le R (puts z) = filled-puts R fit le z
-
-pub filled-done : {line lo k j v : ℕ} {l₀ l : List ℕ} {c d : ℕ} → k ≡ j → c ≡ d → RunFilled line lo k v l₀ l c →
-    RunFilled line lo j v l₀ l d
-filled-done e f h = rw (← e, ← f) h
 
 pub cell-few : {line k v : ℕ} {l l' : List ℕ} {c : ℕ} → CellFilled line k v l l' c → c ≤ 1
 cell-few (stays x) = omega arith

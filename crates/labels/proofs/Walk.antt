@@ -98,13 +98,6 @@ module _ {l u wl wu kl ku cols rows : List ℕ} {nc nr : ℕ} {w : Walker} {out 
       go true f = record { crossings = []; trail = rw (f, e) done; wrote = refl }
 
   -- nothing is walked where the target is met or no leg is left
-  pub part-met : {legs : ℕ} → Standing l u nc nr w out → w.label ≡ 1
-      → Part l u wl wu kl ku cols rows nc nr legs w out w out
-  part-met s e = record { standing = s; falls = omega arith; nearer = λ m k. absurd (omega arith); rest = λ end k. k }
-
-  pub part_none : {legs : ℕ} → Standing l u nc nr w out → legs ≡ 0
-      → Part l u wl wu kl ku cols rows nc nr legs w out w out
-  part_none s e = record { standing = s; falls = omega arith; nearer = λ m k. absurd (omega arith); rest = λ end k. k }
 
   -- one segment, and a part from its end
   pub part-level : {legs q : ℕ} {w' : Walker} {mid out' : List ℕ} → w.upright ≡ false → 1 ≤ w.label
@@ -181,6 +174,6 @@ module _ {l u wl wu kl ku cols rows : List ℕ} {nc nr : ℕ} {w₀ : Walker} {o
     rest = λ end m. k.rest end (p.rest end m);
   }
 
-  pub walking-done : {w : Walker} {out : List ℕ} → Walking l u wl wu kl ku cols rows nc nr w₀ out₀ w out
+  pub walking_done : {w : Walker} {out : List ℕ} → Walking l u wl wu kl ku cols rows nc nr w₀ out₀ w out
       → w.label ≤ 1 → Walk l u wl wu kl ku cols rows nc nr w₀ out₀ out
-  walking-done {out = out} k e = k.rest out (walk-done (omega (arith, k.standing.some)))
+  walking_done {out = out} k e = k.rest out (walk-done (omega (arith, k.standing.some)))

@@ -1,9 +1,12 @@
 -- A pass over m lines with n crossings each: what is joined with a label v of the other direction gets the label v + 1.
-use Rattle.std.specs.Prelude.{ℕ, zero, suc, ◌+◌, ◌-◌, ◌*◌, ◌≤◌, ◌<◌, ◌≡◌, ◌≢◌, Bool, true, false, List, [], ◌∷◌, get_or, set, length}
+use Rattle.std.specs.Prelude.{ℕ, zero, suc, ◌+◌, ◌-◌, ◌*◌, ◌≤◌, ◌<◌, ◌≡◌, ◌≢◌, Bool, true, false, List, [], ◌∷◌, get_or}
+use Rattle.std.specs.Prelude.{set, length}
+use Rattle.std.specs.Prelude.{Option, Some, None}
 use Rattle.grid.specs.Size.{stride, area}
 use Rattle.grid.specs.Lines.{Lines}
 use Rattle.runs.specs.Line.{along, across, HasLine, Linked, RunStart, RunEnd, Left, label_top}
 use Rattle.runs.specs.Ink.{RunInked, LeastInk, Inked, Lean}
+use Rattle.labels.specs.declared.Run.{Run}
 
 -- how many places have no label
 unfoldable pub zeros : List ℕ → ℕ
@@ -154,15 +157,15 @@ pub record PassRoom (from marks ahead behind : List ℕ) (n : ℕ) : Type 0 wher
   pub ahead-room : stride ≤ length ahead
   pub behind-room : stride ≤ length behind
 
--- a visit of crossing k of a line: its run, lo to hi, gets inks and labels, c of which are new, or its label says that
--- this was done, or it is left to the visit of a crossing before it
+-- a visit of crossing k of a line: its run, lo to hi, gets inks and labels, c of which are new, or there is none: its
+-- label says that this was done, or it is left to the visit of a crossing before it
 pub data Visit (other inks link cross : List ℕ) (line n k v : ℕ)
-    : List ℕ → List ℕ → List ℕ → List ℕ → ℕ → ℕ → ℕ → Type 0 where
-  passed : {l w : List ℕ} → floor v < along l line k → Visit other inks link cross line n k v l l w w 0 0 0
-  left : {l w : List ℕ} → Left other link line k v → Visit other inks link cross line n k v l l w w 0 0 0
+    : List ℕ → List ℕ → List ℕ → List ℕ → Option Run → Type 0 where
+  passed : {l w : List ℕ} → floor v < along l line k → Visit other inks link cross line n k v l l w w None
+  left : {l w : List ℕ} → Left other link line k v → Visit other inks link cross line n k v l l w w None
   ran : {l₀ l w₀ w : List ℕ} {lo hi c : ℕ} → RunStart link line k lo → RunEnd link line n k hi →
       RunInked other inks cross line v lo hi hi l₀ w₀ w → RunFilled line lo hi v l₀ l c →
-      Visit other inks link cross line n k v l₀ l w₀ w lo hi c
+      Visit other inks link cross line n k v l₀ l w₀ w (Some (record { lo = lo; hi = hi; new = c }))
 
 -- all that is joined with crossing k of a line has a label, or that is left to the visit of a crossing before it
 pub data Done (other link : List ℕ) (line n v : ℕ) (l : List ℕ) (k : ℕ) : Type 0 where

@@ -12,7 +12,7 @@ ghost use Rattle.std.specs.Prelude.{◌≡◌, true, false, ℕ, ◌+◌, ◌*�
 ghost use Rattle.grid.specs.Size.{stride};
 ghost use Rattle.runs.specs.Line.{along, HasLine, label_top};
 ghost use Rattle.runs.specs.Ink.{OnLine, Blank};
-ghost use Rattle.labels.specs.Pass.{Below, floor, Marks, Marked, Widened, NextNew, Summed};
+ghost use Rattle.labels.specs.Pass.{Below, Marks, Marked, Widened, NextNew, Summed};
 ghost use Rattle.labels.specs.Pass.{OneWay, LineLists, Visiting, Seeking, PassRoom};
 ghost use Rattle.labels.specs.Pass.{CellFilled, RunFilled, Visit, PassTo, Alone};
 ghost use Rattle.labels.specs.Rounds.{Sized, Begun, Shallow, Trying, Tried, Ended};
@@ -20,16 +20,16 @@ ghost use Rattle.labels.specs.Walk.{Walkable, Standing, Walk, Part};
 
 use foil_spec::Point;
 use grid::STRIDE;
-use places::{larger, put_corner};
+use places::put_corner;
 use runs::{
-    ahead_of, behind_of, first_stop, has_label, ink_at, ink_run, is_left, nearer, next_stop,
-    run_end, run_start,
+    ahead_of, behind_of, first_stop, has_label, ink_at, ink_run, is_left, next_stop, run_end,
+    run_start,
 };
 
 // The marks of the lines of a direction have two numbers for each.
 const MARKS: usize = 538;
 
-// What a visit did: the crossings lo to hi, hi excluded, of the run, and how many of them got labels.
+// The run of a visit: its crossings lo to hi, hi excluded, and how many of them got labels.
 #[derive(Clone, Copy)]
 struct Run {
     lo: usize,
@@ -45,10 +45,8 @@ fn widen(marks: &mut [u16], line: usize, run: Run)
     if run.new == 0 {
         return;
     }
-    let first = larger(marks[2 * line], (STRIDE - run.lo) as u16);
-    let end = larger(marks[2 * line + 1], run.hi as u16);
-    marks[2 * line] = first;
-    marks[2 * line + 1] = end;
+    marks[2 * line] = marks[2 * line].max((STRIDE - run.lo) as u16);
+    marks[2 * line + 1] = marks[2 * line + 1].max(run.hi as u16);
 }
 
 // The first crossing of a line with the label v from the crossing `at` on, or `end`.
@@ -56,12 +54,10 @@ fn scan_new(labels: &[u16], line: usize, at: usize, end: usize, v: u16) -> usize
     requires { (line < stride) × (end ≤ stride) × HasLine labels.now line }
     ensures { NextNew labels.now line at end v result }
 {
-    let mut k = at;
-    while k < end {
+    for k in at..end {
         if labels[line * STRIDE + k] == v {
             return k;
         }
-        k += 1;
     }
     end
 }
@@ -71,7 +67,7 @@ fn next_new(labels: &[u16], line: usize, at: usize, end: usize, v: u16) -> usize
     requires { (line < stride) × (end ≤ stride) × HasLine labels.now line }
     ensures { NextNew labels.now line at end v result }
 {
-    nearer(scan_new(labels, line, at, end, v), end)
+    scan_new(labels, line, at, end, v).min(end)
 }
 
 // The sum of the labels of a line with n crossings, each of which is 1 at most.
@@ -80,13 +76,7 @@ fn sum_of(labels: &[u16], line: usize, n: usize) -> u16
         × ((k : ℕ) → k < n → along labels.now line k ≤ 1) }
     ensures { Summed labels.now line n result }
 {
-    let mut sum = 0;
-    let mut k = 0;
-    while k < n {
-        sum += labels[line * STRIDE + k];
-        k += 1;
-    }
-    sum
+    labels[line * STRIDE..line * STRIDE + n].iter().sum()
 }
 
 // Marks the lines, m with n crossings each, that have a target's label, from end to end.
@@ -96,19 +86,9 @@ fn mark_targets(marks: &mut [u16], labels: &[u16], m: usize, n: usize)
     requires below { Below m n labels.now 1 × Marks marks.old n }
     ensures { Marked marks.new m n labels.now 1 }
 {
-    let mut line = 0;
-    while line < m {
-        let sum = sum_of(labels, line, n);
-        widen(
-            marks,
-            line,
-            Run {
-                lo: 0,
-                hi: n,
-                new: sum as usize,
-            },
-        );
-        line += 1;
+    for line in 0..m {
+        let new = sum_of(labels, line, n) as usize;
+        widen(marks, line, Run { lo: 0, hi: n, new });
     }
 }
 
@@ -132,26 +112,14 @@ fn fill_run(labels: &mut [u16], line: usize, lo: usize, hi: usize, v: u16, blank
     ensures { RunFilled line lo hi v labels.old labels.new result }
 {
     let mut new = 0;
-    let mut k = lo;
-    while k < hi {
+    for k in lo..hi {
         new += fill_cell(labels, line, k, v, blank);
-        k += 1;
     }
     new
 }
 
-// Up to which label a crossing may have no run yet in the round that looks for v: 1, the target's, in the first.
-fn floor_of(v: u16) -> u16
-    ensures { result ≡ floor v }
-{
-    if v < 2 {
-        return 2 - v;
-    }
-    0
-}
-
 // Gives the run of crossing k inks and labels, unless a label above `low` says that this is done, or it is left to the
-// visit of a crossing before k.
+// visit of a crossing before k. Answers the run, if it was given them.
 fn visit(
     labels: &mut [u16],
     own: &mut [u32],
@@ -166,25 +134,14 @@ fn visit(
     k: usize,
     v: u16,
     low: u16,
-) -> Run
+) -> Option<Run>
     requires { OnLine other.now inks.now cross.now line n v × LineLists labels.old own.old link.now line
         × Visiting labels.old other.now link.now ahead.old behind.old line n k v low }
     ensures { Visit other.now inks.now link.now cross.now line n k v
-        labels.old labels.new own.old own.new result.lo result.hi result.new }
+        labels.old labels.new own.old own.new result }
 {
-    if low < labels[line * STRIDE + k] {
-        return Run {
-            lo: 0,
-            hi: 0,
-            new: 0,
-        };
-    }
-    if is_left(other, link, line, k, v) {
-        return Run {
-            lo: 0,
-            hi: 0,
-            new: 0,
-        };
+    if low < labels[line * STRIDE + k] || is_left(other, link, line, k, v) {
+        return None;
     }
     let lo = run_start(link, line, k);
     let hi = run_end(link, line, n, k);
@@ -195,7 +152,7 @@ fn visit(
         own, ahead, behind, labels, other, inks, cross, line, n, lo, hi, v, blank,
     );
     let new = fill_run(labels, line, lo, hi, v, blank);
-    Run { lo, hi, new }
+    Some(Run { lo, hi, new })
 }
 
 // A pass over m lines with n crossings each: labels v + 1 what is joined with a label v of the other direction, whose
@@ -222,22 +179,22 @@ fn label_pass(
         m n v (n * stride) labels.old labels.new own.old own.new
         marks.new result }
 {
-    let low = floor_of(v);
+    // Up to which label a crossing may have no run yet: 1, the target's, in the first round.
+    let low = 2u16.saturating_sub(v);
     let mut new = 0;
-    let mut k = 0;
-    while k < n {
+    for k in 0..n {
         let first = STRIDE - from[2 * k] as usize;
         let end = from[2 * k + 1] as usize;
         let mut line = next_new(other, k, first, end, v);
         while line < end {
-            let run = visit(
+            if let Some(run) = visit(
                 labels, own, ahead, behind, other, inks, link, cross, line, n, k, v, low,
-            );
-            new += run.new;
-            widen(marks, line, run);
+            ) {
+                new += run.new;
+                widen(marks, line, run);
+            }
             line = next_new(other, k, line + 1, end, v);
         }
-        k += 1;
     }
     new
 }
@@ -300,10 +257,7 @@ fn last_round(
 {
     let along = label_alone(level, il, upright, iu, kl, cols, j, nc, i, v);
     let up = label_alone(upright, iu, level, il, ku, rows, i, nr, j, v);
-    if along {
-        return true;
-    }
-    up
+    along || up
 }
 
 // Rounds of a level and an upright pass until the crossing of column i and row j gets a label, or a round labels
@@ -423,10 +377,7 @@ fn level_step(
         result out.new }
 {
     let v = w.label;
-    if v == 1 {
-        return w;
-    }
-    if legs == 0 {
+    if v == 1 || legs == 0 {
         return w;
     }
     let i = w.i;
@@ -485,10 +436,7 @@ fn upright_step(
         result out.new }
 {
     let v = w.label;
-    if v == 1 {
-        return w;
-    }
-    if legs == 0 {
+    if v == 1 || legs == 0 {
         return w;
     }
     let i = w.i;
@@ -554,6 +502,7 @@ fn walk_part(
 }
 
 // Puts all corners of a walk that are still to come, part by part.
+#[tactic(auto, using(crate::proofs::Walk::walking_done))]
 pub fn walk_on(
     out: &mut [u16],
     level: &[u16],

@@ -13,9 +13,8 @@ use Rattle.foil_spec.specs.Ledger.{lay, path_of, no_path, corners_of, off_foil, 
 use Rattle.foil_spec.specs.Ledger.{is_too_fine, next, Refusal, ◌⇒◌, first, refusals}
 use Rattle.foil_spec.specs.Lent.{Lent, lent, entry_at, layout_of, held, sound}
 use Rattle.foil_spec.specs.declared.Board.{Board}
-use Rattle.foil.specs.Contract.{OutputIn, refused_by}
-use Rattle.foil.specs.declared.Done.{Done}
-use Rattle.foil.specs.declared.lent.Checked.TheVariants as checked
+use Rattle.std.specs.Prelude.{Ok, Err}
+use Rattle.foil.specs.Contract.{OutputIn}
 use Rattle.foil.proofs.Giving.{own-wrote}
 use Rattle.finding.specs.Points.{PointsChecked}
 use Rattle.laying.specs.Ready.{ReadyToLay}
@@ -25,19 +24,19 @@ module _ (b : Board) (t s : List ℕ) (net : ℕ) (S T : Point) (y : sound (lent
   m = lent b t s
 
   module _ (o : Bool) (o_is : o ≡ net_ok net) where
-    pub no-net : (ks : List ℕ) (limit : ℕ) → not o ≡ true → (r : Done) → r ≡ refused_by 4 b
-        → OutputIn (lay net S T) limit m ks r t s ks
+    pub no-net : (ks : List ℕ) (limit : ℕ) → not o ≡ true
+        → OutputIn (lay net S T) limit m ks (Err 4) b t s ks
     unfolding first refusals
-    no-net ks limit n r q room long _ _ =
-        own-wrote (lay net S T) m 4 r q y room ks long (rw (sym o_is ∙ not-true o n) refl)
+    no-net ks limit n room long _ _ =
+        own-wrote (lay net S T) m 4 y room ks long (rw (sym o_is ∙ not-true o n) refl)
 
     module _ (ok : not o ≡ false) (u : Bool)
         (u-is : u ≡ in_use net (map (entry_at t) (range 0 b.entries))) where
-      pub used : (ks : List ℕ) (limit : ℕ) → u ≡ true → (r : Done) → r ≡ refused_by 5 b
-          → OutputIn (lay net S T) limit m ks r t s ks
+      pub used : (ks : List ℕ) (limit : ℕ) → u ≡ true
+          → OutputIn (lay net S T) limit m ks (Err 5) b t s ks
       unfolding first refusals held layout_of
-      used ks limit e r q room long _ _ =
-          own-wrote (lay net S T) m 5 r q y room ks long (rw (sym o_is ∙ not-false o ok, sym u-is ∙ e) refl)
+      used ks limit e room long _ _ =
+          own-wrote (lay net S T) m 5 y room ks long (rw (sym o_is ∙ not-false o ok, sym u-is ∙ e) refl)
 
       module _ (unused : u ≡ false) where
         -- the net is allowed and not in use
@@ -62,13 +61,13 @@ module _ (b : Board) (t s : List ℕ) (net : ℕ) (S T : Point) (y : sound (lent
         unfolding first refusals
         from-7 room = rw (in_order.0, in_order.1) refl
 
-        pub ends-refused : (ks : List ℕ) (limit n : ℕ) → PointsChecked (held m) S T (checked.Refused n) → (r : Done)
-            → r ≡ refused_by n b → OutputIn (lay net S T) limit m ks r t s ks
-        ends-refused ks limit n k r q room long _ _ =
-            own-wrote (lay net S T) m n r q y room ks long (from-7 room ∙ k (later room))
+        pub ends-refused : (ks : List ℕ) (limit n : ℕ) → PointsChecked (held m) S T (Err n)
+            → OutputIn (lay net S T) limit m ks (Err n) b t s ks
+        ends-refused ks limit n k room long _ _ =
+            own-wrote (lay net S T) m n y room ks long (from-7 room ∙ k (later room))
 
-        pub ready-to-lay : PointsChecked (held m) S T checked.Passed → ReadyToLay m net S T
-        ready-to-lay k =
+        pub ready-to-lay : (u : Unit {0}) → PointsChecked (held m) S T (Ok u) → ReadyToLay m net S T
+        ready-to-lay u k =
             record {
               fine = y;
               may =

@@ -1,7 +1,7 @@
 -- Lay from its search on: what comes of the first path between its points.
 use Prim.Native.Nat.{ℕ, ◌*◌, ◌≤◌}
 use native.Mathlib.Omega.{arith}
-use mathlib.Core.Path.{◌≡◌, ap}
+use mathlib.Core.Path.{◌≡◌, refl, ap, ◌∙◌}
 use mathlib.Core.Bool.{false, not}
 use mathlib.Core.List.{List}
 use mathlib.Core.Option.{Option}
@@ -10,15 +10,15 @@ use Rattle.foil_spec.specs.Lists.{each}
 use Rattle.foil_spec.specs.Foil.{Point, Layout, free}
 use Rattle.foil_spec.specs.Paths.{at}
 use Rattle.foil_spec.specs.Corners.{point_numbers}
-use Rattle.foil_spec.specs.Ledger.{lay, path_of, corners_of, Room, short, next, says, settle}
+use Rattle.foil_spec.specs.Ledger.{lay, path_of, corners_of, no_path, Room, short, next, says, settle}
 use Rattle.foil_spec.specs.Lent.{Lent, lent, store, layout_of, pen_in, held, sound, step_on}
 use Rattle.foil_spec.specs.declared.Board.{Board}
 use Rattle.zones.proofs.Free.{free-inside}
 use Rattle.ledger_laws.proofs.Lay.{lay-from-9}
-use Rattle.foil.specs.Contract.{OutputIn}
-use Rattle.foil.specs.declared.Done.{Done}
+use Rattle.foil.specs.Contract.{Answer, OutputIn}
+use Rattle.std.specs.Prelude.{Option as Counted}
 use Rattle.finding.specs.Found.{Found}
-use Rattle.booking.specs.Tracks.{most_corners, MayTrack, Searched, track_laid, Tracked}
+use Rattle.booking.specs.Tracks.{most_corners, MayTrack, corners_on, Searched, track_laid, Tracked}
 use Rattle.booking.proofs.Tracking.{may-track, step-tracked}
 use Rattle.laying.specs.Ready.{ReadyToLay}
 
@@ -37,18 +37,23 @@ module _ (b : Board) (t s : List ℕ) (net : ℕ) (S T : Point) (y : ReadyToLay 
       settle o (record { answer = says (lay net S T) l; state = store (next (lay net S T) l) m }) m)
       (lay-from-9 room (not (sound m)) l net S T long (ap not y.fine) y.may)
 
-  module _ (path₀ path : List ℕ) (k : ℕ) (long₀ : most_corners * 2 ≤ length path₀)
+  module _ (path₀ path : List ℕ) (k : Counted ℕ) (long₀ : most_corners * 2 ≤ length path₀)
       (found : Found (layout_of b.width b.height (pen_in b) b.entries t) S T path₀ path k) where
     searched : Searched (path_of l S T) path k
-    unfolding held corners_of
+    unfolding held
     searched =
         record {
-          none = found.none;
-          count = found.count;
-          corners = λ few. (
-            drop (length (each point_numbers (corners_of l S T))) path₀,
-            found.corners (omega arith),
-          );
+          nowhere = λ e. ap no_path (found.nowhere e).0 ∙ unfold no_path in refl;
+          corners = λ n e.
+              let f = found.found n e in
+              record {
+                some = f.some;
+                count = f.count;
+                corners = λ few. (
+                  drop (length (each point_numbers (corners_on (path_of l S T)))) path₀,
+                  f.corners (omega arith),
+                );
+              };
         }
 
     pub may-lay : most_corners * 2 ≤ length path → MayTrack m net path k
@@ -56,8 +61,8 @@ module _ (b : Board) (t s : List ℕ) (net : ℕ) (S T : Point) (y : ReadyToLay 
     may-lay long =
         may-track m net path k (free l) (free-inside l) S (at T) y.fine y.may.allowed long searched
 
-    pub lay_done : (limit : ℕ) (ks : List ℕ) (r : Done) (t' s' ks' : List ℕ)
-        → ((o : Option (List Point)) → Searched o path k → Tracked net limit o m ks r t' s' ks')
-        → OutputIn (lay net S T) limit m ks r t' s' ks'
-    lay_done limit ks r t' s' ks' h =
-        step-tracked (lay net S T) net limit (path_of l S T) m ks lay-tracks r t' s' ks' (h (path_of l S T) searched)
+    pub lay_done : (limit : ℕ) (ks : List ℕ) (r : Answer) (b' : Board) (t' s' ks' : List ℕ)
+        → ((o : Option (List Point)) → Searched o path k → Tracked net limit o m ks r b' t' s' ks')
+        → OutputIn (lay net S T) limit m ks r b' t' s' ks'
+    lay_done limit ks r b' t' s' ks' h =
+        step-tracked (lay net S T) net limit (path_of l S T) m ks lay-tracks r b' t' s' ks' (h (path_of l S T) searched)

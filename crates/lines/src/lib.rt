@@ -17,6 +17,7 @@ use put::{put_corners, put_item};
 use putting::{put_bytes, put_number};
 
 // The line of a new foil: the refusal number, 0 if accepted.
+#[tactic(auto, unfolding(crate::specs::Lines::board_line))]
 pub fn board_line(out: &mut [u8], at: usize, number: u8) -> usize
     requires { at + 64 ≤ length out.old }
     ensures put { Put out.old at (board_line number) out.new result }
@@ -26,6 +27,7 @@ pub fn board_line(out: &mut [u8], at: usize, number: u8) -> usize
 }
 
 // The line of a patch: the refusal number, 0 if accepted.
+#[tactic(auto, unfolding(crate::specs::Lines::patch_line))]
 pub fn patch_line(out: &mut [u8], at: usize, number: u8) -> usize
     requires { at + 64 ≤ length out.old }
     ensures put { Put out.old at (patch_line number) out.new result }
@@ -35,6 +37,7 @@ pub fn patch_line(out: &mut [u8], at: usize, number: u8) -> usize
 }
 
 // The line of a track that was refused: its net and the number.
+#[tactic(auto, unfolding(crate::specs::Lines::track_refused))]
 pub fn track_refused(out: &mut [u8], at: usize, net: u16, number: u8) -> usize
     requires { at + 64 ≤ length out.old }
     ensures put { Put out.old at (track_refused net number) out.new result }
@@ -68,6 +71,7 @@ pub fn track_laid(
 }
 
 // The line of a lift: the net and the refusal number, 0 if accepted.
+#[tactic(auto, unfolding(crate::specs::Lines::lift_line))]
 pub fn lift_line(out: &mut [u8], at: usize, net: u16, number: u8) -> usize
     requires { at + 64 ≤ length out.old }
     ensures put { Put out.old at (lift_line net number) out.new result }
@@ -77,6 +81,7 @@ pub fn lift_line(out: &mut [u8], at: usize, net: u16, number: u8) -> usize
 }
 
 // The line of a leg: the net and the refusal number, 0 if accepted.
+#[tactic(auto, unfolding(crate::specs::Lines::leg_line))]
 pub fn leg_line(out: &mut [u8], at: usize, net: u16, number: u8) -> usize
     requires { at + 64 ≤ length out.old }
     ensures put { Put out.old at (leg_line net number) out.new result }
@@ -100,6 +105,7 @@ pub fn strip_line(out: &mut [u8], at: usize, strip: Strip) -> usize
 }
 
 // The line of a file that was refused: the number.
+#[tactic(auto, unfolding(crate::specs::Lines::file_line))]
 pub fn file_line(out: &mut [u8], at: usize, number: u8) -> usize
     requires { at + 64 ≤ length out.old }
     ensures put { Put out.old at (file_line number) out.new result }
@@ -116,7 +122,7 @@ fn number_line(out: &mut [u8], at: usize, word: &[u8], number: u8) -> usize
     ensures upper_bound { result ≤ at + length word.now + 7 }
 {
     let a = put_bytes(out, at, word);
-    let b = put_item(out, a, number as u16);
+    let b = put_item(out, a, u16::from(number));
     put_bytes(out, b, b"\n")
 }
 
@@ -129,6 +135,6 @@ fn net_line(out: &mut [u8], at: usize, word: &[u8], net: u16, number: u8) -> usi
 {
     let a = put_bytes(out, at, word);
     let b = put_item(out, a, net);
-    let c = put_item(out, b, number as u16);
+    let c = put_item(out, b, u16::from(number));
     put_bytes(out, c, b"\n")
 }

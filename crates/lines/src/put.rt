@@ -16,7 +16,7 @@ pub fn put_item(out: &mut [u8], at: usize, n: u16) -> usize
     ensures upper_bound { result ≤ at + 6 }
 {
     let a = put_bytes(out, at, b" ");
-    put_number(out, a, n as u64)
+    put_number(out, a, u64::from(n))
 }
 
 // Puts a blank and a corner as x,y, which are 12 bytes at most.
@@ -27,7 +27,7 @@ pub fn put_corner(out: &mut [u8], at: usize, corner: Point) -> usize
 {
     let a = put_item(out, at, corner.x);
     let b = put_bytes(out, a, b",");
-    put_number(out, b, corner.y as u64)
+    put_number(out, b, u64::from(corner.y))
 }
 
 // Puts the first `count` corners of the list.
@@ -39,10 +39,8 @@ pub fn put_corners(out: &mut [u8], at: usize, corners: &[u16], count: usize) -> 
     ensures upper_bound { result ≤ at + 12 * count }
 {
     let mut a = at;
-    let mut k = 0;
-    while k < count {
+    for k in 0..count {
         a = put_corner(out, a, corner_at(corners, k));
-        k += 1;
     }
     a
 }

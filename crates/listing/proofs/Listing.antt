@@ -2,15 +2,15 @@
 use Prim.Native.Nat.{ℕ, suc, ◌+◌, ◌-◌, ◌*◌, ◌/◌, ◌≤◌}
 use native.Mathlib.Omega.{arith}
 use native.Mathlib.Nat.{zero-add}
-use native.Mathlib.Numerals.{add-one, add-two}
+use native.Mathlib.Numerals.{add-one}
 use mathlib.Core.Path.{◌≡◌, refl, sym, ap, ap₂, ◌∙◌, subst, subst₂}
 use mathlib.Core.Bool.{Bool, true, false, ◌||◌, or-false}
 use mathlib.Core.List.{List, [], ◌∷◌, ◌++◌, map, append-nil, append_assoc}
-use lib.ListN.{length, set, take, drop, length-append, length-drop, length-map, drop_of_length-le}
-use lib.Seq.{take_all, take_at, drop_at, drop-drop, sets-eq}
+use lib.ListN.{length, take, drop, length-append, length-drop, length-map, drop_of_length-le}
+use lib.Seq.{take_all, take_at, drop_at, drop-drop}
 use Rattle.foil_spec.specs.Lists.{range, each, any}
 use Rattle.foil_spec.specs.Limits.{max_entries}
-use Rattle.foil_spec.specs.Foil.{Point, point}
+use Rattle.foil_spec.specs.Foil.{Point}
 use Rattle.foil_spec.specs.Ledger.{Room, with_output, short, Step, lay, Answer, After, ledger_step}
 use Rattle.foil_spec.specs.Lent.{Lent, lent, held, sound, room_in, step_on, over_front, numbers_out}
 use Rattle.foil_spec.specs.Lent.{room_left}
@@ -25,9 +25,9 @@ use Rattle.ledger_laws.proofs.Stored.{sound-store}
 use Rattle.ledger_laws.proofs.Kept.{step_kept}
 use Rattle.ledger_laws.proofs.Steps.{shown, step_is}
 use Rattle.ledger_laws.proofs.Sound.{of-sound, sound-store-is, sound-long}
-use Rattle.foil.specs.Contract.{answer_of, Wrote, OutputIn}
+use Rattle.foil.specs.Contract.{Answer as Answered, answer_of, Wrote, OutputIn}
 use Rattle.foil.proofs.Giving.{long-room, limit_is, output-is}
-use Rattle.foil.specs.declared.Done.{Done}
+use Rattle.std.specs.Prelude.{is_ok}
 use Rattle.listing.specs.Contract.{in_numbers, place_numbers, answer_numbers, took, ListIn}
 use Rattle.listing.specs.Parts.{lay_of, Fits, PutAt, laid_to, LaidBy, MayLay, GoesOn}
 use Rattle.listing.specs.declared.InNumbers.{InNumbers}
@@ -92,7 +92,7 @@ module _ (r : Room) (ws : List ℕ) (i : ℕ) (m : Lent) where
       ∙ each_last step_on (map (wish_at ws) (range 0 i)) (wish_at ws i) r m
 
 pub laid_none : (r : Room) (ws : List ℕ) (b : Board) (t s out ans : List ℕ)
-    → LaidBy (laid_to r ws 0 (lent b t s)) out ans (record { board = b; used = 0; laid = false }) t s out ans
+    → LaidBy (laid_to r ws 0 (lent b t s)) out ans (record { used = 0; laid = false }) b t s out ans
 unfolding act_each over_front
 laid_none r ws b t s out ans = record { state = refl; used = refl; laid = refl; output = refl; answers = refl }
 
@@ -110,18 +110,6 @@ front-more xs ys old k n e f =
     ∙ drop-drop (length ys) (length xs) old)
     ∙ ap (λ (j : ℕ). xs ++ (ys ++ drop j old)) (sym (length-append xs ys))
     ∙ sym (append_assoc xs ys _))
-
--- three stores put the numbers at place i
-pub put-at : (a : List ℕ) (i : ℕ) (n : InNumbers) → i * 3 + 3 ≤ length a
-    → PutAt a i n (set (set (set a (i * 3) n.number) (i * 3 + 1) n.corners) (i * 3 + 2) n.bends)
-unfolding place_numbers
-put-at a i n h =
-    record {
-      is =
-          rw (add-one, add-two)
-          (sets-eq (n.number ∷ n.corners ∷ n.bends ∷ []) a (i * 3) h
-          ∙ append_assoc (take (i * 3) a) (n.number ∷ n.corners ∷ n.bends ∷ []) (drop (i * 3 + 3) a));
-    }
 
 -- each answer has its place
 places : (given : List Answer) → length (each answer_numbers given) ≡ length given * 3
@@ -151,25 +139,25 @@ none_after k l = drop_of_length-le (drop k l) {i = length l - k} (omega (arith, 
 
 -- ---- one more
 
-module _ (limit : ℕ) (ws : List ℕ) (i : ℕ) (d : Listed) (t s out ans : List ℕ)
-    (may : MayLay limit ws i d t s out ans) (w : Wish) (is : lay_of w ≡ wish_at ws i) (done : Done)
+module _ (limit : ℕ) (ws : List ℕ) (i : ℕ) (d : Listed) (b : Board) (t s out ans : List ℕ)
+    (may : MayLay limit ws i d b t s out ans) (w : Wish) (is : lay_of w ≡ wish_at ws i) (done : Answered) (b' : Board)
     (t' s' part : List ℕ)
-    (Did-so : OutputIn (lay w.net (point w.sx w.sy) (point w.tx w.ty)) limit (lent d.board t s)
-    (take (length out - d.used) (drop d.used out)) done t' s' part) where
+    (Did-so : OutputIn (lay w.net w.from w.to) limit (lent b t s)
+    (take (length out - d.used) (drop d.used out)) done b' t' s' part) where
   abbrev m : Lent
-  m = lent d.board t s
+  m = lent b t s
 
   abbrev net : ℕ
   net = w.net
 
   abbrev S : Point
-  S = point w.sx w.sy
+  S = w.from
 
   abbrev T : Point
-  T = point w.tx w.ty
+  T = w.to
 
-  e : OutputIn (lay net S T) limit m (drop d.used out) done t' s' part
-  e = subst (λ (x : List ℕ). OutputIn (lay net S T) limit m x done t' s' part) (to_the_end d.used out) Did-so
+  e : OutputIn (lay net S T) limit m (drop d.used out) done b' t' s' part
+  e = subst (λ (x : List ℕ). OutputIn (lay net S T) limit m x done b' t' s' part) (to_the_end d.used out) Did-so
 
   wished : lay net S T ≡ wish_at ws i
   unfolding lay_of
@@ -179,13 +167,13 @@ module _ (limit : ℕ) (ws : List ℕ) (i : ℕ) (d : Listed) (t s out ans : Lis
   abbrev own : Room
   own = room_in limit m (length (drop d.used out))
 
-  did : Wrote (lay net S T) own m (drop d.used out) done t' s' part
+  did : Wrote (lay net S T) own m (drop d.used out) done b' t' s' part
   did = e own (long-room m (sound-long m may.keeps) limit _) (limit_is limit m _) (output-is limit m _)
 
   told : LayTold own (step_on own (lay net S T) m).answer
   told = lay-told own net S T m
 
-  module _ (n : InNumbers) (said : n ≡ in_numbers done.answer) where
+  module _ (n : InNumbers) (said : n ≡ in_numbers done) where
     said-so : n ≡ in_numbers (answer_of (step_on own (lay net S T) m).answer)
     said-so = said ∙ ap in_numbers did.gave.answer
 
@@ -205,12 +193,11 @@ module _ (limit : ℕ) (ws : List ℕ) (i : ℕ) (d : Listed) (t s out ans : Lis
     module _ (out' ans' : List ℕ)
         (put : out' ≡ take d.used out ++ (part ++ drop (length out - d.used) (drop d.used out)))
         (told_at : PutAt ans i n ans') (d' : Listed)
-        (board : d'.board ≡ done.board) (used : d'.used ≡ d.used + n.corners * 2)
-        (laid : d'.laid ≡ (d.laid || n.taken)) where
+        (used : d'.used ≡ d.used + n.corners * 2) (laid : d'.laid ≡ (d.laid || is_ok done)) where
       -- after the nets before it, laid in the room r on m₀
       module _ (r : Room) (m₀ : Lent) (out₀ ans₀ : List ℕ) (long : short r ≡ false) (most : r.limit ≡ limit)
           (size : r.output ≡ length out₀) (same : length out ≡ length out₀)
-          (h : LaidBy (laid_to r ws i m₀) out₀ ans₀ d t s out ans) where
+          (h : LaidBy (laid_to r ws i m₀) out₀ ans₀ d b t s out ans) where
         abbrev given : List Answer
         given = (so_far r ws i m₀).answer
 
@@ -223,10 +210,10 @@ module _ (limit : ℕ) (ws : List ℕ) (i : ℕ) (d : Listed) (t s out ans : Lis
         left_is : q.output ≡ length (drop d.used out)
         left_is = let u = h.used in let z = length-drop d.used out in omega arith
 
-        here : Wrote (wish_at ws i) q (so_far r ws i m₀).state (drop d.used out) done t' s' part
+        here : Wrote (wish_at ws i) q (so_far r ws i m₀).state (drop d.used out) done b' t' s' part
         unfolding short
         here =
-            subst₂ (λ (z : Step) (v : Lent). Wrote z q v (drop d.used out) done t' s' part) wished h.state
+            subst₂ (λ (z : Step) (v : Lent). Wrote z q v (drop d.used out) done b' t' s' part) wished h.state
             (e q long most left_is)
 
         x-told : LayTold q x.answer
@@ -286,26 +273,26 @@ module _ (limit : ℕ) (ws : List ℕ) (i : ℕ) (d : Listed) (t s out ans : Lis
         laid-is : d'.laid ≡ any took (given ++ (x.answer ∷ []))
         unfolding took
         laid-is =
-            laid ∙ ap₂ (λ (a b : Bool). a || b) h.laid (ap (λ (z : InNumbers). z.taken) n-is)
-            ∙ ap (λ (b : Bool). any took given || b) (sym (or-false (took x.answer)))
+            laid ∙ ap₂ (λ (x y : Bool). x || y) h.laid (ap (λ (z : Answered). is_ok z) here.gave.answer)
+            ∙ ap (λ (y : Bool). any took given || y) (sym (or-false (took x.answer)))
             ∙ sym (any_append took given (x.answer ∷ []))
 
-        one_more : LaidBy (more step_on (so_far r ws i m₀) x) out₀ ans₀ d' t' s' out' ans'
+        one_more : LaidBy (more step_on (so_far r ws i m₀) x) out₀ ans₀ d' b' t' s' out' ans'
         unfolding more
         one_more =
             record {
-              state = rw (board, here.gave.board, here.gave.table, here.gave.strips) refl;
+              state = rw (here.gave.board, here.gave.table, here.gave.strips) refl;
               used = used-is;
               laid = laid-is;
               output = corners-are;
               answers = answers-are;
             }
 
-      pub goes_on : GoesOn limit ws i d t s out ans d' t' s' out' ans'
+      pub goes_on : GoesOn limit ws i d b t s out ans d' b' t' s' out' ans'
       goes_on =
           record {
             is = λ r m₀ out₀ ans₀ long most size same h.
-                subst (λ (a : After (List Answer) Lent). LaidBy a out₀ ans₀ d' t' s' out' ans')
+                subst (λ (a : After (List Answer) Lent). LaidBy a out₀ ans₀ d' b' t' s' out' ans')
                 (sym (laid_more r ws i m₀)) (one_more r m₀ out₀ ans₀ long most size same h);
           }
 
@@ -329,10 +316,10 @@ module _ (limit : ℕ) (ws : List ℕ) (m : Lent) (out ans : List ℕ) (fine : s
       each_keeps step_on (λ x. sound x ≡ true) whole (λ n. step-sound (with_output whole n))
       (map (wish_at ws) (range 0 i)) whole.output m fine
 
-  module _ (i : ℕ) (d : Listed) (t s out' ans' : List ℕ)
-      (h : LaidBy (laid_to whole ws i m) out ans d t s out' ans') where
+  module _ (i : ℕ) (d : Listed) (b : Board) (t s out' ans' : List ℕ)
+      (h : LaidBy (laid_to whole ws i m) out ans d b t s out' ans') where
     pub may-lay : limit ≤ max_entries → d.used ≤ length out' → i * 5 + 5 ≤ length ws → i * 3 + 3 ≤ length ans'
-        → MayLay limit ws i d t s out' ans'
+        → MayLay limit ws i d b t s out' ans'
     may-lay few used wish place =
         record {
           keeps = ap sound h.state ∙ laid-sound i;
@@ -342,14 +329,14 @@ module _ (limit : ℕ) (ws : List ℕ) (m : Lent) (out ans : List ℕ) (fine : s
           place = place;
         }
 
-    pub next-net : (d' : Listed) (t' s' out'' ans'' : List ℕ)
-        → GoesOn limit ws i d t s out' ans' d' t' s' out'' ans'' → length out' ≡ length out
-        → LaidBy (laid_to whole ws (i + 1) m) out ans d' t' s' out'' ans''
-    next-net d' t' s' out'' ans'' g same =
+    pub next-net : (d' : Listed) (b' : Board) (t' s' out'' ans'' : List ℕ)
+        → GoesOn limit ws i d b t s out' ans' d' b' t' s' out'' ans'' → length out' ≡ length out
+        → LaidBy (laid_to whole ws (i + 1) m) out ans d' b' t' s' out'' ans''
+    next-net d' b' t' s' out'' ans'' g same =
         g.is whole m out ans (long-room m (sound-long m fine) limit _) (limit_is limit m _) (output-is limit m _) same
         h
 
-    pub list_done : i ≡ length ws / 5 → ListIn limit ws m out ans d t s out' ans'
+    pub list_done : i ≡ length ws / 5 → ListIn limit ws m out ans d.laid b t s out' ans'
     unfolding wishes
     list_done e =
         rw (← e)

@@ -1,11 +1,12 @@
 // Foils, patches and lists at random, and the call on the sheet.
-ghost use Rattle.std.specs.Prelude.{◌*◌, ◌≤◌, length};
+ghost use Rattle.std.specs.Prelude.{◌≤◌};
 
 use crate::{MOST, Stood};
 use boards::{below, next};
+use foil::Answer;
 use foil_spec::Board;
 use plain_foil::Foil;
-use sheet::{Sheet, SheetDone, draw, lay_list, new_foil};
+use sheet::{Sheet, draw, lay_list, new_foil};
 use sheet_rows::no_foils;
 
 // A list: how many nets it has, how many numbers of the corner list and of the answers' list are lent, the number at
@@ -17,21 +18,22 @@ pub(crate) struct Asked {
     pub(crate) answers: usize,
     pub(crate) last: u16,
     pub(crate) seed: u32,
+    ghost few_nets: { nets ≤ 42 },
+    ghost few_corners: { corners ≤ 63 },
+    ghost few_answers: { answers ≤ 125 },
 }
 
 // A list at random, of up to 42 nets: there are as many answer places, or now and then one too few, and up to 2 numbers
 // to spare.
-pub(crate) fn choose(seed: u32) -> Asked
-    ensures { (result.nets ≤ 42) × (result.corners ≤ 63) × (result.answers ≤ 125) }
-{
+pub(crate) fn choose(seed: u32) -> Asked {
     let a = next(seed);
     let b = next(a);
     let c = next(b);
-    let places = below(a, 42) as usize;
+    let places = usize::from(below(a, 42));
     Asked {
-        nets: places + below(c, 12) as usize / 11,
-        corners: below(b, 64) as usize,
-        answers: places * 3 + below(c / 16, 3) as usize,
+        nets: places + usize::from(below(c, 12)) / 11,
+        corners: usize::from(below(b, 64)),
+        answers: places * 3 + usize::from(below(c / 16, 3)),
         last: below(b / 64, 3),
         seed: c,
     }
@@ -63,28 +65,10 @@ pub(crate) fn lend(
     strips: &mut [u16; 16388],
     corners: &mut [u16; 130],
     answers: &mut [u16; 130],
-    sheet: Sheet,
+    sheet: &mut Sheet,
     wishes: &[u16; 210],
     asked: Asked,
-) -> SheetDone
-    requires { (asked.nets ≤ 42) × (asked.corners ≤ 63) × (asked.answers ≤ 125) }
-{
-    lend_fronts(table, strips, corners, answers, sheet, wishes, asked)
-}
-
-// Makes it with the fronts of lists.
-fn lend_fronts(
-    table: &mut [u16],
-    strips: &mut [u16],
-    corners: &mut [u16],
-    answers: &mut [u16],
-    sheet: Sheet,
-    wishes: &[u16],
-    asked: Asked,
-) -> SheetDone
-    requires corners_in_bounds { (asked.corners ≤ length corners.old) × (asked.answers ≤ length answers.old) }
-    requires nets_in_bounds { asked.nets * 5 ≤ length wishes.now }
-{
+) -> Answer {
     let c = asked.corners;
     let a = asked.answers;
     let w = asked.nets * 5;
@@ -100,9 +84,7 @@ fn lend_fronts(
 }
 
 // Begins a foil at random on a sheet where four others have all but the 32 places that each foil is sure of.
-pub(crate) fn begin(table: &mut [u16; 2565], strips: &mut [u16; 16388], seed: u32) -> Stood
-    ensures { result.foil.entries ≤ 128 }
-{
+pub(crate) fn begin(table: &mut [u16; 2565], strips: &mut [u16; 16388], seed: u32) -> Stood {
     let a = next(seed);
     let b = next(a);
     let foil = Foil {
@@ -115,28 +97,24 @@ pub(crate) fn begin(table: &mut [u16; 2565], strips: &mut [u16; 16388], seed: u3
     let empty = no_foils();
     let mut boards = empty.boards;
     let other = Board {
-        width: 0,
-        height: 0,
-        half: 0,
-        gap: 0,
         entries: 96,
-        strips: 0,
+        ..boards[0]
     };
     boards[1] = other;
     boards[2] = other;
     boards[5] = other;
     boards[7] = other;
-    let begun = new_foil(
+    let mut sheet = Sheet { boards };
+    let _ = new_foil(
         table,
         strips,
-        Sheet { boards },
+        &mut sheet,
         0,
         foil.width,
         foil.height,
         foil.half,
         foil.gap,
     );
-    let sheet = begun.sheet;
     Stood {
         sheet,
         foil,
@@ -149,13 +127,10 @@ pub(crate) fn draw_both(
     table: &mut [u16; 2565],
     strips: &mut [u16; 16388],
     row: &mut [u16; 640],
-    stood: Stood,
-) -> Stood
-    requires { stood.foil.entries ≤ 128 }
-    ensures { result.foil.entries ≤ 128 }
-{
+    stood: &mut Stood,
+) {
     if MOST <= stood.foil.entries {
-        return stood;
+        return;
     }
     let a = next(stood.seed);
     let b = next(a);
@@ -163,13 +138,7 @@ pub(crate) fn draw_both(
     let y0 = below(a / 64, 20);
     let x1 = x0 + 1 + below(b, 4);
     let y1 = y0 + 1 + below(b / 64, 4);
-    let given = draw(table, strips, stood.sheet, 0, x0, y0, x1, y1);
-    let want = plain_foil::draw(row, stood.foil, x0, y0, x1, y1);
-    let sheet = given.sheet;
-    let foil = want.foil;
-    Stood {
-        sheet,
-        foil,
-        seed: b,
-    }
+    let _ = draw(table, strips, &mut stood.sheet, 0, x0, y0, x1, y1);
+    let _ = plain_foil::draw(row, &mut stood.foil, x0, y0, x1, y1);
+    stood.seed = b;
 }

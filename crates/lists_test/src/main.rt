@@ -8,7 +8,7 @@ mod asked;
 mod holds;
 mod single;
 
-ghost use Rattle.std.specs.Prelude.{◌<◌, ◌≤◌};
+ghost use Rattle.std.specs.Prelude.{◌<◌};
 
 use asked::{begin, choose, draw_both, wish_all};
 use plain_foil::Foil;
@@ -42,7 +42,7 @@ fn count(counts: &mut [u64; COUNTS], k: usize, yes: bool)
     requires { k < 28 }
 {
     if yes {
-        counts[k] = std::num::wrapping_add_u64(counts[k], 1);
+        counts[k] = counts[k].wrapping_add(1);
     }
 }
 
@@ -60,37 +60,42 @@ fn lay_both(
     table: &mut [u16; 2565],
     strips: &mut [u16; 16388],
     row: &mut [u16; 640],
-    stood: Stood,
-) -> Stood
-    requires { stood.foil.entries ≤ 128 }
-    ensures { result.foil.entries ≤ 128 }
-{
+    stood: &mut Stood,
+) {
     let asked = choose(stood.seed);
     let mut wishes = [0u16; 210];
     let mut corners = [7u16; 130];
     let mut answers = [7u16; 130];
     let mut path = [7u16; 130];
     let mut said = [7u16; 130];
-    let seed = wish_all(&mut wishes, stood.foil, asked.seed);
+    let before = stood.sheet;
+    stood.seed = wish_all(&mut wishes, stood.foil, asked.seed);
     table[2559] = asked.last;
     let given = asked::lend(
         table,
         strips,
         &mut corners,
         &mut answers,
-        stood.sheet,
+        &mut stood.sheet,
         &wishes,
         asked,
     );
     let want = lay_all(
         counts, row, &mut path, &mut said, &wishes, stood.foil, asked,
     );
-    let told = holds::same_told(&corners, &path, &answers, &said);
-    let right = holds::right(table, strips, given, stood.sheet, row, want, asked.last);
+    stood.foil = want.foil;
+    let told = corners == path && answers == said;
+    let right = holds::right(
+        table,
+        strips,
+        given,
+        stood.sheet,
+        before,
+        row,
+        want,
+        asked.last,
+    );
     count(counts, DIFFERENT, !told || !right);
-    let sheet = given.sheet;
-    let foil = want.foil;
-    Stood { sheet, foil, seed }
 }
 
 // Draws two patches and lays a list at random on both foils.
@@ -99,14 +104,11 @@ fn turn(
     table: &mut [u16; 2565],
     strips: &mut [u16; 16388],
     row: &mut [u16; 640],
-    stood: Stood,
-) -> Stood
-    requires { stood.foil.entries ≤ 128 }
-    ensures { result.foil.entries ≤ 128 }
-{
-    let first = draw_both(table, strips, row, stood);
-    let drawn = draw_both(table, strips, row, first);
-    lay_both(counts, table, strips, row, drawn)
+    stood: &mut Stood,
+) {
+    draw_both(table, strips, row, stood);
+    draw_both(table, strips, row, stood);
+    lay_both(counts, table, strips, row, stood);
 }
 
 // Begins both foils at random, draws and lays so many times, and answers the number for the next foils.
@@ -116,7 +118,7 @@ fn run_foil(counts: &mut [u64; COUNTS], seed: u32) -> u32 {
     let mut row = [0u16; 640];
     let mut stood = begin(&mut table, &mut strips, seed);
     for _ in 0..LISTS {
-        stood = turn(counts, &mut table, &mut strips, &mut row, stood);
+        turn(counts, &mut table, &mut strips, &mut row, &mut stood);
     }
     stood.seed
 }

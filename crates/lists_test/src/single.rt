@@ -1,37 +1,38 @@
 // The nets of a list, laid one after the other on the plain foil.
-ghost use Rattle.std.specs.Prelude.{◌<◌, ◌≤◌};
+ghost use Rattle.std.specs.Prelude.{◌<◌};
 
 use crate::asked::Asked;
-use crate::holds::put;
 use crate::{COUNTS, EMPTY, LATER, MOST, NUMBERS, WHOLE, count};
-use plain_foil::{Done, Foil};
-use std::num::wrapping_sub_usize;
+use foil_spec::{Reason, Refusal};
+use plain_foil::Foil;
 
-// What the nets so far have left: the number for the list as a whole, the foil, how many corner places they use, and
-// whether one was laid, and one met 12.
+// What the nets so far have left: whether the list was refused as a whole, the foil, how many corner places they use,
+// and whether one was laid, and one met 12.
 #[derive(Clone, Copy)]
 pub(crate) struct Laid {
-    pub(crate) number: u8,
+    pub(crate) refused: bool,
     pub(crate) foil: Foil,
     pub(crate) used: usize,
     pub(crate) any: bool,
     pub(crate) short: bool,
+    ghost few_used: { used < 32 },
 }
 
-// Lays net k with room for so many corners, unless its entries are more than foil 0 may have.
+// Lays net k with room for so many corners, unless its entries are more than foil 0 may have: answers how many corners
+// it has.
 fn lay_fitting(
     row: &mut [u16; 640],
     path: &mut [u16; 8192],
     wishes: &[u16; 210],
-    foil: Foil,
+    foil: &mut Foil,
     room: usize,
     k: usize,
-) -> Done
-    requires { (foil.entries ≤ 128) × (k < 42) }
-    ensures { result.foil.entries ≤ 128 }
+) -> Result<usize, Reason>
+    requires { k < 42 }
 {
-    let old = *row;
-    let done = plain_foil::lay(
+    let old_row = *row;
+    let old_foil = *foil;
+    let laid = plain_foil::lay(
         row,
         path,
         foil,
@@ -42,22 +43,12 @@ fn lay_fitting(
         wishes[k * 5 + 3],
         wishes[k * 5 + 4],
     );
-    if done.foil.entries <= MOST {
-        return done;
+    if MOST < foil.entries {
+        *row = old_row;
+        *foil = old_foil;
+        return Err(Reason::TableFull);
     }
-    *row = old;
-    Done {
-        number: 10,
-        corners: 0,
-        foil,
-    }
-}
-
-// Puts n corners of a path after those in use.
-fn put_corners(corners: &mut [u16; 130], used: usize, path: &[u16; 8192], n: usize)
-    requires { (used < 32) × (n < 32) }
-{
-    put(corners, used * 2, path, n * 2);
+    laid
 }
 
 // Lays net k with the corner places that are left, at most 31, and puts its corners and its answer where they should
@@ -68,30 +59,29 @@ fn lay_one(
     corners: &mut [u16; 130],
     answers: &mut [u16; 130],
     wishes: &[u16; 210],
-    before: Laid,
+    laid: &mut Laid,
     places: usize,
     k: usize,
-) -> Laid
-    requires { (before.foil.entries ≤ 128) × (before.used < 32) × (k < 42) }
-    ensures { (result.foil.entries ≤ 128) × (result.used < 32) }
+)
+    requires { k < 42 }
 {
     let mut path = [7u16; 8192];
-    let room = wrapping_sub_usize(places, before.used);
-    let done = lay_fitting(row, &mut path, wishes, before.foil, room, k);
-    let n = (done.corners % 32) as u16;
-    put_corners(corners, before.used, &path, n as usize);
-    let bends = if n < 2 { 0 } else { n - 2 };
-    put(answers, k * 3, &[done.number as u16, n, bends], 3);
-    count(counts, done.number as usize % NUMBERS, true);
-    count(counts, LATER, before.short && done.number == 0);
-    let foil = done.foil;
-    Laid {
-        number: before.number,
-        foil,
-        used: (before.used + n as usize) % 32,
-        any: before.any || done.number == 0,
-        short: before.short || done.number == 12,
-    }
+    let mut foil = laid.foil;
+    let room = places.wrapping_sub(laid.used);
+    let (number, n) = match lay_fitting(row, &mut path, wishes, &mut foil, room, k) {
+        Ok(n) => (0, n % 32),
+        Err(reason) => (Refusal::from(reason).number(), 0),
+    };
+    let at = laid.used * 2;
+    corners[at..at + n * 2].copy_from_slice(&path[..n * 2]);
+    let bends = n.saturating_sub(2);
+    answers[k * 3..k * 3 + 3].copy_from_slice(&[u16::from(number), n as u16, bends as u16]);
+    count(counts, usize::from(number) % NUMBERS, true);
+    count(counts, LATER, laid.short && number == 0);
+    laid.foil = foil;
+    laid.used = (laid.used + n) % 32;
+    laid.any = laid.any || number == 0;
+    laid.short = laid.short || number == 12;
 }
 
 // Lays the nets of a list, unless it meets 12 as a whole.
@@ -103,15 +93,12 @@ pub(crate) fn lay_all(
     wishes: &[u16; 210],
     foil: Foil,
     asked: Asked,
-) -> Laid
-    requires { (foil.entries ≤ 128) × (asked.nets ≤ 42) }
-    ensures { result.foil.entries ≤ 128 }
-{
+) -> Laid {
     let refused = 40 < asked.nets || asked.answers / 3 < asked.nets;
     count(counts, WHOLE, refused);
     count(counts, EMPTY, asked.nets == 0);
     let mut laid = Laid {
-        number: if refused { 12 } else { 0 },
+        refused,
         foil,
         used: 0,
         any: false,
@@ -121,13 +108,13 @@ pub(crate) fn lay_all(
         return laid;
     }
     for k in 0..asked.nets {
-        laid = lay_one(
+        lay_one(
             counts,
             row,
             corners,
             answers,
             wishes,
-            laid,
+            &mut laid,
             asked.corners / 2,
             k,
         );

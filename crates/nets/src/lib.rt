@@ -23,10 +23,8 @@ pub fn measure(table: &[u16], n: usize, net: u16) -> Track
     ensures { Measured table.now n net result }
 {
     let mut track = Track { legs: 0, steps: 0 };
-    let mut k = 0;
-    while k < n {
+    for k in 0..n {
         track = with_entry(track, table, k, net);
-        k += 1;
     }
     track
 }
@@ -42,19 +40,19 @@ fn with_entry(track: Track, table: &[u16], k: usize, net: u16) -> Track
     if leg.net != net {
         return track;
     }
-    let more = leg_steps(leg);
     Track {
         legs: track.legs + 1,
-        steps: track.steps + more,
+        steps: track.steps + leg_steps(leg),
     }
 }
 
 // The steps from one end of a leg to the other.
+#[tactic(auto, unfolding(foil_spec::specs::Nets::leg_steps))]
 fn leg_steps(leg: Entry) -> u32
     requires { Box leg }
     ensures { result ≡ leg_steps leg }
 {
     let across = leg.x1 - leg.x0 - 1;
     let down = leg.y1 - leg.y0 - 1;
-    across as u32 + down as u32
+    u32::from(across) + u32::from(down)
 }

@@ -5,9 +5,10 @@
 ghost use Rattle.std.specs.Prelude.{◌≡◌};
 ghost use Rattle.foil_spec.specs.Ohms.{ink_ok, formula as formula_of};
 ghost use Rattle.nets.specs.Measured.{Boxes};
+ghost use Rattle.ohms.specs.declared.Resistance.TheVariants.{Refused};
 ghost use Rattle.ohms.specs.Contract.{NetAnswered};
 
-use foil_spec::Ink;
+use foil_spec::{Ink, Reason, Refusal};
 use nets::measure;
 use state::net_ok;
 use tables::in_use;
@@ -19,6 +20,15 @@ pub enum Resistance {
     Ohms(f64),
 }
 
+impl From<Refusal> for Resistance {
+    ghost from_gives = { λ refusal resistance. resistance ≡ Refused refusal };
+
+    // The answer of a call that is refused.
+    fn from(refusal: Refusal) -> Self {
+        Resistance::Refused(refusal.number())
+    }
+}
+
 // The resistance of a net of the first n entries of a table, (L / w + c * B) * R for L steps and B bends, once 12 and
 // 13 do not apply.
 pub fn net_ohms(table: &[u16], n: usize, net: u16, ink: Ink) -> Resistance
@@ -26,13 +36,13 @@ pub fn net_ohms(table: &[u16], n: usize, net: u16, ink: Ink) -> Resistance
     ensures { NetAnswered net ink table.now n result }
 {
     if !net_ok(net) {
-        return Resistance::Refused(4);
+        return Refusal::from(Reason::BadNet).into();
     }
     if !in_use(table, n, net) {
-        return Resistance::Refused(6);
+        return Refusal::from(Reason::NetNotOnFoil).into();
     }
     if !ink_ok(ink) {
-        return Resistance::Refused(22);
+        return Refusal::from(Reason::BadInk).into();
     }
     let track = measure(table, n, net);
     Resistance::Ohms(formula(ink, track.steps, track.legs - 1))
@@ -42,22 +52,12 @@ pub fn net_ohms(table: &[u16], n: usize, net: u16, ink: Ink) -> Resistance
 fn ink_ok(ink: Ink) -> bool
     ensures { result ≡ ink_ok ink }
 {
-    if !(0.0 < ink.sheet) {
-        return false;
-    }
-    if !(ink.sheet <= 1000.0) {
-        return false;
-    }
-    if !(1.0 <= ink.width) {
-        return false;
-    }
-    if !(ink.width <= 64.0) {
-        return false;
-    }
-    if !(0.0 <= ink.bend) {
-        return false;
-    }
-    ink.bend <= 4.0
+    0.0 < ink.sheet
+        && ink.sheet <= 1000.0
+        && 1.0 <= ink.width
+        && ink.width <= 64.0
+        && 0.0 <= ink.bend
+        && ink.bend <= 4.0
 }
 
 // (L / w + c * B) * R: four operations, each rounded once.

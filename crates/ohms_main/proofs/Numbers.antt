@@ -13,8 +13,8 @@ use Rattle.foil_spec.specs.Lent.{held, sound}
 use Rattle.foil_spec.specs.Calls.{ohms, Reply, answered, ran, at_end, measured, laid_all, reply}
 use Rattle.foil_spec.specs.Sheet.{SheetLent, view, sheet_step, unless, sheet_call}
 use Rattle.foil_spec.specs.declared.Ink.{Ink}
-use Rattle.ohms.specs.Contract.{resistance_of}
 use Rattle.ohms.specs.declared.Resistance.TheVariants.{Ohms}
+use Rattle.ohms.specs.Contract.{resistance_of}
 use Rattle.ohms.proofs.Accepted.{of-reply}
 use Rattle.ohms.proofs.Finite.{finite-unrefused}
 

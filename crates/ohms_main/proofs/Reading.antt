@@ -1,8 +1,6 @@
 -- The ink is read as its definition says: a number by its bytes, the lower first, and a figure as the f64 of its bits,
 -- or as an infinity where that is not finite.
-use Prim.Native.Nat.{ℕ, zero, suc, ◌+◌, ◌*◌, ◌/◌, ◌%◌, ◌<◌}
-use native.Mathlib.Omega.{arith}
-use native.Mathlib.Nat.{mul_comm}
+use Prim.Native.Nat.{ℕ, zero, suc, ◌+◌, ◌/◌, ◌%◌}
 use mathlib.Core.Path.{◌≡◌, refl, ap, ◌∙◌}
 use mathlib.Core.Bool.{Bool, true, false, not, cond}
 use mathlib.Core.List.{List}
@@ -50,16 +48,6 @@ unfolding div of_bits
 one-by-none = refl
 
 -- ---- the bytes
-
--- two numbers, the lower first; k is the weight of the higher
-pub joined : (x y a b k : ℕ) → x ≡ a → y ≡ b → x + y * k ≡ a + k * b
-joined x y a b k e f = rw (e, f, mul_comm b k) refl
-
-pub below-pair : (x y : ℕ) → x < 256 → y < 256 → x + y * 256 < 65536
-below-pair x y h k = omega arith
-
-pub below_half : (x y : ℕ) → x < 65536 → y < 65536 → x + y * 65536 < 4294967296
-below_half x y h k = omega arith
 
 pub ink-is : (bs : List ℕ) (m n o : ℕ) (x y z : Float) → m ≡ number8 bs 0 → x ≡ figure_of m → n ≡ number8 bs 8
     → y ≡ figure_of n → o ≡ number8 bs 16 → z ≡ figure_of o

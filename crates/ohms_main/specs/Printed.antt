@@ -11,7 +11,7 @@ use Rattle.foil_spec.specs.Ledger.{with_output}
 use Rattle.foil_spec.specs.Lent.{entry_at}
 use Rattle.foil_spec.specs.Job.{job_room}
 use Rattle.foil_spec.specs.Calls.{ohms}
-use Rattle.foil_spec.specs.Sheet.{sheet_call}
+use Rattle.foil_spec.specs.Sheet.{SheetLent, sheet_call}
 use Rattle.foil_spec.specs.declared.Ink.{Ink}
 use Rattle.lines.specs.Lines.{item, board_line, file_line}
 use Rattle.ohms.specs.Contract.{resistance_of}
@@ -23,23 +23,26 @@ use Rattle.job_end.specs.declared.Ended.{Ended}
 use Rattle.job_end.specs.declared.Ended.TheVariants.{AtMark, ByBoard, ByFile}
 use Rattle.ohms_main.specs.InkBytes.{ink_in}
 
--- the net is on the foil that the job of a file leaves, whose entries come first in the table; zeros follow them
-unfoldable pub used_after : List ℕ → ℕ → Bool
-used_after bs net = in_use net (map (entry_at (job_end bs unused).state.table) (range 0 max_entries))
+-- the net is on foil 0 of a sheet, whose entries come first in the table; zeros follow them
+unfoldable pub used_on : SheetLent → ℕ → Bool
+used_on m net = in_use net (map (entry_at m.table) (range 0 max_entries))
 
 -- its ohms there
-unfoldable pub ohms_after : Ink → List ℕ → ℕ → Resistance
-ohms_after i bs net =
-    resistance_of (sheet_call (with_output job_room 0) 0 (ohms net i) (job_end bs unused).state).answer
+unfoldable pub ohms_on : Ink → SheetLent → ℕ → Resistance
+ohms_on i m net = resistance_of (sheet_call (with_output job_room 0) 0 (ohms net i) m).answer
 
 -- the line of a net: 0 and the bits of its ohms in 16 hexadecimal digits, or the number of a refusal
 unfoldable pub net_line : ℕ → Resistance → List ℕ
 net_line net (Refused n) = ascii "ohms" ++ item net ++ item n ++ ascii "\n"
 net_line net (Ohms x) = ascii "ohms" ++ item net ++ ascii " 0 " ++ last_digits 16 16 (to_bits binary64 x) ++ ascii "\n"
 
--- its line, if it is on the foil
+-- its line, if it is on foil 0 of a sheet
+unfoldable pub line_on : Ink → SheetLent → ℕ → List ℕ
+line_on i m net = cond (used_on m net) (net_line net (ohms_on i m net)) []
+
+-- that on the foil that the job of a file leaves
 unfoldable pub line_of : Ink → List ℕ → ℕ → List ℕ
-line_of i bs net = cond (used_after bs net) (net_line net (ohms_after i bs net)) []
+line_of i bs net = line_on i (job_end bs unused).state net
 
 -- the lines of the nets from 1 to k
 unfoldable pub lines_to : List ℕ → List ℕ → ℕ → List ℕ

@@ -33,7 +33,7 @@ fn put_refused(out: &mut [u8], net: u16, number: u8) -> usize
 {
     let a = put_head(out, net);
     let b = put_bytes(out, a, b" ");
-    let c = put_number(out, b, number as u64);
+    let c = put_number(out, b, u64::from(number));
     put_bytes(out, c, b"\n")
 }
 
@@ -57,7 +57,7 @@ fn put_head(out: &mut [u8], net: u16) -> usize
     ensures upper_bound { result ≤ 25 }
 {
     let a = put_bytes(out, 0, b"ohms ");
-    put_number(out, a, net as u64)
+    put_number(out, a, u64::from(net))
 }
 
 // A number in 16 hexadecimal digits.

@@ -1,8 +1,8 @@
-// The places of flat lists, read and written as structs: entries of a table, strips, corners; and the few functions of
-// numbers and records that many crates use.
+// The places of flat lists, read and written as structs: entries of a table, strips, corners; and the record of a foil
+// before it is begun.
 #![tactic(auto)]
 
-ghost use Rattle.std.specs.Prelude.{◌≡◌, ◌+◌, ◌*◌, ◌≤◌, min, max, length};
+ghost use Rattle.std.specs.Prelude.{◌≡◌, ◌+◌, ◌*◌, ◌≤◌, length};
 ghost use Rattle.std.proofs.lemmas.List.Edits.{sets};
 ghost use Rattle.foil_spec.specs.Foil.{entry_numbers};
 ghost use Rattle.foil_spec.specs.Corners.{point_numbers, corner_at};
@@ -99,24 +99,4 @@ pub fn no_board() -> Board
         entries: 0,
         strips: 0,
     }
-}
-
-// The smaller of the two.
-pub fn smaller(a: u16, b: u16) -> u16
-    ensures { result ≡ min a b }
-{
-    if a < b {
-        return a;
-    }
-    b
-}
-
-// The larger of the two.
-pub fn larger(a: u16, b: u16) -> u16
-    ensures { result ≡ max a b }
-{
-    if a < b {
-        return b;
-    }
-    a
 }

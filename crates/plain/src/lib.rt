@@ -11,7 +11,7 @@
 mod rounds;
 mod walk;
 
-ghost use Rattle.std.specs.Prelude.{◌≡◌, true, false, ◌≤◌, ◌<◌};
+ghost use Rattle.std.specs.Prelude.{◌≡◌, true, false, ◌≤◌, ◌<◌, IfSome};
 ghost use Rattle.foil_spec.specs.Foil.{pen_rule, margin, near_edge, within, blocks};
 ghost use Rattle.foil_spec.specs.Lent.{entry_at};
 ghost use Rattle.plain.specs.Free.{Unblocked};
@@ -26,6 +26,14 @@ const POINTS: usize = 4096;
 
 // What a segment costs, beside its steps.
 const SEGMENT: u32 = 65536;
+
+// What it costs to come to a target from each point by paths that begin with a level segment, and by those that begin
+// with an upright one, where there are any.
+#[derive(Clone, Copy)]
+struct Costs {
+    level: [Option<u32>; 4096],
+    upright: [Option<u32>; 4096],
+}
 
 // Says of each place whether its point is on the board of w by h, and neither its edge nor one of the
 // first n entries of the table blocks it by the pen.
@@ -45,11 +53,8 @@ pub fn is_free(table: &[u16; 640], n: usize, pen: Pen, w: u16, h: u16, x: u16, y
     ensures { (result ≡ true → Unblocked table.now n pen w h x y)
         × (result ≡ false → Unblocked table.now n pen w h x y → ⊥) }
 {
-    let m = (pen.half as u32) + (pen.gap as u32);
-    if near_edge(m, w, x) {
-        return false;
-    }
-    if near_edge(m, h, y) {
+    let m = u32::from(pen.half) + u32::from(pen.gap);
+    if near_edge(m, w, x) || near_edge(m, h, y) {
         return false;
     }
     for i in 0..n {
@@ -61,14 +66,12 @@ pub fn is_free(table: &[u16; 640], n: usize, pen: Pen, w: u16, h: u16, x: u16, y
 }
 
 // Whether v is nearer than m to an end of a side of so many points, or not on it.
+#[tactic(auto, unfolding(foil_spec::specs::Foil::near_edge))]
 fn near_edge(m: u32, size: u16, v: u16) -> bool
     requires { m ≤ 131070 }
     ensures { result ≡ near_edge m size v }
 {
-    if (v as u32) < m {
-        return true;
-    }
-    (size as u32) <= (v as u32) + m
+    u32::from(v) < m || u32::from(size) <= u32::from(v) + m
 }
 
 // How far away entry i of the table blocks: a patch half the pen's width and its gap, a leg half the
@@ -77,38 +80,36 @@ fn away(table: &[u16; 640], i: usize, pen: Pen) -> u32
     requires { i < 128 }
     ensures { (result ≤ 196605) × (result ≡ margin (pen_rule pen) (entry_at table.now i)) }
 {
-    let half = pen.half as u32;
-    let gap = pen.gap as u32;
+    let half = u32::from(pen.half);
+    let gap = u32::from(pen.gap);
     if table[i * 5] == 0 {
-        return half + gap;
+        half + gap
+    } else {
+        half + (half + gap)
     }
-    half + (half + gap)
 }
 
 // Whether entry i of the table, widened by d, has the point (x, y).
+#[tactic(auto, unfolding(foil_spec::specs::Foil::blocks, foil_spec::specs::Lent::entry_at))]
 fn blocks_at(table: &[u16; 640], i: usize, d: u32, x: u16, y: u16) -> bool
     requires { (i < 128) × (d ≤ 196605) }
     ensures { result ≡ blocks d (entry_at table.now i) x y }
 {
-    if !within(table[i * 5 + 1], table[i * 5 + 3], d, x) {
-        return false;
-    }
-    within(table[i * 5 + 2], table[i * 5 + 4], d, y)
+    within(table[i * 5 + 1], table[i * 5 + 3], d, x)
+        && within(table[i * 5 + 2], table[i * 5 + 4], d, y)
 }
 
 // Whether lo - d <= v < hi + d.
+#[tactic(auto, unfolding(foil_spec::specs::Foil::within))]
 pub fn within(lo: u16, hi: u16, d: u32, v: u16) -> bool
     requires { d ≤ 196605 }
     ensures { result ≡ within lo hi d v }
 {
-    if (v as u32) + d < (lo as u32) {
-        return false;
-    }
-    (v as u32) < (hi as u32) + d
+    u32::from(lo) <= u32::from(v) + d && u32::from(v) < u32::from(hi) + d
 }
 
 // Writes the corners of the first path of fewest bends from (sx, sy) to a target, and of those of least
-// length, to the front of `out`, x before y, and answers how many they are: 0 where there is no path. A
+// length, to the front of `out`, x before y, and answers how many they are, if there is a path. A
 // target is a free point whose place in `targets` says so.
 pub fn first_path_to(
     out: &mut [u16; 8192],
@@ -116,23 +117,19 @@ pub fn first_path_to(
     targets: &[bool; 4096],
     sx: u16,
     sy: u16,
-) -> usize {
-    let s = place(map, sx, sy);
-    if s == POINTS {
-        return 0;
-    }
+) -> Option<usize> {
+    let s = place(map, sx, sy)?;
     if targets[s] {
         walk::put(out, 0, s);
-        return 1;
+        return Some(1);
     }
-    let mut level = [0u32; 4096];
-    let mut upright = [0u32; 4096];
-    rounds::label(&mut level, &mut upright, map, targets);
-    let cost = least(level[s], upright[s]);
-    if cost == 0 {
-        return 0;
-    }
-    walk::walk(out, &level, &upright, map, targets, s, cost)
+    let mut costs = Costs {
+        level: [None; 4096],
+        upright: [None; 4096],
+    };
+    rounds::label(&mut costs, map, targets);
+    let cost = least(costs.level[s], costs.upright[s])?;
+    walk::walk(out, &costs, map, targets, s, cost)
 }
 
 // The same to the point (tx, ty).
@@ -143,39 +140,33 @@ pub fn first_path(
     sy: u16,
     tx: u16,
     ty: u16,
-) -> usize {
-    let t = place(map, tx, ty);
-    if t == POINTS {
-        return 0;
-    }
+) -> Option<usize> {
+    let t = place(map, tx, ty)?;
     let mut targets = [false; 4096];
     targets[t] = true;
     first_path_to(out, map, &targets, sx, sy)
 }
 
-// The place of the point (x, y), or 4,096 where it is not free.
-fn place(map: &[bool; 4096], x: u16, y: u16) -> usize
-    ensures { result ≤ 4096 }
+// The place of the point (x, y), if it is free.
+fn place(map: &[bool; 4096], x: u16, y: u16) -> Option<usize>
+    ensures { IfSome result (λ p. p < 4096) }
 {
-    let column = x as usize;
-    let row = y as usize;
-    if SIDE <= column {
-        return POINTS;
-    }
-    if SIDE <= row {
-        return POINTS;
+    let column = usize::from(x);
+    let row = usize::from(y);
+    if SIDE <= column || SIDE <= row {
+        return None;
     }
     let p = row * SIDE + column;
-    if map[p] { p } else { POINTS }
+    if map[p] { Some(p) } else { None }
 }
 
-// The smaller of two costs, where 0 stands for none.
-fn least(a: u32, b: u32) -> u32 {
-    if a == 0 {
+// The smaller of two costs, of those that there are.
+fn least(a: Option<u32>, b: Option<u32>) -> Option<u32> {
+    let Some(one) = a else {
         return b;
-    }
-    if b == 0 {
+    };
+    let Some(other) = b else {
         return a;
-    }
-    if a < b { a } else { b }
+    };
+    Some(one.min(other))
 }

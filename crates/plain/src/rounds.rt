@@ -1,8 +1,8 @@
 // What the paths from all points to a target cost, by rounds: round k sees to the points from which a
 // target is k segments away.
-ghost use Rattle.std.specs.Prelude.{◌<◌, ◌≤◌};
+ghost use Rattle.std.specs.Prelude.{◌<◌, ◌≤◌, IfSome};
 
-use crate::{POINTS, SEGMENT, SIDE};
+use crate::{Costs, POINTS, SEGMENT, SIDE};
 
 // Where a point's four neighbours are; up is towards smaller y.
 #[derive(Clone, Copy)]
@@ -13,53 +13,65 @@ enum Direction {
     Down,
 }
 
-// The neighbour of the point p, or 4,096 where p is the last point in that direction.
-fn beside(p: usize, toward: Direction) -> usize
+// The neighbour of the point p, unless p is the last point in that direction.
+fn beside(p: usize, toward: Direction) -> Option<usize>
     requires { p < 4096 }
-    ensures { result ≤ 4096 }
+    ensures { IfSome result (λ q. q < 4096) }
 {
     match toward {
-        Direction::Left => if p % SIDE == 0 { POINTS } else { p - 1 },
-        Direction::Right => if p % SIDE == SIDE - 1 { POINTS } else { p + 1 },
-        Direction::Up => if p < SIDE { POINTS } else { p - SIDE },
-        Direction::Down => if POINTS <= p + SIDE { POINTS } else { p + SIDE },
+        Direction::Left => if p % SIDE == 0 { None } else { Some(p - 1) },
+        Direction::Right => if p % SIDE == SIDE - 1 {
+            None
+        } else {
+            Some(p + 1)
+        },
+        Direction::Up => if p < SIDE { None } else { Some(p - SIDE) },
+        Direction::Down => if POINTS <= p + SIDE {
+            None
+        } else {
+            Some(p + SIDE)
+        },
     }
 }
 
 // Notes a cost at the point p, unless it has one that is no more.
-fn mark(costs: &mut [u32; 4096], p: usize, cost: u32)
+fn mark(costs: &mut [Option<u32>; 4096], p: usize, cost: u32)
     requires { p < 4096 }
 {
-    if costs[p] == 0 {
-        costs[p] = cost;
+    let Some(noted) = costs[p] else {
+        costs[p] = Some(cost);
         return;
-    }
-    if cost < costs[p] {
-        costs[p] = cost;
-    }
+    };
+    costs[p] = Some(cost.min(noted));
 }
 
 // Notes what it costs at the points that a free segment in one direction joins to the point `from`,
 // where it is `cost` there: a step more at each.
-fn spread(costs: &mut [u32; 4096], map: &[bool; 4096], from: usize, toward: Direction, cost: u32)
+fn spread(
+    costs: &mut [Option<u32>; 4096],
+    map: &[bool; 4096],
+    from: usize,
+    toward: Direction,
+    cost: u32,
+)
     requires { (from < 4096) × (cost ≤ 600000000) }
 {
     let mut p = from;
     for i in 1..64 {
-        p = beside(p, toward);
-        if p == POINTS {
+        let Some(q) = beside(p, toward) else {
+            return;
+        };
+        if !map[q] {
             return;
         }
-        if !map[p] {
-            return;
-        }
-        mark(costs, p, cost + i);
+        mark(costs, q, cost + i);
+        p = q;
     }
 }
 
 // Notes what paths of one segment cost: from each target a segment in two directions.
 fn first_round(
-    costs: &mut [u32; 4096],
+    costs: &mut [Option<u32>; 4096],
     map: &[bool; 4096],
     targets: &[bool; 4096],
     back: Direction,
@@ -76,8 +88,8 @@ fn first_round(
 // Notes what paths of k + 1 segments cost: from each point whose cost in `rest` is that of k segments, a
 // segment more in two directions.
 fn round(
-    costs: &mut [u32; 4096],
-    rest: &[u32; 4096],
+    costs: &mut [Option<u32>; 4096],
+    rest: &[Option<u32>; 4096],
     map: &[bool; 4096],
     back: Direction,
     on: Direction,
@@ -86,7 +98,9 @@ fn round(
     requires { k < 8192 }
 {
     for p in 0..POINTS {
-        let cost = rest[p];
+        let Some(cost) = rest[p] else {
+            continue;
+        };
         if cost / SEGMENT == k {
             spread(costs, map, p, back, cost + SEGMENT);
             spread(costs, map, p, on, cost + SEGMENT);
@@ -95,23 +109,17 @@ fn round(
 }
 
 // Whether some point has the cost of k segments.
-fn has(costs: &[u32; 4096], k: u32) -> bool {
-    for p in 0..POINTS {
-        if costs[p] / SEGMENT == k {
-            return true;
-        }
-    }
-    false
+fn has(costs: &[Option<u32>; 4096], k: u32) -> bool {
+    costs
+        .iter()
+        .any(|c| c.is_some_and(|cost| cost / SEGMENT == k))
 }
 
-// Sets the costs of all points, which are 0 before: the least of the paths to a target that begin with a
-// level segment, and of those that begin with an upright one. Where there are none it stays 0.
-pub(crate) fn label(
-    level: &mut [u32; 4096],
-    upright: &mut [u32; 4096],
-    map: &[bool; 4096],
-    targets: &[bool; 4096],
-) {
+// Notes the costs of all points, of which none has one before: the least of the paths to a target that begin with a
+// level segment, and of those that begin with an upright one.
+pub(crate) fn label(costs: &mut Costs, map: &[bool; 4096], targets: &[bool; 4096]) {
+    let level = &mut costs.level;
+    let upright = &mut costs.upright;
     first_round(level, map, targets, Direction::Left, Direction::Right);
     first_round(upright, map, targets, Direction::Up, Direction::Down);
     for k in 1..8191 {

@@ -1,8 +1,8 @@
 // The walk over the costs: at each corner the first point in order from which the rest of the path costs
 // as much less as the segment there.
-ghost use Rattle.std.specs.Prelude.{◌<◌, ◌≤◌};
+ghost use Rattle.std.specs.Prelude.{◌<◌, ◌≤◌, IfSome};
 
-use crate::{POINTS, SEGMENT, SIDE, place};
+use crate::{Costs, POINTS, SEGMENT, SIDE, place};
 
 // Which way the next segment may go.
 #[derive(Clone, Copy)]
@@ -30,28 +30,14 @@ fn all_free(map: &[bool; 4096], a: usize, b: usize, step: usize) -> bool
 fn level_free(map: &[bool; 4096], p: usize, q: usize) -> bool
     requires { (p < 4096) × (q < 4096) }
 {
-    if p / SIDE != q / SIDE {
-        return false;
-    }
-    if p < q {
-        all_free(map, p, q, 1)
-    } else {
-        p != q && all_free(map, q, p, 1)
-    }
+    p / SIDE == q / SIDE && p != q && all_free(map, p.min(q), p.max(q), 1)
 }
 
 // Whether an upright free segment has the ends p and q.
 fn upright_free(map: &[bool; 4096], p: usize, q: usize) -> bool
     requires { (p < 4096) × (q < 4096) }
 {
-    if p % SIDE != q % SIDE {
-        return false;
-    }
-    if p < q {
-        all_free(map, p, q, SIDE)
-    } else {
-        p != q && all_free(map, q, p, SIDE)
-    }
+    p % SIDE == q % SIDE && p != q && all_free(map, p.min(q), p.max(q), SIDE)
 }
 
 // Whether a free segment with the ends p and q goes as the heading says.
@@ -79,13 +65,15 @@ pub fn is_way(map: &[bool; 4096], list: &[u16; 8192], k: usize) -> bool
     requires { (0 < k) × (k ≤ 4096) }
 {
     let mut heading = Heading::Either;
-    let mut p = place(map, list[0], list[1]);
-    if p == POINTS {
+    let Some(first) = place(map, list[0], list[1]) else {
         return false;
-    }
+    };
+    let mut p = first;
     for i in 1..k {
-        let q = place(map, list[i * 2], list[i * 2 + 1]);
-        if q == POINTS || !segment(map, heading, p, q) {
+        let Some(q) = place(map, list[i * 2], list[i * 2 + 1]) else {
+            return false;
+        };
+        if !segment(map, heading, p, q) {
             return false;
         }
         heading = after(p, q);
@@ -94,84 +82,65 @@ pub fn is_way(map: &[bool; 4096], list: &[u16; 8192], k: usize) -> bool
     true
 }
 
-// How far apart two places are.
-fn apart(p: usize, q: usize) -> usize
-    requires { (p < 4096) × (q < 4096) }
-    ensures { result < 4096 }
-{
-    if p < q {
-        return q - p;
-    }
-    p - q
-}
-
 // How many steps the segment from p to q has.
 fn steps(p: usize, q: usize) -> u32
     requires { (p < 4096) × (q < 4096) }
     ensures { result < 64 }
 {
-    let n = apart(p, q);
+    let n = p.abs_diff(q);
     if n < SIDE {
-        return n as u32;
+        n as u32
+    } else {
+        (n / SIDE) as u32
     }
-    (n / SIDE) as u32
 }
 
-// What is left of a cost after the segment from p to q; 4,294,967,295, which no point has, where that
-// costs more.
-fn rest(cost: u32, p: usize, q: usize) -> u32
+// What is left of a cost after the segment from p to q, unless that costs more.
+fn rest(cost: u32, p: usize, q: usize) -> Option<u32>
     requires { (p < 4096) × (q < 4096) }
 {
-    let segment = SEGMENT + steps(p, q);
-    if cost < segment {
-        return 4294967295;
-    }
-    cost - segment
+    cost.checked_sub(SEGMENT + steps(p, q))
 }
 
 // Whether the path from q to a target costs `left`, the first segment as the heading says.
-fn leads(
-    level: &[u32; 4096],
-    upright: &[u32; 4096],
-    targets: &[bool; 4096],
-    heading: Heading,
-    q: usize,
-    left: u32,
-) -> bool
+fn leads(costs: &Costs, targets: &[bool; 4096], heading: Heading, q: usize, left: u32) -> bool
     requires { q < 4096 }
 {
     if left == 0 {
         return targets[q];
     }
+    let level = costs.level[q] == Some(left);
+    let upright = costs.upright[q] == Some(left);
     match heading {
-        Heading::Either => level[q] == left || upright[q] == left,
-        Heading::Level => level[q] == left,
-        Heading::Upright => upright[q] == left,
+        Heading::Either => level || upright,
+        Heading::Level => level,
+        Heading::Upright => upright,
     }
 }
 
-// The first point in order that can follow the corner p, where the path from there costs `cost`; 4,096
-// where there is none.
+// The first point in order that can follow the corner p, where the path from there costs `cost`, with what is left of
+// the cost.
 fn next_corner(
-    level: &[u32; 4096],
-    upright: &[u32; 4096],
+    costs: &Costs,
     map: &[bool; 4096],
     targets: &[bool; 4096],
     heading: Heading,
     p: usize,
     cost: u32,
-) -> usize
+) -> Option<(usize, u32)>
     requires { p < 4096 }
-    ensures { result ≤ 4096 }
+    ensures { IfSome result (λ s. s.0 < 4096) }
 {
     for q in 0..POINTS {
-        if segment(map, heading, p, q)
-            && leads(level, upright, targets, after(p, q), q, rest(cost, p, q))
-        {
-            return q;
+        if segment(map, heading, p, q) {
+            if let Some(left) = rest(cost, p, q) {
+                if leads(costs, targets, after(p, q), q, left) {
+                    return Some((q, left));
+                }
+            }
         }
     }
-    POINTS
+    None
 }
 
 // Writes the point p as corner i, if `out` has room for it.
@@ -187,31 +156,25 @@ pub(crate) fn put(out: &mut [u16; 8192], i: usize, p: usize)
 // Writes the corners of the path from s to a target that costs as much, and answers how many they are.
 pub(crate) fn walk(
     out: &mut [u16; 8192],
-    level: &[u32; 4096],
-    upright: &[u32; 4096],
+    costs: &Costs,
     map: &[bool; 4096],
     targets: &[bool; 4096],
     s: usize,
     cost: u32,
-) -> usize
+) -> Option<usize>
     requires { s < 4096 }
 {
     put(out, 0, s);
-    let segments = cost / SEGMENT;
+    let segments = (cost / SEGMENT) as usize;
     let mut heading = Heading::Either;
     let mut p = s;
     let mut left = cost;
-    let mut count = 0u32;
-    while count < segments {
-        count += 1;
-        let q = next_corner(level, upright, map, targets, heading, p, left);
-        if q == POINTS {
-            return 0;
-        }
-        put(out, count as usize, q);
-        left = rest(left, p, q);
+    for i in 0..segments {
+        let (q, less) = next_corner(costs, map, targets, heading, p, left)?;
+        put(out, i + 1, q);
         heading = after(p, q);
+        left = less;
         p = q;
     }
-    (count as usize) + 1
+    Some(segments + 1)
 }

@@ -9,13 +9,14 @@ mod looks;
 mod records;
 mod runs;
 
-ghost use Rattle.std.specs.Prelude.{◌≡◌, ◌+◌, ◌<◌, ◌≤◌};
+ghost use Rattle.std.specs.Prelude.{◌≤◌};
 
-use foil_spec::{Entry, Pen};
+use foil_spec::{Entry, Pen, Reason};
 pub use joins::join;
 pub use laying::{book, find, lay};
 pub use looks::look_up;
-pub use records::{NONE, Ran, record};
+use places::{entry_at, put_entry};
+pub use records::{Ran, Steps, record};
 pub use runs::strips;
 
 // A foil's size, the half width and the gap of its pen, and how many entries its row has.
@@ -26,6 +27,7 @@ pub struct Foil {
     pub half: u16,
     pub gap: u16,
     pub entries: usize,
+    ghost few: { entries ≤ 128 },
 }
 
 // The foil's pen.
@@ -37,71 +39,43 @@ fn pen(foil: Foil) -> Pen {
 }
 
 // Says of each place of a map whether its point is free.
-fn free_points(map: &mut [bool; 4096], row: &[u16; 640], foil: Foil)
-    requires { foil.entries ≤ 128 }
-{
+fn free_points(map: &mut [bool; 4096], row: &[u16; 640], foil: Foil) {
     plain::free_points(map, row, foil.entries, pen(foil), foil.width, foil.height);
 }
 
-// The number of a step, 0 if it is accepted, with the corners of a track; and the foil after it.
-#[derive(Clone, Copy)]
-pub struct Done {
-    pub number: u8,
-    pub corners: usize,
-    pub foil: Foil,
-}
-
-// A refused step.
-fn refuse(number: u8, foil: Foil) -> Done
-    ensures { (result.foil.entries ≡ foil.entries) × (result.corners ≡ 0) }
-{
-    Done {
-        number,
-        corners: 0,
-        foil,
+// Puts an entry after the others of the row.
+fn append_entry(row: &mut [u16; 640], foil: &mut Foil, entry: Entry) -> Result<(), Reason> {
+    let n = foil.entries;
+    if 128 <= n {
+        return Err(Reason::TableFull);
     }
+    put_entry(row, n, entry);
+    foil.entries = n + 1;
+    Ok(())
 }
 
-// An accepted step, which leaves so many entries.
-fn accept(corners: usize, foil: Foil, entries: usize) -> Done
-    ensures { result.foil.entries ≡ entries }
-{
-    Done {
-        number: 0,
-        corners,
-        foil: Foil {
-            width: foil.width,
-            height: foil.height,
-            half: foil.half,
-            gap: foil.gap,
-            entries,
-        },
+// Puts an entry after the others, unless a patch and a leg cross by it.
+fn draw_entry(row: &mut [u16; 640], foil: &mut Foil, entry: Entry) -> Result<(), Reason> {
+    if crossing::crosses(row, *foil, entry) {
+        return Err(Reason::Crossed);
     }
+    append_entry(row, foil, entry)
 }
 
-// Puts an entry at place i of the row.
-fn put(row: &mut [u16; 640], i: usize, net: u16, x0: u16, y0: u16, x1: u16, y1: u16)
-    requires { i < 128 }
-{
-    row[i * 5] = net;
-    row[i * 5 + 1] = x0;
-    row[i * 5 + 2] = y0;
-    row[i * 5 + 3] = x1;
-    row[i * 5 + 4] = y1;
+// Whether a box is not empty and lies on the foil.
+fn is_box(foil: Foil, e: Entry) -> bool {
+    e.x0 < e.x1 && e.x1 <= foil.width && e.y0 < e.y1 && e.y1 <= foil.height
 }
 
 // Draws a patch.
-pub fn draw(row: &mut [u16; 640], foil: Foil, x0: u16, y0: u16, x1: u16, y1: u16) -> Done
-    requires { foil.entries ≤ 128 }
-    ensures { result.foil.entries ≤ 128 }
-{
-    let n = foil.entries;
-    if x1 <= x0 || foil.width < x1 {
-        return refuse(3, foil);
-    }
-    if y1 <= y0 || foil.height < y1 {
-        return refuse(3, foil);
-    }
+pub fn draw(
+    row: &mut [u16; 640],
+    foil: &mut Foil,
+    x0: u16,
+    y0: u16,
+    x1: u16,
+    y1: u16,
+) -> Result<(), Reason> {
     let patch = Entry {
         net: 0,
         x0,
@@ -109,88 +83,52 @@ pub fn draw(row: &mut [u16; 640], foil: Foil, x0: u16, y0: u16, x1: u16, y1: u16
         x1,
         y1,
     };
-    if crossing::crosses(row, foil, patch) {
-        return refuse(21, foil);
+    if !is_box(*foil, patch) {
+        return Err(Reason::BadShape);
     }
-    if 128 <= n {
-        return refuse(10, foil);
+    draw_entry(row, foil, patch)
+}
+
+// Refuses a number that is no net's.
+fn check_net(net: u16) -> Result<(), Reason> {
+    if net < 1 || 999 < net {
+        return Err(Reason::BadNet);
     }
-    put(row, n, 0, x0, y0, x1, y1);
-    accept(0, foil, n + 1)
+    Ok(())
 }
 
 // Whether an entry's points make a leg: one point wide in one direction.
-fn thin(x0: u16, y0: u16, x1: u16, y1: u16) -> bool {
-    (x0 < x1 && x1 - x0 == 1) || (y0 < y1 && y1 - y0 == 1)
+fn thin(e: Entry) -> bool {
+    (e.x0 < e.x1 && e.x1 - e.x0 == 1) || (e.y0 < e.y1 && e.y1 - e.y0 == 1)
 }
 
 // Appends a leg as booked.
-pub fn put_leg(
-    row: &mut [u16; 640],
-    foil: Foil,
-    net: u16,
-    x0: u16,
-    y0: u16,
-    x1: u16,
-    y1: u16,
-) -> Done
-    requires { foil.entries ≤ 128 }
-    ensures { result.foil.entries ≤ 128 }
-{
-    let n = foil.entries;
-    if net < 1 || 999 < net {
-        return refuse(4, foil);
+pub fn put_leg(row: &mut [u16; 640], foil: &mut Foil, leg: Entry) -> Result<(), Reason> {
+    check_net(leg.net)?;
+    if !is_box(*foil, leg) || !thin(leg) {
+        return Err(Reason::BadShape);
     }
-    if x1 <= x0 || foil.width < x1 || y1 <= y0 || foil.height < y1 {
-        return refuse(3, foil);
-    }
-    if !thin(x0, y0, x1, y1) {
-        return refuse(3, foil);
-    }
-    let leg = Entry {
-        net,
-        x0,
-        y0,
-        x1,
-        y1,
-    };
-    if crossing::crosses(row, foil, leg) {
-        return refuse(21, foil);
-    }
-    if 128 <= n {
-        return refuse(10, foil);
-    }
-    put(row, n, net, x0, y0, x1, y1);
-    accept(0, foil, n + 1)
+    draw_entry(row, foil, leg)
 }
 
 // Whether one of the first n entries is of the net.
 fn in_use(row: &[u16; 640], n: usize, net: u16) -> bool
     requires { n ≤ 128 }
 {
-    for i in 0..n {
-        if row[i * 5] == net {
-            return true;
-        }
-    }
-    false
+    (0..n).any(|i| row[i * 5] == net)
 }
 
 // Lifts a net.
-pub fn lift(row: &mut [u16; 640], foil: Foil, net: u16) -> Done
-    requires { foil.entries ≤ 128 }
-    ensures { result.foil.entries ≤ 128 }
-{
+pub fn lift(row: &mut [u16; 640], foil: &mut Foil, net: u16) -> Result<(), Reason> {
     let n = foil.entries;
-    if net < 1 || 999 < net {
-        return refuse(4, foil);
-    }
+    check_net(net)?;
     if !in_use(row, n, net) {
-        return refuse(6, foil);
+        return Err(Reason::NetNotOnFoil);
     }
     let old = *row;
     *row = [0; 640];
-    accept(0, foil, strike(row, &old, n, net))
+    foil.entries = strike(row, &old, n, net);
+    Ok(())
 }
 
 // Puts the first n entries of the old row at the front of the row, but for those of the net, and answers how many they
@@ -201,27 +139,11 @@ fn strike(row: &mut [u16; 640], old: &[u16; 640], n: usize, net: u16) -> usize
 {
     let mut left: usize = 0;
     for i in 0..n {
-        left = keep(row, left, old, i, net);
+        let entry = entry_at(old, i);
+        if entry.net != net {
+            put_entry(row, left, entry);
+            left += 1;
+        }
     }
     left
-}
-
-// Puts entry i of the old row at place `left`, unless it is of the net; the place after it.
-fn keep(row: &mut [u16; 640], left: usize, old: &[u16; 640], i: usize, net: u16) -> usize
-    requires { (left ≤ i) × (i < 128) }
-    ensures { result ≤ i + 1 }
-{
-    if old[i * 5] == net {
-        return left;
-    }
-    put(
-        row,
-        left,
-        old[i * 5],
-        old[i * 5 + 1],
-        old[i * 5 + 2],
-        old[i * 5 + 3],
-        old[i * 5 + 4],
-    );
-    left + 1
 }

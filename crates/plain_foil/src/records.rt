@@ -2,43 +2,38 @@
 ghost use Rattle.std.specs.Prelude.{◌+◌, ◌≤◌};
 
 use crate::laying::lay;
-use crate::{Done, Foil, draw, lift, put_leg};
+use crate::{Foil, draw, lift, put_leg};
+use foil_spec::{Entry, Reason};
 
-// The number of a step that the record does not have.
-pub const NONE: u8 = 255;
-
-// What came of a record: the number that refuses it as a whole, or 0; whether it was the end mark, or its board ended
-// the job; else the number of each step, the corners of its track, and the place after it. And the foil after it.
+// What came of a record: it is the end mark, its board was refused and ended the job, or its steps were run.
 #[derive(Clone, Copy)]
-pub struct Ran {
-    pub number: u8,
-    pub end: bool,
-    pub over: bool,
-    pub board: u8,
-    pub patch: u8,
-    pub track: u8,
-    pub lift: u8,
-    pub leg: u8,
-    pub corners: usize,
+pub enum Ran {
+    AtEnd,
+    Over(Reason),
+    Went(Steps),
+}
+
+// The steps of a record that went on: whether it has a board, what came of the other steps that it has, with how many
+// corners the track has, and the place after the record.
+#[derive(Clone, Copy)]
+pub struct Steps {
+    pub board: bool,
+    pub patch: Option<Result<(), Reason>>,
+    pub track: Option<Result<usize, Reason>>,
+    pub lift: Option<Result<(), Reason>>,
+    pub leg: Option<Result<(), Reason>>,
     pub next: usize,
-    pub foil: Foil,
 }
 
 // A byte of the file as a number, 0 past its end.
 fn byte(bytes: &[u8], at: usize) -> u16
     ensures { result ≤ 255 }
 {
-    if bytes.len() <= at {
-        return 0;
+    if at < bytes.len() {
+        bytes[at] as u16
+    } else {
+        0
     }
-    wide(bytes[at])
-}
-
-// A byte as a number.
-fn wide(b: u8) -> u16
-    ensures { result ≤ 255 }
-{
-    b as u16
 }
 
 // The number of two bytes.
@@ -63,33 +58,28 @@ fn size(bytes: &[u8], at: usize, bit: u16, full: usize) -> usize
     if has(bytes, at, bit) { full } else { 0 }
 }
 
-// The number that refuses the record as a whole, 0 where none does.
-fn refusal(bytes: &[u8], at: usize) -> u8
+// Refuses a record as a whole, or not.
+fn check_record(bytes: &[u8], at: usize) -> Result<(), Reason>
     requires { at ≤ 60000 }
 {
     let map = byte(bytes, at);
+    let board = map % 2 == 1;
     if bytes.len() <= at {
-        return 14;
+        return Err(Reason::FileCutShort);
     }
     if 64 <= map {
-        return 15;
+        return Err(Reason::UnknownBit);
     }
-    if at == 0 && map % 2 == 0 {
-        return 16;
-    }
-    if 32 <= map && map % 2 == 0 {
-        return 16;
-    }
-    if at != 0 && map % 2 == 1 {
-        return 16;
+    if (at == 0) != board || (32 <= map && !board) {
+        return Err(Reason::BoardMisplaced);
     }
     if map == 0 && at + 1 < bytes.len() {
-        return 17;
+        return Err(Reason::BytesAfterEnd);
     }
     if bytes.len() < after(bytes, at) {
-        return 14;
+        return Err(Reason::FileCutShort);
     }
-    0
+    Ok(())
 }
 
 // Where the fields of the patch begin, or would begin.
@@ -140,231 +130,129 @@ fn after(bytes: &[u8], at: usize) -> usize
     pen_at(bytes, at) + size(bytes, at, 32, 4)
 }
 
-// A record without steps.
-fn bare(number: u8, end: bool, foil: Foil) -> Ran
-    requires { foil.entries ≤ 128 }
-    ensures { result.foil.entries ≤ 128 }
-{
-    Ran {
-        number,
-        end,
-        over: false,
-        board: NONE,
-        patch: NONE,
-        track: NONE,
-        lift: NONE,
-        leg: NONE,
-        corners: 0,
-        next: 0,
-        foil,
-    }
-}
-
-// A record whose board ended the job.
-fn over(begun: Done) -> Ran
-    requires { begun.foil.entries ≤ 128 }
-    ensures { result.foil.entries ≤ 128 }
-{
-    let foil = begun.foil;
-    Ran {
-        number: 0,
-        end: false,
-        over: true,
-        board: begun.number,
-        patch: NONE,
-        track: NONE,
-        lift: NONE,
-        leg: NONE,
-        corners: 0,
-        next: 0,
-        foil,
-    }
-}
-
 // Runs the record at a place, with room for so many corners.
 pub fn record(
     row: &mut [u16; 640],
     corners: &mut [u16; 8192],
-    foil: Foil,
+    foil: &mut Foil,
     room: usize,
     bytes: &[u8],
     at: usize,
-) -> Ran
-    requires { (foil.entries ≤ 128) × (at ≤ 60000) }
-    ensures { result.foil.entries ≤ 128 }
+) -> Result<Ran, Reason>
+    requires { at ≤ 60000 }
 {
-    let refused = refusal(bytes, at);
-    if refused != 0 {
-        return bare(refused, false, foil);
-    }
+    check_record(bytes, at)?;
     if byte(bytes, at) == 0 {
-        return bare(0, true, foil);
+        return Ok(Ran::AtEnd);
     }
-    steps(row, corners, foil, room, bytes, at)
+    let board = has(bytes, at, 1);
+    if board {
+        if let Err(reason) = board_step(row, foil, bytes, at) {
+            return Ok(Ran::Over(reason));
+        }
+    }
+    Ok(Ran::Went(Steps {
+        board,
+        patch: patch_step(row, foil, bytes, at),
+        track: track_step(row, corners, foil, room, bytes, at),
+        lift: lift_step(row, foil, bytes, at),
+        leg: leg_step(row, foil, bytes, at),
+        next: after(bytes, at),
+    }))
 }
 
-// Runs the steps of a record.
-fn steps(
-    row: &mut [u16; 640],
-    corners: &mut [u16; 8192],
-    foil: Foil,
-    room: usize,
-    bytes: &[u8],
-    at: usize,
-) -> Ran
-    requires { (foil.entries ≤ 128) × (at ≤ 60000) }
-    ensures { result.foil.entries ≤ 128 }
+// Begins the foil by the board of the record: its row becomes empty.
+fn board_step(row: &mut [u16; 640], foil: &mut Foil, bytes: &[u8], at: usize) -> Result<(), Reason>
+    requires { at ≤ 60000 }
 {
-    let begun = board_step(row, foil, bytes, at);
-    if begun.number == 1 || begun.number == 2 || begun.number == 20 {
-        return over(begun);
-    }
-    later_steps(row, corners, begun, room, bytes, at)
-}
-
-// Runs the steps of a record after its board.
-fn later_steps(
-    row: &mut [u16; 640],
-    corners: &mut [u16; 8192],
-    begun: Done,
-    room: usize,
-    bytes: &[u8],
-    at: usize,
-) -> Ran
-    requires { (begun.foil.entries ≤ 128) × (at ≤ 60000) }
-    ensures { result.foil.entries ≤ 128 }
-{
-    let next = after(bytes, at);
-    let drawn = patch_step(row, begun.foil, bytes, at);
-    let laid = track_step(row, corners, drawn.foil, room, bytes, at);
-    let lifted = lift_step(row, laid.foil, bytes, at);
-    let booked = leg_step(row, lifted.foil, bytes, at);
-    let foil = booked.foil;
-    Ran {
-        number: 0,
-        end: false,
-        over: false,
-        board: begun.number,
-        patch: drawn.number,
-        track: laid.number,
-        lift: lifted.number,
-        leg: booked.number,
-        corners: laid.corners,
-        next,
-        foil,
-    }
-}
-
-// A step that the record does not have.
-fn skip(foil: Foil) -> Done
-    requires { foil.entries ≤ 128 }
-    ensures { result.foil.entries ≤ 128 }
-{
-    Done {
-        number: NONE,
-        corners: 0,
-        foil,
-    }
-}
-
-// Begins the foil, if the record has a board: its row becomes empty.
-fn board_step(row: &mut [u16; 640], foil: Foil, bytes: &[u8], at: usize) -> Done
-    requires { (foil.entries ≤ 128) × (at ≤ 60000) }
-    ensures { result.foil.entries ≤ 128 }
-{
-    if !has(bytes, at, 1) {
-        return skip(foil);
-    }
     let width = number(bytes, at + 1);
     let height = number(bytes, at + 3);
     if width < 1 || 4096 < width || height < 1 || 4096 < height {
-        return crate::refuse(1, foil);
+        return Err(Reason::BadSize);
     }
     if has(bytes, at, 32) {
         return pen_board(row, foil, bytes, at, width, height);
     }
     let reach = number(bytes, at + 5);
     if 15 < reach {
-        return crate::refuse(2, foil);
+        return Err(Reason::BadReach);
     }
-    begin(row, width, height, 0, reach)
+    begin(row, foil, width, height, 0, reach);
+    Ok(())
 }
 
 // Begins the foil by the pen of its record, whatever its reach is.
 fn pen_board(
     row: &mut [u16; 640],
-    foil: Foil,
+    foil: &mut Foil,
     bytes: &[u8],
     at: usize,
     width: u16,
     height: u16,
-) -> Done
-    requires { (foil.entries ≤ 128) × (at ≤ 60000) }
-    ensures { result.foil.entries ≤ 128 }
+) -> Result<(), Reason>
+    requires { at ≤ 60000 }
 {
     let f = pen_at(bytes, at);
     let half = number(bytes, f);
     let gap = number(bytes, f + 2);
     if 7 < half || 15 < gap {
-        return crate::refuse(20, foil);
+        return Err(Reason::BadPen);
     }
-    begin(row, width, height, half, gap)
+    begin(row, foil, width, height, half, gap);
+    Ok(())
 }
 
-// A foil with an empty row.
-fn begin(row: &mut [u16; 640], width: u16, height: u16, half: u16, gap: u16) -> Done
-    ensures { result.foil.entries ≤ 128 }
-{
+// Begins a foil with an empty row.
+fn begin(row: &mut [u16; 640], foil: &mut Foil, width: u16, height: u16, half: u16, gap: u16) {
     *row = [0; 640];
-    Done {
-        number: 0,
-        corners: 0,
-        foil: Foil {
-            width,
-            height,
-            half,
-            gap,
-            entries: 0,
-        },
-    }
+    *foil = Foil {
+        width,
+        height,
+        half,
+        gap,
+        entries: 0,
+    };
 }
 
 // Draws the patch, if the record has one.
-fn patch_step(row: &mut [u16; 640], foil: Foil, bytes: &[u8], at: usize) -> Done
-    requires { (foil.entries ≤ 128) × (at ≤ 60000) }
-    ensures { result.foil.entries ≤ 128 }
+fn patch_step(
+    row: &mut [u16; 640],
+    foil: &mut Foil,
+    bytes: &[u8],
+    at: usize,
+) -> Option<Result<(), Reason>>
+    requires { at ≤ 60000 }
 {
     if !has(bytes, at, 2) {
-        return skip(foil);
+        return None;
     }
     let f = patch_at(bytes, at);
-    draw(
+    Some(draw(
         row,
         foil,
         number(bytes, f),
         number(bytes, f + 2),
         number(bytes, f + 4),
         number(bytes, f + 6),
-    )
+    ))
 }
 
 // Lays the track, if the record has one.
 fn track_step(
     row: &mut [u16; 640],
     corners: &mut [u16; 8192],
-    foil: Foil,
+    foil: &mut Foil,
     room: usize,
     bytes: &[u8],
     at: usize,
-) -> Done
-    requires { (foil.entries ≤ 128) × (at ≤ 60000) }
-    ensures { result.foil.entries ≤ 128 }
+) -> Option<Result<usize, Reason>>
+    requires { at ≤ 60000 }
 {
     if !has(bytes, at, 4) {
-        return skip(foil);
+        return None;
     }
     let f = track_at(bytes, at);
-    lay(
+    Some(lay(
         row,
         corners,
         foil,
@@ -374,36 +262,43 @@ fn track_step(
         number(bytes, f + 4),
         number(bytes, f + 6),
         number(bytes, f + 8),
-    )
+    ))
 }
 
 // Lifts the net, if the record has one.
-fn lift_step(row: &mut [u16; 640], foil: Foil, bytes: &[u8], at: usize) -> Done
-    requires { (foil.entries ≤ 128) × (at ≤ 60000) }
-    ensures { result.foil.entries ≤ 128 }
+fn lift_step(
+    row: &mut [u16; 640],
+    foil: &mut Foil,
+    bytes: &[u8],
+    at: usize,
+) -> Option<Result<(), Reason>>
+    requires { at ≤ 60000 }
 {
     if !has(bytes, at, 8) {
-        return skip(foil);
+        return None;
     }
-    lift(row, foil, number(bytes, lift_at(bytes, at)))
+    Some(lift(row, foil, number(bytes, lift_at(bytes, at))))
 }
 
 // Appends the leg, if the record has one.
-fn leg_step(row: &mut [u16; 640], foil: Foil, bytes: &[u8], at: usize) -> Done
-    requires { (foil.entries ≤ 128) × (at ≤ 60000) }
-    ensures { result.foil.entries ≤ 128 }
+fn leg_step(
+    row: &mut [u16; 640],
+    foil: &mut Foil,
+    bytes: &[u8],
+    at: usize,
+) -> Option<Result<(), Reason>>
+    requires { at ≤ 60000 }
 {
     if !has(bytes, at, 16) {
-        return skip(foil);
+        return None;
     }
     let f = leg_at(bytes, at);
-    put_leg(
-        row,
-        foil,
-        number(bytes, f),
-        number(bytes, f + 2),
-        number(bytes, f + 4),
-        number(bytes, f + 6),
-        number(bytes, f + 8),
-    )
+    let leg = Entry {
+        net: number(bytes, f),
+        x0: number(bytes, f + 2),
+        y0: number(bytes, f + 4),
+        x1: number(bytes, f + 6),
+        y1: number(bytes, f + 8),
+    };
+    Some(put_leg(row, foil, leg))
 }

@@ -1,13 +1,12 @@
 // Calls at random: the same number always gives the same call on the same foils.
 ghost use Rattle.std.specs.Prelude.{◌<◌, ◌≤◌};
 
-use crate::records::begins;
-use crate::rows::foil_at;
+use crate::rows::{Kept, foil_at};
 use boards::{below, next};
 use plain_foil::Foil;
 
 // The kinds of calls.
-#[derive(Clone, Copy)]
+#[derive(Clone, Copy, PartialEq, Eq)]
 pub enum Kind {
     New,
     Draw,
@@ -21,6 +20,21 @@ pub enum Kind {
     Save,
 }
 
+impl Kind {
+    // Whether an accepted call of this kind writes entries.
+    pub fn writes(self) -> bool {
+        !matches!(self, Kind::Find | Kind::LookUp | Kind::Save)
+    }
+
+    // Whether a record of a job file can make a call of this kind.
+    fn has_record(self) -> bool {
+        matches!(
+            self,
+            Kind::New | Kind::Draw | Kind::Leg | Kind::Lift | Kind::Lay
+        )
+    }
+}
+
 // The four numbers of a call: a size and a pen, a box, or two points.
 #[derive(Clone, Copy)]
 pub struct Four {
@@ -30,11 +44,33 @@ pub struct Four {
     pub y1: u16,
 }
 
+// How long the lists are that a call is lent: longer than they have to be, just as long, or one of them one number
+// shorter.
+#[derive(Clone, Copy, PartialEq, Eq)]
+pub enum Short {
+    Nothing,
+    NoneSpare,
+    Table,
+    Strips,
+}
+
+// What is wrong with the records that a call is lent: more entries than any foil has in one of them, than all can have
+// in each of them, or than any sum can take in one; a width; or a number of strips, the foil's own.
+#[derive(Clone, Copy, PartialEq, Eq)]
+pub enum Wrong {
+    Nothing,
+    Entries,
+    AllEntries,
+    MostEntries,
+    Width,
+    Strips,
+}
+
 // How a call is lent the sheet: which list is short, what is wrong with the records, and in which one of them.
 #[derive(Clone, Copy)]
 pub struct Terms {
-    pub short: u32,
-    pub wrong: u32,
+    pub short: Short,
+    pub wrong: Wrong,
     pub at: usize,
 }
 
@@ -86,18 +122,6 @@ fn reading(seed: u32) -> Kind {
         0 => Kind::Find,
         1 => Kind::LookUp,
         _ => Kind::Save,
-    }
-}
-
-// Whether a record of a job file can make a call of this kind.
-fn has_record(kind: Kind) -> bool {
-    match kind {
-        Kind::New => true,
-        Kind::Draw => true,
-        Kind::Leg => true,
-        Kind::Lift => true,
-        Kind::Lay => true,
-        _ => false,
     }
 }
 
@@ -207,11 +231,9 @@ fn any_net(seed: u32) -> u16 {
 }
 
 // The net of an entry at random; now and then, and where that is a patch, any net.
-fn net_in(rows: &[u16; 5120], k: usize, entries: usize, seed: u32) -> u16
-    requires { (k < 8) × (entries ≤ 128) }
-{
-    let i = below(seed, entries as u16 + 1) as usize % 128;
-    let net = rows[k * 640 + i * 5];
+fn net_in(row: &[u16; 640], foil: Foil, seed: u32) -> u16 {
+    let i = below(seed, foil.entries as u16 + 1) as usize % 128;
+    let net = row[i * 5];
     if net == 0 || seed / 256 % 4 == 0 {
         return any_net(next(seed));
     }
@@ -219,13 +241,10 @@ fn net_in(rows: &[u16; 5120], k: usize, entries: usize, seed: u32) -> u16
 }
 
 // The net of a call of this kind: a track and a list mostly want a new one.
-fn net(rows: &[u16; 5120], k: usize, entries: usize, kind: Kind, seed: u32) -> u16
-    requires { (k < 8) × (entries ≤ 128) }
-{
+fn net(row: &[u16; 640], foil: Foil, kind: Kind, seed: u32) -> u16 {
     match kind {
-        Kind::Lay => any_net(seed),
-        Kind::Book => any_net(seed),
-        _ => net_in(rows, k, entries, seed),
+        Kind::Lay | Kind::Book => any_net(seed),
+        _ => net_in(row, foil, seed),
     }
 }
 
@@ -240,18 +259,37 @@ fn room(kind: Kind, seed: u32) -> usize {
     }
 }
 
+// Which list is short, mostly none.
+fn which_short(n: u32) -> Short {
+    match n {
+        1 => Short::NoneSpare,
+        2 => Short::Table,
+        3 => Short::Strips,
+        _ => Short::Nothing,
+    }
+}
+
+// What is wrong with the records, mostly nothing.
+fn which_wrong(n: u32) -> Wrong {
+    match n {
+        1 => Wrong::Entries,
+        2 => Wrong::AllEntries,
+        3 => Wrong::MostEntries,
+        4 => Wrong::Width,
+        5 => Wrong::Strips,
+        _ => Wrong::Nothing,
+    }
+}
+
 // How a call on a foil is lent the sheet: mostly whole and right.
 fn which_terms(foil: usize, kind: Kind, seed: u32) -> Terms {
-    let wrong = if begins(kind) {
-        seed / 64 % 8
-    } else {
-        seed / 64 % 64
-    };
+    let most = if kind == Kind::New { 8 } else { 64 };
+    let wrong = which_wrong(seed / 64 % most);
     let n = (seed / 4096) as usize;
     Terms {
-        short: seed % 64,
+        short: which_short(seed % 64),
         wrong,
-        at: if wrong == 4 {
+        at: if wrong == Wrong::Width {
             (foil % 8 + 1 + n % 7) % 8
         } else {
             n % 8
@@ -260,20 +298,20 @@ fn which_terms(foil: usize, kind: Kind, seed: u32) -> Terms {
 }
 
 // Chooses a call by a number.
-pub fn choose(rows: &[u16; 5120], foils: [Foil; 8], seed: u32) -> Asked {
+pub fn choose(all: &[Kept; 8], seed: u32) -> Asked {
     let a = next(seed);
     let b = next(a);
     let c = next(b);
     let e = next(c);
     let f = next(e);
     let number = which_foil(a);
-    let foil = foil_at(foils, number);
+    let foil = foil_at(all, number);
     let kind = which_kind(foil.width != 0, b);
     Asked {
         foil: number,
         kind,
-        recorded: b % 3 == 0 && has_record(kind),
-        net: net(rows, number % 8, foil.entries, kind, c),
+        recorded: b % 3 == 0 && kind.has_record(),
+        net: net(&all[number % 8].row, foil, kind, c),
         four: numbers(kind, foil, e),
         room: room(kind, f),
         terms: which_terms(number, kind, next(f)),
@@ -284,10 +322,7 @@ pub fn choose(rows: &[u16; 5120], foils: [Foil; 8], seed: u32) -> Asked {
 pub fn list_size(room: usize) -> usize
     ensures { result ≤ 6 }
 {
-    if 6 < room {
-        return 6;
-    }
-    room
+    room.min(6)
 }
 
 // Draws three corners: from the first point of the call level, then upright to the second.

@@ -7,7 +7,7 @@ mod records;
 mod rows;
 mod wants;
 
-pub use asks::{Asked, Four, Kind, Terms, choose, elbow, list_size};
-pub use records::{begins, record_of};
-pub use rows::{foil_at, no_foil, sum, write_strips, write_table};
-pub use wants::{Want, want_of, writes};
+pub use asks::{Asked, Four, Kind, Short, Terms, Wrong, choose, elbow, list_size};
+pub use records::record_of;
+pub use rows::{Kept, foil_at, none_begun, sum, write_strips, write_table};
+pub use wants::{Want, want_of};

@@ -32,20 +32,11 @@ pub(crate) fn spell(map: u8, a: u16, b: u16, c: u16, d: u16, e: u16) -> [u8; 11]
 pub fn record_of(asked: Asked) -> [u8; 11] {
     let net = asked.net;
     let four = asked.four;
-    let kind = asked.kind;
-    match kind {
+    match asked.kind {
         Kind::New => spell(33, four.x0, four.y0, 0, four.x1, four.y1),
         Kind::Draw => spell(2, four.x0, four.y0, four.x1, four.y1, 0),
         Kind::Lift => spell(8, net, 0, 0, 0, 0),
         Kind::Lay => spell(4, net, four.x0, four.y0, four.x1, four.y1),
         _ => spell(16, net, four.x0, four.y0, four.x1, four.y1),
-    }
-}
-
-// Whether the kind is that of a new foil.
-pub fn begins(kind: Kind) -> bool {
-    match kind {
-        Kind::New => true,
-        _ => false,
     }
 }

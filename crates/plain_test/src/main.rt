@@ -24,6 +24,14 @@ fn print_corners(rt: &impl Print, corners: &[u16; 8192], n: usize)
     let _ = rt.write_all(b"\n");
 }
 
+// Writes the corners of the path that was found, if there is one, and ends the line.
+fn print_found(rt: &impl Print, corners: &[u16; 8192], found: Option<usize>) {
+    let n = found.unwrap_or(0);
+    if n <= 4096 {
+        print_corners(rt, corners, n);
+    }
+}
+
 // Writes the path between two points of a board by a pen of half width 0 with a gap.
 fn show(
     rt: &impl Print,
@@ -66,9 +74,7 @@ fn show_by(
     let _ = rt.write_all(b" to ");
     print_point(rt, tx, ty);
     let _ = rt.write_all(b":");
-    if found <= 4096 {
-        print_corners(rt, &corners, found);
-    }
+    print_found(rt, &corners, found);
 }
 
 // Puts a patch at place i of the table.
@@ -103,9 +109,7 @@ fn show_to_columns(rt: &impl Print, table: &[u16; 640], n: usize, sx: u16, sy: u
     let found = plain::first_path_to(&mut corners, &map, &targets, sx, sy);
     print_point(rt, sx, sy);
     let _ = rt.write_all(b" to a column:");
-    if found <= 4096 {
-        print_corners(rt, &corners, found);
-    }
+    print_found(rt, &corners, found);
 }
 
 // Searches to two columns: as far from both, nearer to one, which a patch blocks there, and on one.

@@ -5,8 +5,8 @@ use native.Mathlib.Nat.{add-zero, zero-add}
 use native.Mathlib.Numerals.{add-one}
 use mathlib.Core.Path.{◌≡◌, refl, sym, ap, ◌∙◌, subst}
 use mathlib.Core.List.{List, [], ◌∷◌, ◌++◌, map, append_assoc, append-nil}
-use lib.ListN.{length, get_or, take, drop, set, length-append, length-take, length-drop}
-use lib.Seq.{paste-zero, set_split, append_snoc, take-suc, take_all, length-take-le, take_at}
+use lib.ListN.{length, take, drop, set, length-append, length-take, length-drop}
+use lib.Seq.{paste-zero, set_split, append_snoc, length-take-le, take_at}
 use lib.Seq.{drop-append-add, drop-drop}
 use Rattle.foil_spec.specs.Lists.{range, each}
 use Rattle.foil_spec.specs.Lent.{over_front}
@@ -77,21 +77,6 @@ put_then {o} {o₁} {o₂} {a} {b} {at} p q =
           ∙ put_next o a at (omega arith) b o₁ p.is;
       next = omega (arith, p.next, q.next);
     }
-
--- bytes one by one: none of them are put, one more of them is, all of them are
-pub copied_none : (d : List ℕ) (at : ℕ) → at ≤ length d → Put d at [] d (at + 0)
-copied_none d at l = rw (add-zero at) (put-none d at l)
-
-module _ (d : List ℕ) (at : ℕ) (s l : List ℕ) (i : ℕ) where
-  pub copied_more : i < length s → at + length s ≤ length d → Put d at (take i s) l (at + i)
-      → Put d at (take (i + 1) s) (set l (at + i) (get_or s i 0)) (at + (i + 1))
-  copied_more h room p =
-      let same : length l ≡ length d = put-length p in
-      let e : at + (i + 1) ≡ at + i + 1 = omega arith in
-      rw (e, add-one i, take-suc s i 0 h) (put_then p (put_one l (at + i) (get_or s i 0) (omega arith)))
-
-  pub copied_all : length s ≤ i → Put d at (take i s) l (at + i) → Put d at s l (at + i)
-  copied_all g p = rw (take_all i s g) at p
 
 each_last : {A B : Type 0} (g : A → List B) (xs : List A) (x : A) → each g (xs ++ (x ∷ [])) ≡ each g xs ++ g x
 each_last g [] x = append-nil (g x)

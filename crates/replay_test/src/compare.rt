@@ -1,91 +1,78 @@
 // The reply of run a record, compared with what the plain foil says.
-use foil::Answer;
-use job::{Answers, Next, Reply, Told};
-use plain_foil::{NONE, Ran};
+use foil::{Accepted, Answer};
+use foil_spec::{Reason, Refusal};
+use job::{Answers, Progress, Reply};
+use plain_foil::{Ran, Steps};
 
-// No number that is answered: the answer of a look up or a save to another step.
-const WRONG: u8 = 254;
+// Whether the refusal is for this reason.
+pub(crate) fn is_for(refusal: Refusal, reason: Reason) -> bool {
+    refusal == Refusal::from(reason)
+}
 
-// A place past the end of every file.
-pub(crate) const NOWHERE: usize = 65536;
-
-// The number of a step: that of its refusal, 0 if it is accepted, or none if the record does not have it.
-fn number_of(told: Told) -> u8 {
-    let Told::Said(answer) = told else {
-        return NONE;
-    };
+// Whether a step that has no track was answered as it should be.
+fn same_done(answer: Answer, want: Result<(), Reason>) -> bool {
     match answer {
-        Answer::Refused(number) => number,
-        Answer::Accepted => 0,
-        Answer::Laid(_, _) => 0,
-        Answer::Found(_) => WRONG,
-        Answer::Wrote(_) => WRONG,
+        Err(refusal) => want.is_err_and(|reason| is_for(refusal, reason)),
+        Ok(Accepted::Done) => want.is_ok(),
+        Ok(_) => false,
     }
 }
 
-// The bends of a path with so many corners.
-fn bends(corners: usize) -> usize {
-    if corners < 2 { 0 } else { corners - 2 }
-}
-
-// Whether the answer is a number or, for 0, a track with so many corners.
-pub(crate) fn same_laid(answer: Answer, number: u8, corners: usize) -> bool {
+// Whether the answer is a refusal or a track with so many corners, as it should be.
+pub(crate) fn same_laid(answer: Answer, want: Result<usize, Reason>) -> bool {
     match answer {
-        Answer::Refused(given) => given != 0 && given == number,
-        Answer::Accepted => false,
-        Answer::Laid(given, turns) => number == 0 && given == corners && turns == bends(corners),
-        Answer::Found(_) => false,
-        Answer::Wrote(_) => false,
+        Err(refusal) => want.is_err_and(|reason| is_for(refusal, reason)),
+        Ok(Accepted::Laid(corners, bends)) => {
+            bends == corners.saturating_sub(2) && want == Ok(corners)
+        }
+        Ok(_) => false,
     }
 }
 
-// Whether a track was answered as it should be, if the record has one.
-fn same_track(told: Told, want: Ran) -> bool {
-    let Told::Said(answer) = told else {
-        return want.track == NONE;
-    };
-    same_laid(answer, want.track, want.corners)
-}
-
-// Whether the steps of a record were answered as they should be.
-fn same_steps(answers: Answers, want: Ran) -> bool {
-    let board = answers.board;
-    let patch = answers.patch;
-    let track = answers.track;
-    let lift = answers.lift;
-    let leg = answers.leg;
-    if number_of(board) != want.board || number_of(patch) != want.patch {
-        return false;
+// Whether a step that a record may have was answered as it should be, and only if it should have been.
+fn same_told<W: Drop, F: FnOnce(Answer, Result<W, Reason>) -> bool>(
+    told: Option<Answer>,
+    want: Option<Result<W, Reason>>,
+    same: F,
+) -> bool
+    requires { F.IsAlwaysCallable same }
+{
+    match told {
+        None => want.is_none(),
+        Some(answer) => want.is_some_and(|due| same(answer, due)),
     }
-    same_track(track, want) && number_of(lift) == want.lift && number_of(leg) == want.leg
 }
 
-// Whether the next place is the right one, and there is none where the board has ended the job.
-fn same_next(next: Next, want: Ran) -> bool {
-    let Next::At(place) = next else {
-        return want.over;
-    };
-    !want.over && place == want.next
+// Whether the steps of a record that went on were answered as they should be.
+fn same_steps(answers: Answers, want: Steps) -> bool {
+    let board = if want.board { Some(Ok(())) } else { None };
+    same_told(answers.board, board, same_done)
+        && same_told(answers.patch, want.patch, same_done)
+        && same_told(answers.track, want.track, same_laid)
+        && same_told(answers.lift, want.lift, same_done)
+        && same_told(answers.leg, want.leg, same_done)
+}
+
+// Whether a board was refused for this reason, and no other step was run.
+fn is_over(answers: Answers, reason: Reason) -> bool {
+    same_told(answers.board, Some(Err(reason)), same_done)
+        && answers.patch.is_none()
+        && answers.track.is_none()
+        && answers.lift.is_none()
+        && answers.leg.is_none()
 }
 
 // Whether a record was answered as it should be.
-pub(crate) fn same_reply(reply: Reply, want: Ran) -> bool {
-    match reply {
-        Reply::Refused(number) => number != 0 && number == want.number,
-        Reply::AtEnd => want.end,
-        Reply::Ran(answers, next) => {
-            want.number == 0 && !want.end && same_steps(answers, want) && same_next(next, want)
+pub(crate) fn same_reply(reply: Reply, want: Result<Ran, Reason>) -> bool {
+    match (reply, want) {
+        (Err(refusal), Err(reason)) => is_for(refusal, reason),
+        (Ok(Progress::AtEnd), Ok(Ran::AtEnd)) => true,
+        (Ok(Progress::Ran(answers, next)), Ok(Ran::Over(reason))) => {
+            next.is_none() && is_over(answers, reason)
         }
+        (Ok(Progress::Ran(answers, next)), Ok(Ran::Went(steps))) => {
+            next == Some(steps.next) && same_steps(answers, steps)
+        }
+        _ => false,
     }
-}
-
-// The next place that a reply names; past the end of every file where there is none.
-pub(crate) fn next_place(reply: Reply) -> usize {
-    let Reply::Ran(_, next) = reply else {
-        return NOWHERE;
-    };
-    let Next::At(place) = next else {
-        return NOWHERE;
-    };
-    place
 }

@@ -1,12 +1,12 @@
 // Find and book beside the plain foil, between the records: a path, and its corners as a list that may be no way.
-ghost use Rattle.std.specs.Prelude.{◌<◌, ◌≤◌, length};
+ghost use Rattle.std.specs.Prelude.{◌<◌, ◌≤◌, IfSome};
 
 use crate::compare::same_laid;
-use crate::{BOOKED, COUNTS, DIFFERENT, FOUND, Stood, count, count_number};
+use crate::{BOOKED, COUNTS, DIFFERENT, FOUND, Stood, count, count_answer};
 use boards::{below, next};
-use sheet::{Sheet, SheetDone, book, find};
+use foil_spec::Point;
+use sheet::{Sheet, book, find};
 use sheet_rows::board_at;
-use std::num::wrapping_sub_u16;
 
 // Where a strip of foil 0 at random begins in the list; or the place after the last one, which holds zeros.
 pub(crate) fn strip(sheet: Sheet, seed: u32) -> usize
@@ -26,20 +26,16 @@ pub(crate) fn draw(
     corners: &mut [u16; 300],
     row: &mut [u16; 640],
     path: &mut [u16; 8192],
-    stood: Stood,
-) -> Stood
-    requires { stood.foil.entries ≤ 128 }
-    ensures { result.foil.entries ≤ 128 }
-{
-    let k = find_both(counts, table, strips, corners, row, path, stood);
-    if k == 0 {
-        return stood;
-    }
+    stood: &mut Stood,
+) {
+    let Some(k) = find_both(counts, table, strips, corners, row, path, *stood) else {
+        return;
+    };
     let mut list = *path;
-    book_both(counts, table, strips, row, &mut list, stood, k)
+    book_both(counts, table, strips, row, &mut list, stood, k);
 }
 
-// Finds a path by the call and on the plain foil; how many corners it has.
+// Finds a path by the call and on the plain foil; how many corners it has, if there is one.
 fn find_both(
     counts: &mut [u64; COUNTS],
     table: &[u16; 2565],
@@ -48,31 +44,27 @@ fn find_both(
     row: &[u16; 640],
     path: &mut [u16; 8192],
     stood: Stood,
-) -> usize
-    requires { stood.foil.entries ≤ 128 }
-    ensures { result ≤ 150 }
+) -> Option<usize>
+    ensures { IfSome result (λ k. (0 < k) × (k ≤ 150)) }
 {
     let a = strip(stood.sheet, next(stood.point));
     let b = strip(stood.sheet, next(next(stood.point)));
-    let tx = wrapping_sub_u16(strips[b + 2], 1);
-    let ty = wrapping_sub_u16(strips[b + 3], 1);
-    let given = find(
-        corners,
-        table,
-        strips,
-        stood.sheet,
-        0,
-        strips[a],
-        strips[a + 1],
-        tx,
-        ty,
-    );
-    let want = plain_foil::find(path, row, stood.foil, 150, strips[a], strips[a + 1], tx, ty);
-    if !same_laid(given, want.number, want.corners) {
+    let sx = strips[a];
+    let sy = strips[a + 1];
+    let tx = strips[b + 2].wrapping_sub(1);
+    let ty = strips[b + 3].wrapping_sub(1);
+    let from = Point { x: sx, y: sy };
+    let to = Point { x: tx, y: ty };
+    let given = find(corners, table, strips, stood.sheet, 0, from, to);
+    let want = plain_foil::find(path, row, stood.foil, 150, sx, sy, tx, ty);
+    if !same_laid(given, want) {
         count(counts, DIFFERENT);
     }
-    count_number(counts, want.number);
-    want.corners
+    count_answer(counts, want);
+    match want {
+        Ok(k) => if 0 < k { Some(k) } else { None },
+        Err(_) => None,
+    }
 }
 
 // Books a list of k corners by the call and on the plain foil, spoilt or not.
@@ -82,32 +74,22 @@ fn book_both(
     strips: &mut [u16; 16388],
     row: &mut [u16; 640],
     list: &mut [u16; 8192],
-    stood: Stood,
+    stood: &mut Stood,
     k: usize,
-) -> Stood
-    requires { (stood.foil.entries ≤ 128) × (0 < k) × (k ≤ 150) }
-    ensures { result.foil.entries ≤ 128 }
+)
+    requires { (0 < k) × (k ≤ 150) }
 {
     let n = spoil(list, k * 2, stood.point);
     let net = below(stood.point / 8, 24);
-    let done = book_front(table, strips, stood.sheet, net, list, n);
-    let want = plain_foil::book(row, stood.foil, net, list, n);
-    let given = done.answer;
-    if !same_laid(given, want.number, want.corners) {
+    let given = book(table, strips, &mut stood.sheet, 0, net, &list[..n]);
+    let want = plain_foil::book(row, &mut stood.foil, net, list, n);
+    if !same_laid(given, want) {
         count(counts, DIFFERENT);
     }
     count(counts, FOUND);
-    count_number(counts, want.number);
-    if want.number == 0 {
+    count_answer(counts, want);
+    if want.is_ok() {
         count(counts, BOOKED);
-    }
-    let sheet = done.sheet;
-    let foil = want.foil;
-    Stood {
-        sheet,
-        foil,
-        at: stood.at,
-        point: stood.point,
     }
 }
 
@@ -125,18 +107,4 @@ fn spoil(list: &mut [u16; 8192], n: usize, seed: u32) -> usize
     }
     list[below(seed / 8, n as u16) as usize] = below(seed / 4096, 40);
     n
-}
-
-// Books the first n numbers of a list by the call.
-fn book_front(
-    table: &mut [u16; 2565],
-    strips: &mut [u16; 16388],
-    sheet: Sheet,
-    net: u16,
-    list: &[u16],
-    n: usize,
-) -> SheetDone
-    requires { n ≤ length list.now }
-{
-    book(table, strips, sheet, 0, net, &list[..n])
 }

@@ -11,6 +11,15 @@ pub(crate) struct Made {
     pub(crate) seed: u32,
 }
 
+// The size of a foil, or of a part of it.
+#[derive(Clone, Copy)]
+struct Size {
+    width: u16,
+    height: u16,
+    ghost wide: { (0 < width) × (width ≤ 64) },
+    ghost high: { (0 < height) × (height ≤ 64) },
+}
+
 // Where the next byte goes, and the number that is left.
 #[derive(Clone, Copy)]
 struct Cursor {
@@ -49,12 +58,12 @@ pub(crate) fn net(seed: u32) -> u16 {
 
 // Puts the board of a file after its map byte, now and then one that ends the job, unless a pen takes the place of the
 // reach.
-fn board(bytes: &mut [u8; 12000], w: u16, h: u16, seed: u32) -> Cursor
+fn board(bytes: &mut [u8; 12000], size: Size, seed: u32) -> Cursor
     ensures { result.at ≡ 7 }
 {
     let kind = seed / 64 % 60;
-    put(bytes, 1, if kind == 0 { 0 } else { w });
-    put(bytes, 3, if kind == 1 { 4097 } else { h });
+    put(bytes, 1, if kind == 0 { 0 } else { size.width });
+    put(bytes, 3, if kind == 1 { 4097 } else { size.height });
     put(bytes, 5, if kind == 2 { 16 } else { below(seed, 3) });
     Cursor {
         at: 7,
@@ -77,8 +86,8 @@ fn end_of(start: u16, size: u16, seed: u32) -> u16
 }
 
 // Puts the fields of a patch, if the map byte asks for it.
-fn patch(bytes: &mut [u8; 12000], map: u16, cursor: Cursor, w: u16, h: u16) -> Cursor
-    requires { (cursor.at < 11900) × (0 < w) × (w ≤ 64) × (0 < h) × (h ≤ 64) }
+fn patch(bytes: &mut [u8; 12000], map: u16, cursor: Cursor, size: Size) -> Cursor
+    requires { cursor.at < 11900 }
     ensures { result.at ≤ cursor.at + 8 }
 {
     if map / 2 % 2 == 0 {
@@ -87,12 +96,12 @@ fn patch(bytes: &mut [u8; 12000], map: u16, cursor: Cursor, w: u16, h: u16) -> C
     let at = cursor.at;
     let a = next(cursor.seed);
     let b = next(a);
-    let x0 = below(a, w);
-    let y0 = below(b, h);
+    let x0 = below(a, size.width);
+    let y0 = below(b, size.height);
     put(bytes, at, x0);
     put(bytes, at + 2, y0);
-    put(bytes, at + 4, end_of(x0, w, a / 8));
-    put(bytes, at + 6, end_of(y0, h, b / 8));
+    put(bytes, at + 4, end_of(x0, size.width, a / 8));
+    put(bytes, at + 6, end_of(y0, size.height, b / 8));
     Cursor {
         at: at + 8,
         seed: b,
@@ -100,8 +109,8 @@ fn patch(bytes: &mut [u8; 12000], map: u16, cursor: Cursor, w: u16, h: u16) -> C
 }
 
 // Puts the fields of a track, if the map byte asks for it.
-fn track(bytes: &mut [u8; 12000], map: u16, cursor: Cursor, w: u16, h: u16) -> Cursor
-    requires { (cursor.at < 11900) × (0 < w) × (0 < h) }
+fn track(bytes: &mut [u8; 12000], map: u16, cursor: Cursor, size: Size) -> Cursor
+    requires { cursor.at < 11900 }
     ensures { result.at ≤ cursor.at + 10 }
 {
     if map / 4 % 2 == 0 {
@@ -113,10 +122,10 @@ fn track(bytes: &mut [u8; 12000], map: u16, cursor: Cursor, w: u16, h: u16) -> C
     let c = next(b);
     let e = next(c);
     put(bytes, at, net(e / 8));
-    put(bytes, at + 2, coordinate(w, a));
-    put(bytes, at + 4, coordinate(h, b));
-    put(bytes, at + 6, coordinate(w, c));
-    put(bytes, at + 8, coordinate(h, e));
+    put(bytes, at + 2, coordinate(size.width, a));
+    put(bytes, at + 4, coordinate(size.height, b));
+    put(bytes, at + 6, coordinate(size.width, c));
+    put(bytes, at + 8, coordinate(size.height, e));
     Cursor {
         at: at + 10,
         seed: e,
@@ -141,8 +150,8 @@ fn lift(bytes: &mut [u8; 12000], map: u16, cursor: Cursor) -> Cursor
 }
 
 // Puts the fields of a leg, if the map byte asks for it: a level one or an upright one, now and then of another shape.
-fn leg(bytes: &mut [u8; 12000], map: u16, cursor: Cursor, w: u16, h: u16) -> Cursor
-    requires { (cursor.at < 11900) × (0 < w) × (w ≤ 64) × (0 < h) × (h ≤ 64) }
+fn leg(bytes: &mut [u8; 12000], map: u16, cursor: Cursor, size: Size) -> Cursor
+    requires { cursor.at < 11900 }
     ensures { result.at ≤ cursor.at + 10 }
 {
     if map / 16 % 2 == 0 {
@@ -152,8 +161,8 @@ fn leg(bytes: &mut [u8; 12000], map: u16, cursor: Cursor, w: u16, h: u16) -> Cur
     let a = next(cursor.seed);
     let b = next(a);
     let c = next(b);
-    let x0 = below(a, w);
-    let y0 = below(b, h);
+    let x0 = below(a, size.width);
+    let y0 = below(b, size.height);
     let kind = c / 64 % 8;
     put(bytes, at, net(c / 8));
     put(bytes, at + 2, x0);
@@ -164,7 +173,7 @@ fn leg(bytes: &mut [u8; 12000], map: u16, cursor: Cursor, w: u16, h: u16) -> Cur
         if kind < 4 {
             x0 + 1
         } else {
-            end_of(x0, w, a / 8)
+            end_of(x0, size.width, a / 8)
         },
     );
     put(
@@ -173,7 +182,7 @@ fn leg(bytes: &mut [u8; 12000], map: u16, cursor: Cursor, w: u16, h: u16) -> Cur
         if 4 <= kind && kind < 7 {
             y0 + 1
         } else {
-            end_of(y0, h, b / 8)
+            end_of(y0, size.height, b / 8)
         },
     );
     Cursor {
@@ -183,29 +192,23 @@ fn leg(bytes: &mut [u8; 12000], map: u16, cursor: Cursor, w: u16, h: u16) -> Cur
 }
 
 // Puts the fields of a record but for a board's. In a crowded file the patches keep to the left half.
-fn fields(
-    bytes: &mut [u8; 12000],
-    map: u16,
-    cursor: Cursor,
-    w: u16,
-    h: u16,
-    crowded: bool,
-) -> Cursor
-    requires { (cursor.at < 11700) × (0 < w) × (w ≤ 64) × (0 < h) × (h ≤ 64) }
+fn fields(bytes: &mut [u8; 12000], map: u16, cursor: Cursor, size: Size, crowded: bool) -> Cursor
+    requires { cursor.at < 11700 }
     ensures { result.at ≤ cursor.at + 30 }
 {
-    let a = patch(bytes, map, cursor, part(w, crowded), h);
-    let b = track(bytes, map, a, w, h);
+    let a = patch(bytes, map, cursor, part(size, crowded));
+    let b = track(bytes, map, a, size);
     let c = lift(bytes, map, b);
-    leg(bytes, map, c, w, h)
+    leg(bytes, map, c, size)
 }
 
-// The width that patches keep to.
-fn part(w: u16, crowded: bool) -> u16
-    requires { 0 < w }
-    ensures { (0 < result) × (result ≤ w) }
-{
-    if crowded { w - w / 2 } else { w }
+// The part of a foil that patches keep to.
+fn part(size: Size, crowded: bool) -> Size {
+    let w = size.width;
+    Size {
+        width: if crowded { w - w / 2 } else { w },
+        height: size.height,
+    }
 }
 
 // The map byte of a record without a board; in a crowded file it mostly draws.
@@ -219,8 +222,8 @@ fn map_of(seed: u32, crowded: bool) -> u16
 }
 
 // Puts a record without a board.
-fn record(bytes: &mut [u8; 12000], cursor: Cursor, w: u16, h: u16, crowded: bool) -> Cursor
-    requires { (cursor.at < 11600) × (0 < w) × (w ≤ 64) × (0 < h) × (h ≤ 64) }
+fn record(bytes: &mut [u8; 12000], cursor: Cursor, size: Size, crowded: bool) -> Cursor
+    requires { cursor.at < 11600 }
     ensures { result.at ≤ cursor.at + 31 }
 {
     let at = cursor.at;
@@ -231,18 +234,17 @@ fn record(bytes: &mut [u8; 12000], cursor: Cursor, w: u16, h: u16, crowded: bool
         at: at + 1,
         seed: a,
     };
-    fields(bytes, map, after, w, h, crowded)
+    fields(bytes, map, after, size, crowded)
 }
 
 // Puts the first record of a file, now and then with a pen.
-fn first_record(bytes: &mut [u8; 12000], w: u16, h: u16, seed: u32) -> Cursor
-    requires { (0 < w) × (w ≤ 64) × (0 < h) × (h ≤ 64) }
+fn first_record(bytes: &mut [u8; 12000], size: Size, seed: u32) -> Cursor
     ensures { result.at ≤ 41 }
 {
     let map = map_of(seed, seed / 4 % 2 == 0);
     bytes[0] = (map + 1) as u8;
-    let cursor = board(bytes, w, h, next(seed));
-    let last = fields(bytes, map, cursor, w, h, false);
+    let cursor = board(bytes, size, next(seed));
+    let last = fields(bytes, map, cursor, size, false);
     if seed / 16 % 4 != 0 {
         return last;
     }
@@ -268,20 +270,13 @@ fn pen(bytes: &mut [u8; 12000], cursor: Cursor) -> Cursor
 }
 
 // Puts n records, and the end mark.
-fn records(
-    bytes: &mut [u8; 12000],
-    first: Cursor,
-    n: usize,
-    w: u16,
-    h: u16,
-    crowded: bool,
-) -> Cursor
-    requires { (first.at ≤ 41) × (n ≤ 300) × (0 < w) × (w ≤ 64) × (0 < h) × (h ≤ 64) }
+fn records(bytes: &mut [u8; 12000], first: Cursor, n: usize, size: Size, crowded: bool) -> Cursor
+    requires { (first.at ≤ 41) × (n ≤ 300) }
     ensures { (0 < result.at) × (result.at ≤ 11000) }
 {
     let mut cursor = first;
     for _ in 0..n {
-        cursor = record(bytes, cursor, w, h, crowded);
+        cursor = record(bytes, cursor, size, crowded);
     }
     let end = cursor.at;
     bytes[end] = 0;
@@ -369,11 +364,13 @@ pub(crate) fn make(bytes: &mut [u8; 12000], seed: u32) -> Made
     let a = next(seed);
     let b = next(a);
     let c = next(b);
-    let w = 1 + below(a, 40);
-    let h = 1 + below(b, 40);
+    let size = Size {
+        width: 1 + below(a, 40),
+        height: 1 + below(b, 40),
+    };
     let crowded = below(c, 12) == 0;
-    let first = first_record(bytes, w, h, c);
-    let cursor = records(bytes, first, record_count(c / 16, crowded), w, h, crowded);
+    let first = first_record(bytes, size, c);
+    let cursor = records(bytes, first, record_count(c / 16, crowded), size, crowded);
     let e = next(cursor.seed);
     Made {
         length: damage(bytes, cursor.at, e / 8),

@@ -1,30 +1,23 @@
 // Joins beside the plain foil, between the records: from points anywhere on the foil, first points of strips, and
 // points on a leg and beside one.
-ghost use Rattle.std.specs.Prelude.{◌+◌, ◌<◌, ◌≤◌, length};
+ghost use Rattle.std.specs.Prelude.{◌<◌, ◌≤◌};
 
 use crate::compare::same_laid;
 use crate::drawings::strip;
 use crate::holds::same;
 use crate::jobs::{coordinate, net, room};
-use crate::{COUNTS, DIFFERENT, JOINS, RUN, Stood, count, count_number};
+use crate::{COUNTS, DIFFERENT, JOINS, RUN, Stood, count, count_answer, number_of};
 use boards::{below, next};
-use sheet::{Sheet, SheetDone, join};
-use std::num::wrapping_sub_u16;
+use foil_spec::{Point, Reason};
+use places::entry_at;
+use sheet::join;
 
 // What is asked for: a point to be joined to a net, with room for so many corners.
 #[derive(Clone, Copy)]
 struct Asked {
     net: u16,
-    x: u16,
-    y: u16,
+    from: Point,
     room: usize,
-}
-
-// A point.
-#[derive(Clone, Copy)]
-struct Spot {
-    x: u16,
-    y: u16,
 }
 
 // The place of a leg in a row with so many entries: the first from a place at random on, or that place where none
@@ -55,36 +48,37 @@ fn net_of(row: &[u16; 640], k: usize, seed: u32) -> u16
 
 // A point at random, now and then just off the foil; the first point of a strip; or the first or the last point of the
 // leg at place k, or one just past it.
-fn choose_spot(strips: &[u16; 16388], row: &[u16; 640], stood: Stood, k: usize) -> Spot
+fn choose_spot(strips: &[u16; 16388], row: &[u16; 640], stood: Stood, k: usize) -> Point
     requires { k < 128 }
 {
     let a = next(stood.point);
+    let leg = entry_at(row, k);
     match stood.point % 8 {
-        0 | 1 => Spot {
+        0 | 1 => Point {
             x: coordinate(stood.foil.width % 64 + 1, a),
             y: coordinate(stood.foil.height % 64 + 1, next(a)),
         },
         2 | 3 | 4 => first_of(strips, strip(stood.sheet, a)),
-        5 => Spot {
-            x: row[k * 5 + 1],
-            y: row[k * 5 + 2],
+        5 => Point {
+            x: leg.x0,
+            y: leg.y0,
         },
-        6 => Spot {
-            x: wrapping_sub_u16(row[k * 5 + 3], 1),
-            y: wrapping_sub_u16(row[k * 5 + 4], 1),
+        6 => Point {
+            x: leg.x1.wrapping_sub(1),
+            y: leg.y1.wrapping_sub(1),
         },
-        _ => Spot {
-            x: row[k * 5 + 3],
-            y: row[k * 5 + 4],
+        _ => Point {
+            x: leg.x1,
+            y: leg.y1,
         },
     }
 }
 
 // The first point of the strip that begins at a place of the list.
-fn first_of(strips: &[u16; 16388], at: usize) -> Spot
+fn first_of(strips: &[u16; 16388], at: usize) -> Point
     requires { at < 16384 }
 {
-    Spot {
+    Point {
         x: strips[at],
         y: strips[at + 1],
     }
@@ -92,16 +86,14 @@ fn first_of(strips: &[u16; 16388], at: usize) -> Spot
 
 // Chooses what is asked for where a job stands.
 fn choose(strips: &[u16; 16388], row: &[u16; 640], stood: Stood) -> Asked
-    requires { stood.foil.entries ≤ 128 }
     ensures { result.room ≤ 150 }
 {
     let seed = stood.point / 8;
     let k = leg(row, stood.foil.entries, seed);
-    let point = choose_spot(strips, row, stood, k);
+    let from = choose_spot(strips, row, stood, k);
     Asked {
         net: net_of(row, k, next(seed)),
-        x: point.x,
-        y: point.y,
+        from,
         room: room(next(next(seed)) / 8),
     }
 }
@@ -114,74 +106,41 @@ pub(crate) fn join_point(
     corners: &mut [u16; 300],
     row: &mut [u16; 640],
     path: &mut [u16; 8192],
-    stood: Stood,
-) -> Stood
-    requires { stood.foil.entries ≤ 128 }
-    ensures { result.foil.entries ≤ 128 }
-{
-    let asked = choose(strips, row, stood);
-    let given = join_one(table, strips, corners, stood.sheet, asked);
-    let want = plain_foil::join(
-        row, path, stood.foil, asked.room, asked.net, asked.x, asked.y,
-    );
-    count_join(counts, want.number);
-    let answer = given.answer;
-    let sheet = given.sheet;
-    let foil = want.foil;
-    if !same_laid(answer, want.number, want.corners)
-        || !same(table, strips, corners, sheet, row, path, foil)
-    {
-        count(counts, DIFFERENT);
-    }
-    Stood {
-        sheet,
-        foil,
-        at: stood.at,
-        point: stood.point,
-    }
-}
-
-// Counts the number of a join, with the others and apart.
-fn count_join(counts: &mut [u64; COUNTS], number: u8) {
-    count_number(counts, number);
-    let k = number as usize;
-    if k < RUN {
-        count(counts, JOINS + k);
-    }
-}
-
-// Joins a point by the call, with so many corner places lent.
-fn join_one(
-    table: &mut [u16; 2565],
-    strips: &mut [u16; 16388],
-    corners: &mut [u16; 300],
-    sheet: Sheet,
-    asked: Asked,
-) -> SheetDone
-    requires { asked.room ≤ 150 }
-{
-    join_front(table, strips, corners, asked.room * 2, sheet, asked)
-}
-
-// Joins a point with the first n numbers of the corner list lent.
-fn join_front(
-    table: &mut [u16],
-    strips: &mut [u16],
-    corners: &mut [u16],
-    n: usize,
-    sheet: Sheet,
-    asked: Asked,
-) -> SheetDone
-    requires { n ≤ length corners.old }
-{
-    join(
+    stood: &mut Stood,
+) {
+    let asked = choose(strips, row, *stood);
+    let n = asked.room * 2;
+    let given = join(
         table,
         strips,
         &mut corners[..n],
-        sheet,
+        &mut stood.sheet,
         0,
         asked.net,
-        asked.x,
-        asked.y,
-    )
+        asked.from,
+    );
+    let want = plain_foil::join(
+        row,
+        path,
+        &mut stood.foil,
+        asked.room,
+        asked.net,
+        asked.from.x,
+        asked.from.y,
+    );
+    count_join(counts, want);
+    if !same_laid(given, want)
+        || !same(table, strips, corners, stood.sheet, row, path, stood.foil)
+    {
+        count(counts, DIFFERENT);
+    }
+}
+
+// Counts the answer to a join, with the others and apart.
+fn count_join(counts: &mut [u64; COUNTS], want: Result<usize, Reason>) {
+    count_answer(counts, want);
+    let k = number_of(want) as usize;
+    if k < RUN {
+        count(counts, JOINS + k);
+    }
 }

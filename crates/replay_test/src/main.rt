@@ -10,12 +10,13 @@ mod holds;
 mod jobs;
 mod joins;
 
-ghost use Rattle.std.specs.Prelude.{◌<◌, ◌≤◌, length};
+ghost use Rattle.std.specs.Prelude.{◌<◌, ◌≤◌, IfSome};
 
 use boards::next;
-use jobs::Made;
-use plain_foil::{Foil, Ran};
-use sheet::{Sheet, SheetReplied, run_record};
+use foil_spec::{Reason, Refusal};
+use job::{Reply, next_of};
+use plain_foil::{Foil, Ran, Steps};
+use sheet::{Sheet, run_record};
 use sheet_rows::no_foils;
 
 // How many job files are replayed.
@@ -46,31 +47,42 @@ const COUNTS: usize = 52;
 fn count(counts: &mut [u64; COUNTS], k: usize)
     requires { k < 52 }
 {
-    counts[k] = std::num::wrapping_add_u64(counts[k], 1);
+    counts[k] = counts[k].wrapping_add(1);
 }
 
-// Counts the number of a step or a record, if there is one.
-fn count_number(counts: &mut [u64; COUNTS], number: u8) {
-    let k = number as usize;
+// The number of an answer, 0 if it accepts.
+fn number_of<T: Copy>(answer: Result<T, Reason>) -> u8 {
+    match answer {
+        Ok(_) => 0,
+        Err(reason) => Refusal::from(reason).number(),
+    }
+}
+
+// Counts the number of an answer.
+fn count_answer<T: Copy>(counts: &mut [u64; COUNTS], answer: Result<T, Reason>) {
+    let k = number_of(answer) as usize;
     if k < RUN {
         count(counts, k);
     }
 }
 
-// Where a job stands: the sheet's records by the calls, the plain foil, the place of the next record, and the number
-// for a point.
+// Counts the number of a step, if the record has it.
+fn count_step<T: Copy>(counts: &mut [u64; COUNTS], answer: Option<Result<T, Reason>>) {
+    if let Some(given) = answer {
+        count_answer(counts, given);
+    }
+}
+
+// Where a job stands: the sheet's records by the calls, the plain foil, and the number for a point.
 #[derive(Clone, Copy)]
 struct Stood {
     sheet: Sheet,
     foil: Foil,
-    at: usize,
     point: u32,
 }
 
 // A job before its first record.
-fn unbegun(seed: u32) -> Stood
-    ensures { (result.foil.entries ≤ 128) × (result.at ≤ 60000) }
-{
+fn unbegun(seed: u32) -> Stood {
     Stood {
         sheet: no_foils(),
         foil: Foil {
@@ -80,58 +92,33 @@ fn unbegun(seed: u32) -> Stood
             gap: 0,
             entries: 0,
         },
-        at: 0,
         point: seed,
     }
 }
 
 // Counts what came of a record by the plain foil.
-fn count_record(counts: &mut [u64; COUNTS], want: Ran) {
+fn count_record(counts: &mut [u64; COUNTS], want: Result<Ran, Reason>) {
     count(counts, RUN);
-    if want.end {
-        count(counts, ENDS);
+    match want {
+        Ok(Ran::AtEnd) => count(counts, ENDS),
+        Ok(Ran::Went(steps)) => count_steps(counts, steps),
+        Ok(Ran::Over(reason)) => count_answer::<()>(counts, Err(reason)),
+        Err(reason) => count_answer::<()>(counts, Err(reason)),
     }
-    if want.number != 0 {
-        count_number(counts, want.number);
-    }
-    if want.track == 0 {
+}
+
+// Counts the steps of a record that went on.
+fn count_steps(counts: &mut [u64; COUNTS], steps: Steps) {
+    if let Some(Ok(_)) = steps.track {
         count(counts, LAID);
     }
-    count_number(counts, want.board);
-    count_number(counts, want.patch);
-    count_number(counts, want.track);
-    count_number(counts, want.lift);
-    count_number(counts, want.leg);
-}
-
-// Runs a record by the call, with so many corner places lent.
-fn run_one(
-    table: &mut [u16; 2565],
-    strips: &mut [u16; 16388],
-    corners: &mut [u16; 300],
-    room: usize,
-    sheet: Sheet,
-    bytes: &[u8],
-    at: usize,
-) -> SheetReplied
-    requires { room ≤ 150 }
-{
-    run_front(table, strips, corners, room * 2, sheet, bytes, at)
-}
-
-// Runs a record with the first n numbers of the corner list lent.
-fn run_front(
-    table: &mut [u16],
-    strips: &mut [u16],
-    corners: &mut [u16],
-    n: usize,
-    sheet: Sheet,
-    bytes: &[u8],
-    at: usize,
-) -> SheetReplied
-    requires { n ≤ length corners.old }
-{
-    run_record(table, strips, &mut corners[..n], sheet, 0, bytes, at)
+    if steps.board {
+        count(counts, 0);
+    }
+    count_step(counts, steps.patch);
+    count_step(counts, steps.track);
+    count_step(counts, steps.lift);
+    count_step(counts, steps.leg);
 }
 
 // Whether the foil by the calls and the plain one agree, also in the strip of a point at random.
@@ -139,25 +126,19 @@ fn agree(
     table: &[u16; 2565],
     strips: &[u16; 16388],
     corners: &[u16; 300],
-    given: SheetReplied,
+    reply: &Reply,
     row: &[u16; 640],
     path: &[u16; 8192],
-    want: Ran,
-    point: u32,
-) -> bool
-    requires { want.foil.entries ≤ 128 }
-{
-    let reply = given.reply;
-    if !compare::same_reply(reply, want) {
-        return false;
-    }
-    if !holds::same(table, strips, corners, given.sheet, row, path, want.foil) {
-        return false;
-    }
-    holds::same_point(table, strips, given.sheet, row, want.foil, point)
+    want: Result<Ran, Reason>,
+    stood: &Stood,
+) -> bool {
+    compare::same_reply(*reply, want)
+        && holds::same(table, strips, corners, stood.sheet, row, path, stood.foil)
+        && holds::same_point(table, strips, stood.sheet, row, stood.foil, stood.point)
 }
 
-// Runs a record on both foils, and counts what came of it.
+// Runs a record on both foils, with so many corner places lent, and counts what came of it; the place of the next
+// record, if the job goes on.
 fn replay_one(
     counts: &mut [u64; COUNTS],
     table: &mut [u16; 2565],
@@ -165,36 +146,37 @@ fn replay_one(
     corners: &mut [u16; 300],
     row: &mut [u16; 640],
     path: &mut [u16; 8192],
-    stood: Stood,
+    stood: &mut Stood,
     room: usize,
     bytes: &[u8],
-) -> Stood
-    requires { (stood.foil.entries ≤ 128) × (stood.at ≤ 60000) × (room ≤ 150) }
-    ensures { result.foil.entries ≤ 128 }
+    at: usize,
+) -> Option<usize>
+    requires { (at ≤ 60000) × (room ≤ 150) }
+    ensures { IfSome result (λ place. place ≤ 60000) }
 {
-    let given = run_one(table, strips, corners, room, stood.sheet, bytes, stood.at);
-    let want = plain_foil::record(row, path, stood.foil, room, bytes, stood.at);
-    let point = next(stood.point);
-    let foil = want.foil;
-    let sheet = given.sheet;
+    let n = room * 2;
+    let reply = run_record(
+        table,
+        strips,
+        &mut corners[..n],
+        &mut stood.sheet,
+        0,
+        bytes,
+        at,
+    );
+    let want = plain_foil::record(row, path, &mut stood.foil, room, bytes, at);
+    stood.point = next(stood.point);
     count_record(counts, want);
-    if !agree(table, strips, corners, given, row, path, want, point) {
+    if !agree(table, strips, corners, &reply, row, path, want, stood) {
         count(counts, DIFFERENT);
-        return Stood {
-            sheet,
-            foil,
-            at: compare::NOWHERE,
-            point,
-        };
+        return None;
     }
-    let reply = given.reply;
-    let after = Stood {
-        sheet,
-        foil,
-        at: compare::next_place(reply),
-        point,
-    };
-    between(counts, table, strips, corners, row, path, after)
+    let place = next_of(reply)?;
+    if 60000 < place {
+        return None;
+    }
+    between(counts, table, strips, corners, row, path, stood);
+    Some(place)
 }
 
 // What comes between the records of a job that goes on: after every 16th a find and a book, and four times as often a
@@ -206,18 +188,12 @@ fn between(
     corners: &mut [u16; 300],
     row: &mut [u16; 640],
     path: &mut [u16; 8192],
-    stood: Stood,
-) -> Stood
-    requires { stood.foil.entries ≤ 128 }
-    ensures { result.foil.entries ≤ 128 }
-{
-    if 60000 < stood.at {
-        return stood;
-    }
+    stood: &mut Stood,
+) {
     match counts[RUN] % 16 {
         0 => drawings::draw(counts, table, strips, corners, row, path, stood),
         2 | 6 | 10 | 14 => joins::join_point(counts, table, strips, corners, row, path, stood),
-        _ => stood,
+        _ => {}
     }
 }
 
@@ -231,36 +207,24 @@ fn replay(counts: &mut [u64; COUNTS], bytes: &[u8], room: usize, seed: u32)
     let mut row = [0u16; 640];
     let mut path = [7u16; 8192];
     let mut stood = unbegun(seed);
+    let mut at = 0;
     for _ in 0..RECORDS {
-        stood = replay_one(
+        let Some(place) = replay_one(
             counts,
             &mut table,
             &mut strips,
             &mut corners,
             &mut row,
             &mut path,
-            stood,
+            &mut stood,
             room,
             bytes,
-        );
-        if 60000 < stood.at {
+            at,
+        ) else {
             return;
-        }
+        };
+        at = place;
     }
-}
-
-// Replays the job file that the first n bytes of a list are.
-fn replay_front(counts: &mut [u64; COUNTS], bytes: &[u8], n: usize, room: usize, seed: u32)
-    requires { (n ≤ length bytes.now) × (room ≤ 150) }
-{
-    replay(counts, &bytes[..n], room, seed);
-}
-
-// Replays a job file that was made.
-fn replay_made(counts: &mut [u64; COUNTS], bytes: &[u8; 12000], made: Made)
-    requires { (made.length ≤ 12000) × (made.room ≤ 150) }
-{
-    replay_front(counts, bytes, made.length, made.room, made.seed);
 }
 
 // Makes and replays the job files.
@@ -269,7 +233,7 @@ fn run(counts: &mut [u64; COUNTS]) {
     for _ in 0..JOBS {
         let mut bytes = [0u8; 12000];
         let made = jobs::make(&mut bytes, seed);
-        replay_made(counts, &bytes, made);
+        replay(counts, &bytes[..made.length], made.room, made.seed);
         seed = made.seed;
     }
 }

@@ -13,7 +13,7 @@ use Rattle.foil_spec.specs.Paths.{gap}
 use Rattle.grid.specs.Size.{stride}
 use Rattle.grid.specs.Lines.{Lines}
 use Rattle.runs.specs.Line.{along, across}
-use Rattle.runs.specs.Ink.{Low, OnLine, AtCrossing, Carried, Least, Over, Ahead, Behind}
+use Rattle.runs.specs.Ink.{Low, Carried, Least, Over, Ahead, Behind}
 use Rattle.runs.specs.Ink.{InkPut, stays, puts, RunInked, Lean}
 
 -- the numbers of crossings a to b of a line do not fall
@@ -28,31 +28,6 @@ rises {cross} L a b l lb = pick (dec_lt a b)
 pub lean-low : {other inks : List ℕ} {m n : ℕ} (line v : ℕ) → Lean n m other inks → line < m → 1 ≤ v →
     Low other inks line n v
 lean-low line v L ll p = record { le = λ q lq e. omega (arith, L.le q lq line ll (omega arith)) }
-
--- a crossing of a line
-pub at-crossing : {other inks cross : List ℕ} {line n v : ℕ} → OnLine other inks cross line n v → (k : ℕ) → k < n →
-    AtCrossing other inks line v k
-at-crossing O k lk = record {
-  line-in = O.line-in;
-  k-in = omega (arith, O.crossings.few);
-  top = O.top;
-  others = omega (arith, O.others);
-  other-inks = omega (arith, O.other-inks);
-  low = O.low.le k lk;
-}
-
--- what is carried on from a stop
-pub carried-stop : {other inks : List ℕ} {line v k x best r : ℕ} → across other line k ≡ v →
-    r ≡ min (across inks line k + x) best → Carried other inks line v k x best r
-carried-stop {other} {inks} {line} {v} {k} {x} {best} {r} e m = record {
-  no-farther = omega arith;
-  no_more = λ z. omega arith;
-  is = pick (dec_le best (across inks line k + x));
-}
-  where
-    pick : Dec (best ≤ across inks line k + x) → (r ≡ best) ⊎ ((across other line k ≡ v) × (r ≡ across inks line k + x))
-    pick (yes p) = inl (omega arith)
-    pick (no p) = inr (e, omega arith)
 
 -- A sweep over the run from lo to hi, on which crossing k stands g k high and none above `top`, has come over the
 -- crossings a to b. What it carries is no more than any ink over their stops with that stop's height, and no less than
@@ -87,21 +62,6 @@ flipped a b la lb = pick (dec_le a b)
     pick (no p) = omega arith
 
 module _ {other inks : List ℕ} {line v lo hi : ℕ} {g : ℕ → ℕ} {top : ℕ} where
-  -- from the stop h, over no crossing yet
-  pub sweep-start : (h a : ℕ) → lo ≤ h → h < hi → across other line h ≡ v → across inks line h ≤ 4095 * v →
-      g h ≤ top → top ≤ max_side → Sweep other inks line v lo hi g top a a (across inks line h + (top - g h) + top)
-  sweep-start h a p q e small l t = record {
-    small = omega arith;
-    le = λ q f t. absurd (omega arith);
-    q = h;
-    from = p;
-    to = q;
-    stop = e;
-    near = omega arith;
-    below = λ z. omega arith;
-    above = λ z. omega arith;
-  }
-
   -- over crossing k, besides those from a to b
   pub sweep-step : {a b best k r : ℕ} (a' b' : ℕ) → Sweep other inks line v lo hi g top a b best →
       Carried other inks line v k (g k) best r → lo ≤ k → k < hi → a' ≤ a → b ≤ b' → a' ≤ k → k < b' →
@@ -176,17 +136,6 @@ module _ {other inks : List ℕ} {line v lo hi : ℕ} {g : ℕ → ℕ} {top : �
 
 -- The least at x over the stops from h on, one crossing after the other.
 module _ {other inks cross : List ℕ} {line v h hi x : ℕ} where
-  pub least-one : {s : ℕ} → h < hi → across other line h ≡ v → s ≡ across inks line h + gap x (get_or cross h 0) →
-      Least other inks cross line v h hi h (h + 1) x s
-  least-one {s} l e m = record {
-    le = λ q f t z. let i : q ≡ h = omega arith in rw (i, m) (omega arith);
-    q = h;
-    from = omega arith;
-    to = l;
-    stop = e;
-    ge = omega arith;
-  }
-
   pub least_more : {k y s r : ℕ} → h < k → k < hi → Least other inks cross line v h hi h k x s →
       y ≡ gap x (get_or cross k 0) → Carried other inks line v k y s r → Least other inks cross line v h hi h (k + 1) x r
   least_more {k} {y} {s} {r} lk hk L m C = pick C.is
@@ -208,10 +157,6 @@ module _ {other inks cross : List ℕ} {line v h hi x : ℕ} where
       pick (inr i) =
           record { le = all; q = k; from = omega arith; to = hk; stop = i.0; ge = omega (arith, i.1) }
 
-  pub least-done : {k s : ℕ} → k ≡ hi → Least other inks cross line v h hi h k x s →
-      Least other inks cross line v h hi h hi x s
-  least-done {s = s} e L = subst (λ (j : ℕ). Least other inks cross line v h hi h j x s) e L
-
 module _ {other inks cross : List ℕ} {line v lo hi : ℕ} where
   -- from both sides
   least-both : {k x s t : ℕ} → Least other inks cross line v lo hi lo (k + 1) x s →
@@ -231,16 +176,6 @@ module _ {other inks cross : List ℕ} {line v lo hi : ℕ} where
           record { le = all; q = A.q; from = A.from; to = A.to; stop = A.stop; ge = omega (arith, A.ge) }
       pick (no p) =
           record { le = all; q = B.q; from = B.from; to = B.to; stop = B.stop; ge = omega (arith, B.ge) }
-
-  -- The inks of the run.
-  pub inked-none : (l w : List ℕ) → RunInked other inks cross line v lo hi lo l w w
-  inked-none l w = record {
-    size = refl;
-    fresh = λ j p q. absurd (omega arith);
-    kept = λ j p q. absurd (omega arith);
-    low = λ i p. refl;
-    high = λ i p. refl;
-  }
 
   inked-more : {k s t : ℕ} {l w₀ w w' : List ℕ} → lo ≤ k → line * stride + k < length w₀ →
       RunInked other inks cross line v lo hi k l w₀ w →
@@ -329,28 +264,6 @@ behind_more {other} {inks} {cross} {line} {v} {lo} {hi} k {t} {r} fit B S = reco
 }
 
 module _ {other inks cross : List ℕ} {line v lo hi n : ℕ} (C : Lines cross n) (few : hi ≤ n) where
-  module _ (h : ℕ) (p : lo ≤ h) (q : h < hi) (L : Low other inks line n v) (e : across other line h ≡ v) where
-    pub down-start : (t : List ℕ) →
-        Down other inks cross line v lo hi hi
-        (across inks line h + (rise cross (hi - 1) - rise cross h) + rise cross (hi - 1)) t
-    down-start t = record {
-      from = omega arith;
-      to = omega arith;
-      sweep = sweep-start {g = rise cross} h hi p q e (L.le h (omega arith) e)
-          (rises C h (hi - 1) (omega arith) (omega arith)) (omega (arith, C.below (hi - 1) (omega arith)));
-      made = record { at = λ j p q. absurd (omega arith) };
-    }
-
-    pub up_start : (t : List ℕ) →
-        Up other inks cross line v lo hi lo (across inks line h + (fall cross lo - fall cross h) + fall cross lo) t
-    up_start t = record {
-      from = omega arith;
-      to = omega arith;
-      sweep = sweep-start {g = fall cross} h lo p q e (L.le h (omega arith) e)
-          (omega (arith, rises C lo h p (omega arith))) (omega arith);
-      made = record { at = λ j p q. absurd (omega arith) };
-    }
-
   pub down-more : {k best r : ℕ} {t : List ℕ} → lo < k → k ≤ length t → Down other inks cross line v lo hi k best t →
       Carried other inks line v (k - 1) (rise cross (k - 1)) best r →
       Down other inks cross line v lo hi (k - 1) r (set t (k - 1) r)

@@ -2,15 +2,15 @@
 use Prim.Native.Nat.{ℕ, ◌+◌, ◌-◌, ◌*◌, ◌≤◌, ◌<◌, min, max}
 use native.Mathlib.Omega.{arith}
 use native.Mathlib.Decide.{dec_le, dec_lt}
-use mathlib.Core.Path.{◌≡◌, refl, subst}
+use mathlib.Core.Path.{◌≡◌, subst}
 use mathlib.Core.Logic.{◌≢◌}
 use mathlib.Core.Bool.{true, false}
 use mathlib.Core.List.{List}
 use lib.Dec.{eqb}
 use lib.ListN.{get_or}
-use borrow.Author.Tests.{eqb-true, eq-eqb, ne_eqb}
+use borrow.Author.Tests.{eqb-true, eq-eqb}
 use Rattle.foil_spec.specs.Paths.{gap}
-use Rattle.list_laws.proofs.Tests.{and_l, and_r, and_i, and-no-r}
+use Rattle.list_laws.proofs.Tests.{and_l, and_r, and_i}
 use Rattle.grid.specs.Size.{stride}
 use Rattle.runs.specs.Line.{across, Linked, RunStart, RunEnd, is_stop, Scanned, Stop}
 
@@ -72,10 +72,6 @@ linked_on link line a b l h k =
     let e : (b - 1) + 1 ≡ b + 1 - 1 = omega arith in
     rw (← e) (linked_up link line a (b - 1) (omega arith) h k)
 
-pub start-nearer : {link : List ℕ} {line at a r : ℕ} → RunStart link line at a → r ≡ min a at → RunStart link line at r
-start-nearer {link} {line} {at} {a} {r} s m =
-    let le = s.le in let e : a ≡ r = omega arith in subst (λ (b : ℕ). RunStart link line at b) e s
-
 -- a crossing joined with k is in the run of k
 pub in-run : {link : List ℕ} {line n k lo hi : ℕ} (q : ℕ) → k < n → q < n → RunStart link line k lo →
     RunEnd link line n k hi → Linked link line k q → (lo ≤ q) × (q < hi)
@@ -115,16 +111,6 @@ module _ (other inks cross : List ℕ) (line x v s k : ℕ) where
   to-stop a b =
       and_i {a = eqb (across other line k) v} (eq-eqb (across other line k) v a)
       (eq-eqb (across inks line k + gap x (get_or cross k 0)) s b)
-
-  -- what is not
-  pub other-label : across other line k ≢ v → is_stop other inks cross line x v s k ≡ false
-  unfolding is_stop
-  other-label a = rw (ne_eqb (across other line k) v a) refl
-
-  pub other-ink : across inks line k + gap x (get_or cross k 0) ≢ s → is_stop other inks cross line x v s k ≡ false
-  unfolding is_stop
-  other-ink a =
-      and-no-r (eqb (across other line k) v) _ (ne_eqb (across inks line k + gap x (get_or cross k 0)) s a)
 
 -- The scan: nothing from lo to k, and the line is blocked after k: nothing at all.
 pub blocked : (other inks link cross : List ℕ) (line n lo x v s k : ℕ) → lo ≤ k →

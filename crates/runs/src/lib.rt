@@ -20,30 +20,7 @@ const SIDE: u32 = MAX_SIDE as u32;
 pub fn steps(a: u16, b: u16) -> u32
     ensures { (result ≡ gap a b) × (result ≤ 65535) }
 {
-    if a < b {
-        return (b - a) as u32;
-    }
-    (a - b) as u32
-}
-
-// The smaller number: `smaller` of foil_spec at 32 bits, as `nearer` is for places, since a function has one width.
-fn lesser(a: u32, b: u32) -> u32
-    ensures { result ≡ min a b }
-{
-    if a < b {
-        return a;
-    }
-    b
-}
-
-// The smaller place.
-pub fn nearer(a: usize, b: usize) -> usize
-    ensures { result ≡ min a b }
-{
-    if a < b {
-        return a;
-    }
-    b
+    u32::from(a.abs_diff(b))
 }
 
 // The first crossing of a line that is joined with the crossing `at`.
@@ -51,14 +28,12 @@ fn back_from(link: &[u8], line: usize, at: usize) -> usize
     requires { (line < stride) × (at ≤ stride) × HasLine link.now line }
     ensures { RunStart link.now line at result }
 {
-    let mut lo = at;
-    while 0 < lo {
-        if link[line * STRIDE + (lo - 1)] != 1 {
-            return lo;
+    for k in (0..at).rev() {
+        if link[line * STRIDE + k] != 1 {
+            return k + 1;
         }
-        lo -= 1;
     }
-    lo
+    0
 }
 
 // The same. It is no more than `at`: with that said once more, the compiler does not carry a place of every list along
@@ -67,7 +42,7 @@ pub fn run_start(link: &[u8], line: usize, at: usize) -> usize
     requires { (line < stride) × (at ≤ stride) × HasLine link.now line }
     ensures { RunStart link.now line at result }
 {
-    nearer(back_from(link, line, at), at)
+    back_from(link, line, at).min(at)
 }
 
 // The first crossing after the crossing `at`, of n on a line, that is not joined with it.
@@ -75,14 +50,12 @@ pub fn run_end(link: &[u8], line: usize, n: usize, at: usize) -> usize
     requires { (line < stride) × (n ≤ stride) × (at < n) × HasLine link.now line }
     ensures { RunEnd link.now line n at result }
 {
-    let mut hi = at + 1;
-    while hi < n {
+    for hi in at + 1..n {
         if link[line * STRIDE + (hi - 1)] != 1 {
             return hi;
         }
-        hi += 1;
     }
-    hi
+    n
 }
 
 // Whether the visit of crossing `at` can be left to one before it: in the first round, where a crossing before it that
@@ -94,12 +67,10 @@ pub fn is_left(other: &[u16], link: &[u8], line: usize, at: usize, v: u16) -> bo
     if v != 1 {
         return false;
     }
-    let mut j = at;
-    while 0 < j {
-        if link[line * STRIDE + (j - 1)] != 1 {
+    for j in (0..at).rev() {
+        if link[line * STRIDE + j] != 1 {
             return false;
         }
-        j -= 1;
         if other[j * STRIDE + line] == v {
             return true;
         }
@@ -121,13 +92,7 @@ fn is_stop(
     requires { AtCrossing other.now inks.now line v k × (k < length cross.now) }
     ensures { result ≡ is_stop other.now inks.now cross.now line x v s k }
 {
-    if other[k * STRIDE + line] != v {
-        return false;
-    }
-    if inks[k * STRIDE + line] + steps(x, cross[k]) != s {
-        return false;
-    }
-    true
+    other[k * STRIDE + line] == v && inks[k * STRIDE + line] + steps(x, cross[k]) == s
 }
 
 // The first such stop from the crossing lo on, and joined with it, or n.
@@ -147,15 +112,13 @@ fn scan(
     ensures { Scanned other.now inks.now link.now cross.now
         line n lo x v s result }
 {
-    let mut k = lo;
-    while k < n {
+    for k in lo..n {
         if is_stop(other, inks, cross, line, k, x, v, s) {
             return k;
         }
         if link[line * STRIDE + k] != 1 {
             return n;
         }
-        k += 1;
     }
     n
 }
@@ -195,10 +158,11 @@ fn carry(other: &[u16], inks: &[u32], line: usize, k: usize, v: u16, x: u32, bes
     requires { AtCrossing other.now inks.now line v k × (x ≤ max_side) }
     ensures { Carried other.now inks.now line v k x best result }
 {
-    if other[k * STRIDE + line] != v {
-        return best;
+    if other[k * STRIDE + line] == v {
+        best.min(inks[k * STRIDE + line] + x)
+    } else {
+        best
     }
-    lesser(inks[k * STRIDE + line] + x, best)
 }
 
 // The first of the crossings lo to hi, hi excluded, of a line that has the label v in the other direction, or hi.
@@ -206,12 +170,10 @@ pub fn first_stop(other: &[u16], line: usize, lo: usize, hi: usize, v: u16) -> u
     requires { (line < stride) × (lo ≤ hi) × (hi ≤ stride) × (hi * stride ≤ length other.now) }
     ensures { FirstStop other.now line v lo hi result }
 {
-    let mut k = lo;
-    while k < hi {
+    for k in lo..hi {
         if other[k * STRIDE + line] == v {
             return k;
         }
-        k += 1;
     }
     hi
 }
@@ -234,10 +196,8 @@ pub fn ink_at(
 {
     let x = cross[at];
     let mut best = inks[h * STRIDE + line] + steps(x, cross[h]);
-    let mut k = h + 1;
-    while k < hi {
+    for k in h + 1..hi {
         best = carry(other, inks, line, k, v, steps(x, cross[k]), best);
-        k += 1;
     }
     best
 }
@@ -261,12 +221,10 @@ pub fn ahead_of(
     ensures { Ahead other.now inks.now cross.now line v lo hi lo
         ahead.new }
 {
-    let top = cross[hi - 1] as u32;
-    let mut best = inks[h * STRIDE + line] + (top - cross[h] as u32) + top;
-    let mut k = hi;
-    while lo < k {
-        k -= 1;
-        best = carry(other, inks, line, k, v, cross[k] as u32, best);
+    let top = u32::from(cross[hi - 1]);
+    let mut best = inks[h * STRIDE + line] + (top - u32::from(cross[h])) + top;
+    for k in (lo..hi).rev() {
+        best = carry(other, inks, line, k, v, u32::from(cross[k]), best);
         ahead[k] = best;
     }
 }
@@ -289,13 +247,11 @@ pub fn behind_of(
     ensures { Behind other.now inks.now cross.now line v lo hi hi
         behind.new }
 {
-    let top = SIDE - cross[lo] as u32;
-    let mut best = inks[h * STRIDE + line] + (top - (SIDE - cross[h] as u32)) + top;
-    let mut k = lo;
-    while k < hi {
-        best = carry(other, inks, line, k, v, SIDE - cross[k] as u32, best);
+    let top = SIDE - u32::from(cross[lo]);
+    let mut best = inks[h * STRIDE + line] + (top - (SIDE - u32::from(cross[h]))) + top;
+    for k in lo..hi {
+        best = carry(other, inks, line, k, v, SIDE - u32::from(cross[k]), best);
         behind[k] = best;
-        k += 1;
     }
 }
 
@@ -304,9 +260,9 @@ fn ink_of(ahead: u32, behind: u32, x: u16) -> u32
     requires { (x ≤ max_side) × (x ≤ ahead) × (max_side - x ≤ behind) }
     ensures { result ≡ min (behind - (max_side - x)) (ahead - x) }
 {
-    let up = behind - (SIDE - x as u32);
-    let down = ahead - x as u32;
-    lesser(up, down)
+    let up = behind - (SIDE - u32::from(x));
+    let down = ahead - u32::from(x);
+    up.min(down)
 }
 
 // Whether crossing k of a line has a label. Where it is known to be blank, it is not looked at.
@@ -316,13 +272,7 @@ pub fn has_label(labels: &[u16], line: usize, k: usize, blank: bool) -> bool
     ensures { (result ≡ true → along labels.now line k ≢ 0)
         × (result ≡ false → along labels.now line k ≡ 0) }
 {
-    if blank {
-        return false;
-    }
-    if labels[line * STRIDE + k] != 0 {
-        return true;
-    }
-    false
+    !blank && labels[line * STRIDE + k] != 0
 }
 
 // Gives crossing k of a line the ink s, if it has no label.
@@ -331,10 +281,9 @@ fn put_ink(own: &mut [u32], labels: &[u16], line: usize, k: usize, s: u32, blank
     requires k_value { blank ≡ true → along labels.now line k ≡ 0 }
     ensures { InkPut line k s labels.now own.old own.new }
 {
-    if has_label(labels, line, k, blank) {
-        return;
+    if !has_label(labels, line, k, blank) {
+        own[line * STRIDE + k] = s;
     }
-    own[line * STRIDE + k] = s;
 }
 
 // Gives each of the crossings lo to hi of a run that has no label its ink, the least over all stops of the run. A
@@ -359,8 +308,7 @@ pub fn ink_run(
     ensures { RunInked other.now inks.now cross.now line v lo hi hi
         labels.now own.old own.new }
 {
-    let mut k = lo;
-    while k < hi {
+    for k in lo..hi {
         put_ink(
             own,
             labels,
@@ -369,6 +317,5 @@ pub fn ink_run(
             ink_of(ahead[k], behind[k], cross[k]),
             blank,
         );
-        k += 1;
     }
 }

@@ -5,7 +5,6 @@ ghost use Rattle.std.specs.Prelude.{◌+◌, ◌≤◌, length};
 ghost use Rattle.io.specs.Counts.{IsPrefixLen};
 
 use foil_spec::{CORNERS_SIZE, INPUT_SIZE, STRIPS_SIZE};
-use job::Next;
 use job_report::{OUT_SIZE, report_record};
 use places::no_board;
 use putting::put_bytes;
@@ -113,7 +112,7 @@ fn compare(bytes: &[u8], stored: &[u8]) -> Agreed {
             &mut table,
             &mut strips,
             &mut corners,
-            board,
+            &mut board,
             bytes,
             at,
         );
@@ -126,14 +125,12 @@ fn compare(bytes: &[u8], stored: &[u8]) -> Agreed {
                 all: false,
             };
         }
-        let next = done.next;
-        let Next::At(place) = next else {
+        let Some(place) = done.next else {
             return Agreed {
                 bytes: seen,
                 all: seen == stored.len(),
             };
         };
-        board = done.board;
         at = place;
     }
     Agreed {
@@ -147,15 +144,9 @@ fn alike(stored: &[u8], at: usize, out: &[u8; OUT_SIZE], n: usize) -> usize
     requires { (at ≤ length stored.now) × (n ≤ 131072) }
     ensures { at + result ≤ length stored.now }
 {
-    let mut k = 0;
-    while k < n {
-        if at + k == stored.len() {
-            return k;
-        }
-        if stored[at + k] != out[k] {
-            return k;
-        }
-        k += 1;
-    }
-    k
+    stored[at..]
+        .iter()
+        .zip(&out[..n])
+        .take_while(|(a, b)| a == b)
+        .count()
 }

@@ -2,7 +2,9 @@
 use Prim.Native.Nat.{ℕ, zero, suc, ◌+◌, ◌≤◌, ◌<◌}
 use native.Mathlib.Omega.{arith}
 use mathlib.Core.Path.{◌≡◌, refl, sym, ap, ◌∙◌}
-use mathlib.Core.Bool.{Bool, true, false}
+use Rattle.std.specs.Prelude.{Option as Built, Some, None, is_some}
+use Rattle.strips.specs.Built.{Rebuilt}
+use mathlib.Core.Bool.{Bool, true, false, not}
 use mathlib.Core.List.{List, ◌∷◌, map}
 use lib.ListN.{length, take}
 use borrow.Author.Count.{below_more}
@@ -35,14 +37,16 @@ table-front k le b =
 
 -- the strips of a layout are counted
 module _ (l : Layout) where
-  -- c counts the strips ss, which were built
-  pub too_many : (ss : List Strip) → ss ≡ strips_of l → max_strips < length ss → true ≡ is_too_fine l
+  -- the strips ss were built, or were too many, and r says which
+  pub counted : (ss : List Strip) → ss ≡ strips_of l → (o out : List ℕ) (k : Built ℕ) → Rebuilt o out ss k
+      → (r : Bool) → is_some k ≡ not r → r ≡ is_too_fine l
   unfolding is_too_fine
-  too_many ss are h = sym (lt-ltb max_strips (length (strips_of l)) (omega (arith, ap length are)))
-
-  pub not-many : (ss : List Strip) → ss ≡ strips_of l → (c : ℕ) → c ≡ length ss → c ≤ max_strips → false ≡ is_too_fine l
-  unfolding is_too_fine
-  not-many ss are c e h = sym (le-ltb max_strips (length (strips_of l)) (omega (arith, ap length are)))
+  counted ss are o out (Some c) h false e =
+      sym (le-ltb max_strips (length (strips_of l)) (omega (arith, h.0, h.1, ap length are)))
+  counted ss are o out (Some c) h true e = cc
+  counted ss are o out None h true e =
+      sym (lt-ltb max_strips (length (strips_of l)) (omega (arith, h.0, ap length are)))
+  counted ss are o out None h false e = cc
 
 -- the strips by the pen's rule are those of the layout
 pub strips-are : (w h : ℕ) (p : Pen) (n : ℕ) (t : List ℕ) (r : Rule) → r ≡ pen_rule p

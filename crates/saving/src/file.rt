@@ -35,10 +35,8 @@ fn put_entries(out: &mut [u8], at: usize, table: &[u16], n: usize) -> usize
         out.new result }
 {
     let mut a = at;
-    let mut k = 0;
-    while k < n {
+    for k in 0..n {
         a = put_entry(out, a, entry_at(table, k));
-        k += 1;
     }
     a
 }
@@ -72,19 +70,17 @@ fn put_numbers(out: &mut [u8], at: usize, numbers: &[u16]) -> usize
     ensures { Put out.old at (each two_bytes numbers.now) out.new result }
 {
     let mut a = at;
-    let mut k = 0;
-    while k < numbers.len() {
-        a = put_two_bytes(out, a, numbers[k]);
-        k += 1;
+    for n in numbers {
+        a = put_two_bytes(out, a, *n);
     }
     a
 }
 
 // Puts a number as two bytes, low byte first.
+#[tactic(auto, unfolding(foil_spec::specs::Saving::two_bytes))]
 fn put_two_bytes(out: &mut [u8], at: usize, n: u16) -> usize
     requires { at + 2 ≤ length out.old }
     ensures { Put out.old at (two_bytes n) out.new result }
 {
-    let bytes = [(n % 256) as u8, (n / 256) as u8];
-    put_bytes(out, at, &bytes)
+    put_bytes(out, at, &n.to_le_bytes())
 }

@@ -11,11 +11,10 @@ ghost use Rattle.zones.specs.Table.{Table};
 ghost use Rattle.foil.specs.Contract.{ReadIn};
 
 use file::{FILE_SIZE, write_file};
-use foil::Answer;
-use foil_spec::{Board, STRIPS_SIZE};
+use foil::{Accepted, Answer};
+use foil_spec::{Board, Reason, STRIPS_SIZE};
 use putting::put_bytes;
 use state::strips_of;
-use strips::Built;
 use zones::pen_rule;
 
 // Writes a foil that keeps the rules as a job file to the front of `out`: the board, the entries in table
@@ -27,15 +26,15 @@ pub fn save_in(out: &mut [u8], table: &[u16], strips: &[u16], board: Board) -> A
         out.old result out.new }
 {
     if beginning_too_fine(table, board) {
-        return Answer::Refused(11);
+        return Err(Reason::TooManyStrips.into());
     }
     let mut file = [0u8; FILE_SIZE];
     let size = write_file(&mut file, table, board);
     if out.len() < size {
-        return Answer::Refused(12);
+        return Err(Reason::LentTooLittle.into());
     }
     put_bytes(out, 0, &file[..size]);
-    Answer::Wrote(size)
+    Ok(Accepted::Wrote(size))
 }
 
 // Whether some beginning of the table alone has too many strips.
@@ -44,12 +43,10 @@ fn beginning_too_fine(table: &[u16], board: Board) -> bool
     ensures { result ≡ beginning_too_fine (layout_of board.width board.height (pen_in board)
         board.entries table.now) }
 {
-    let mut k = 0;
-    while k <= board.entries {
+    for k in 0..=board.entries {
         if too_fine(table, k, board) {
             return true;
         }
-        k += 1;
     }
     false
 }
@@ -62,9 +59,5 @@ fn too_fine(table: &[u16], n: usize, board: Board) -> bool
 {
     let mut out = [0u16; STRIPS_SIZE];
     let rule = pen_rule(board.half, board.gap);
-    let built = strips_of(&mut out, table, n, rule, board.width, board.height);
-    let Built::Strips(_) = built else {
-        return true;
-    };
-    false
+    strips_of(&mut out, table, n, rule, board.width, board.height).is_none()
 }

@@ -3,8 +3,12 @@ use Prim.Native.Nat.{ℕ, suc, ◌+◌, ◌-◌, ◌≤◌, ◌<◌}
 use native.Mathlib.Omega.{arith}
 use mathlib.Core.Path.{◌≡◌, subst}
 use mathlib.Core.Logic.{◌≢◌, ◌⊎◌, inl, inr}
-use mathlib.Core.Bool.{Bool, true, false}
+use mathlib.Core.Bool.{Bool, true, false, not}
 use mathlib.Core.List.{List, [], ◌∷◌}
+use lib.Dec.{eqb, ltb}
+use borrow.Author.Tests.{eq-eqb, eqb-true}
+use Rattle.std.proofs.lemmas.Bool.{eqb-false, ltb-true, ltb-false}
+use Rattle.list_laws.proofs.Tests.{both}
 use lib.ListN.{get_or, length}
 use Rattle.course_laws.specs.Course.{Course, flip, Path, ink, TargetFree}
 use Rattle.course_laws.specs.Best.{PathD, ink_d, LexD, Best}
@@ -19,35 +23,50 @@ use Rattle.labels.proofs.First.{coords, coords-length, trail-length, trail-greed
 use Rattle.runs.specs.Line.{along, Stop}
 use Rattle.search.specs.Choice.{Choice, level-only, upright-only, level-less, upright-less}
 use Rattle.search.specs.Choice.{here, tie-level, tie-upright}
-use Rattle.search.specs.Search.{Starts, nowhere, goes}
+use Rattle.search.specs.Search.{Starts, goes}
 
 module _ {l u wl wu ku rows : List ℕ} {nr i j : ℕ} where
-  pub choose-upright : (along l j i ≢ 0) ⊎ (along u i j ≢ 0) → along l j i ≡ 0 → Choice l u wl wu ku rows nr i j true
-  choose-upright (inl p) z = absurd (p z)
-  choose-upright (inr p) z = upright-only p (inl z)
+  -- one way has no label
+  pub choose_only : (along l j i ≢ 0) ⊎ (along u i j ≢ 0) → (along l j i ≡ 0) ⊎ (along u i j ≡ 0)
+      → Choice l u wl wu ku rows nr i j (eqb (along l j i) 0)
+  choose_only (inl p) (inl z) = absurd (p z)
+  choose_only (inr p) (inl z) = rw (eq-eqb (along l j i) 0 z) (upright-only p (inl z))
+  choose_only p (inr z) =
+      both (eqb (along l j i) 0) (λ t. absurd (none p (eqb-true (along l j i) 0 t)))
+      (λ t. rw t (level-only (eqb-false (along l j i) 0 t) (inl z)))
+    where
+      none : (along l j i ≢ 0) ⊎ (along u i j ≢ 0) → along l j i ≡ 0 → ⊥
+      none (inl q) e = q e
+      none (inr q) e = q z
 
-  -- the upright way needs fewer segments
-  pub fewer_upright : along u i j ≢ 0 → along u i j < along l j i → Choice l u wl wu ku rows nr i j true
-  fewer_upright p lt = upright-only p (inr lt)
+  -- one way needs fewer segments
+  pub choose_few : along l j i ≢ 0 → along u i j ≢ 0 → along l j i ≢ along u i j
+      → Choice l u wl wu ku rows nr i j (ltb (along u i j) (along l j i))
+  choose_few p q ne =
+      both (ltb (along u i j) (along l j i)) (λ t. rw t (upright-only q (inr (ltb-true (along u i j) (along l j i) t))))
+      (λ t. let le = ltb-false (along u i j) (along l j i) t in rw t (level-only p (inr (omega arith))))
 
-  -- both ways need as many segments
-  module _ (p : along l j i ≢ 0) (le : along l j i ≤ along u i j) (ge : along u i j ≤ along l j i) where
-    pub choose-less-upright : along wu i j < along wl j i → Choice l u wl wu ku rows nr i j true
-    choose-less-upright lt = upright-less p (omega arith) lt
+  -- both ways need as many segments, and one has fewer steps
+  pub choose_less : along l j i ≢ 0 → along l j i ≡ along u i j → along wl j i ≢ along wu i j
+      → Choice l u wl wu ku rows nr i j (ltb (along wu i j) (along wl j i))
+  choose_less p e ne =
+      both (ltb (along wu i j) (along wl j i))
+      (λ t. rw t (upright-less p e (ltb-true (along wu i j) (along wl j i) t)))
+      (λ t. let le = ltb-false (along wu i j) (along wl j i) t in rw t (level-less p e (omega arith)))
 
-    pub choose-less-level : along wl j i < along wu i j → Choice l u wl wu ku rows nr i j false
-    choose-less-level lt = level-less p (omega arith) lt
+  -- both ways end here
+  pub choose_here : along l j i ≡ 1 → along l j i ≡ along u i j
+      → Choice l u wl wu ku rows nr i j (not (eqb (along l j i) 1))
+  choose_here p e = rw (eq-eqb (along l j i) 1 p) (here p (omega arith))
 
-    -- and as many steps
-    module _ {r : ℕ} (q : along l j i ≢ 1) (il : along wl j i ≤ along wu i j) (iu : along wu i j ≤ along wl j i)
-        (s : Stop l wl ku rows i nr j (along l j i - 1) (along wu i j) r) where
-      pub choose-tie-upright : r < j → Choice l u wl wu ku rows nr i j true
-      choose-tie-upright lt =
-          tie-upright (along l j i - 1) r (omega arith) (omega arith) (omega arith) (omega arith) s lt
-
-      pub choose-tie-level : j ≤ r → Choice l u wl wu ku rows nr i j false
-      choose-tie-level lt =
-          tie-level (along l j i - 1) r (omega arith) (omega arith) (omega arith) (omega arith) s lt
+  -- and as many steps
+  pub choose_tie : {r : ℕ} → along l j i ≢ 0 → along l j i ≡ along u i j → along wl j i ≡ along wu i j
+      → along l j i ≢ 1 → Stop l wl ku rows i nr j (along l j i - 1) (along wu i j) r
+      → Choice l u wl wu ku rows nr i j (ltb r j)
+  choose_tie {r} p e k q s =
+      both (ltb r j)
+      (λ t. rw t (tie-upright (along l j i - 1) r (omega arith) (omega arith) (omega arith) k s (ltb-true r j t)))
+      (λ t. rw t (tie-level (along l j i - 1) r (omega arith) (omega arith) (omega arith) k s (ltb-false r j t)))
 
   -- the chosen way has a label
   pub choice-some : (up : Bool) → Choice l u wl wu ku rows nr i j up → 1 ≤ label_at up l u i j
@@ -61,23 +80,16 @@ module _ {l u wl wu ku rows : List ℕ} {nr i j : ℕ} where
   choice-some true (tie-upright v r p kl ku w s lt) = omega arith
 
   -- where the walk starts
-  module _ {nc : ℕ} {found : Bool} where
-    pub no_start : found ≡ false
-        → Starts l u wl wu ku rows nc nr i j found
-        (record { columns = nc; rows = nr; i = i; j = j; upright = false; corners = 0 })
-    no_start e = rw e nowhere
-
-    pub level-start : found ≡ true → Choice l u wl wu ku rows nr i j false
-        → Starts l u wl wu ku rows nc nr i j found
-        (record { columns = nc; rows = nr; i = i; j = j; upright = false; corners = along l j i })
+  module _ {nc : ℕ} {up : Bool} {corners : ℕ} (c : Choice l u wl wu ku rows nr i j up) where
+    pub starts_level : up ≡ false → corners ≡ along l j i → Starts l u wl wu ku rows nc nr i j
+        (record { columns = nc; rows = nr; i = i; j = j; upright = up; corners = corners })
     unfolding label_at
-    level-start e c = rw e (goes false c)
+    starts_level e k = rw (e, k) (goes false (rw e at c))
 
-    pub upright-start : found ≡ true → Choice l u wl wu ku rows nr i j true
-        → Starts l u wl wu ku rows nc nr i j found
-        (record { columns = nc; rows = nr; i = i; j = j; upright = true; corners = along u i j })
+    pub starts_upright : up ≡ true → corners ≡ along u i j → Starts l u wl wu ku rows nc nr i j
+        (record { columns = nc; rows = nr; i = i; j = j; upright = up; corners = corners })
     unfolding label_at
-    upright-start e c = rw e (goes true c)
+    starts_upright e k = rw (e, k) (goes true (rw e at c))
 
 -- the labels l and u and the inks wl and wu are right after n rounds, and those of the start, the crossing of column i
 -- and row j, after one more

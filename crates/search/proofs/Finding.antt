@@ -1,40 +1,18 @@
--- What the search answers, return by return.
-use Prim.Native.Nat.{ℕ, ◌*◌, ◌≤◌, ◌<◌}
-use native.Mathlib.Omega.{arith}
-use mathlib.Core.Path.{◌≡◌, refl, sym, ◌∙◌}
+-- What the search answers where there is a path.
+use Prim.Native.Nat.{ℕ}
+use mathlib.Core.Path.{sym, ap, subst}
 use mathlib.Core.List.{List}
 use mathlib.Core.Option.{Option}
-use lib.ListN.{length}
+use Rattle.std.specs.Prelude.{Some, None, unwrap_or}
+use Rattle.std.proofs.lemmas.Option.{none-some}
+use Rattle.std.specs.Prelude as std
 use Rattle.foil_spec.specs.Foil.{Point}
-use Rattle.search.specs.Search.{path_corners, Searched, Walked, PathFound}
-use Rattle.search.specs.declared.Start.{Start}
+use Rattle.search.specs.Search.{CornersFound, PathFound}
 
-module _ {o : Option (List Point)} {cols rows kl ku l u wl wu : List ℕ} {s : Start}
-    (k : Searched o cols rows kl ku l u wl wu s) where
-  pub found_none : (out : List ℕ) → s.corners ≡ 0 → PathFound o out out 0
-  found_none out e =
-      record {
-        nowhere = λ zero. k.nowhere e;
-        count = sym e ∙ k.count;
-        corners = λ fit. rw (k.nowhere e) refl;
-        untouched = λ many. refl;
-      }
-
-  pub found-many : (out : List ℕ) → length out < s.corners * 2 → PathFound o out out s.corners
-  found-many out many =
-      record {
-        nowhere = k.nowhere;
-        count = k.count;
-        corners = λ fit. absurd (omega arith);
-        untouched = λ many. refl;
-      }
-
-  pub found_some : (out out' : List ℕ) → (s.corners ≡ 0 → ⊥) → s.corners * 2 ≤ length out
-      → Walked cols rows kl ku l u wl wu s out out' → PathFound o out out' s.corners
-  found_some out out' some fit w =
-      record {
-        nowhere = k.nowhere;
-        count = k.count;
-        corners = λ fit. w.writes (path_corners o) (k.ready (omega arith));
-        untouched = λ many. absurd (omega arith);
-      }
+pub some-corners : {o : Option (List Point)} {out out' : List ℕ} {k : ℕ} → CornersFound o out out' k
+    → PathFound o out out' (Some k)
+some-corners {o} {out} {out'} {k} F =
+    record {
+      nowhere = λ z. absurd (none-some k (sym z));
+      found = λ n z. subst (λ (i : ℕ). CornersFound o out out' i) (ap (λ (r : std.Option ℕ). unwrap_or r k) z) F;
+    }

@@ -6,7 +6,7 @@ use mathlib.Core.Path.{◌≡◌, refl, sym, ap, ◌∙◌}
 use mathlib.Core.Bool.{Bool, true, false, not, ◌&&◌}
 use mathlib.Core.List.{List, [], ◌∷◌, map}
 use lib.Dec.{ltb}
-use lib.ListN.{get_or, length, replicate, length-replicate}
+use lib.ListN.{get_or, length}
 use borrow.Author.Tests.{lt-ltb}
 use Rattle.foil_spec.specs.Lists.{range, any, all}
 use Rattle.foil_spec.specs.Foil.{point, Entry}
@@ -16,19 +16,17 @@ use Rattle.zones.specs.Boxes.{covers, box_free}
 use Rattle.zones.proofs.Free.{not_covered}
 use Rattle.course_laws.specs.Course.{flip, TargetFree}
 use Rattle.course_laws.specs.Best.{On}
-use Rattle.grid.specs.Size.{stride, area}
 use Rattle.grid.specs.Axis.{Axis}
 use Rattle.grid.specs.Targets.{in_boxes, target}
-use Rattle.grid.proofs.Marking.{blank}
 use Rattle.grid.proofs.Board.{grid-marks, grid-steady, grid-links}
 use Rattle.labels.specs.Rounds.{Sized}
 use Rattle.labels.proofs.Faithful.{Faithful, faithful}
 use Rattle.labels.proofs.Meaning.{Both}
 use Rattle.sowing.specs.Seeds.{boxed, Sown, clear_at, aimed_at}
 use Rattle.sowing.proofs.Seeds.{sown-same, sown-labels}
-use Rattle.search.specs.Grid.{free_of, target_of, Aimed, most_lines, GridRoom, Has, Grid}
+use Rattle.search.specs.Grid.{free_of, target_of, Aimed, GridRoom, Has, Grid}
 use Rattle.search.specs.Choice.{Crossing}
-use Rattle.search.specs.Search.{LabelRoom, SearchAsked}
+use Rattle.search.specs.Search.{LabelRoom}
 use Rattle.search.specs.declared.Aim.{Aim}
 
 -- an axis has few lines
@@ -49,37 +47,6 @@ aimed-is b es w h x y lx ly =
     none-all [] = refl
     none-all (e ∷ es) =
         both (covers e x y) (λ t. rw t refl) (λ t. rw t (none-all es))
-
--- fresh lists have room for a search
-module _ {z t : List ℕ} {a : Aim} (n : ℕ) (P : Aimed z t a) (fit : most_lines a * stride ≤ n) (few : n ≤ area) where
-  pub fresh-room : SearchAsked z t a (replicate stride 0) (replicate stride 0) (replicate n 0) (replicate n 0)
-      (replicate n 0) (replicate n 0) (replicate n 0) (replicate n 0)
-  fresh-room =
-      let len = length-replicate {A = ℕ} n 0 in
-      let lines = length-replicate {A = ℕ} stride 0 in
-      record {
-        build = record {
-          aimed = P;
-          room = record {
-            column-lines = omega arith;
-            row-lines = omega arith;
-            level-links = omega arith;
-            upright-links = omega arith;
-          };
-        };
-        labels = record {
-          level = omega arith;
-          upright = omega arith;
-          level-inks = omega arith;
-          upright-inks = omega arith;
-          fresh = record {
-            level-few = omega arith;
-            upright-few = omega arith;
-            level = blank n;
-            upright = blank n;
-          };
-        };
-      }
 
 -- lists that are as long have the same room
 pub same-sizes : {kl ku cols rows : List ℕ} {nc nr : ℕ} {l u wl wu l' u' wl' wu' : List ℕ}
@@ -119,16 +86,16 @@ target_free z t a x y e = and_r (in_boxes a.k t x y) (free_of z a x y) e
 
 module _ {z t : List ℕ} {a : Aim} where
   -- the start is on the foil
-  pub aimed_on : Aimed z t a → (a.sx < a.w) × (a.sy < a.h)
-  aimed_on P = let s = not_covered a.w a.h a.n z a.sx a.sy P.s-free in (s.0, s.1)
+  pub aimed_on : Aimed z t a → (a.from.x < a.w) × (a.from.y < a.h)
+  aimed_on P = let s = not_covered a.w a.h a.n z a.from.x a.from.y P.s-free in (s.0, s.1)
 
   module _ {cols rows kl ku : List ℕ} {nc nr : ℕ} (G : Grid z t a cols rows kl ku nc nr) where
     -- and on lines of the grid
-    pub start-on : Aimed z t a → Has cols nc a.sx × Has rows nr a.sy
+    pub start-on : Aimed z t a → Has cols nc a.from.x × Has rows nr a.from.y
     start-on P =
         let on = aimed_on P in (
-          G.column-axis.collected.whole a.sx on.0 G.column-axis.marked.p-on,
-          G.row-axis.collected.whole a.sy on.1 G.row-axis.marked.p-on,
+          G.column-axis.collected.whole a.from.x on.0 G.column-axis.marked.p-on,
+          G.row-axis.collected.whole a.from.y on.1 G.row-axis.marked.p-on,
         )
 
     -- lists for the lines that there may be have room for those of the grid
@@ -151,16 +118,16 @@ module _ {z t : List ℕ} {a : Aim} where
     pub level-faithful : Faithful (free_of z a) (On (target_of z t a)) cols nc rows nr kl
     level-faithful =
         faithful
-        (grid-marks a.w a.h a.n z a.k t false a.sx G.column-axis.marks G.column-axis.marked)
-        (grid-steady a.w a.h a.n z a.k t false a.sx G.column-axis.marks G.column-axis.marked)
+        (grid-marks a.w a.h a.n z a.k t false a.from.x G.column-axis.marks G.column-axis.marked)
+        (grid-steady a.w a.h a.n z a.k t false a.from.x G.column-axis.marks G.column-axis.marked)
         G.column-axis.collected
         (grid-links a.w a.h false G.row-axis.collected G.column-axis.collected G.level)
 
     pub upright-faithful : Faithful (flip (free_of z a)) (flip (On (target_of z t a))) rows nr cols nc ku
     upright-faithful =
         faithful
-        (grid-marks a.w a.h a.n z a.k t true a.sy G.row-axis.marks G.row-axis.marked)
-        (grid-steady a.w a.h a.n z a.k t true a.sy G.row-axis.marks G.row-axis.marked)
+        (grid-marks a.w a.h a.n z a.k t true a.from.y G.row-axis.marks G.row-axis.marked)
+        (grid-steady a.w a.h a.n z a.k t true a.from.y G.row-axis.marks G.row-axis.marked)
         G.row-axis.collected
         (grid-links a.w a.h true G.column-axis.collected G.row-axis.collected G.upright)
 

@@ -5,11 +5,14 @@ use mathlib.Core.Path.{◌≡◌, refl, sym, ap, ◌∙◌, subst}
 use mathlib.Core.Bool.{Bool, true, false}
 use mathlib.Core.List.{List, [], ◌∷◌}
 use mathlib.Core.Option.{Option, none, some}
+use Rattle.std.specs.Prelude.{Some, None, unwrap_or}
+use Rattle.std.specs.Bool.{then_some}
+use Rattle.std.specs.Prelude as std
+use Rattle.std.proofs.lemmas.Option.{none-some}
 use lib.ListN.{get_or, length}
 use Rattle.foil_spec.specs.Foil.{Point, point}
 use Rattle.foil_spec.specs.Paths.{first_path_to}
 use Rattle.zones.proofs.Free.{not_covered}
-use Rattle.list_laws.proofs.Tests.{clash}
 use Rattle.course_laws.specs.Course.{Course, flip, TargetFree}
 use Rattle.course_laws.specs.Best.{PathD, Best, corners, On}
 use Rattle.course_laws.proofs.Greedy.{path-course}
@@ -30,12 +33,14 @@ use Rattle.labels.proofs.Meaning.{last-below, last-lean, last-grounded}
 use Rattle.labels.proofs.First.{coords}
 use Rattle.search.specs.Grid.{free_of, target_of, start_of, path_to, Aimed, Grid}
 use Rattle.sowing.specs.Seeds.{Sown}
-use Rattle.search.specs.Choice.{Choosing, Choice}
-use Rattle.search.specs.Search.{Labelling, Starts, nowhere, goes, turns, path_corners, Searched}
+use Rattle.search.specs.Choice.{Choosing, ChoiceAsked, Choice}
+use Rattle.search.specs.Search.{Labelling, Labelled, blank, arrived, Starts, goes, turns, path_corners, Begins}
+use Rattle.search.specs.Search.{Searched}
 use Rattle.search.specs.declared.Aim.{Aim}
+use Rattle.search.specs.declared.Arrived.{Arrived}
 use Rattle.search.specs.declared.Start.{Start}
 use Rattle.search.proofs.Grid.{target_free, level-faithful, upright-faithful, level-targets, upright-targets}
-use Rattle.search.proofs.Grid.{seeds}
+use Rattle.search.proofs.Grid.{seeds, crossing}
 use Rattle.sowing.proofs.Seeds.{sown-inks, sown-below, sown-lean}
 use Rattle.search.proofs.Choice.{choice-some, fewest-level, fewest-upright, walk-level, walk-upright}
 
@@ -214,52 +219,50 @@ module _ {z t : List ℕ} {a : Aim} (P : Aimed z t a) {cols rows kl ku : List �
 below_top : {m n v : ℕ} {lab : List ℕ} → v < label_top → Below m n lab (v + 1) → Below m n lab label_top
 below_top l B = record { le = λ i li k lk. let b = B.le i li k lk in omega arith }
 
+-- what `label` answers, by whether the crossing (i, j) has a label
+pub labelled-if : {z t : List ℕ} {a : Aim} {cols rows kl ku : List ℕ} {nc nr : ℕ} {l u wl wu : List ℕ} {i j : ℕ}
+    (found : Bool) → Labelling z t a cols rows kl ku nc nr i j found l u wl wu
+    → Labelled z t a cols rows kl ku nc nr l u wl wu (then_some found (record { i = i; j = j }))
+labelled-if false B = blank _ _ B
+labelled-if true B = arrived _ _ B
+
 -- What the choice is asked of, and what `labels` answers.
 module _ {z t : List ℕ} {a : Aim} (P : Aimed z t a) {cols rows kl ku : List ℕ} {nc nr : ℕ}
     (G : Grid z t a cols rows kl ku nc nr) {i j : ℕ} {l u wl wu : List ℕ} where
-  pub found_some : {b : Bool} → Labelling z t a cols rows kl ku nc nr i j b l u wl wu → b ≡ true
-      → Choosing l u wl nr i j
-  found_some {b} B e = go b B.ended e
+  chooses : Labelling z t a cols rows kl ku nc nr i j true l u wl wu → Choosing l u wl nr i j
+  chooses B = go B.ended
     where
-      go : (b : Bool) → Ended kl ku cols rows nc nr i j B.l₀ B.u₀ B.wl₀ B.wu₀ l u wl wu b → b ≡ true
-          → Choosing l u wl nr i j
-      go true (found m r E) e =
+      go : Ended kl ku cols rows nc nr i j B.l₀ B.u₀ B.wl₀ B.wu₀ l u wl wu true → Choosing l u wl nr i j
+      go (found m r E) =
           let low = (below P G B r E).0.le j B.j-in i B.i-in in
           record {
             some = E.some;
             top = omega arith;
             low = λ v one. lean-low i v (lean P G B r E).0 B.i-in one;
           }
-      go false (stuck r zl zu p q) e = clash e refl
+
+  searched-none : Labelling z t a cols rows kl ku nc nr i j false l u wl wu
+      → Searched (path_to z t a) cols rows kl ku l u wl wu None
+  searched-none B = go B.ended
+    where
+      go : Ended kl ku cols rows nc nr i j B.l₀ B.u₀ B.wl₀ B.wu₀ l u wl wu false
+          → Searched (path_to z t a) cols rows kl ku l u wl wu None
+      go (stuck r zl zu p q) =
+          let e = path-is P G B none
+          (none_first (f P G B) a.w a.h (inside P G B) (start P G B) (T P G B) (no-path P G B r zl zu p q)) in
+          record { nowhere = λ n. e; begins = λ r n. absurd (none-some r n) }
 
 module _ {z t : List ℕ} {a : Aim} (P : Aimed z t a) {cols rows kl ku : List ℕ} {nc nr : ℕ}
     (G : Grid z t a cols rows kl ku nc nr) {i j : ℕ} {l u wl wu : List ℕ}
     (Z : Sized l u wl wu kl ku cols rows nc nr) where
-  searched-none : Labelling z t a cols rows kl ku nc nr i j false l u wl wu
-      → Searched (path_to z t a) cols rows kl ku l u wl wu
-      (record { columns = nc; rows = nr; i = i; j = j; upright = false; corners = 0 })
-  searched-none B = go B.ended
-    where
-      go : Ended kl ku cols rows nc nr i j B.l₀ B.u₀ B.wl₀ B.wu₀ l u wl wu false
-          → Searched (path_to z t a) cols rows kl ku l u wl wu
-          (record { columns = nc; rows = nr; i = i; j = j; upright = false; corners = 0 })
-      go (stuck r zl zu p q) =
-          let e = path-is P G B none
-          (none_first (f P G B) a.w a.h (inside P G B) (start P G B) (T P G B) (no-path P G B r zl zu p q)) in
-          record {
-            nowhere = λ zero. e;
-            count = rw e refl;
-            ready = λ one. absurd (omega arith);
-          }
-
   searched-some : Labelling z t a cols rows kl ku nc nr i j true l u wl wu → (up : Bool)
       → Choice l u wl wu ku rows nr i j up
-      → Searched (path_to z t a) cols rows kl ku l u wl wu
+      → Begins (path_to z t a) cols rows kl ku l u wl wu
       (record { columns = nc; rows = nr; i = i; j = j; upright = up; corners = label_at up l u i j })
   searched-some B up c = go B.ended
     where
       go : Ended kl ku cols rows nc nr i j B.l₀ B.u₀ B.wl₀ B.wu₀ l u wl wu true
-          → Searched (path_to z t a) cols rows kl ku l u wl wu
+          → Begins (path_to z t a) cols rows kl ku l u wl wu
           (record { columns = nc; rows = nr; i = i; j = j; upright = up; corners = label_at up l u i j })
       go (found m r E) =
           let one = choice-some up c in
@@ -268,9 +271,8 @@ module _ {z t : List ℕ} {a : Aim} (P : Aimed z t a) {cols rows kl ku : List �
           let q = fewest-first (f P G B) a.w a.h (inside P G B) (start P G B) (T P G B) (start-free P G B)
           (label_at up l u i j - 1) F in
           record {
-            nowhere = λ zero. absurd (omega arith);
             count = let k = ap length (corners-are P G B q.0 q.1) in omega (arith, q.2);
-            ready = λ s. record {
+            ready = record {
               walkable = record {
                 sized = Z;
                 level = (grounded P G B r E).0;
@@ -290,8 +292,35 @@ module _ {z t : List ℕ} {a : Aim} (P : Aimed z t a) {cols rows kl ku : List �
             };
           }
 
-  pub searched : {b : Bool} {s : Start} → Labelling z t a cols rows kl ku nc nr i j b l u wl wu
-      → Starts l u wl wu ku rows nc nr i j b s
-      → Searched (path_to z t a) cols rows kl ku l u wl wu s
-  searched B nowhere = searched-none B
-  searched B (goes up c) = searched-some B up c
+  searched : {s : Start} → Labelling z t a cols rows kl ku nc nr i j true l u wl wu
+      → Starts l u wl wu ku rows nc nr i j s
+      → Searched (path_to z t a) cols rows kl ku l u wl wu (Some s)
+  searched {s} B (goes up c) = record {
+    nowhere = λ n. absurd (none-some s (sym n));
+    begins = λ r n.
+        subst (λ (q : Start). Begins (path_to z t a) cols rows kl ku l u wl wu q)
+        (ap (λ (q : std.Option Start). unwrap_or q s) n) (searched-some B up c);
+  }
+
+module _ {z t : List ℕ} {a : Aim} (P : Aimed z t a) {cols rows kl ku : List ℕ} {nc nr : ℕ}
+    (G : Grid z t a cols rows kl ku nc nr) {l u wl wu : List ℕ} where
+  pub no_search : Labelled z t a cols rows kl ku nc nr l u wl wu None
+      → Searched (path_to z t a) cols rows kl ku l u wl wu None
+  no_search (blank i j B) = searched-none P G B
+
+  module _ (Z : Sized l u wl wu kl ku cols rows nc nr) {at : Arrived}
+      (L : Labelled z t a cols rows kl ku nc nr l u wl wu (Some at)) where
+    pub choice-asked : ChoiceAsked l u wl wu ku rows nr at.i at.j
+    choice-asked = go L
+      where
+        go : {r : Arrived} → Labelled z t a cols rows kl ku nc nr l u wl wu (Some r)
+            → ChoiceAsked l u wl wu ku rows nr r.i r.j
+        go (arrived i j B) = record { room = crossing Z B.i-in B.j-in; choosing = chooses P G B }
+
+    pub searched-at : {s : Start} → Starts l u wl wu ku rows nc nr at.i at.j s
+        → Searched (path_to z t a) cols rows kl ku l u wl wu (Some s)
+    searched-at S = go L S
+      where
+        go : {r : Arrived} {s : Start} → Labelled z t a cols rows kl ku nc nr l u wl wu (Some r)
+            → Starts l u wl wu ku rows nc nr r.i r.j s → Searched (path_to z t a) cols rows kl ku l u wl wu (Some s)
+        go (arrived i j B) S = searched P G Z B S

@@ -22,15 +22,10 @@ pub record Choosing (l u wl : List ℕ) (nr i j : ℕ) : Type 0 where
   pub top : along l j i ≤ label_top
   pub low : (v : ℕ) → 1 ≤ v → Low l wl i nr v
 
--- what `starts_upright` is asked
+-- what `starts_upright` and `start_at` are asked
 pub record ChoiceAsked (l u wl wu ku rows : List ℕ) (nr i j : ℕ) : Type 0 where
   pub room : Crossing l u wl wu ku rows nr i j
   pub choosing : Choosing l u wl nr i j
-
--- and `start_at`, where the crossing may have no label
-pub record StartAsked (l u wl wu ku rows : List ℕ) (nr i j : ℕ) (found : Bool) : Type 0 where
-  pub room : Crossing l u wl wu ku rows nr i j
-  pub choosing : found ≡ true → Choosing l u wl nr i j
 
 -- true is upright first; where both ways need as many segments, the inks decide, and where these are equal, the first
 -- stop of the upright one

@@ -1,10 +1,10 @@
 -- The question that the search is asked, the escape grid that is made for it, and where points stand on its lines.
 use Rattle.std.specs.Prelude.{ℕ, ◌+◌, ◌*◌, ◌≤◌, ◌<◌, ◌≡◌, Bool, true, false, List, get_or, length}
 use Rattle.std.proofs.Math.Option.{Option}
-use Rattle.foil_spec.specs.Foil.{Point, point}
+use Rattle.foil_spec.specs.Foil.{Point}
 use Rattle.foil_spec.specs.Paths.{first_path_to}
 use Rattle.zones.specs.Boxes.{box_free, max_boxes, Boxes}
-use Rattle.grid.specs.Size.{stride}
+use Rattle.grid.specs.Size.{stride, area}
 use Rattle.grid.specs.Axis.{Axis}
 use Rattle.grid.specs.Links.{Painted}
 use Rattle.grid.specs.Targets.{target}
@@ -25,7 +25,7 @@ target_of z t a = target a.w a.h a.n z a.k t
 
 -- where it starts
 abbrev pub start_of : Aim → Point
-start_of a = point a.sx a.sy
+start_of a = a.from
 
 -- and the path that it is to find
 abbrev pub path_to : List ℕ → List ℕ → Aim → Option (List Point)
@@ -37,23 +37,17 @@ pub record Aimed (z t : List ℕ) (a : Aim) : Type 0 where
   pub boxes : Boxes z a.n a.w a.h
   pub targets : Boxes t a.k a.w a.h
   pub few : a.n + a.k ≤ max_boxes + 1
-  pub s-free : free_of z a a.sx a.sy ≡ true
-
--- up to so many boxes and target boxes are few, and what is kept of their crossings has so many places
-abbrev pub few_boxes : ℕ
-few_boxes = 33
-
-abbrev pub few_area : ℕ
-few_area = 18561
-
--- a search can be asked, and it has few of them
-pub record FewAsked (z t : List ℕ) (a : Aim) : Type 0 where
-  pub aimed : Aimed z t a
-  pub few : a.n + a.k ≤ few_boxes
+  pub s-free : free_of z a a.from.x a.from.y ≡ true
 
 -- an axis has at most so many lines: two for each box and target box, the first, the last, and that of S
 abbrev pub most_lines : Aim → ℕ
 most_lines a = 2 * (a.n + a.k) + 3
+
+-- a search can be asked, and lists of p places hold the crossings of its lines, and no more than the grid may have
+pub record RoomAsked (z t : List ℕ) (a : Aim) (p : ℕ) : Type 0 where
+  pub aimed : Aimed z t a
+  pub fit : most_lines a * stride ≤ p
+  pub few : p ≤ area
 
 -- the lists for the lines and links of the grid have room
 pub record GridRoom (a : Aim) (cols rows kl ku : List ℕ) : Type 0 where
@@ -78,7 +72,7 @@ pub record Placed (lines : List ℕ) (n x r : ℕ) : Type 0 where
 
 -- the grid: its nc columns and nr rows, with lines through S, and the links of both
 pub record Grid (z t : List ℕ) (a : Aim) (cols rows kl ku : List ℕ) (nc nr : ℕ) : Type 0 where
-  pub column-axis : Axis z a.n t a.k false a.w a.sx cols nc
-  pub row-axis : Axis z a.n t a.k true a.h a.sy rows nr
+  pub column-axis : Axis z a.n t a.k false a.w a.from.x cols nc
+  pub row-axis : Axis z a.n t a.k true a.h a.from.y rows nr
   pub level : Painted z false rows nr cols nc a.n kl
   pub upright : Painted z true cols nc rows nr a.n ku

@@ -8,14 +8,13 @@
 
 ghost use Rattle.std.specs.Prelude.{◌≡◌, [], ◌∷◌, ◌+◌, ◌*◌, ◌≤◌, ◌<◌, length};
 ghost use Rattle.std.proofs.Math.Option.{some};
-ghost use Rattle.foil_spec.specs.Foil.{point};
 ghost use Rattle.foil_spec.specs.Paths.{first_path};
 ghost use Rattle.zones.specs.Boxes.{box_free};
 ghost use Rattle.grid.specs.Size.{stride};
 ghost use Rattle.runs.specs.Line.{along};
-ghost use Rattle.search.specs.Grid.{Posed, path_to, Aimed, FewAsked, BuildAsked, Has, Placed, Grid};
-ghost use Rattle.search.specs.Choice.{ChoiceAsked, StartAsked, Choice};
-ghost use Rattle.search.specs.Search.{SearchAsked, LabelAsked, Labelling, Starts, Searched, WalkAsked, Walked};
+ghost use Rattle.search.specs.Grid.{Posed, path_to, Aimed, RoomAsked, BuildAsked, Has, Placed, Grid};
+ghost use Rattle.search.specs.Choice.{ChoiceAsked, Choice};
+ghost use Rattle.search.specs.Search.{SearchAsked, LabelAsked, Labelled, Starts, Searched, WalkAsked, Walked};
 ghost use Rattle.search.specs.Search.{PathFound, WriteAsked, PathWritten};
 
 use foil_spec::Point;
@@ -38,8 +37,7 @@ pub struct Aim {
     pub k: usize,
     pub w: u16,
     pub h: u16,
-    pub sx: u16,
-    pub sy: u16,
+    pub from: Point,
 }
 
 // How many columns and rows the grid has.
@@ -49,16 +47,15 @@ struct Size {
     rows: usize,
 }
 
-// Where the start is on the grid, and whether its crossing has a label.
+// Where the start is on the grid: its column and row, where its crossing has a label.
 #[derive(Clone, Copy)]
 struct Arrived {
     i: usize,
     j: usize,
-    found: bool,
 }
 
 // Where the first path begins: the start's column and row, whether the first segment is upright, and how many corners
-// the path has, 0 where there is no path.
+// the path has.
 #[derive(Clone, Copy)]
 struct Start {
     columns: usize,
@@ -93,8 +90,8 @@ fn build(
         targets,
         k,
         false,
-        aim.w as usize,
-        aim.sx as usize,
+        usize::from(aim.w),
+        usize::from(aim.from.x),
     );
     let nr = axis(
         rows,
@@ -103,8 +100,8 @@ fn build(
         targets,
         k,
         true,
-        aim.h as usize,
-        aim.sy as usize,
+        usize::from(aim.h),
+        usize::from(aim.from.y),
     );
     links(kl, boxes, n, false, rows, nr, cols, nc);
     links(ku, boxes, n, true, cols, nc, rows, nr);
@@ -119,17 +116,11 @@ fn index_of(lines: &[u16], n: usize, x: u16) -> usize
     requires { (n ≤ length lines.now) × Has lines.now n x }
     ensures { Placed lines.now n x result }
 {
-    let mut k = 0;
-    while k < n {
-        if lines[k] == x {
-            return k;
-        }
-        k += 1;
-    }
-    n
+    lines[..n].iter().position(|l| *l == x).unwrap()
 }
 
 // Labels the crossings of the grid from the targets on until the start has a label or there is nothing more to label.
+// Answers where the start is, if it has a label.
 fn label(
     level: &mut [u16],
     upright: &mut [u16],
@@ -143,23 +134,23 @@ fn label(
     targets: &[u16],
     aim: Aim,
     size: Size,
-) -> Arrived
+) -> Option<Arrived>
     requires { LabelAsked boxes.now targets.now aim cols.now rows.now kl.now ku.now
         size.columns size.rows level.old upright.old il.old iu.old }
-    ensures { Labelling boxes.now targets.now aim cols.now rows.now
-        kl.now ku.now size.columns size.rows result.i result.j result.found
-        level.new upright.new il.new iu.new }
+    ensures { Labelled boxes.now targets.now aim cols.now rows.now
+        kl.now ku.now size.columns size.rows
+        level.new upright.new il.new iu.new result }
 {
     let n = aim.n;
     let k = aim.k;
     let nc = size.columns;
     let nr = size.rows;
-    let i = index_of(cols, nc, aim.sx);
-    let j = index_of(rows, nr, aim.sy);
+    let i = index_of(cols, nc, aim.from.x);
+    let j = index_of(rows, nr, aim.from.y);
     sow_targets(level, il, boxes, n, targets, k, false, rows, nr, cols, nc);
     sow_targets(upright, iu, boxes, n, targets, k, true, cols, nc, rows, nr);
     let found = rounds(level, upright, il, iu, kl, ku, cols, rows, nc, nr, i, j);
-    Arrived { i, j, found }
+    found.then_some(Arrived { i, j })
 }
 
 // The label of crossing k of a line.
@@ -172,7 +163,6 @@ fn label_at(labels: &[u16], line: usize, k: usize) -> u16
 
 // Whether the first path goes upright from the crossing of column i and row j, which has a label. Where both ways
 // need as many segments and steps, it does so if that leads to a smaller y.
-#[tactic(auto, using(crate::proofs::Choice::fewer_upright))]
 fn starts_upright(
     level: &[u16],
     upright: &[u16],
@@ -192,34 +182,19 @@ fn starts_upright(
     let b = upright[i * STRIDE + j];
     let s = il[j * STRIDE + i];
     let t = iu[i * STRIDE + j];
-    if a == 0 {
-        return true;
+    if a == 0 || b == 0 {
+        return a == 0;
     }
-    if b == 0 {
-        return false;
+    if a != b {
+        return b < a;
     }
-    if b < a {
-        return true;
+    if s != t {
+        return t < s;
     }
-    if a < b {
-        return false;
-    }
-    if t < s {
-        return true;
-    }
-    if s < t {
-        return false;
-    }
-    if a == 1 {
-        return false;
-    }
-    if next_stop(level, il, ku, rows, i, nr, j, a - 1, t) < j {
-        return true;
-    }
-    false
+    a != 1 && next_stop(level, il, ku, rows, i, nr, j, a - 1, t) < j
 }
 
-// Where the walk starts: at the start's crossing, if it was found to have a label.
+// Where the walk starts: at the start's crossing, which has a label.
 fn start_at(
     level: &[u16],
     upright: &[u16],
@@ -230,49 +205,29 @@ fn start_at(
     size: Size,
     at: Arrived,
 ) -> Start
-    requires { StartAsked level.now upright.now il.now iu.now ku.now rows.now size.rows
-        at.i at.j at.found }
+    requires { ChoiceAsked level.now upright.now il.now iu.now ku.now rows.now size.rows at.i at.j }
     ensures { Starts level.now upright.now il.now iu.now
-        ku.now rows.now size.columns size.rows at.i at.j at.found result }
+        ku.now rows.now size.columns size.rows at.i at.j result }
 {
-    let nc = size.columns;
-    let nr = size.rows;
-    let i = at.i;
-    let j = at.j;
-    if !at.found {
-        return Start {
-            columns: nc,
-            rows: nr,
-            i,
-            j,
-            upright: false,
-            corners: 0,
-        };
-    }
-    if starts_upright(level, upright, il, iu, ku, rows, nr, i, j) {
-        let corners = label_at(upright, i, j) as usize;
-        return Start {
-            columns: nc,
-            rows: nr,
-            i,
-            j,
-            upright: true,
-            corners,
-        };
-    }
-    let corners = label_at(level, j, i) as usize;
+    let Arrived { i, j } = at;
+    let up = starts_upright(level, upright, il, iu, ku, rows, size.rows, i, j);
+    let corners = if up {
+        label_at(upright, i, j)
+    } else {
+        label_at(level, j, i)
+    };
     Start {
-        columns: nc,
-        rows: nr,
+        columns: size.columns,
+        rows: size.rows,
         i,
         j,
-        upright: false,
-        corners,
+        upright: up,
+        corners: usize::from(corners),
     }
 }
 
-// Searches the first path of fewest bends from a free point of a foil to a target, and says how many corners it has: 0
-// where there is no path. What it leaves in the lists is for `walk`; before, the lists of labels hold zeros.
+// Searches the first path of fewest bends from a free point of a foil to a target, and says where it begins, if there
+// is a path. What it leaves in the lists is for `walk`; before, the lists of labels hold zeros.
 fn labels(
     level: &mut [u16],
     upright: &mut [u16],
@@ -285,7 +240,7 @@ fn labels(
     boxes: &[u16],
     targets: &[u16],
     aim: Aim,
-) -> Start
+) -> Option<Start>
     requires { SearchAsked boxes.now targets.now aim cols.old rows.old kl.old ku.old
         level.old upright.old il.old iu.old }
     ensures { Searched (path_to boxes.now targets.now aim) cols.new
@@ -295,8 +250,8 @@ fn labels(
     let size = build(cols, rows, kl, ku, boxes, targets, aim);
     let at = label(
         level, upright, il, iu, kl, ku, cols, rows, boxes, targets, aim, size,
-    );
-    start_at(level, upright, il, iu, ku, rows, size, at)
+    )?;
+    Some(start_at(level, upright, il, iu, ku, rows, size, at))
 }
 
 // Writes the corners of the first path to the front of `out` and nothing else, from what `labels` left.
@@ -318,22 +273,18 @@ fn walk(
         level.now upright.now il.now iu.now s
         out.old out.new }
 {
-    let nc = s.columns;
-    let nr = s.rows;
-    let i = s.i;
-    let j = s.j;
-    let x = cols[i];
-    let y = rows[j];
+    let x = cols[s.i];
+    let y = rows[s.j];
     put_corner(out, 0, Point { x, y });
     let first = Walker {
-        i,
-        j,
+        i: s.i,
+        j: s.j,
         upright: s.upright,
         label: s.corners as u16,
         corners: 1,
     };
     walk_on(
-        out, level, upright, il, iu, kl, ku, cols, rows, nc, nr, first,
+        out, level, upright, il, iu, kl, ku, cols, rows, s.columns, s.rows, first,
     );
 }
 
@@ -355,15 +306,11 @@ fn write_path(
         level.now upright.now il.now iu.now s
         out.old out.new result }
 {
-    let count = s.corners;
-    if count == 0 {
-        return 0;
-    }
-    if out.len() / 2 < count {
-        return count;
+    if out.len() / 2 < s.corners {
+        return s.corners;
     }
     walk(out, level, upright, il, iu, kl, ku, cols, rows, s);
-    count
+    s.corners
 }
 
 // Searches the first path, and writes its corners where they fit.
@@ -380,7 +327,7 @@ fn path_in(
     boxes: &[u16],
     targets: &[u16],
     aim: Aim,
-) -> usize
+) -> Option<usize>
     requires { SearchAsked boxes.now targets.now aim cols.old rows.old kl.old ku.old
         level.old upright.old il.old iu.old }
     ensures { PathFound (path_to boxes.now targets.now aim)
@@ -388,54 +335,29 @@ fn path_in(
 {
     let start = labels(
         level, upright, il, iu, cols, rows, kl, ku, boxes, targets, aim,
-    );
-    write_path(out, level, upright, il, iu, kl, ku, cols, rows, start)
+    )?;
+    Some(write_path(out, level, upright, il, iu, kl, ku, cols, rows, start))
 }
 
-// The same, with lists for the lines of few boxes.
-fn path_among_few(out: &mut [u16], boxes: &[u16], targets: &[u16], aim: Aim) -> usize
-    requires { FewAsked boxes.now targets.now aim }
+// The same, with lists that hold so many crossings.
+fn path_among<const CROSSINGS: usize>(
+    out: &mut [u16],
+    boxes: &[u16],
+    targets: &[u16],
+    aim: Aim,
+) -> Option<usize>
+    requires { RoomAsked boxes.now targets.now aim CROSSINGS }
     ensures { PathFound (path_to boxes.now targets.now aim)
         out.old out.new result }
 {
-    let mut level = [0u16; FEW_AREA];
-    let mut upright = [0u16; FEW_AREA];
-    let mut il = [0u32; FEW_AREA];
-    let mut iu = [0u32; FEW_AREA];
+    let mut level = [0u16; CROSSINGS];
+    let mut upright = [0u16; CROSSINGS];
+    let mut il = [0u32; CROSSINGS];
+    let mut iu = [0u32; CROSSINGS];
     let mut cols = [0u16; STRIDE];
     let mut rows = [0u16; STRIDE];
-    let mut kl = [0u8; FEW_AREA];
-    let mut ku = [0u8; FEW_AREA];
-    path_in(
-        out,
-        &mut level,
-        &mut upright,
-        &mut il,
-        &mut iu,
-        &mut cols,
-        &mut rows,
-        &mut kl,
-        &mut ku,
-        boxes,
-        targets,
-        aim,
-    )
-}
-
-// The same, with lists for the lines of as many boxes as there may be.
-fn path_among_many(out: &mut [u16], boxes: &[u16], targets: &[u16], aim: Aim) -> usize
-    requires { Aimed boxes.now targets.now aim }
-    ensures { PathFound (path_to boxes.now targets.now aim)
-        out.old out.new result }
-{
-    let mut level = [0u16; AREA];
-    let mut upright = [0u16; AREA];
-    let mut il = [0u32; AREA];
-    let mut iu = [0u32; AREA];
-    let mut cols = [0u16; STRIDE];
-    let mut rows = [0u16; STRIDE];
-    let mut kl = [0u8; AREA];
-    let mut ku = [0u8; AREA];
+    let mut kl = [0u8; CROSSINGS];
+    let mut ku = [0u8; CROSSINGS];
     path_in(
         out,
         &mut level,
@@ -453,57 +375,53 @@ fn path_among_many(out: &mut [u16], boxes: &[u16], targets: &[u16], aim: Aim) ->
 }
 
 // The path from a target to itself: one corner, put at the front of `out` where it fits. Answers how many there are.
-fn stay(out: &mut [u16], x: u16, y: u16) -> usize
-    ensures { PathFound (some (point x y ∷ [])) out.old out.new result }
+fn stay(out: &mut [u16], target: Point) -> Option<usize>
+    ensures { PathFound (some (target ∷ [])) out.old out.new result }
 {
-    if out.len() < 2 {
-        return 1;
+    if 2 <= out.len() {
+        put_corner(out, 0, target);
     }
-    put_corner(out, 0, Point { x, y });
-    1
+    Some(1)
 }
 
 // Searches the first path of fewest bends and least length from a point that the first n boxes leave free to a target,
-// which is a point in one of the first k target boxes that they leave free. Answers how many corners it has, 0 where
-// there is no path. Where they fit, they are written to the front of `out`, and else nothing is.
-pub fn first_path_to(out: &mut [u16], boxes: &[u16], targets: &[u16], aim: Aim) -> usize
+// which is a point in one of the first k target boxes that they leave free. Answers how many corners it has, if there
+// is a path. Where they fit, they are written to the front of `out`, and else nothing is.
+pub fn first_path_to(out: &mut [u16], boxes: &[u16], targets: &[u16], aim: Aim) -> Option<usize>
     requires { Aimed boxes.now targets.now aim }
     ensures { PathFound (path_to boxes.now targets.now aim)
         out.old out.new result }
 {
-    if is_boxed(targets, aim.k, false, aim.sx, aim.sy) {
-        return stay(out, aim.sx, aim.sy);
+    if is_boxed(targets, aim.k, false, aim.from.x, aim.from.y) {
+        return stay(out, aim.from);
     }
     if aim.n + aim.k <= FEW {
-        return path_among_few(out, boxes, targets, aim);
+        return path_among::<FEW_AREA>(out, boxes, targets, aim);
     }
-    path_among_many(out, boxes, targets, aim)
+    path_among::<AREA>(out, boxes, targets, aim)
 }
 
-// The same to the point (tx, ty), which they leave free.
+// The same to one point, which they leave free.
 pub fn first_path(
     out: &mut [u16],
     boxes: &[u16],
     n: usize,
     w: u16,
     h: u16,
-    sx: u16,
-    sy: u16,
-    tx: u16,
-    ty: u16,
-) -> usize
-    requires { Posed boxes.now n w h (point sx sy) (point tx ty) }
-    ensures { PathFound (first_path (box_free w h n boxes.now) w h (point sx sy) (point tx ty))
+    from: Point,
+    to: Point,
+) -> Option<usize>
+    requires { Posed boxes.now n w h from to }
+    ensures { PathFound (first_path (box_free w h n boxes.now) w h from to)
         out.old out.new result }
 {
-    let point = [0u16, tx, ty, tx + 1, ty + 1];
+    let point = [0u16, to.x, to.y, to.x + 1, to.y + 1];
     let aim = Aim {
         n,
         k: 1,
         w,
         h,
-        sx,
-        sy,
+        from,
     };
     first_path_to(out, boxes, &point, aim)
 }

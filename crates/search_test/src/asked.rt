@@ -5,12 +5,13 @@ ghost use Rattle.boards.specs.Board.{OnBoard};
 ghost use Rattle.search_test.specs.Box.{Box, AllBoxes};
 
 use boards::Made;
-use foil_spec::{Board, Pen};
+use foil_spec::{Board, Pen, Point};
 use places::entry_at;
 use zones::{BOXES_SIZE, pen_zones};
 
-// More corners than any path has: the answer where the points are not free or an entry is empty or off the board.
-const UNASKED: usize = 8192;
+// Why the search can't be asked: a point is not free, or an entry is empty or off the board.
+#[derive(Clone, Copy, PartialEq, Eq)]
+pub(crate) struct Unasked;
 
 // Whether entry i of the table is not empty and on a board of w by h.
 fn box_ok(table: &[u16; 640], i: usize, w: u16, h: u16) -> bool
@@ -18,16 +19,7 @@ fn box_ok(table: &[u16; 640], i: usize, w: u16, h: u16) -> bool
     ensures { result ≡ true → Box w h (entry_at table.now i) }
 {
     let e = entry_at(table, i);
-    if e.x1 <= e.x0 {
-        return false;
-    }
-    if e.y1 <= e.y0 {
-        return false;
-    }
-    if w < e.x1 {
-        return false;
-    }
-    e.y1 <= h
+    e.x0 < e.x1 && e.y0 < e.y1 && e.x1 <= w && e.y1 <= h
 }
 
 // Whether each of the first n entries is.
@@ -35,16 +27,11 @@ fn boxes_ok(table: &[u16; 640], n: usize, w: u16, h: u16) -> bool
     requires { n ≤ 128 }
     ensures { result ≡ true → AllBoxes w h n table.now }
 {
-    for i in 0..n {
-        if !box_ok(table, i, w, h) {
-            return false;
-        }
-    }
-    true
+    (0..n).all(|i| box_ok(table, i, w, h))
 }
 
 // Writes the corners of the path that the search finds between two points of a board to the front of `out`, and answers
-// how many they are.
+// how many they are, or that there is no path.
 pub(crate) fn first_path(
     out: &mut [u16; 8192],
     table: &[u16; 640],
@@ -53,7 +40,7 @@ pub(crate) fn first_path(
     sy: u16,
     tx: u16,
     ty: u16,
-) -> usize
+) -> Result<Option<usize>, Unasked>
     requires { OnBoard made }
 {
     let n = made.entries;
@@ -61,14 +48,11 @@ pub(crate) fn first_path(
     let pen = Pen { half: 0, gap };
     let w = made.width;
     let h = made.height;
-    if !boxes_ok(table, n, w, h) {
-        return UNASKED;
-    }
-    if !plain::is_free(table, n, pen, w, h, sx, sy) {
-        return UNASKED;
-    }
-    if !plain::is_free(table, n, pen, w, h, tx, ty) {
-        return UNASKED;
+    if !boxes_ok(table, n, w, h)
+        || !plain::is_free(table, n, pen, w, h, sx, sy)
+        || !plain::is_free(table, n, pen, w, h, tx, ty)
+    {
+        return Err(Unasked);
     }
     let mut boxes = [0u16; BOXES_SIZE];
     let board = Board {
@@ -80,5 +64,7 @@ pub(crate) fn first_path(
         strips: 0,
     };
     let count = pen_zones(&mut boxes, table, n, board);
-    search::first_path(out, &boxes, count, w, h, sx, sy, tx, ty)
+    let from = Point { x: sx, y: sy };
+    let to = Point { x: tx, y: ty };
+    Ok(search::first_path(out, &boxes, count, w, h, from, to))
 }

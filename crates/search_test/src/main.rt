@@ -23,18 +23,6 @@ enum Outcome {
     Different,
 }
 
-// Whether the first n corners of two lists are the same.
-fn same_corners(a: &[u16; 8192], b: &[u16; 8192], n: usize) -> bool
-    requires { n ≤ 4096 }
-{
-    for i in 0..n * 2 {
-        if a[i] != b[i] {
-            return false;
-        }
-    }
-    true
-}
-
 // What came of the first path between the points at the places s and t of the map.
 fn compare(table: &[u16; 640], map: &[bool; 4096], made: Made, s: usize, t: usize) -> Outcome
     requires { OnBoard made × (s < 4096) × (t < 4096) }
@@ -45,21 +33,16 @@ fn compare(table: &[u16; 640], map: &[bool; 4096], made: Made, s: usize, t: usiz
     let ty = (t / 64) as u16;
     let mut right = [0u16; 8192];
     let mut found = [0u16; 8192];
-    let n = plain::first_path(&mut right, map, sx, sy, tx, ty);
-    let m = asked::first_path(&mut found, table, made, sx, sy, tx, ty);
-    if n != m {
+    let corners = plain::first_path(&mut right, map, sx, sy, tx, ty);
+    if asked::first_path(&mut found, table, made, sx, sy, tx, ty) != Ok(corners) {
         return Outcome::Different;
     }
-    if 4096 < n {
-        return Outcome::Different;
-    }
-    if !same_corners(&right, &found, n) {
-        return Outcome::Different;
-    }
-    match n {
-        0 => Outcome::NoPath,
-        1 => Outcome::Bends(0),
-        _ => Outcome::Bends(n - 2),
+    match corners {
+        None => Outcome::NoPath,
+        Some(n) if n <= 4096 && right[..n * 2] == found[..n * 2] => Outcome::Bends(n.saturating_sub(
+            2,
+        )),
+        Some(_) => Outcome::Different,
     }
 }
 
@@ -73,10 +56,7 @@ fn try_board(table: &[u16; 640], made: Made) -> Outcome
     plain::free_points(&mut map, table, made.entries, pen, made.width, made.height);
     let s = boards::choose(&map, made.sx, made.sy);
     let t = boards::choose(&map, made.tx, made.ty);
-    if s == 4096 {
-        return Outcome::Blocked;
-    }
-    if t == 4096 {
+    if s == 4096 || t == 4096 {
         return Outcome::Blocked;
     }
     compare(table, &map, made, s, t)
@@ -102,7 +82,7 @@ fn run(counts: &mut [u64; 64]) {
     for _ in 0..BOARDS {
         let made = boards::make(&mut table, seed);
         let k = place_of(try_board(&table, made));
-        counts[k] = std::num::wrapping_add_u64(counts[k], 1);
+        counts[k] = counts[k].wrapping_add(1);
         seed = made.seed;
     }
 }

@@ -19,16 +19,15 @@ use Rattle.foil_spec.specs.declared.Ink.{Ink}
 use Rattle.foil_spec.specs.Sheet.{counts_ok, limit_of, SheetLent, no_board, counts, table_at, view, sheet_room, sheet_step}
 use Rattle.foil_spec.specs.Sheet.{opening, sheet_refusal, unless, sheet_call}
 use Rattle.foil_spec.specs.declared.Board.{Board}
-use Rattle.foil.specs.Contract.{LentChecked}
-use Rattle.foil.specs.declared.lent.Checked.{Checked}
-use Rattle.foil.specs.declared.lent.Checked.TheVariants as checked
+use Rattle.std.specs.Prelude.{Ok, Err}
+use Rattle.foil.specs.Contract.{Checked, LentChecked}
 use Rattle.list_laws.proofs.Tests.{clash, parts, not_t, not-ff}
 use Rattle.ledger_laws.proofs.Refusals.{no-rule, no_more}
 use Rattle.sheet_laws.specs.Alone.{EightFoils, RoomOn}
 use Rattle.sheet_laws.proofs.Alone.{room-view}
 use Rattle.sheet_laws.proofs.Lending.{table-long}
 use Rattle.sheet.specs.Contract.{on_sheet}
-use Rattle.sheet.specs.Parts.{sheet_opening, TakenOut, Lending, Opened, refused_on, reads_foil, Opening}
+use Rattle.sheet.specs.Parts.{Foil, sheet_opening, TakenOut, Lending, Opened, refused_on, reads_foil, Opening}
 
 -- ---- 23, 12, and 13 for the counts
 
@@ -106,13 +105,15 @@ module _ (k : ℕ) (m : SheetLent) where
           places = table-long (length m.table) long-parts.0;
         }
 
-    pub all-passed : (rows : List ℕ) → rows ≡ table_at k m.boards m.table → TakenOut k m rows
-    all-passed rows e =
+    pub all-passed : (rows : List ℕ) (b : Board) → rows ≡ table_at k m.boards m.table → b ≡ get_or m.boards k no_board
+        → TakenOut k m rows b
+    all-passed rows b e f =
         record {
           here = on-sheet;
           eight-foils = in-limits;
           strips = omega (arith, ltb-false (length m.strips / 4) max_strips long-parts.1);
           is = e;
+          board = f;
         }
 
 -- ---- a call that is refused so
@@ -156,7 +157,7 @@ module _ (k : ℕ) (m : SheetLent) where
 
 -- ---- a foil that was taken out
 
-module _ (k : ℕ) (m : SheetLent) (rows : List ℕ) (o : TakenOut k m rows) where
+module _ (k : ℕ) (m : SheetLent) (rows : List ℕ) (b : Board) (o : TakenOut k m rows b) where
   abbrev v : Lent
   v = view k m
 
@@ -172,9 +173,9 @@ module _ (k : ℕ) (m : SheetLent) (rows : List ℕ) (o : TakenOut k m rows) whe
   unfolding sheet_room
   limit_is n output e = sym e
 
-  pub foil-is : (b : Board) → b ≡ get_or m.boards k no_board → lent b rows m.strips ≡ view k m
+  pub foil-is : lent b rows m.strips ≡ view k m
   unfolding view
-  foil-is b e = ap₂ (λ (x : Board) (y : List ℕ). lent x y m.strips) e o.is
+  foil-is = ap₂ (λ (x : Board) (y : List ℕ). lent x y m.strips) o.board o.is
 
   -- no call but a record is refused before the foil is looked at
   pub step-goes : (s : Step) (output : ℕ) → sheet_refusal (room k m output) false k (step s) ≡ none
@@ -192,7 +193,7 @@ module _ (k : ℕ) (m : SheetLent) (rows : List ℕ) (o : TakenOut k m rows) whe
 
   -- ---- the foil's own 13
 
-  module _ (n : ℕ) (h : LentChecked (view k m) (checked.Refused n)) where
+  module _ (n : ℕ) (h : LentChecked (view k m) (Err n)) where
     pub own_first : (output : ℕ) (rs : List Refusal)
         → first (after_lent (room k m output) (not (sound (view k m))) rs) ≡ some n
     own_first output rs =
@@ -222,23 +223,23 @@ module _ (k : ℕ) (m : SheetLent) (rows : List ℕ) (o : TakenOut k m rows) whe
 
 -- ---- the contracts, by the case of the check
 
-module _ (k : ℕ) (m : SheetLent) (rows : List ℕ) (x : Checked) where
-  pub taken_out : Lending k m rows x → x ≡ checked.Passed → TakenOut k m rows
-  taken_out h e = subst (Lending k m rows) e h
+module _ (k : ℕ) (m : SheetLent) (rows : List ℕ) (x : Foil) where
+  pub taken_out : Lending k m rows x → (b : Board) → x ≡ Ok b → TakenOut k m rows b
+  taken_out h b e = subst (Lending k m rows) e h
 
-  pub not-out : Lending k m rows x → (n : ℕ) → x ≡ checked.Refused n → first (sheet_opening k m) ≡ some n
+  pub not-out : Lending k m rows x → (n : ℕ) → x ≡ Err n → first (sheet_opening k m) ≡ some n
   not-out h n e = subst (Lending k m rows) e h
 
-  pub opened : Opening k m rows x → x ≡ checked.Passed → Opened k m rows
-  opened h e = subst (Opening k m rows) e h
+  pub opened : Opening k m rows x → (b : Board) → x ≡ Ok b → Opened k m rows b
+  opened h b e = subst (Opening k m rows) e h
 
-  pub not_opened : Opening k m rows x → (n : ℕ) → x ≡ checked.Refused n → Opening k m rows (checked.Refused n)
+  pub not_opened : Opening k m rows x → (n : ℕ) → x ≡ Err n → Opening k m rows (Err n)
   not_opened h n e = subst (Opening k m rows) e h
 
 -- its record and its rows keep the rules
-pub keeps-rules : (k : ℕ) (m : SheetLent) (rows : List ℕ) → Opened k m rows → (b : Board)
-    → b ≡ get_or m.boards k no_board → sound (lent b rows m.strips) ≡ true
-keeps-rules k m rows o b e = ap sound (foil-is k m rows o.out b e) ∙ o.keeps
+pub keeps-rules : (k : ℕ) (m : SheetLent) (rows : List ℕ) (b : Board) → Opened k m rows b
+    → sound (lent b rows m.strips) ≡ true
+keeps-rules k m rows b o = ap sound (foil-is k m rows b o.out) ∙ o.keeps
 
 -- no foil may have more than 128
 pub limit-most : (ns : List ℕ) (k n : ℕ) → n ≡ limit_of ns k → n ≤ max_entries
@@ -246,10 +247,18 @@ unfolding limit_of
 limit-most ns k n e = omega arith
 
 -- what `lent_refusal` answers of the foil that was taken out
-pub own-opening : (k : ℕ) (m : SheetLent) (rows : List ℕ) (b : Board) (x : Checked) → TakenOut k m rows
-    → b ≡ get_or m.boards k no_board → LentChecked (lent b rows m.strips) x → Opening k m rows x
-own-opening k m rows b checked.Passed o e h =
-    record { out = o; keeps = subst (λ (v : Lent). sound v ≡ true) (foil-is k m rows o b e) h }
-own-opening k m rows b (checked.Refused n) o e h =
-    own-unopened k m rows o n
-    (subst (λ (v : Lent). LentChecked v (checked.Refused n)) (foil-is k m rows o b e) h)
+module _ (k : ℕ) (m : SheetLent) (rows : List ℕ) (b : Board) (o : TakenOut k m rows b) (x : Checked)
+    (h : LentChecked (lent b rows m.strips) x) where
+  pub own-opened : (u : Unit {0}) → x ≡ Ok u → Opened k m rows b
+  own-opened u e =
+      record {
+        out = o;
+        keeps =
+            subst (λ (v : Lent). sound v ≡ true) (foil-is k m rows b o) (subst (LentChecked (lent b rows m.strips)) e h);
+      }
+
+  pub own-refused : (n : ℕ) → x ≡ Err n → Opening k m rows (Err n)
+  own-refused n e =
+      own-unopened k m rows b o n
+      (subst (λ (v : Lent). LentChecked v (Err n)) (foil-is k m rows b o)
+      (subst (LentChecked (lent b rows m.strips)) e h))

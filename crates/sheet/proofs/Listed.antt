@@ -8,7 +8,7 @@ use Rattle.foil_spec.specs.Calls.{Call, step, run_record, ohms, Reply, output_by
 use Rattle.foil_spec.specs.Sheet.{SheetLent, Sheet, SheetLending, sheet_front, sheet_back, room_on, called_on, lend_sheet}
 use Rattle.foil_spec.specs.Sheet.{SheetLeft, leaves_sheet, run_sheet}
 use Rattle.foil_spec.specs.Job.{has}
-use Rattle.foil.specs.declared.Answer.{Answer}
+use Rattle.foil.specs.Contract.{Answer}
 use Rattle.ohms.specs.Contract.{resistance_of}
 use Rattle.sheet_laws.proofs.Lending.{back-front}
 use Rattle.sheet.specs.Contract.{on_sheet, Tells, RecordTells, ListTells}
@@ -53,14 +53,14 @@ module _ (c : SheetLending) (x : Sheet) (o : SheetLeft)
   listed_by : ListedBy c x o
   listed_by =
       record {
-        by-step = λ a d t s is none h.
+        by-step = λ a r y t s is none h.
             let long : length c.output ≡ 0 = ap length none in (
-              tells-same o.reply _ d.answer (reply-is (step a) 0 is long) h.tells,
+              tells-same o.reply _ r (reply-is (step a) 0 is long) h.tells,
               sheet-is (step a) 0 is long _ h.state,
             );
-        by-output = λ a d t s out' is h.
+        by-output = λ a r y t s out' is h.
             let n : ℕ = length c.output in (
-              tells-same o.reply _ d.answer (reply-is (step a) n is refl) h.gave.tells,
+              tells-same o.reply _ r (reply-is (step a) n is refl) h.gave.tells,
               holds (step a) n is refl _ out' h.gave.state h.output,
             );
         by_read = λ a r out' is h.
@@ -74,15 +74,15 @@ module _ (c : SheetLending) (x : Sheet) (o : SheetLeft)
               h.answer ∙ ap resistance_of (sym (reply-is (ohms net i) 0 is long)),
               sheet-is (ohms net i) 0 is long _ h.state ∙ back-front c x,
             );
-        by-record = λ bs at r t s out' is h.
+        by-record = λ bs at r y t s out' is h.
             let n : ℕ = length c.output in (
-              subst (λ (z : Reply). RecordTells (has bs at) z r.reply)
+              subst (λ (z : Reply). RecordTells (has bs at) z r)
                   (sym (reply-is (run_record bs at) n is refl)) h.tells,
               holds (run_record bs at) n is refl _ out' h.state h.output,
             );
-        by-list = λ ws ans d t s out' ans' is h.
+        by-list = λ ws ans r y t s out' ans' is h.
             let n : ℕ = length c.output in (
-              subst (λ (z : Reply). ListTells z d.answer ans ans') (sym (reply-is _ n is refl)) h.tells,
+              subst (λ (z : Reply). ListTells z r ans ans') (sym (reply-is _ n is refl)) h.tells,
               holds _ n is refl _ out' h.state h.output,
             );
       }

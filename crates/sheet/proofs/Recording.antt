@@ -5,7 +5,7 @@ use mathlib.Core.Path.{◌≡◌, refl, sym, ap, ◌∙◌, subst}
 use mathlib.Core.Bool.{Bool, true, false, not, ◌||◌, and-true, or-false, or_assoc}
 use mathlib.Core.List.{List, [], ◌∷◌}
 use mathlib.Core.Option.{Option, none, some}
-use lib.ListN.{length, get_or, take}
+use lib.ListN.{length, take}
 use lib.Seq.{take_all}
 use borrow.Author.Tests.{lt-ltb, le-ltb, ltb-false, ne_eqb}
 use Rattle.foil_spec.specs.Lists.{any}
@@ -15,17 +15,14 @@ use Rattle.foil_spec.specs.Lent.{Lent, lent, sound, room_in, step_on, output_aft
 use Rattle.foil_spec.specs.Job.{step_bits, has, record_steps, steps, is_end, record_end, record_checks}
 use Rattle.foil_spec.specs.Calls.{run_record, RecordReply, refused_whole, Reply, as_reply, too_large, act_all, act_record}
 use Rattle.foil_spec.specs.Calls.{whole_refusals, reply, call_on, record_on, answers_in, output_all, output_by}
-use Rattle.foil_spec.specs.Sheet.{counts_ok, limit_of, SheetLent, no_board, counts, view, sheet_room, opening}
+use Rattle.foil_spec.specs.Sheet.{counts_ok, limit_of, SheetLent, counts, view, sheet_room, opening}
 use Rattle.foil_spec.specs.Sheet.{sheet_refusal, unless, sheet_call}
 use Rattle.foil_spec.specs.declared.Board.{Board}
-use Rattle.foil.specs.Contract.{LentChecked}
-use Rattle.foil.specs.declared.lent.Checked.{Checked}
-use Rattle.foil.specs.declared.lent.Checked.TheVariants as checked
+use Rattle.std.specs.Prelude.{Ok, Err}
+use Rattle.foil.specs.Contract.{Checked, LentChecked}
 use Rattle.list_laws.proofs.Tests.{both}
-use Rattle.job.specs.Contract.{set_below, said_at, told_at, by_bit, answers_of, reply_of, Replies, RecordIn}
+use Rattle.job.specs.Contract.{Reply as JobReply, set_below, said_at, told_at, by_bit, answers_of, reply_of, Replies, RecordIn}
 use Rattle.job.specs.Parts.{Lends, ran_to}
-use Rattle.job.specs.declared.Answers.{Answers}
-use Rattle.job.specs.declared.Replied.{Replied}
 use Rattle.job.proofs.Acting.{ran-few}
 use Rattle.sheet_laws.specs.Answers.{taken}
 use Rattle.sheet_laws.specs.Back.{writing, rewrote}
@@ -33,23 +30,22 @@ use Rattle.sheet_laws.proofs.Alone.{room-view}
 use Rattle.sheet_rows.specs.Rows.{sheet_lent}
 use Rattle.sheet_rows.specs.declared.Sheet.{Sheet}
 use Rattle.sheet.specs.Contract.{on_sheet, Continues, SheetRecordDone}
-use Rattle.sheet.specs.Parts.{sheet_opening, TakenOut, Lending, refused_on, RecordLending, took, some_took, took_any}
-use Rattle.sheet.specs.Parts.{RecordChecked, Closable, Closed, refused_record}
-use Rattle.sheet.specs.declared.SheetReplied.{SheetReplied}
+use Rattle.sheet.specs.Parts.{Foil, sheet_opening, TakenOut, Lending, refused_on, RecordLending, took, some_took, took_any}
+use Rattle.sheet.specs.Parts.{RecordChecked, Closable, Closed}
 use Rattle.sheet.proofs.Checking.{room, refused-on, out-long, foil-is, own_first}
 use Rattle.sheet.proofs.Closing.{accepts-taken, answers, may-close, leaves}
 
 -- ---- 23, 18, and the checks that other calls begin with too
 
 module _ (k : ℕ) (m : SheetLent) (bs : List ℕ) where
-  pub record-no-foil : sheet_foils ≤ k → RecordLending k m bs [] (checked.Refused 23)
+  pub record-no-foil : sheet_foils ≤ k → (rows : List ℕ) → RecordLending k m bs rows (Err 23)
   unfolding sheet_refusal first
-  record-no-foil l at output = refused-on k m (run_record bs at) output 23 (rw (lt-ltb 7 k (omega arith)) refl)
+  record-no-foil l rows at output = refused-on k m (run_record bs at) output 23 (rw (lt-ltb 7 k (omega arith)) refl)
 
   module _ (here : k < sheet_foils) where
-    pub record-large : max_bytes < length bs → RecordLending k m bs [] (checked.Refused 18)
+    pub record-large : max_bytes < length bs → (rows : List ℕ) → RecordLending k m bs rows (Err 18)
     unfolding sheet_refusal opening first too_large
-    record-large l at output =
+    record-large l rows at output =
         refused-on k m (run_record bs at) output 18 (rw (le-ltb 7 k (omega arith), lt-ltb max_bytes (length bs) l) refl)
 
     module _ (few : length bs ≤ max_bytes) where
@@ -63,16 +59,17 @@ module _ (k : ℕ) (m : SheetLent) (bs : List ℕ) where
       unfolding sheet_refusal opening first after_lent short sheet_room
       record-opening at output = rw small refl
 
-      pub record-lending : (rows : List ℕ) (x : Checked) → Lending k m rows x → RecordLending k m bs rows x
-      record-lending rows checked.Passed h = (h, small)
-      record-lending rows (checked.Refused n) h =
+      pub record-lending : (rows : List ℕ) (x : Foil) → Lending k m rows x → RecordLending k m bs rows x
+      record-lending rows (Ok b) h = (h, small)
+      record-lending rows (Err n) h =
           λ at output. refused-on k m (run_record bs at) output n (record-opening at output ∙ h)
 
-  module _ (rows : List ℕ) (x : Checked) where
-    pub record-out : RecordLending k m bs rows x → x ≡ checked.Passed → TakenOut k m rows × (too_large bs ≡ false)
-    record-out h e = subst (RecordLending k m bs rows) e h
+  module _ (rows : List ℕ) (x : Foil) where
+    pub record-out : RecordLending k m bs rows x → (b : Board) → x ≡ Ok b
+        → TakenOut k m rows b × (too_large bs ≡ false)
+    record-out h b e = subst (RecordLending k m bs rows) e h
 
-    pub record-not-out : RecordLending k m bs rows x → (n : ℕ) → x ≡ checked.Refused n → (at output : ℕ)
+    pub record-not-out : RecordLending k m bs rows x → (n : ℕ) → x ≡ Err n → (at output : ℕ)
         → on_sheet k (run_record bs at) m output ≡ refused_on n m
     record-not-out h n e = subst (RecordLending k m bs rows) e h
 
@@ -81,80 +78,56 @@ module _ (k : ℕ) (m : SheetLent) (bs : List ℕ) where
 pub at-start : (k at : ℕ) (m : SheetLent) → at ≡ 0 → Continues k at m
 at-start k at m z = record { fine = λ ne. absurd (ne z) }
 
-module _ (k : ℕ) (m : SheetLent) (bs rows : List ℕ) (o : TakenOut k m rows) (few : too_large bs ≡ false) where
-  -- no record of the bytes is refused before the foil is looked at
-  pub record-goes : (at output : ℕ) → sheet_refusal (room k m output) false k (run_record bs at) ≡ none
-  unfolding sheet_refusal opening after_lent first
-  record-goes at output = let l = o.here in rw (le-ltb 7 k (omega arith), few, out-long k m rows o output) refl
+module _ (k : ℕ) (m : SheetLent) (bs rows : List ℕ) (b : Board) (o : TakenOut k m rows b) (few : too_large bs ≡ false)
+  where
+    -- no record of the bytes is refused before the foil is looked at
+    pub record-goes : (at output : ℕ) → sheet_refusal (room k m output) false k (run_record bs at) ≡ none
+    unfolding sheet_refusal opening after_lent first
+    record-goes at output = let l = o.here in rw (le-ltb 7 k (omega arith), few, out-long k m rows b o output) refl
 
-  -- the body is run where 13 need not be tried
-  pub record-lends : (at : ℕ) → Continues k at m → (b : Board) → b ≡ get_or m.boards k no_board
-      → table_size ≤ length rows → Lends bs at (lent b rows m.strips)
-  unfolding too_large
-  record-lends at c b e long =
-      record {
-        few = ltb-false max_bytes (length bs) few;
-        table = long;
-        strips = o.strips;
-        fine = λ later. ap sound (foil-is k m rows o b e) ∙ c.fine later;
-      }
+    -- the body is run where 13 need not be tried
+    pub record-lends : (at : ℕ) → Continues k at m → table_size ≤ length rows → Lends bs at (lent b rows m.strips)
+    unfolding too_large
+    record-lends at c long =
+        record {
+          few = ltb-false max_bytes (length bs) few;
+          table = long;
+          strips = o.strips;
+          fine = λ later. ap sound (foil-is k m rows b o) ∙ c.fine later;
+        }
 
-  own-refused : (at : ℕ) → (at ≡ 0 → ⊥) → (n : ℕ) → LentChecked (view k m) (checked.Refused n)
-      → RecordChecked k m bs at (checked.Refused n)
-  unfolding sheet_call unless reply act_record as_reply whole_refusals first
-  own-refused at later n h output =
-      rw (
-        o.eight-foils.limits,
-        record-goes at output,
-        few,
-        ne_eqb at 0 later,
-        and-true (not (sound (view k m))),
-        own_first k m rows o n h output (record_checks bs at),
-      )
-      refl
+    own-refused : (at : ℕ) → (at ≡ 0 → ⊥) → (n : ℕ) → LentChecked (view k m) (Err n)
+        → RecordChecked k m bs at (Err n)
+    unfolding sheet_call unless reply act_record as_reply whole_refusals first
+    own-refused at later n h output =
+        rw (
+          o.eight-foils.limits,
+          record-goes at output,
+          few,
+          ne_eqb at 0 later,
+          and-true (not (sound (view k m))),
+          own_first k m rows b o n h output (record_checks bs at),
+        )
+        refl
 
-  -- what `lent_refusal` answers of the foil that was taken out
-  pub record-checked : (at : ℕ) → (at ≡ 0 → ⊥) → (b : Board) → b ≡ get_or m.boards k no_board → (x : Checked)
-      → LentChecked (lent b rows m.strips) x → RecordChecked k m bs at x
-  record-checked at later b e checked.Passed h =
-      record { fine = λ ne. ap sound (sym (foil-is k m rows o b e)) ∙ h }
-  record-checked at later b e (checked.Refused n) h =
-      own-refused at later n
-      (subst (λ (v : Lent). LentChecked v (checked.Refused n)) (foil-is k m rows o b e) h)
+    -- what `lent_refusal` answers of the foil that was taken out
+    pub record-checked : (at : ℕ) → (at ≡ 0 → ⊥) → (x : Checked) → LentChecked (lent b rows m.strips) x
+        → RecordChecked k m bs at x
+    record-checked at later (Ok u) h =
+        record { fine = λ ne. ap sound (sym (foil-is k m rows b o)) ∙ h }
+    record-checked at later (Err n) h =
+        own-refused at later n
+        (subst (λ (v : Lent). LentChecked v (Err n)) (foil-is k m rows b o) h)
 
 module _ (k : ℕ) (m : SheetLent) (bs : List ℕ) (at : ℕ) (x : Checked) (h : RecordChecked k m bs at x) where
-  pub continues : x ≡ checked.Passed → Continues k at m
-  continues e = subst (RecordChecked k m bs at) e h
+  pub continues : (u : Unit {0}) → x ≡ Ok u → Continues k at m
+  continues u e = subst (RecordChecked k m bs at) e h
 
-  pub refused-so : (n : ℕ) → x ≡ checked.Refused n → (output : ℕ)
+  pub refused-so : (n : ℕ) → x ≡ Err n → (output : ℕ)
       → on_sheet k (run_record bs at) m output ≡ refused_on n m
   refused-so n e = subst (RecordChecked k m bs at) e h
 
--- ---- whether a step was accepted: bit by bit, and by the list of answers
-
-module _ (a : Answers) (x0 : Bool) (e0 : x0 ≡ took a.board) where
-  pub took-board : x0 ≡ true → true ≡ some_took a
-  unfolding some_took
-  took-board h = rw (sym e0 ∙ h) refl
-
-  module _ (f0 : x0 ≡ false) (x1 : Bool) (e1 : x1 ≡ took a.patch) where
-    pub took-patch : x1 ≡ true → true ≡ some_took a
-    unfolding some_took
-    took-patch h = rw (sym e0 ∙ f0, sym e1 ∙ h) refl
-
-    module _ (f1 : x1 ≡ false) (x2 : Bool) (e2 : x2 ≡ took a.track) where
-      pub took-track : x2 ≡ true → true ≡ some_took a
-      unfolding some_took
-      took-track h = rw (sym e0 ∙ f0, sym e1 ∙ f1, sym e2 ∙ h) refl
-
-      module _ (f2 : x2 ≡ false) (x3 : Bool) (e3 : x3 ≡ took a.lift) where
-        pub took-lift : x3 ≡ true → true ≡ some_took a
-        unfolding some_took
-        took-lift h = rw (sym e0 ∙ f0, sym e1 ∙ f1, sym e2 ∙ f2, sym e3 ∙ h) refl
-
-        pub took-leg : x3 ≡ false → (x4 : Bool) → x4 ≡ took a.leg → x4 ≡ some_took a
-        unfolding some_took
-        took-leg f3 x4 e4 = rw (sym e0 ∙ f0, sym e1 ∙ f1, sym e2 ∙ f2, sym e3 ∙ f3) e4
+-- ---- whether a step was accepted, by the list of answers
 
 -- one answer more
 took-next : (given : List Answer) (i : ℕ)
@@ -230,23 +203,21 @@ module _ (k : ℕ) (sheet : Sheet) (t s bs : List ℕ) (at : ℕ) (out : List �
   abbrev n : ℕ
   n = length out
 
-  pub record-refused : (i : ℕ) (r : SheetReplied) → r ≡ refused_record i sheet
-      → on_sheet k (run_record bs at) m n ≡ refused_on i m → SheetRecordDone k bs at m out r t s out
+  pub record-refused : (i : ℕ) → on_sheet k (run_record bs at) m n ≡ refused_on i m
+      → SheetRecordDone k bs at m out (Err i) sheet t s out
   unfolding as_reply reply_of output_by answers_in output_all output_after
-  record-refused i r q e =
-      rw q
-      (record {
+  record-refused i e =
+      record {
         tells = record { came_to = refused_whole i; is = rw e refl; reply = refl };
         state = rw e refl;
         output = rw e refl;
-      })
+      }
 
-  module _ (rows : List ℕ) (o : TakenOut k m rows) (few : too_large bs ≡ false) (b : Board)
-      (is : b ≡ get_or sheet.boards k no_board) (limit : ℕ) (most : limit ≡ limit_of (counts sheet.boards) k)
-      (d : Replied) (rows' s' out' : List ℕ)
-      (e : RecordIn limit bs at (lent b rows s) out d rows' s' out') where
+  module _ (rows : List ℕ) (b : Board) (o : TakenOut k m rows b) (few : too_large bs ≡ false) (limit : ℕ)
+      (most : limit ≡ limit_of (counts sheet.boards) k) (r : JobReply) (b' : Board) (rows' s' out' : List ℕ)
+      (e : RecordIn limit bs at (lent b rows s) out r b' rows' s' out') where
     goes : sheet_refusal (room k m n) false k (run_record bs at) ≡ none
-    goes = record-goes k m bs rows o few at n
+    goes = record-goes k m bs rows b o few at n
 
     -- what it does to the foil alone
     abbrev alone : After RecordReply Lent
@@ -256,37 +227,36 @@ module _ (k : ℕ) (sheet : Sheet) (t s bs : List ℕ) (at : ℕ) (out : List �
     abbrev called : After Reply Lent
     called = call_on (room k m n) (run_record bs at) (view k m)
 
-    on-view : Replies (has bs at) alone out d rows' s' out'
+    on-view : Replies (has bs at) alone out r b' rows' s' out'
     on-view =
-        subst (λ (r : Room). Replies (has bs at) (record_on r bs at (view k m)) out d rows' s' out')
+        subst (λ (q : Room). Replies (has bs at) (record_on q bs at (view k m)) out r b' rows' s' out')
         (ap (λ (i : ℕ). room_in i (view k m) n) most ∙ sym (room-view k m n o.eight-foils o.here))
         (subst
-        (λ (v : Lent). Replies (has bs at) (record_on (room_in limit v n) bs at v) out d rows' s' out')
-        (foil-is k m rows o b is) e)
+        (λ (v : Lent). Replies (has bs at) (record_on (room_in limit v n) bs at v) out r b' rows' s' out')
+        (foil-is k m rows b o) e)
 
-    did-is : took_any d.reply ≡ rewrote (run_record bs at) called.answer
+    did-is : took_any r ≡ rewrote (run_record bs at) called.answer
     did-is = ap took_any on-view.reply ∙ record-took (room k m n) bs at (view k m)
 
-    left_is : lent d.board rows' s' ≡ called.state
+    left_is : lent b' rows' s' ≡ called.state
     unfolding call_on reply record_on
     left_is = rw (on-view.board, on-view.table, on-view.strips) refl
 
-    module _ (did : Bool) (f : did ≡ took_any d.reply) where
-      pub record-closable : table_size ≤ length rows' → Closable k sheet.boards t rows' d.board did
+    module _ (did : Bool) (f : did ≡ took_any r) where
+      pub record-closable : table_size ≤ length rows' → Closable k sheet.boards t rows' b' did
       record-closable =
-          may-close k m rows o (run_record bs at) n goes did (f ∙ did-is) d.board rows' s' left_is
+          may-close k m rows b o (run_record bs at) n goes did (f ∙ did-is) b' rows' s' left_is
 
-      pub record-done : (r : SheetReplied) (t' : List ℕ) → r.reply ≡ d.reply
-          → Closed k sheet.boards t rows' d.board did r.sheet.boards t'
-          → SheetRecordDone k bs at m out r t' s' out'
+      pub record-done : (x : Sheet) (t' : List ℕ) → Closed k sheet.boards t rows' b' did x.boards t'
+          → SheetRecordDone k bs at m out r x t' s' out'
       unfolding call_on reply record_on
-      record-done r t' q z =
+      record-done x t' z =
           let told : (on_sheet k (run_record bs at) m n).answer ≡ as_reply alone.answer =
-          answers k m rows o (run_record bs at) n goes in
+          answers k m rows b o (run_record bs at) n goes in
           record {
-            tells = record { came_to = alone.answer; is = told; reply = q ∙ on-view.reply };
+            tells = record { came_to = alone.answer; is = told; reply = on-view.reply };
             state =
-                leaves k m rows o (run_record bs at) n goes did (f ∙ did-is) d.board rows' s' left_is
-                r.sheet.boards t' z;
+                leaves k m rows b o (run_record bs at) n goes did (f ∙ did-is) b' rows' s' left_is
+                x.boards t' z;
             output = on-view.output ∙ ap (λ (a : Reply). output_by a out) (sym told);
           }

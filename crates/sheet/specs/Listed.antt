@@ -5,14 +5,14 @@ use Rattle.foil_spec.specs.Job.{has}
 use Rattle.foil_spec.specs.Calls.{step, run_record, ohms, lay_list}
 use Rattle.foil_spec.specs.Sheet.{Sheet, SheetLending, sheet_front, sheet_back, SheetLeft, run_sheet}
 use Rattle.foil_spec.specs.declared.Ink.{Ink}
-use Rattle.foil.specs.declared.Answer.{Answer}
+use Rattle.foil.specs.Contract.{Answer}
+use Rattle.job.specs.Contract.{Reply}
 use Rattle.ohms.specs.Contract.{resistance_of}
 use Rattle.ohms.specs.declared.Resistance.{Resistance}
 use Rattle.sheet_rows.specs.Rows.{sheet_lent}
+use Rattle.sheet_rows.specs.declared.Sheet.{Sheet as Records}
 use Rattle.sheet.specs.Contract.{Tells, SheetStepDone, SheetOutputDone, SheetReadDone, SheetOhmsDone}
 use Rattle.sheet.specs.Contract.{RecordTells, SheetRecordDone, ListTells, SheetListDone}
-use Rattle.sheet.specs.declared.SheetDone.{SheetDone}
-use Rattle.sheet.specs.declared.SheetReplied.{SheetReplied}
 
 -- o has the sheet x and the output list out
 pub record Holds (o : SheetLeft) (x : Sheet) (out : List ℕ) : Type 0 where
@@ -23,12 +23,12 @@ pub record Holds (o : SheetLeft) (x : Sheet) (out : List ℕ) : Type 0 where
 -- with what was left of the front part put back, and the output list
 pub record ListedBy (c : SheetLending) (x : Sheet) (o : SheetLeft) : Type 0 where
   -- a step that is lent no output list
-  pub by-step : (a : Step) (d : SheetDone) (t s : List ℕ) → c.call ≡ step a → c.output ≡ []
-      → SheetStepDone c.foil a (sheet_front c x) d t s
-      → Tells o.reply d.answer × (o.sheet ≡ sheet_back c x (sheet_lent d.sheet.boards t s))
-  pub by-output : (a : Step) (d : SheetDone) (t s out' : List ℕ) → c.call ≡ step a
-      → SheetOutputDone c.foil a (sheet_front c x) c.output d t s out'
-      → Tells o.reply d.answer × Holds o (sheet_back c x (sheet_lent d.sheet.boards t s)) out'
+  pub by-step : (a : Step) (r : Answer) (y : Records) (t s : List ℕ) → c.call ≡ step a → c.output ≡ []
+      → SheetStepDone c.foil a (sheet_front c x) r y t s
+      → Tells o.reply r × (o.sheet ≡ sheet_back c x (sheet_lent y.boards t s))
+  pub by-output : (a : Step) (r : Answer) (y : Records) (t s out' : List ℕ) → c.call ≡ step a
+      → SheetOutputDone c.foil a (sheet_front c x) c.output r y t s out'
+      → Tells o.reply r × Holds o (sheet_back c x (sheet_lent y.boards t s)) out'
   pub by_read : (a : Step) (r : Answer) (out' : List ℕ) → c.call ≡ step a
       → SheetReadDone c.foil a (sheet_front c x) c.output r out'
       → Tells o.reply r × Holds o x out'
@@ -36,13 +36,13 @@ pub record ListedBy (c : SheetLending) (x : Sheet) (o : SheetLeft) : Type 0 wher
   pub by-ohms : (net : ℕ) (i : Ink) (r : Resistance) → c.call ≡ ohms net i → c.output ≡ []
       → SheetOhmsDone c.foil net i (sheet_front c x) r
       → (r ≡ resistance_of o.reply) × (o.sheet ≡ x)
-  pub by-record : (bs : List ℕ) (at : ℕ) (r : SheetReplied) (t s out' : List ℕ) → c.call ≡ run_record bs at
-      → SheetRecordDone c.foil bs at (sheet_front c x) c.output r t s out'
-      → RecordTells (has bs at) o.reply r.reply
-      × Holds o (sheet_back c x (sheet_lent r.sheet.boards t s)) out'
-  pub by-list : (ws ans : List ℕ) (d : SheetDone) (t s out' ans' : List ℕ) → c.call ≡ lay_list ws (length ans / 3)
-      → SheetListDone c.foil ws (sheet_front c x) c.output ans d t s out' ans'
-      → ListTells o.reply d.answer ans ans' × Holds o (sheet_back c x (sheet_lent d.sheet.boards t s)) out'
+  pub by-record : (bs : List ℕ) (at : ℕ) (r : Reply) (y : Records) (t s out' : List ℕ) → c.call ≡ run_record bs at
+      → SheetRecordDone c.foil bs at (sheet_front c x) c.output r y t s out'
+      → RecordTells (has bs at) o.reply r × Holds o (sheet_back c x (sheet_lent y.boards t s)) out'
+  pub by-list : (ws ans : List ℕ) (r : Answer) (y : Records) (t s out' ans' : List ℕ)
+      → c.call ≡ lay_list ws (length ans / 3)
+      → SheetListDone c.foil ws (sheet_front c x) c.output ans r y t s out' ans'
+      → ListTells o.reply r ans ans' × Holds o (sheet_back c x (sheet_lent y.boards t s)) out'
 
 -- so it is of the first call of a list, on a sheet that holds anything
 abbrev pub CallsListed : Type 0

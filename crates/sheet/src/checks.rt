@@ -6,49 +6,47 @@ ghost use Rattle.foil.specs.Contract.{FirstChecked};
 ghost use Rattle.sheet_rows.specs.Rows.{sheet_lent};
 ghost use Rattle.sheet.specs.Parts.{sheet_opening, Lending, ListOpening, RecordLending, RecordChecked, Opening};
 
-use foil::{Checked, lent_refusal};
-use foil_spec::{MAX_BYTES, STRIPS_SIZE, TABLE_SIZE};
+use foil::lent_refusal;
+use foil_spec::{Board, MAX_BYTES, Reason, Refusal, STRIPS_SIZE, TABLE_SIZE};
 use listing::too_many;
 use sheet_rows::{FOILS, SHEET_SIZE, Sheet, board_at, counts_ok, take_out};
 
 // The refusals before foil k is looked at: 23, 12, and 13 for the counts.
-fn sheet_checks(sheet: Sheet, k: usize, table: &[u16], strips: &[u16]) -> Checked
+fn sheet_checks(sheet: Sheet, k: usize, table: &[u16], strips: &[u16]) -> Result<(), Refusal>
     ensures { FirstChecked (sheet_opening k
         (sheet_lent sheet.boards table.now strips.now)) result }
 {
     if FOILS <= k {
-        return Checked::Refused(23);
+        return Err(Reason::NoSuchFoil.into());
     }
     if table.len() < SHEET_SIZE {
-        return Checked::Refused(12);
+        return Err(Reason::LentTooLittle.into());
     }
     if strips.len() < STRIPS_SIZE {
-        return Checked::Refused(12);
+        return Err(Reason::LentTooLittle.into());
     }
     if !counts_ok(sheet) {
-        return Checked::Refused(13);
+        return Err(Reason::BrokenState.into());
     }
-    Checked::Passed
+    Ok(())
 }
 
-// These checks; where they are passed, foil k's entries are put into the rows, which are empty.
+// These checks; where they are passed, foil k's entries are put into the rows, which are empty, and its record is
+// answered.
 pub(crate) fn lend_foil(
     rows: &mut [u16],
     table: &[u16],
     strips: &[u16],
     sheet: Sheet,
     k: usize,
-) -> Checked
+) -> Result<Board, Refusal>
     requires { rows.old ≡ rows_of [] }
     ensures { Lending k (sheet_lent sheet.boards table.now strips.now)
         rows.new result }
 {
-    let checked = sheet_checks(sheet, k, table, strips);
-    if let Checked::Refused(number) = checked {
-        return Checked::Refused(number);
-    }
+    sheet_checks(sheet, k, table, strips)?;
     take_out(rows, table, sheet, k);
-    Checked::Passed
+    Ok(board_at(sheet, k))
 }
 
 // The same, and the foil's own 13.
@@ -58,16 +56,14 @@ pub(crate) fn open_foil(
     strips: &[u16],
     sheet: Sheet,
     k: usize,
-) -> Checked
+) -> Result<Board, Refusal>
     requires { rows.old ≡ rows_of [] }
     ensures { Opening k (sheet_lent sheet.boards table.now strips.now)
         rows.new result }
 {
-    let lending = lend_foil(rows, table, strips, sheet, k);
-    if let Checked::Refused(number) = lending {
-        return Checked::Refused(number);
-    }
-    lent_refusal(rows, strips, board_at(sheet, k))
+    let board = lend_foil(rows, table, strips, sheet, k)?;
+    lent_refusal(rows, strips, board)?;
+    Ok(board)
 }
 
 // The checks of a list of nets: its own 12 comes after 23.
@@ -79,16 +75,16 @@ pub(crate) fn open_for_list(
     k: usize,
     wishes: &[u16],
     places: usize,
-) -> Checked
+) -> Result<Board, Refusal>
     requires { rows.old ≡ rows_of [] }
     ensures { ListOpening k (sheet_lent sheet.boards table.now strips.now)
         wishes.now places rows.new result }
 {
     if FOILS <= k {
-        return Checked::Refused(23);
+        return Err(Reason::NoSuchFoil.into());
     }
     if too_many(wishes, places) {
-        return Checked::Refused(12);
+        return Err(Reason::LentTooLittle.into());
     }
     open_foil(rows, table, strips, sheet, k)
 }
@@ -102,16 +98,16 @@ pub(crate) fn lend_for_record(
     sheet: Sheet,
     k: usize,
     bytes: &[u8],
-) -> Checked
+) -> Result<Board, Refusal>
     requires { rows.old ≡ rows_of [] }
     ensures { RecordLending k (sheet_lent sheet.boards table.now strips.now)
         bytes.now rows.new result }
 {
     if FOILS <= k {
-        return Checked::Refused(23);
+        return Err(Reason::NoSuchFoil.into());
     }
     if MAX_BYTES < bytes.len() {
-        return Checked::Refused(18);
+        return Err(Reason::FileTooLong.into());
     }
     lend_foil(rows, table, strips, sheet, k)
 }
@@ -125,17 +121,14 @@ pub(crate) fn check_for_record(
     k: usize,
     bytes: &[u8],
     at: usize,
-) -> Checked
+) -> Result<(), Refusal>
     ensures { RecordChecked k (sheet_lent sheet.boards table.now strips.now)
         bytes.now at result }
 {
     if at == 0 {
-        return Checked::Passed;
+        return Ok(());
     }
     let mut rows = [0u16; TABLE_SIZE];
-    let lending = lend_for_record(&mut rows, table, strips, sheet, k, bytes);
-    if let Checked::Refused(number) = lending {
-        return Checked::Refused(number);
-    }
-    lent_refusal(&rows, strips, board_at(sheet, k))
+    let board = lend_for_record(&mut rows, table, strips, sheet, k, bytes)?;
+    lent_refusal(&rows, strips, board)
 }

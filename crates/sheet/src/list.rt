@@ -2,13 +2,12 @@
 ghost use Rattle.sheet_rows.specs.Rows.{sheet_lent};
 ghost use Rattle.sheet.specs.Contract.{SheetListDone};
 
-use crate::SheetDone;
 use crate::checks::open_for_list;
-use crate::finishing::{close, refuse};
-use foil::{Answer, Checked};
+use crate::finishing::close;
+use foil::{Accepted, Answer};
 use foil_spec::TABLE_SIZE;
 use listing::lay_list_in;
-use sheet_rows::{Sheet, board_at, limit};
+use sheet_rows::{Sheet, limit};
 
 // Lays the nets of a list on foil k, five numbers each: their corners one after the other at the front of the corner
 // list, and three numbers for each answer at the front of theirs.
@@ -17,28 +16,22 @@ pub fn lay_list(
     strips: &mut [u16],
     corners: &mut [u16],
     answers: &mut [u16],
-    sheet: Sheet,
+    sheet: &mut Sheet,
     k: usize,
     wishes: &[u16],
-) -> SheetDone
+) -> Answer
     ensures { SheetListDone k wishes.now
-        (sheet_lent sheet.boards table.old strips.old) corners.old
-        answers.old result table.new strips.new corners.new
+        (sheet_lent sheet.old.boards table.old strips.old) corners.old
+        answers.old result sheet.new table.new strips.new corners.new
         answers.new }
 {
     let mut rows = [0u16; TABLE_SIZE];
     let places = answers.len() / 3;
-    let checked = open_for_list(&mut rows, table, strips, sheet, k, wishes, places);
-    if let Checked::Refused(number) = checked {
-        return refuse(number, sheet);
-    }
-    let board = board_at(sheet, k);
-    let most = limit(sheet, k);
-    let done = lay_list_in(&mut rows, strips, corners, answers, board, most, wishes);
-    let left = done.board;
-    let after = close(table, &rows, sheet, k, left, done.laid);
-    SheetDone {
-        answer: Answer::Accepted,
-        sheet: after,
-    }
+    let mut board = open_for_list(&mut rows, table, strips, *sheet, k, wishes, places)?;
+    let most = limit(*sheet, k);
+    let laid = lay_list_in(
+        &mut rows, strips, corners, answers, &mut board, most, wishes,
+    );
+    close(table, &rows, sheet, k, board, laid);
+    Ok(Accepted::Done)
 }

@@ -1,56 +1,45 @@
 // The calls that only read a foil of a sheet.
 ghost use Rattle.std.specs.Prelude.{[]};
-ghost use Rattle.foil_spec.specs.Foil.{point};
 ghost use Rattle.foil_spec.specs.Ledger.{look_up, find as finds, save as saves, slip as slips};
 ghost use Rattle.sheet_rows.specs.Rows.{sheet_lent};
 ghost use Rattle.sheet.specs.Contract.{SheetReadDone, SheetOhmsDone};
 
 use crate::checks::open_foil;
 use finding::find_in;
-use foil::{Answer, Checked, look_up_in};
-use foil_spec::{Ink, TABLE_SIZE};
+use foil::{Answer, look_up_in};
+use foil_spec::{Ink, Point, TABLE_SIZE};
 use ohms::{Resistance, net_ohms};
 use saving::save_in;
-use sheet_rows::{Sheet, board_at};
+use sheet_rows::Sheet;
 use slips::slip_in;
 
 // Looks a point of foil k up: the place of the one strip that holds it.
-pub fn look_up(table: &[u16], strips: &[u16], sheet: Sheet, k: usize, x: u16, y: u16) -> Answer
-    ensures { SheetReadDone k (look_up (point x y))
+pub fn look_up(table: &[u16], strips: &[u16], sheet: Sheet, k: usize, point: Point) -> Answer
+    ensures { SheetReadDone k (look_up point)
         (sheet_lent sheet.boards table.now strips.now) [] result [] }
 {
     let mut rows = [0u16; TABLE_SIZE];
-    let checked = open_foil(&mut rows, table, strips, sheet, k);
-    if let Checked::Refused(number) = checked {
-        return Answer::Refused(number);
-    }
-    let board = board_at(sheet, k);
-    look_up_in(&rows, strips, board, x, y)
+    let board = open_foil(&mut rows, table, strips, sheet, k)?;
+    look_up_in(&rows, strips, board, point)
 }
 
-// Finds the track from (sx, sy) to (tx, ty) on foil k: writes its corners to the front of the corner list.
+// Finds the track between two points on foil k: writes its corners to the front of the corner list.
 pub fn find(
     corners: &mut [u16],
     table: &[u16],
     strips: &[u16],
     sheet: Sheet,
     k: usize,
-    sx: u16,
-    sy: u16,
-    tx: u16,
-    ty: u16,
+    from: Point,
+    to: Point,
 ) -> Answer
-    ensures { SheetReadDone k (finds (point sx sy) (point tx ty))
+    ensures { SheetReadDone k (finds from to)
         (sheet_lent sheet.boards table.now strips.now) corners.old
         result corners.new }
 {
     let mut rows = [0u16; TABLE_SIZE];
-    let checked = open_foil(&mut rows, table, strips, sheet, k);
-    if let Checked::Refused(number) = checked {
-        return Answer::Refused(number);
-    }
-    let board = board_at(sheet, k);
-    find_in(corners, &rows, strips, board, sx, sy, tx, ty)
+    let board = open_foil(&mut rows, table, strips, sheet, k)?;
+    find_in(corners, &rows, strips, board, from, to)
 }
 
 // Writes foil k as a job file to the front of `out`, and answers the number of its bytes.
@@ -60,11 +49,7 @@ pub fn save(out: &mut [u8], table: &[u16], strips: &[u16], sheet: Sheet, k: usiz
         result out.new }
 {
     let mut rows = [0u16; TABLE_SIZE];
-    let checked = open_foil(&mut rows, table, strips, sheet, k);
-    if let Checked::Refused(number) = checked {
-        return Answer::Refused(number);
-    }
-    let board = board_at(sheet, k);
+    let board = open_foil(&mut rows, table, strips, sheet, k)?;
     save_in(out, &rows, strips, board)
 }
 
@@ -75,11 +60,7 @@ pub fn slip(out: &mut [u8], table: &[u16], strips: &[u16], sheet: Sheet, k: usiz
         result out.new }
 {
     let mut rows = [0u16; TABLE_SIZE];
-    let checked = open_foil(&mut rows, table, strips, sheet, k);
-    if let Checked::Refused(number) = checked {
-        return Answer::Refused(number);
-    }
-    let board = board_at(sheet, k);
+    let board = open_foil(&mut rows, table, strips, sheet, k)?;
     slip_in(out, &rows, strips, board)
 }
 
@@ -89,10 +70,8 @@ pub fn ohms(table: &[u16], strips: &[u16], sheet: Sheet, k: usize, net: u16, ink
         (sheet_lent sheet.boards table.now strips.now) result }
 {
     let mut rows = [0u16; TABLE_SIZE];
-    let checked = open_foil(&mut rows, table, strips, sheet, k);
-    if let Checked::Refused(number) = checked {
-        return Resistance::Refused(number);
+    match open_foil(&mut rows, table, strips, sheet, k) {
+        Ok(board) => net_ohms(&rows, board.entries, net, ink),
+        Err(refusal) => refusal.into(),
     }
-    let board = board_at(sheet, k);
-    net_ohms(&rows, board.entries, net, ink)
 }

@@ -13,12 +13,12 @@ mod reads;
 mod show;
 mod writes;
 
-ghost use Rattle.std.specs.Prelude.{◌+◌, ◌≤◌, length};
+ghost use Rattle.std.specs.Prelude.{◌≤◌, length};
 
-use calls::{Call, call_at};
-use foil_spec::Board;
+use calls::{Call, call_of};
 use lists::{LIST, LISTS, TABLE, keep_strips, take_strips};
 use sheet::Sheet;
+use sheet_rows::no_foils;
 
 fn main() {
     // Two foils, one before the other; a foil not begun; records.
@@ -51,108 +51,54 @@ fn main() {
     );
 }
 
-// A sheet of which no foil is begun.
-fn unbegun() -> Sheet {
-    let board = Board {
-        width: 0,
-        height: 0,
-        half: 0,
-        gap: 0,
-        entries: 0,
-        strips: 0,
-    };
-    let boards = [board; 8];
-    Sheet { boards }
-}
-
-// Makes the calls of a case, 64 at most, on a sheet of which no foil is begun. All lists are longer than need be; the
-// strip lists and the table past its 512 places hold sevens.
+// Makes the calls of a case on a sheet of which no foil is begun. All lists are longer than need be; the strip lists
+// and the table past its 512 places hold sevens.
 fn run(script: &[u8]) {
     let mut table = [0u16; TABLE];
     let mut strips = [7u16; LISTS];
     lists::put_sevens(&mut table);
-    let mut sheet = unbegun();
-    for i in 0..64 {
-        let at = i * 9;
-        if at + 9 <= script.len() {
-            sheet = turn(&mut table, &mut strips, sheet, script, at);
-        }
+    let mut sheet = no_foils();
+    for text in script.chunks_exact(9) {
+        turn(&mut table, &mut strips, &mut sheet, text);
     }
 }
 
-// Makes the call at a place of the text, and writes what comes of it.
-fn turn(
-    table: &mut [u16; TABLE],
-    strips: &mut [u16; LISTS],
-    sheet: Sheet,
-    script: &[u8],
-    at: usize,
-) -> Sheet
-    requires { at + 9 ≤ length script.now }
+// Makes the call of a text, and writes what comes of it. Where it is lent wrong records, the next call finds those
+// before it.
+fn turn(table: &mut [u16; TABLE], strips: &mut [u16; LISTS], sheet: &mut Sheet, text: &[u8])
+    requires { 9 ≤ length text.now }
 {
-    let call = call_at(script, at);
-    print_call(script, at);
-    let left = make(table, strips, sheet, call);
-    let after = kept(sheet, left, call.lent);
-    show::left(table, left, after);
-    after
+    let call = call_of(text);
+    io::write_all(1, text);
+    if call.lent == b'g' {
+        lists::put_nines(table, lists::used(*sheet));
+    }
+    let mut lent = lent_records(*sheet, call.lent);
+    make(table, strips, &mut lent, call);
+    if call.lent != b'c' && call.lent != b'e' {
+        *sheet = lent;
+    }
+    show::left(table, lent, *sheet);
 }
 
-// Writes the call at a place of the text.
-fn print_call(script: &[u8], at: usize)
-    requires { at + 9 ≤ length script.now }
-{
-    let end = at + 9;
-    io::write_all(1, &script[at..end]);
-}
-
-// Makes a call: the foil's strips are taken out of the eight lists for it, and put back. Answers the records that it
-// leaves.
-fn make(table: &mut [u16; TABLE], strips: &mut [u16; LISTS], sheet: Sheet, call: Call) -> Sheet {
+// Makes a call: the foil's strips are taken out of the eight lists for it, and put back.
+fn make(table: &mut [u16; TABLE], strips: &mut [u16; LISTS], sheet: &mut Sheet, call: Call) {
     let k = call.foil % 8;
     let mut list = [0u16; LIST];
     take_strips(&mut list, strips, k);
-    let left = make_with(table, &mut list, sheet, call);
+    calls::lend(table, &mut list, sheet, call);
     keep_strips(strips, k, &list);
-    left
-}
-
-// Makes it with the foil's strips.
-fn make_with(table: &mut [u16; TABLE], list: &mut [u16; LIST], sheet: Sheet, call: Call) -> Sheet {
-    if call.lent == b'g' {
-        lists::put_nines(table, lists::used(sheet));
-    }
-    calls::lend(table, list, lent_records(sheet, call.lent), call)
-}
-
-// A record with so many entries.
-fn with_entries(board: Board, entries: usize) -> Board {
-    Board {
-        width: board.width,
-        height: board.height,
-        half: board.half,
-        gap: board.gap,
-        entries,
-        strips: board.strips,
-    }
 }
 
 // The records as they are lent: those of the sheet, or with 129 entries of foil 7 (c), or with 65 of each foil (e).
 fn lent_records(sheet: Sheet, lent: u8) -> Sheet {
     let mut boards = sheet.boards;
     if lent == b'c' {
-        boards[7] = with_entries(boards[7], 129);
+        boards[7].entries = 129;
     }
     if lent == b'e' {
-        boards = [with_entries(boards[0], 65); 8];
+        boards[0].entries = 65;
+        boards = [boards[0]; 8];
     }
     Sheet { boards }
-}
-
-// The records that the next call finds: where this one was lent wrong ones, those before it.
-fn kept(sheet: Sheet, left: Sheet, lent: u8) -> Sheet {
-    if lent == b'c' || lent == b'e' {
-        return sheet;
-    }
-    left
 }

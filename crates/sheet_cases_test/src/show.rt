@@ -1,10 +1,10 @@
 // What is written.
 ghost use Rattle.std.specs.Prelude.{◌≤◌};
 
-use crate::lists::{TABLE, sum, used, wide};
-use foil::Answer;
+use crate::lists::{TABLE, sum, used};
+use foil::{Accepted, Answer};
 use foil_spec::Board;
-use job::{Next, Reply};
+use job::{Progress, Reply};
 use ohms::Resistance;
 use sheet::Sheet;
 
@@ -17,11 +17,11 @@ pub(crate) fn count(words: &[u8], n: u64) {
 // An answer: its number, 0 if the call is accepted, and what it carries.
 pub(crate) fn answer(answer: Answer) {
     match answer {
-        Answer::Refused(number) => count(b"", number as u64),
-        Answer::Accepted => count(b"", 0),
-        Answer::Laid(corners, bends) => laid(corners as u64, bends as u64),
-        Answer::Found(place) => count(b"0 strip ", place as u64),
-        Answer::Wrote(bytes) => count(b"0 bytes ", bytes as u64),
+        Err(refusal) => count(b"", u64::from(refusal.number())),
+        Ok(Accepted::Done) => count(b"", 0),
+        Ok(Accepted::Laid(corners, bends)) => laid(corners as u64, bends as u64),
+        Ok(Accepted::Found(place)) => count(b"0 strip ", place as u64),
+        Ok(Accepted::Wrote(bytes)) => count(b"0 bytes ", bytes as u64),
     }
 }
 
@@ -34,24 +34,17 @@ fn laid(corners: u64, bends: u64) {
 // The reply to a record.
 pub(crate) fn reply(reply: Reply) {
     match reply {
-        Reply::Refused(number) => count(b"", number as u64),
-        Reply::AtEnd => count(b"end mark ", 0),
-        Reply::Ran(_, next) => place(next),
-    }
-}
-
-// The next place after a record that was run.
-fn place(next: Next) {
-    match next {
-        Next::At(at) => count(b"0 next ", at as u64),
-        Next::Nowhere => count(b"over ", 0),
+        Err(refusal) => count(b"", u64::from(refusal.number())),
+        Ok(Progress::AtEnd) => count(b"end mark ", 0),
+        Ok(Progress::Ran(_, Some(at))) => count(b"0 next ", at as u64),
+        Ok(Progress::Ran(_, None)) => count(b"over ", 0),
     }
 }
 
 // A resistance as bits, or its refusal's number.
 pub(crate) fn ohms(r: Resistance) {
     match r {
-        Resistance::Refused(number) => count(b"", number as u64),
+        Resistance::Refused(number) => count(b"", u64::from(number)),
         Resistance::Ohms(x) => bits(x),
     }
 }
@@ -77,10 +70,10 @@ pub(crate) fn foil(list: &[u16], sheet: Sheet, k: usize) {
 
 // A record.
 fn record(board: Board) {
-    count(b"", board.width as u64);
-    count(b" ", board.height as u64);
-    count(b" ", board.half as u64);
-    count(b" ", board.gap as u64);
+    count(b"", u64::from(board.width));
+    count(b" ", u64::from(board.height));
+    count(b" ", u64::from(board.half));
+    count(b" ", u64::from(board.gap));
     count(b" ", board.entries as u64);
     count(b" ", board.strips as u64);
 }
@@ -89,20 +82,12 @@ fn record(board: Board) {
 fn numbers(list: &[u16], n: usize, size: usize)
     requires { 1 ≤ size }
 {
-    for i in 0..list.len() {
-        if i / size < n {
-            blank(i % size == 0);
-            io::print_decimal(1, wide(list[i]));
+    for place in list.chunks(size).take(n) {
+        io::write_all(1, b" ;");
+        for number in place {
+            count(b" ", u64::from(*number));
         }
     }
-}
-
-// A blank, and a semicolon before it where a place begins.
-fn blank(first: bool) {
-    if first {
-        io::write_all(1, b" ;");
-    }
-    io::write_all(1, b" ");
 }
 
 // The entries of the table, in so many numbers.
@@ -124,8 +109,7 @@ pub(crate) fn left(table: &[u16; TABLE], sheet: Sheet, after: Sheet) {
 // How many entries each foil has.
 fn entries(sheet: Sheet) {
     let boards = sheet.boards;
-    for k in 0..8 {
-        let board = boards[k];
+    for board in &boards {
         count(b" ", board.entries as u64);
     }
 }

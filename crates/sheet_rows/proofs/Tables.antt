@@ -1,18 +1,17 @@
 -- What the code computes of the counts and copies in the table is what the definitions say.
-use Prim.Native.Nat.{ℕ, zero, suc, ◌+◌, ◌-◌, ◌*◌, ◌≤◌, ◌<◌, max}
+use Prim.Native.Nat.{ℕ, zero, suc, ◌+◌, ◌-◌, ◌*◌, ◌≤◌, ◌<◌, max, min}
 use native.Mathlib.Omega.{arith}
 use native.Mathlib.Numerals.{add-one}
 use mathlib.Core.Path.{◌≡◌, refl, sym, ap, ap₂, ◌∙◌}
-use mathlib.Core.Bool.{Bool, true, false, not}
-use mathlib.Core.List.{List, [], ◌∷◌, ◌++◌}
-use lib.Dec.{leb}
-use lib.ListN.{length, get_or, set, take, drop, length-drop}
-use lib.Seq.{paste, take_all}
+use mathlib.Core.Bool.{true}
+use mathlib.Core.List.{List, [], ◌∷◌, ◌++◌, append-nil}
+use lib.ListN.{length, get_or, set, take, drop, replicate, length-drop}
+use lib.Seq.{take_all, length-take-le}
+use Rattle.std.proofs.lemmas.List.{drop-replicate}
 use Rattle.foil_spec.specs.Limits.{max_entries, table_size, sheet_foils, sheet_entries, sheet_size, sure_entries}
 use Rattle.foil_spec.specs.Lent.{lent, written}
-use Rattle.foil_spec.specs.Sheet.{total, reserved, each_few, counts_ok, limit_of, counts, table_at, put_back}
+use Rattle.foil_spec.specs.Sheet.{total, reserved, counts_ok, limit_of, counts, table_at, put_back}
 use Rattle.foil_spec.specs.declared.Board.{Board}
-use Rattle.list_laws.proofs.Tests.{not_t}
 use Rattle.tables.specs.Rows.{rows_of}
 use Rattle.sheet_laws.specs.Places.{start_of, before, behind}
 use Rattle.sheet_laws.specs.Alone.{EightFoils}
@@ -21,34 +20,20 @@ use Rattle.sheet_laws.proofs.Places.{taken_out, put-back}
 use Rattle.sheet_laws.proofs.Views.{counts-length}
 use Rattle.sheet_rows.specs.Rows.{sheet_lent, PutBack}
 use Rattle.sheet_rows.proofs.Counting.{total-take, total-split, start_small}
-use Rattle.sheet_rows.proofs.Copying.{filled}
 
 -- ---- the limits
 
-module _ (ns : List ℕ) where
-  pub some-many : (b : Bool) → b ≡ each_few ns → not b ≡ true → false ≡ counts_ok ns
-  unfolding counts_ok
-  some-many b e h = rw (sym e ∙ not_t b h) refl
+module _ (ns : List ℕ) (ok : counts_ok ns ≡ true) (k : ℕ) (l : k < length ns) (sum own : ℕ) (all : sum ≡ reserved ns)
+    (mine : own ≡ max sure_entries (get_or ns k 0)) where
+  pub own_in : own ≤ sum
+  own_in = omega (arith, reserved-has ns k l)
 
-  pub all-few : (r : ℕ) → each_few ns ≡ true → r ≡ reserved ns → leb r sheet_entries ≡ counts_ok ns
-  unfolding counts_ok
-  all-few r few e = rw (few, e) refl
+  pub others-fit : sum - own ≤ sheet_entries
+  others-fit = omega (arith, ok-reserved ns ok)
 
-  module _ (ok : counts_ok ns ≡ true) (k : ℕ) (l : k < length ns) (sum own : ℕ) (all : sum ≡ reserved ns)
-      (mine : own ≡ max sure_entries (get_or ns k 0)) where
-    pub own_in : own ≤ sum
-    own_in = omega (arith, reserved-has ns k l)
-
-    pub others-fit : sum - own ≤ sheet_entries
-    others-fit = omega (arith, ok-reserved ns ok)
-
-    pub less-left : sheet_entries - (sum - own) < max_entries → sheet_entries - (sum - own) ≡ limit_of ns k
-    unfolding limit_of
-    less-left h = omega arith
-
-    pub enough-left : max_entries ≤ sheet_entries - (sum - own) → max_entries ≡ limit_of ns k
-    unfolding limit_of
-    enough-left h = omega arith
+  pub limited : min max_entries (sheet_entries - (sum - own)) ≡ limit_of ns k
+  unfolding limit_of
+  limited = ap₂ (λ (a b : ℕ). min max_entries (sheet_entries - (a - b))) all mine
 
 pub limit-few : (ns : List ℕ) (k n : ℕ) → n ≤ limit_of ns k → n ≤ max_entries
 unfolding limit_of
@@ -76,15 +61,23 @@ module _ (ns : List ℕ) (ok : counts_ok ns ≡ true) (k : ℕ) (l : k < length 
 
   -- ---- taking out
 
-  pub part-copied : (rows rows' t : List ℕ) (start : ℕ) → start ≡ start_of ns k → sheet_size ≤ length t → rows ≡ rows_of []
-      → rows' ≡ paste rows 0 (drop start t) (get_or ns k 0 * 5)
+  pub part-copied : (rows rows' t : List ℕ) (start : ℕ) → start ≡ start_of ns k → sheet_size ≤ length t
+      → rows ≡ rows_of []
+      → rows' ≡ take (get_or ns k 0 * 5) (drop start t) ++ drop (get_or ns k 0 * 5) rows
       → rows' ≡ written table_size (take (5 * get_or ns k 0) (drop (start_of ns k) t)) []
-  unfolding rows_of
+  unfolding rows_of written
   part-copied rows rows' t start e long empty p =
-      let five : get_or ns k 0 * 5 ≡ 5 * get_or ns k 0 = omega arith in
-      filled table_size [] (drop start t) [] rows rows' 0 (get_or ns k 0 * 5) empty p refl
-      (omega (arith, part_in start e, length-drop start t)) (omega (arith, part-few))
-      ∙ ap₂ (λ (m i : ℕ). written table_size (take m (drop i t)) []) five e
+      let m : ℕ = get_or ns k 0 * 5 in
+      let five : m ≡ 5 * get_or ns k 0 = omega arith in
+      let len : length (take m (drop start t)) ≡ m =
+      length-take-le m (drop start t) (omega (arith, part_in start e, length-drop start t)) in
+      let zeros : drop m rows ≡ replicate (table_size - m) 0 =
+      ap (drop m) (empty ∙ append-nil (replicate table_size 0)) ∙ drop-replicate m table_size 0 in
+      let part : take m (drop start t) ≡ take (5 * get_or ns k 0) (drop (start_of ns k) t) =
+      ap₂ (λ (j i : ℕ). take j (drop i t)) five e in
+      p ∙ ap₂ (λ (x y : List ℕ). x ++ y) part (zeros ∙ ap (λ (j : ℕ). replicate (table_size - j) 0) (sym len)
+      ∙ ap (λ (x : List ℕ). replicate (table_size - length x) 0) part
+      ∙ sym (append-nil _))
 
   -- ---- putting back
 
@@ -137,8 +130,15 @@ module _ (bs : List Board) (t : List ℕ) (w : EightFoils bs t) (k : ℕ) (here 
   pub in-counts : k < length ns
   in-counts = omega (arith, ap length are, counts-length bs, w.eight)
 
+  -- foil k's numbers are few, and lie in the table
+  pub part-small : get_or ns k 0 * 5 ≤ table_size
+  part-small = omega (arith, part-few ns counts-fine k in-counts)
+
+  pub part-inside : (start : ℕ) → start ≡ start_of ns k → start + get_or ns k 0 * 5 ≤ length t
+  part-inside start e = omega (arith, part_in ns counts-fine k in-counts start e, w.places)
+
   pub taking : (rows rows' : List ℕ) (start : ℕ) → start ≡ start_of ns k → rows ≡ rows_of []
-      → rows' ≡ paste rows 0 (drop start t) (get_or ns k 0 * 5) → rows' ≡ table_at k bs t
+      → rows' ≡ take (get_or ns k 0 * 5) (drop start t) ++ drop (get_or ns k 0 * 5) rows → rows' ≡ table_at k bs t
   taking rows rows' start e empty p =
       part-copied ns counts-fine k in-counts rows rows' t start e w.places empty p
       ∙ ap (λ (xs : List ℕ). written table_size (take (5 * get_or xs k 0) (drop (start_of xs k) t)) []) are

@@ -33,9 +33,8 @@ pub struct Sheet {
 pub fn no_foils() -> Sheet
     ensures { result.boards ≡ replicate sheet_foils no_board }
 {
-    let none = no_board();
     Sheet {
-        boards: [none; FOILS],
+        boards: [no_board(); FOILS],
     }
 }
 
@@ -43,10 +42,9 @@ pub fn no_foils() -> Sheet
 pub fn only_foil_0(board: Board) -> Sheet
     ensures { result.boards ≡ board ∷ replicate 7 no_board }
 {
-    let none = no_board();
-    let mut boards = [none; FOILS];
-    boards[0] = board;
-    Sheet { boards }
+    let mut sheet = no_foils();
+    sheet.boards[0] = board;
+    sheet
 }
 
 // The record of foil k.
@@ -54,31 +52,21 @@ pub fn board_at(sheet: Sheet, k: usize) -> Board
     requires { k < sheet_foils }
     ensures { result ≡ get_or sheet.boards k no_board }
 {
-    let boards = sheet.boards;
-    boards[k]
+    sheet.boards[k]
 }
 
 // The sheet with another record of foil k.
-pub(crate) fn with_board(sheet: Sheet, k: usize, board: Board) -> Sheet
+pub(crate) fn with_board(mut sheet: Sheet, k: usize, board: Board) -> Sheet
     requires { k < sheet_foils }
     ensures { result.boards ≡ set sheet.boards k board }
 {
-    let mut boards = sheet.boards;
-    boards[k] = board;
-    Sheet { boards }
+    sheet.boards[k] = board;
+    sheet
 }
 
 // How many entries each foil has by its record.
 pub(crate) fn counts_of(sheet: Sheet) -> [usize; FOILS]
     ensures { result ≡ counts sheet.boards }
 {
-    let boards = sheet.boards;
-    let mut counts = [0usize; FOILS];
-    let mut i = 0;
-    while i < FOILS {
-        let board = boards[i];
-        counts[i] = board.entries;
-        i += 1;
-    }
-    counts
+    sheet.boards.map(|board| board.entries)
 }

@@ -1,6 +1,6 @@
 // How many entries the foils of a sheet have and may have.
-ghost use Rattle.std.specs.Prelude.{◌≡◌, true, ◌<◌, ◌≤◌, max};
-ghost use Rattle.foil_spec.specs.Limits.{sheet_foils, sure_entries};
+ghost use Rattle.std.specs.Prelude.{◌≡◌, true, ◌<◌, ◌≤◌};
+ghost use Rattle.foil_spec.specs.Limits.{sheet_foils};
 ghost use Rattle.foil_spec.specs.Sheet.{counts, reserved, each_few, counts_ok, limit_of};
 ghost use Rattle.sheet_laws.specs.Places.{start_of};
 
@@ -11,14 +11,12 @@ use foil_spec::MAX_ENTRIES;
 const SURE_ENTRIES: usize = 32;
 
 // Whether the foils' numbers of entries keep both limits (13).
+#[tactic(auto, unfolding(foil_spec::specs::Sheet::counts_ok))]
 pub fn counts_ok(sheet: Sheet) -> bool
     ensures { result ≡ counts_ok (counts sheet.boards) }
 {
     let counts = counts_of(sheet);
-    if !each_few(counts) {
-        return false;
-    }
-    reserved(counts) <= SHEET_ENTRIES
+    each_few(counts) && reserved(counts) <= SHEET_ENTRIES
 }
 
 // How many entries foil k may have beside the others.
@@ -26,19 +24,8 @@ pub fn limit(sheet: Sheet, k: usize) -> usize
     requires { (k < sheet_foils) × (counts_ok (counts sheet.boards) ≡ true) }
     ensures { result ≡ limit_of (counts sheet.boards) k }
 {
-    limit_by(counts_of(sheet), k)
-}
-
-// The same by the foils' numbers of entries.
-fn limit_by(counts: [usize; FOILS], k: usize) -> usize
-    requires { (k < sheet_foils) × (counts_ok counts ≡ true) }
-    ensures { result ≡ limit_of counts k }
-{
-    let left = SHEET_ENTRIES - (reserved(counts) - at_least_sure(counts[k]));
-    if left < MAX_ENTRIES {
-        return left;
-    }
-    MAX_ENTRIES
+    let counts = counts_of(sheet);
+    MAX_ENTRIES.min(SHEET_ENTRIES - (reserved(counts) - SURE_ENTRIES.max(counts[k])))
 }
 
 // The place in the table where foil k's numbers begin; for k = 8, where the unused places do.
@@ -46,27 +33,14 @@ pub(crate) fn start_of(counts: [usize; FOILS], k: usize) -> usize
     requires { (k ≤ sheet_foils) × (counts_ok counts ≡ true) }
     ensures { result ≡ start_of counts k }
 {
-    let mut start = 0;
-    let mut i = 0;
-    while i < k {
-        start += counts[i] * 5;
-        i += 1;
-    }
-    start
+    counts[..k].iter().sum::<usize>() * 5
 }
 
 // Whether no foil has more than 128 entries.
 fn each_few(counts: [usize; FOILS]) -> bool
     ensures { result ≡ each_few counts }
 {
-    let mut i = 0;
-    while i < FOILS {
-        if MAX_ENTRIES < counts[i] {
-            return false;
-        }
-        i += 1;
-    }
-    true
+    counts.iter().all(|n| *n <= MAX_ENTRIES)
 }
 
 // The places that are kept for the foils, 32 at least for each.
@@ -74,21 +48,5 @@ fn reserved(counts: [usize; FOILS]) -> usize
     requires { each_few counts ≡ true }
     ensures { result ≡ reserved counts }
 {
-    let mut sum = 0;
-    let mut i = 0;
-    while i < FOILS {
-        sum += at_least_sure(counts[i]);
-        i += 1;
-    }
-    sum
-}
-
-// What a foil of n entries counts.
-fn at_least_sure(n: usize) -> usize
-    ensures { result ≡ max sure_entries n }
-{
-    if n < SURE_ENTRIES {
-        return SURE_ENTRIES;
-    }
-    n
+    counts.iter().map(|n| SURE_ENTRIES.max(*n)).sum()
 }

@@ -12,13 +12,12 @@ ghost use Rattle.sheet_rows.specs.Rows.{PutBack};
 use crate::limits::start_of;
 use crate::{FOILS, SHEET_ENTRIES, SHEET_SIZE, Sheet, counts_of, with_board};
 use foil_spec::Board;
-use strips::clear;
 
 // How many places of a lent table of n a call goes over: the first 512.
 pub fn places_lent(n: usize) -> usize
     ensures { result ≡ min n sheet_entries }
 {
-    if n < SHEET_ENTRIES { n } else { SHEET_ENTRIES }
+    n.min(SHEET_ENTRIES)
 }
 
 // Puts foil k's entries into rows that are empty.
@@ -30,7 +29,7 @@ pub fn take_out(rows: &mut [u16], table: &[u16], sheet: Sheet, k: usize)
     let counts = counts_of(sheet);
     let start = start_of(counts, k);
     let size = counts[k] * 5;
-    copy(rows, 0, table, start, size);
+    rows[..size].copy_from_slice(&table[start..][..size]);
 }
 
 // Gives foil k this record and the first entries of the rows, as many as the record says: those of the foils behind it
@@ -56,45 +55,19 @@ fn put_rows(table: &mut [u16], rows: &[u16], counts: [usize; FOILS], k: usize, n
     let start = start_of(counts, k);
     let rest = start_of(counts, k + 1);
     let end = start_of(counts, FOILS);
-    replace(table, rows, n * 5, start, rest, end);
+    replace(table, &rows[..n * 5], start, rest, end);
 }
 
-// Puts the first m numbers of the rows for those of the table from `start` to `rest`. Those from `rest` to
-// `end` are moved, and zeros follow.
-fn replace(table: &mut [u16], rows: &[u16], m: usize, start: usize, rest: usize, end: usize)
-    requires rest_bound { (start + m + (end - rest) ≤ sheet_size) × (rest ≤ end) × (end ≤ sheet_size) }
-    requires sheet_size_in_bounds { (sheet_size ≤ length table.old) × (m ≤ length rows.now) }
+// Puts the rows for the numbers of the table from `start` to `rest`. Those from `rest` to `end` are moved, and zeros
+// follow.
+fn replace(table: &mut [u16], rows: &[u16], start: usize, rest: usize, end: usize)
+    requires rest_bound { (start + length rows.now + (end - rest) ≤ sheet_size) × (rest ≤ end) × (end ≤ sheet_size) }
+    requires sheet_size_in_bounds { sheet_size ≤ length table.old }
     ensures { table.new ≡ written sheet_size (take start table.old
-        ++ (take m rows.now ++ take (end - rest) (drop rest table.old))) table.old }
+        ++ (rows.now ++ take (end - rest) (drop rest table.old))) table.old }
 {
-    if rest == end {
-        put_last(table, rows, m, start);
-        return;
-    }
-    let mut behind = [0u16; SHEET_SIZE];
-    copy(&mut behind, 0, table, rest, end - rest);
-    put_last(table, rows, m, start);
-    copy(table, start + m, &behind, 0, end - rest);
-}
-
-// Puts the first m numbers of the rows behind the table's first `start`. Zeros follow.
-fn put_last(table: &mut [u16], rows: &[u16], m: usize, start: usize)
-    requires { (start + m ≤ sheet_size) × (sheet_size ≤ length table.old) × (m ≤ length rows.now) }
-    ensures { table.new ≡ written sheet_size (take start table.old
-        ++ take m rows.now) table.old }
-{
-    clear(table, start, SHEET_SIZE);
-    copy(table, start, rows, 0, m);
-}
-
-// Copies n numbers of `from`, from place `start` on, to `to`, from place `at` on.
-fn copy(to: &mut [u16], at: usize, from: &[u16], start: usize, n: usize)
-    requires { (at + n ≤ length to.old) × (start + n ≤ length from.now) }
-    ensures { to.new ≡ paste to.old at (drop start from.now) n }
-{
-    let mut i = 0;
-    while i < n {
-        to[at + i] = from[start + i];
-        i += 1;
-    }
+    let behind = start + rows.len();
+    table.copy_within(rest..end, behind);
+    table[start..behind].copy_from_slice(rows);
+    table[behind + (end - rest)..SHEET_SIZE].fill(0);
 }

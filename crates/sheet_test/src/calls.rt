@@ -1,152 +1,89 @@
 // A call on a foil of the sheet, lent fronts of the lists.
-ghost use Rattle.std.specs.Prelude.{◌≤◌, length};
+ghost use Rattle.std.specs.Prelude.{◌≤◌};
 
 use crate::records::run;
 use foil::Answer;
-use foil_spec::Entry;
-use plain_sheet::{Asked, Kind, elbow, list_size, writes};
-use sheet::{
-    Sheet, SheetDone, book, draw, find, join, lay, lift, look_up, new_foil, put_leg, save,
-};
+use foil_spec::{Entry, Point};
+use plain_sheet::{Asked, Kind, Short, elbow, list_size};
+use sheet::{Sheet, book, draw, find, join, lay, lift, look_up, new_foil, put_leg, save};
 
 // How many numbers of the table are lent: all, just 512 places, or one number fewer.
-fn table_front(short: u32) -> usize
+fn table_front(short: Short) -> usize
     ensures { result ≤ 2565 }
 {
     match short {
-        1 => 2560,
-        2 => 2559,
+        Short::NoneSpare => 2560,
+        Short::Table => 2559,
         _ => 2565,
     }
 }
 
 // How many numbers of the strip list are lent: all, just 4,096 places, or one number fewer.
-fn strip_front(short: u32) -> usize
+fn strip_front(short: Short) -> usize
     ensures { result ≤ 16388 }
 {
     match short {
-        1 => 16384,
-        3 => 16383,
+        Short::NoneSpare => 16384,
+        Short::Strips => 16383,
         _ => 16388,
     }
 }
 
-// How many numbers of the corner list are lent.
-fn corner_front(room: usize) -> usize
-    ensures { result ≤ 8192 }
-{
-    if 4096 < room {
-        return 8192;
-    }
-    room * 2
-}
-
-// Makes the call.
+// Makes the call, by a record or by itself; what it answers, or none where a record answers what none does.
 pub(crate) fn lend(
     table: &mut [u16; 2565],
     strips: &mut [u16; 16388],
     corners: &mut [u16; 8192],
-    sheet: Sheet,
+    sheet: &mut Sheet,
     asked: Asked,
-) -> SheetDone {
-    let terms = asked.terms;
-    let t = table_front(terms.short);
-    let s = strip_front(terms.short);
-    let c = corner_front(asked.room);
-    lend_fronts(table, t, strips, s, corners, c, sheet, asked)
+) -> Option<Answer> {
+    let t = table_front(asked.terms.short);
+    let s = strip_front(asked.terms.short);
+    let c = asked.room.min(4096) * 2;
+    if asked.recorded {
+        run(
+            &mut table[..t],
+            &mut strips[..s],
+            &mut corners[..c],
+            sheet,
+            asked,
+        )
+    } else {
+        Some(call(
+            &mut table[..t],
+            &mut strips[..s],
+            &mut corners[..c],
+            sheet,
+            asked,
+        ))
+    }
 }
 
-// Makes it with so many numbers of each list lent.
-fn lend_fronts(
-    table: &mut [u16],
-    t: usize,
-    strips: &mut [u16],
-    s: usize,
-    corners: &mut [u16],
-    c: usize,
-    sheet: Sheet,
-    asked: Asked,
-) -> SheetDone
-    requires { (t ≤ length table.old) × (s ≤ length strips.old) × (c ≤ length corners.old) }
-{
-    call(
-        &mut table[..t],
-        &mut strips[..s],
-        &mut corners[..c],
-        sheet,
-        asked,
-    )
-}
-
-// Makes it with these lists lent, by a record or by itself.
+// Makes it with these lists lent, by itself.
 fn call(
     table: &mut [u16],
     strips: &mut [u16],
     corners: &mut [u16],
-    sheet: Sheet,
+    sheet: &mut Sheet,
     asked: Asked,
-) -> SheetDone {
-    if asked.recorded {
-        return run(table, strips, corners, sheet, asked);
-    }
-    let kind = asked.kind;
-    if has_corners(kind) {
-        return call_corners(table, strips, corners, sheet, asked);
-    }
-    if !writes(kind) {
-        return read(table, strips, corners, sheet, asked);
-    }
-    call_entries(table, strips, sheet, asked)
-}
-
-// Whether a call of this kind writes entries and corners.
-fn has_corners(kind: Kind) -> bool {
-    match kind {
-        Kind::Lay => true,
-        Kind::Join => true,
-        _ => false,
-    }
-}
-
-// Makes a call that writes entries and corners.
-fn call_corners(
-    table: &mut [u16],
-    strips: &mut [u16],
-    corners: &mut [u16],
-    sheet: Sheet,
-    asked: Asked,
-) -> SheetDone {
+) -> Answer {
     let k = asked.foil;
     let net = asked.net;
-    let four = asked.four;
-    let kind = asked.kind;
-    match kind {
-        Kind::Join => join(table, strips, corners, sheet, k, net, four.x0, four.y0),
-        _ => lay(
-            table, strips, corners, sheet, k, net, four.x0, four.y0, four.x1, four.y1,
-        ),
+    let f = asked.four;
+    let from = Point { x: f.x0, y: f.y0 };
+    let to = Point { x: f.x1, y: f.y1 };
+    match asked.kind {
+        Kind::New => new_foil(table, strips, sheet, k, f.x0, f.y0, f.x1, f.y1),
+        Kind::Draw => draw(table, strips, sheet, k, f.x0, f.y0, f.x1, f.y1),
+        Kind::Leg => put_leg(table, strips, sheet, k, entry(asked)),
+        Kind::Lift => lift(table, strips, sheet, k, net),
+        Kind::Lay => lay(table, strips, corners, sheet, k, net, from, to),
+        Kind::Join => join(table, strips, corners, sheet, k, net, from),
+        Kind::Book => book_elbow(table, strips, sheet, asked),
+        Kind::Find => find(corners, table, strips, *sheet, k, from, to),
+        Kind::LookUp => look_up(table, strips, *sheet, k, from),
+        Kind::Save => save_numbers(corners, table, strips, *sheet, k),
     }
-}
-
-// Makes a call that only reads the sheet, which stays as it is.
-fn read(
-    table: &[u16],
-    strips: &[u16],
-    corners: &mut [u16],
-    sheet: Sheet,
-    asked: Asked,
-) -> SheetDone {
-    let k = asked.foil;
-    let four = asked.four;
-    let kind = asked.kind;
-    let answer = match kind {
-        Kind::Find => find(
-            corners, table, strips, sheet, k, four.x0, four.y0, four.x1, four.y1,
-        ),
-        Kind::LookUp => look_up(table, strips, sheet, k, four.x0, four.y0),
-        _ => save_numbers(corners, table, strips, sheet, k),
-    };
-    SheetDone { answer, sheet }
 }
 
 // Saves the foil, and puts the bytes into the corner list, if it has room for any file.
@@ -160,79 +97,29 @@ fn save_numbers(
     let mut out = [7u8; 1420];
     let answer = save(&mut out, table, strips, sheet, k);
     if 1420 <= corners.len() {
-        put_bytes(corners, &out);
+        for i in 0..1420 {
+            corners[i] = out[i] as u16;
+        }
     }
     answer
 }
 
-// Puts bytes at the front of a list.
-fn put_bytes(list: &mut [u16], bytes: &[u8; 1420])
-    requires { 1420 ≤ length list.old }
-{
-    for i in 0..1420 {
-        list[i] = wide(bytes[i]);
-    }
-}
-
-// A byte as a number.
-fn wide(b: u8) -> u16 {
-    b as u16
-}
-
-// Makes a call that is lent no corner list to write to.
-fn call_entries(table: &mut [u16], strips: &mut [u16], sheet: Sheet, asked: Asked) -> SheetDone {
-    let k = asked.foil;
-    let four = asked.four;
-    let kind = asked.kind;
-    match kind {
-        Kind::New => new_foil(table, strips, sheet, k, four.x0, four.y0, four.x1, four.y1),
-        Kind::Draw => draw(table, strips, sheet, k, four.x0, four.y0, four.x1, four.y1),
-        Kind::Lift => lift(table, strips, sheet, k, asked.net),
-        Kind::Book => book_list(table, strips, sheet, asked),
-        _ => put_leg(table, strips, sheet, k, entry(asked)),
-    }
-}
-
 // The entry of a call's net and box.
 fn entry(asked: Asked) -> Entry {
-    let four = asked.four;
+    let f = asked.four;
     Entry {
         net: asked.net,
-        x0: four.x0,
-        y0: four.y0,
-        x1: four.x1,
-        y1: four.y1,
+        x0: f.x0,
+        y0: f.y0,
+        x1: f.x1,
+        y1: f.y1,
     }
 }
 
-// Books the list of the call.
-fn book_list(table: &mut [u16], strips: &mut [u16], sheet: Sheet, asked: Asked) -> SheetDone {
+// Books as much of the call's list as it has.
+fn book_elbow(table: &mut [u16], strips: &mut [u16], sheet: &mut Sheet, asked: Asked) -> Answer {
     let mut list = [0u16; 8192];
     elbow(&mut list, asked);
-    book_elbow(table, strips, sheet, asked, &list)
-}
-
-// Books as much of a list as the call has.
-fn book_elbow(
-    table: &mut [u16],
-    strips: &mut [u16],
-    sheet: Sheet,
-    asked: Asked,
-    list: &[u16; 8192],
-) -> SheetDone {
-    book_front(table, strips, sheet, asked, list, list_size(asked.room))
-}
-
-// Books the first n numbers of a list.
-fn book_front(
-    table: &mut [u16],
-    strips: &mut [u16],
-    sheet: Sheet,
-    asked: Asked,
-    list: &[u16],
-    n: usize,
-) -> SheetDone
-    requires { n ≤ length list.now }
-{
+    let n = list_size(asked.room);
     book(table, strips, sheet, asked.foil, asked.net, &list[..n])
 }

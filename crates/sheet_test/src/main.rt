@@ -11,7 +11,9 @@ mod steps;
 ghost use Rattle.std.specs.Prelude.{◌<◌, ◌≤◌};
 
 use boards::{below, next};
-use plain_sheet::{Asked, Kind, Want, choose, sum, write_table};
+use foil_spec::{Reason, Refusal};
+use plain_sheet::{Asked, Kept, Kind, Want, choose, none_begun, sum, write_table};
+use sheet_rows::no_foils;
 use steps::{Stood, step};
 
 // How many sheets there are at random, and how many calls on each.
@@ -41,13 +43,8 @@ fn count(counts: &mut [u64; COUNTS], k: usize, yes: bool)
     requires { k < 39 }
 {
     if yes {
-        counts[k] = std::num::wrapping_add_u64(counts[k], 1);
+        counts[k] = counts[k].wrapping_add(1);
     }
-}
-
-// Whether both hold.
-fn both(a: bool, b: bool) -> bool {
-    a && b
 }
 
 // Where the count of accepted calls of a kind is.
@@ -68,49 +65,39 @@ fn place(kind: Kind) -> usize
     }
 }
 
+// The number of an answer, 0 if it accepts.
+fn number_of(answer: Result<usize, Reason>) -> u8 {
+    match answer {
+        Ok(_) => 0,
+        Err(reason) => Refusal::from(reason).number(),
+    }
+}
+
 // Counts a call by what it should come to, on a table with other numbers in unused places or not.
 fn count_call(counts: &mut [u64; COUNTS], asked: Asked, want: Want, littered: bool, right: bool) {
-    let kind = asked.kind;
-    let accepted = want.number == 0;
-    count(counts, want.number as usize % NUMBERS, true);
-    count(counts, place(kind), accepted);
-    count(counts, RECORDED, both(accepted, asked.recorded));
+    let accepted = want.answer.is_ok();
+    let wrote = accepted && asked.kind.writes();
+    count(counts, number_of(want.answer) as usize % NUMBERS, true);
+    count(counts, place(asked.kind), accepted);
+    count(counts, RECORDED, accepted && asked.recorded);
     count(counts, CROWDED, want.crowded);
-    count(counts, CLEARED, both(littered, want.wrote));
-    count(counts, LEFT, both(littered, !want.wrote));
+    count(counts, CLEARED, littered && wrote);
+    count(counts, LEFT, littered && !wrote);
     count(counts, DIFFERENT, !right);
 }
 
-// Puts a number into the places from `at` on, up to the 512.
-fn spill(table: &mut [u16; 2565], at: usize, other: u16) {
-    for i in 0..2560 {
-        if at <= i {
-            table[i] = other;
-        }
-    }
-}
-
 // Now and then puts other numbers than zeros into the unused places, from one of them on to the last, of the table and
-// of what it should be.
-fn litter(table: &mut [u16; 2565], due: &mut [u16; 2565], stood: Stood, seed: u32) -> Stood {
-    let sheet = stood.sheet;
-    let foils = stood.foils;
-    let from = sum(foils, 0) * 5;
-    if seed % 4 != 0 {
-        return stood;
-    }
-    if 2560 <= from {
-        return stood;
+// of what it should be, and answers whether it did.
+fn litter(table: &mut [u16; 2565], due: &mut [u16; 2565], all: &[Kept; 8], seed: u32) -> bool {
+    let from = sum(all, 0) * 5;
+    if seed % 4 != 0 || 2560 <= from {
+        return false;
     }
     let at = from + below(seed / 4, (2560 - from) as u16) as usize;
     let other = 1 + below(seed / 64, 9);
-    spill(table, at, other);
-    spill(due, at, other);
-    Stood {
-        sheet,
-        foils,
-        littered: true,
-    }
+    table[at..2560].fill(other);
+    due[at..2560].fill(other);
+    true
 }
 
 // Makes a call at random.
@@ -118,14 +105,17 @@ fn turn(
     counts: &mut [u64; COUNTS],
     table: &mut [u16; 2565],
     due: &mut [u16; 2565],
-    rows: &mut [u16; 5120],
+    all: &mut [Kept; 8],
     stood: Stood,
     seed: u32,
 ) -> Stood {
-    let lent = litter(table, due, stood, seed);
-    let foils = lent.foils;
-    let asked = choose(rows, foils, seed);
-    step(counts, table, due, rows, lent, asked)
+    let anew = litter(table, due, all, seed);
+    let lent = Stood {
+        sheet: stood.sheet,
+        littered: anew || stood.littered,
+    };
+    let asked = choose(all, seed);
+    step(counts, table, due, all, lent, asked)
 }
 
 // The number for the call after.
@@ -137,14 +127,16 @@ fn later(seed: u32) -> u32 {
 fn run_sheet(counts: &mut [u64; COUNTS], seed: u32) -> u32 {
     let mut table = [7u16; 2565];
     let mut due = [7u16; 2565];
-    let mut rows = [0u16; 5120];
-    let mut stood = steps::unbegun();
-    let foils = stood.foils;
-    write_table(&mut table, &rows, foils);
-    write_table(&mut due, &rows, foils);
+    let mut all = none_begun();
+    let mut stood = Stood {
+        sheet: no_foils(),
+        littered: false,
+    };
+    write_table(&mut table, &all);
+    write_table(&mut due, &all);
     let mut s = seed;
     for _ in 0..CALLS {
-        stood = turn(counts, &mut table, &mut due, &mut rows, stood, s);
+        stood = turn(counts, &mut table, &mut due, &mut all, stood, s);
         s = later(s);
     }
     s

@@ -20,7 +20,8 @@ use Rattle.nets.proofs.Measuring.{sound-boxes}
 use Rattle.slip_laws.proofs.Wide.{net-most, none-too-wide}
 use Rattle.slip_laws.proofs.Pages.{slip-small}
 use Rattle.foil.specs.Contract.{Read, ReadIn}
-use Rattle.foil.specs.declared.Answer.TheVariants.{Refused, Wrote}
+use Rattle.std.specs.Prelude.{Ok, Err}
+use Rattle.foil.specs.declared.Accepted.TheVariants.{Wrote}
 use Rattle.foil.proofs.Writing.{own-unwritten, written}
 use Rattle.putting.specs.Put.{Put}
 use Rattle.putting.proofs.Putting.{front-over}
@@ -69,17 +70,17 @@ module _ (b : Board) (t s : List ℕ) where
       long : length (slip_of (held m)) ≡ size
       long = ap (λ (bs : List ℕ). length bs) slip-is ∙ omega (arith, page.next)
 
-      pub no_room : length o < size → ReadIn slip m o (Refused 12) o
+      pub no_room : length o < size → ReadIn slip m o (Err 12) o
       unfolding refusals first
       no_room l room roomy lent_out =
           let small = lt-ltb room.output (length (slip_of (held m))) (omega (arith, long, lent_out)) in
           own-unwritten slip m o room g roomy 12 (rw small refl)
 
       pub slipped : size ≤ length o → {o₁ : List ℕ} {p : ℕ} → Put o 0 (take size f₁) o₁ p
-          → ReadIn slip m o (Wrote size) o₁
+          → ReadIn slip m o (Ok (Wrote size)) o₁
       unfolding refusals first says next
       slipped l {o₁} {p} out room roomy lent_out =
           let large = le-ltb room.output (length (slip_of (held m))) (omega (arith, long, lent_out)) in
-          subst (λ (k : ℕ). Read slip room m o (Wrote k) o₁) long
+          subst (λ (k : ℕ). Read slip room m o (Ok (Wrote k)) o₁) long
           (written slip m o room g roomy (slip_of (held m)) o₁ (rw large refl) refl refl
           (front-over (subst (λ (bs : List ℕ). Put f 0 bs f₁ size) (sym slip-is) page) out))

@@ -10,8 +10,8 @@ ghost use Rattle.foil_spec.specs.Ledger.{slip as slips};
 ghost use Rattle.foil_spec.specs.Lent.{lent, sound};
 ghost use Rattle.foil.specs.Contract.{ReadIn};
 
-use foil::Answer;
-use foil_spec::Board;
+use foil::{Accepted, Answer};
+use foil_spec::{Board, Reason};
 pub use page::PAGE_SIZE;
 use page::put_page;
 use putting::put_bytes;
@@ -27,8 +27,8 @@ pub fn slip_in(out: &mut [u8], table: &[u16], strips: &[u16], board: Board) -> A
     let mut page = [0u8; PAGE_SIZE];
     let size = put_page(&mut page, table, board.entries);
     if out.len() < size {
-        return Answer::Refused(12);
+        return Err(Reason::LentTooLittle.into());
     }
     put_bytes(out, 0, &page[..size]);
-    Answer::Wrote(size)
+    Ok(Accepted::Wrote(size))
 }

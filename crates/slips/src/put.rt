@@ -14,11 +14,11 @@ pub(crate) fn put_line(out: &mut [u8], at: usize, net: u16, track: Track, first:
     ensures { Put out.old at (slip_line net track.legs track.steps first)
         out.new result }
 {
-    let a = put_right(out, at, 3, net as u64);
+    let a = put_right(out, at, 3, u64::from(net));
     let b = put_column(out, a, 3, track.legs as u64);
     let c = put_column(out, b, 6, track.steps as u64);
-    let d = put_column(out, c, 4, first.x as u64);
-    let e = put_column(out, d, 4, first.y as u64);
+    let d = put_column(out, c, 4, u64::from(first.x));
+    let e = put_column(out, d, 4, u64::from(first.y));
     put_bytes(out, e, b"    \n")
 }
 

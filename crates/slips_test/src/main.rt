@@ -4,7 +4,7 @@
 
 mod foils;
 
-use foil::Answer;
+use foil::{Accepted, Answer};
 use foil_spec::STRIPS_SIZE;
 use sheet::{Sheet, slip};
 use sheet_rows::{SHEET_SIZE, no_foils};
@@ -19,9 +19,9 @@ fn main() {
 fn two_tracks() {
     let mut table = [0u16; SHEET_SIZE];
     let mut strips = [0u16; STRIPS_SIZE];
-    let bare = foils::patched(&mut table, &mut strips);
-    bare_pages(&table, &strips, bare);
-    let sheet = foils::laid(&mut table, &mut strips, bare);
+    let mut sheet = foils::patched(&mut table, &mut strips);
+    bare_pages(&table, &strips, sheet);
+    foils::lay_two(&mut table, &mut strips, &mut sheet);
     track_pages(&table, &strips, sheet);
     refusals(&table, &strips, sheet);
 }
@@ -92,11 +92,9 @@ fn page(out: &mut [u8], table: &[u16], strips: &[u16], sheet: Sheet) {
 // A line for an answer.
 fn said(answer: Answer) {
     match answer {
-        Answer::Refused(number) => line(b"refused by ", number as u64),
-        Answer::Accepted => {}
-        Answer::Laid(_, _) => {}
-        Answer::Found(_) => {}
-        Answer::Wrote(bytes) => line(b"bytes ", bytes as u64),
+        Err(refusal) => line(b"refused by ", u64::from(refusal.number())),
+        Ok(Accepted::Wrote(bytes)) => line(b"bytes ", bytes as u64),
+        Ok(_) => {}
     }
 }
 

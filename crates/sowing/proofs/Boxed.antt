@@ -1,5 +1,6 @@
 -- Whether boxes have a point, box by box.
-use Prim.Native.Nat.{ℕ, ◌+◌, ◌≤◌, ◌<◌}
+use Prim.Native.Nat.{ℕ, zero, suc, ◌+◌, ◌≤◌, ◌<◌}
+use Rattle.std.specs.List.{range_with_len, list_any}
 use native.Mathlib.Nat.{zero-add}
 use native.Mathlib.Omega.{arith}
 use native.Mathlib.Numerals.{add-one}
@@ -7,60 +8,44 @@ use native.Mathlib.Decide.{dec_le, dec_lt}
 use mathlib.Core.Path.{◌≡◌, refl, sym, ap, ap₂, ◌∙◌}
 use mathlib.Core.Bool.{Bool, true, false, not, ◌&&◌, ◌||◌, or-false, and_comm}
 use mathlib.Core.List.{List, [], ◌∷◌, map}
-use lib.Dec.{ltb}
 use lib.ListN.{get_or}
-use borrow.Author.Tests.{le-leb}
 use Rattle.foil_spec.specs.Lists.{range, any}
 use Rattle.foil_spec.specs.Foil.{Entry}
 use Rattle.foil_spec.specs.Lent.{entry_at}
 use Rattle.list_laws.proofs.Tests.{any_append, same_test}
-use Rattle.list_laws.proofs.Members.{any_place, map_last}
+use Rattle.list_laws.proofs.Members.{map_last}
 use Rattle.zones.specs.Boxes.{inside, covers}
 use Rattle.zones.proofs.Free.{inside-yes, of-inside}
 use Rattle.grid.specs.Extent.{turned, extent, Solid}
 use Rattle.grid.specs.Links.{FirstFrom}
 use Rattle.grid.specs.declared.Extent.{Extent}
-use Rattle.grid.proofs.Covers.{covers_on, turned-covers, misses-ahead, misses-past, misses-above}
+use Rattle.grid.proofs.Covers.{covers_on, turned-covers}
 use Rattle.sowing.specs.Seeds.{boxed, clear_at, Sown, Sows, in_block, BlockSown, aimed_at, aimed_one}
 use Rattle.sowing.proofs.Seeds.{sown-same, sows-same}
 
--- where three of the four sides leave the point in, the last one decides
-last-side : (upright : Bool) (e : Entry) (x y : ℕ) → (extent upright e).from ≤ x → x < (extent upright e).to
-    → (extent (not upright) e).from ≤ y → ltb y (extent (not upright) e).to ≡ turned upright (covers e) x y
-unfolding inside
-last-side upright e x y a b c =
-    sym
-    (turned-covers upright e x y
-    ∙ ap (λ (t : Bool). t && covers_on (not upright) e y)
-    (inside-yes (extent upright e).from (extent upright e).to x a b)
-    ∙ ap (λ (t : Bool). t && ltb y (extent (not upright) e).to) (le-leb (extent (not upright) e).from y c))
+-- the tests of a row one after the other
+module _ {A : Type 0} (p : A → Bool) (f : ℕ → A) where
+  pub any-row : (a n : ℕ) → list_any (λ i. p (f i)) (range_with_len a n) ≡ any p (map f (range a n))
+  any-row a zero = refl
+  any-row a (suc n) = rw add-one (ap (λ (b : Bool). p (f a) || b) (any-row (suc a) n))
 
--- the same by extents that are known
+-- whether a box has a point, by what it covers on both axes
 module _ (upright : Bool) (e : Entry) (x y : ℕ) {r : Extent} (is : r ≡ extent upright e) where
-  pub no-ahead : x < r.from → false ≡ turned upright (covers e) x y
-  no-ahead l = sym (misses-ahead upright e x y (omega (arith, ap (λ (a : Extent). a.from) is)))
+  pub in-box : {s : Extent} → s ≡ extent (not upright) e → inside r.from r.to x ≡ true
+      → inside s.from s.to y ≡ turned upright (covers e) x y
+  in-box {s} j h =
+      ap (λ (b : Bool). b && inside s.from s.to y) (sym h)
+      ∙ ap₂ (λ (a b : Extent). inside a.from a.to x && inside b.from b.to y) is j
+      ∙ sym (turned-covers upright e x y)
 
-  pub no-past : r.to ≤ x → false ≡ turned upright (covers e) x y
-  no-past l = sym (misses-past upright e x y (omega (arith, ap (λ (a : Extent). a.to) is)))
-
-  module _ {s : Extent} (beside : s ≡ extent (not upright) e) where
-    pub no_above : y < s.from → false ≡ turned upright (covers e) x y
-    no_above l = sym (misses-above upright e x y (omega (arith, ap (λ (a : Extent). a.from) beside)))
-
-    pub by_last : r.from ≤ x → x < r.to → s.from ≤ y → ltb y s.to ≡ turned upright (covers e) x y
-    by_last a b c =
-        ap (λ (a : Extent). ltb y a.to) beside
-        ∙ last-side upright e x y
-        (omega (arith, ap (λ (a : Extent). a.from) is)) (omega (arith, ap (λ (a : Extent). a.to) is))
-        (omega (arith, ap (λ (a : Extent). a.from) beside))
+  pub off-box : inside r.from r.to x ≡ false → false ≡ turned upright (covers e) x y
+  off-box h =
+      ap (λ (b : Bool). b && covers_on (not upright) e y) (sym h ∙ ap (λ (a : Extent). inside a.from a.to x) is)
+      ∙ sym (turned-covers upright e x y)
 
 module _ (t : List ℕ) (upright : Bool) (x y : ℕ) where
   abbrev has : Entry → Bool
   has e = turned upright (covers e) x y
-
-  pub boxed-none : boxed 0 t upright x y ≡ false
-  unfolding boxed
-  boxed-none = refl
 
   pub boxed-more : (k : ℕ) → boxed (k + 1) t upright x y ≡ (boxed k t upright x y || has (entry_at t k))
   unfolding boxed
@@ -70,18 +55,6 @@ module _ (t : List ℕ) (upright : Bool) (x y : ℕ) where
       ∙ any_append has (map (entry_at t) (range 0 k)) (entry_at t (0 + k) ∷ [])
       ∙ ap (λ (b : Bool). any has (map (entry_at t) (range 0 k)) || b)
       (or-false (has (entry_at t (0 + k))) ∙ ap (λ (n : ℕ). has (entry_at t n)) (zero-add k))
-
-  pub boxed-here : (n k : ℕ) → k < n → has (entry_at t k) ≡ true → boxed n t upright x y ≡ true
-  unfolding boxed
-  boxed-here n k l e = any_place has (entry_at t) n k l e
-
-  -- box after box does not have it
-  pub unboxed-more : (k : ℕ) → boxed k t upright x y ≡ false → has (entry_at t k) ≡ false
-      → boxed (k + 1) t upright x y ≡ false
-  unboxed-more k a b = boxed-more k ∙ rw (a, b) refl
-
-  pub unboxed-done : (k n : ℕ) → k ≡ n → boxed k t upright x y ≡ false → boxed n t upright x y ≡ false
-  unboxed-done k n e h = rw (← e) h
 
 -- a crossing is left free just if no box has it
 module _ (n : ℕ) (z : List ℕ) (upright : Bool) (lines cross : List ℕ) (line k : ℕ) where
@@ -189,10 +162,6 @@ module _ (n : ℕ) (z : List ℕ) (targets : List ℕ) (upright : Bool) (lines c
         (turned upright (covers (entry_at targets e)) (get_or cross k 0) (get_or lines i 0))
         (clear_at n z upright lines cross i k))
         (A.sown _ S)
-
-    pub targets-done : (e k : ℕ) → e ≡ k → Sown (aimed_at n z e targets upright lines cross) m c l w
-        → Sown (aimed_at n z k targets upright lines cross) m c l w
-    targets-done e k i S = rw (← i) S
 
 -- the test is the same for both directions
 pub aimed-twin : (n : ℕ) (z : List ℕ) (k : ℕ) (t cols rows : List ℕ) (j i : ℕ)

@@ -1,12 +1,11 @@
 -- Boxes that have no point in common with a target box need not be tried for its points.
-use Prim.Native.Nat.{ℕ, ◌+◌, ◌≤◌, ◌<◌}
+use Prim.Native.Nat.{ℕ, ◌+◌}
 use native.Mathlib.Omega.{arith}
 use mathlib.Core.Path.{◌≡◌, refl, sym, ap, ◌∙◌, subst}
-use mathlib.Core.Bool.{Bool, true, false, not, ◌&&◌, ◌||◌, or-false, and-false}
+use mathlib.Core.Bool.{Bool, true, false, not, ◌&&◌, ◌||◌, or-false}
 use mathlib.Core.List.{List}
-use lib.Dec.{ltb}
 use lib.ListN.{get_or}
-use borrow.Author.Tests.{lt-ltb, le-ltb}
+use borrow.Author.Tests.{lt-ltb}
 use Rattle.foil_spec.specs.Foil.{Entry}
 use Rattle.foil_spec.specs.Lent.{entry_at}
 use Rattle.list_laws.proofs.Tests.{both, clash, and_l, and_r}
@@ -20,23 +19,6 @@ use Rattle.sowing.proofs.Seeds.{sows-same}
 -- ---- two boxes
 
 module _ (a b : Entry) where
-  -- side by side
-  pub right_of : b.x1 ≤ a.x0 → false ≡ overlap a b
-  unfolding overlap
-  right_of l = simp (le-ltb a.x0 b.x1 l)
-
-  pub left-of : a.x1 ≤ b.x0 → false ≡ overlap a b
-  unfolding overlap
-  left-of l = simp (le-ltb b.x0 a.x1 l, and-false)
-
-  pub below : b.y1 ≤ a.y0 → false ≡ overlap a b
-  unfolding overlap
-  below l = simp (le-ltb a.y0 b.y1 l, and-false)
-
-  pub by_last : a.x0 < b.x1 → b.x0 < a.x1 → a.y0 < b.y1 → ltb b.y0 a.y1 ≡ overlap a b
-  unfolding overlap
-  by_last l m u = simp (lt-ltb a.x0 b.x1 l, lt-ltb b.x0 a.x1 m, lt-ltb a.y0 b.y1 u)
-
   -- a point in both
   shared : (x y : ℕ) → covers a x y ≡ true → covers b x y ≡ true → overlap a b ≡ true
   unfolding covers overlap
@@ -61,9 +43,6 @@ module _ (a b : Entry) where
 -- ---- the boxes of a table, from the last one down
 
 module _ (n : ℕ) (z : List ℕ) (e : Entry) where
-  pub enough-all : (k : ℕ) → k ≡ n → Enough n z e k
-  enough-all k q = rw q (record { le = omega arith; same = λ upright x y h. refl })
-
   pub enough-less : (k j : ℕ) → k ≡ j + 1 → (a : Entry) → a ≡ entry_at z j → (r : Bool) → r ≡ overlap a e → r ≡ false
       → Enough n z e k → Enough n z e j
   enough-less k j q a a-is r is clear E =
@@ -80,9 +59,6 @@ module _ (n : ℕ) (z : List ℕ) (e : Entry) where
     where
       apart : overlap (entry_at z j) e ≡ false
       apart = ap (λ (b : Entry). overlap b e) (sym a-is) ∙ sym is ∙ clear
-
-  pub enough-none : (k : ℕ) → k ≡ 0 → Enough n z e k → Enough n z e 0
-  enough-none k q E = rw (← q) E
 
 -- the crossings of a target box are left free by the boxes that are enough for it just if they are by all
 pub near-sown : (n : ℕ) (z : List ℕ) (e : Entry) (upright : Bool) (lines cross : List ℕ) {m c r : ℕ}

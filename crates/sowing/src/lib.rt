@@ -5,32 +5,29 @@
 
 ghost use Rattle.std.specs.Prelude.{◌≡◌, true, ◌+◌, ◌*◌, ◌≤◌, length};
 ghost use Rattle.foil_spec.specs.Lent.{entry_at};
-ghost use Rattle.zones.specs.Boxes.{covers};
+ghost use Rattle.zones.specs.Boxes.{inside, covers};
 ghost use Rattle.grid.specs.Extent.{turned};
 ghost use Rattle.sowing.specs.Seeds.{boxed, overlap, Enough, BlockSown, Sowable, Sown, Sows};
 ghost use Rattle.sowing.specs.Seeds.{BlockAsked, BoxAsked, TargetsAsked, clear_at, aimed_at, aimed_one};
 
 use foil_spec::Entry;
-use grid::{STRIDE, extent_of, first_from};
+use grid::{Extent, STRIDE, extent_of, first_from};
 use places::entry_at;
+
+// Whether what a box covers on an axis has the number x.
+#[tactic(auto, unfolding(zones::specs::Boxes::inside))]
+fn within(e: Extent, x: u16) -> bool
+    ensures { result ≡ inside e.from e.to x }
+{
+    e.from <= x && x < e.to
+}
 
 // Whether box k of a table has the point (x, y), or (y, x) if upright.
 fn box_has(boxes: &[u16], k: usize, upright: bool, x: u16, y: u16) -> bool
     requires { k * 5 + 5 ≤ length boxes.now }
     ensures { result ≡ turned upright (covers (entry_at boxes.now k)) x y }
 {
-    let along = extent_of(boxes, k, upright);
-    if x < along.from {
-        return false;
-    }
-    if along.to <= x {
-        return false;
-    }
-    let beside = extent_of(boxes, k, !upright);
-    if y < beside.from {
-        return false;
-    }
-    y < beside.to
+    within(extent_of(boxes, k, upright), x) && within(extent_of(boxes, k, !upright), y)
 }
 
 // Whether one of the first n boxes of a table has it.
@@ -38,30 +35,14 @@ pub fn is_boxed(boxes: &[u16], n: usize, upright: bool, x: u16, y: u16) -> bool
     requires { n * 5 ≤ length boxes.now }
     ensures { result ≡ boxed n boxes.now upright x y }
 {
-    let mut k = 0;
-    while k < n {
-        if box_has(boxes, k, upright, x, y) {
-            return true;
-        }
-        k += 1;
-    }
-    false
+    (0..n).any(|k| box_has(boxes, k, upright, x, y))
 }
 
 // Whether two boxes that are not empty have a point in common.
 fn overlap(a: Entry, b: Entry) -> bool
     ensures { result ≡ overlap a b }
 {
-    if b.x1 <= a.x0 {
-        return false;
-    }
-    if a.x1 <= b.x0 {
-        return false;
-    }
-    if b.y1 <= a.y0 {
-        return false;
-    }
-    b.y0 < a.y1
+    a.x0 < b.x1 && b.x0 < a.x1 && a.y0 < b.y1 && b.y0 < a.y1
 }
 
 // How many of the first n boxes are to be tried for the points of a target box: those behind the last that has one of
@@ -70,12 +51,10 @@ fn boxes_near(boxes: &[u16], n: usize, target: Entry) -> usize
     requires { n * 5 ≤ length boxes.now }
     ensures { Enough n boxes.now target result }
 {
-    let mut k = n;
-    while 0 < k {
-        if overlap(entry_at(boxes, k - 1), target) {
-            return k;
+    for k in (0..n).rev() {
+        if overlap(entry_at(boxes, k), target) {
+            return k + 1;
         }
-        k -= 1;
     }
     0
 }
@@ -107,10 +86,9 @@ fn sow_clear(
         (clear_at n boxes.now upright lines.now cross.now)
         labels.old inks.old labels.new inks.new }
 {
-    if is_boxed(boxes, n, upright, cross[k], lines[line]) {
-        return;
+    if !is_boxed(boxes, n, upright, cross[k], lines[line]) {
+        sow(labels, inks, line, k);
     }
-    sow(labels, inks, line, k);
 }
 
 // The same for the crossings lo to hi, hi excluded.
@@ -131,10 +109,8 @@ fn sow_run(
         (clear_at n boxes.now upright lines.now cross.now)
         labels.old inks.old labels.new inks.new }
 {
-    let mut k = lo;
-    while k < hi {
+    for k in lo..hi {
         sow_clear(labels, inks, boxes, n, upright, lines, cross, line, k);
-        k += 1;
     }
 }
 
@@ -157,10 +133,8 @@ fn sow_block(
         (clear_at n boxes.now upright lines.now cross.now)
         labels.old inks.old labels.new inks.new }
 {
-    let mut line = a;
-    while line < b {
+    for line in a..b {
         sow_run(labels, inks, boxes, n, upright, lines, cross, line, lo, hi);
-        line += 1;
     }
 }
 
@@ -213,11 +187,9 @@ pub fn sow_targets(
     ensures { Sown (aimed_at n boxes.now k targets.now upright
         lines.now cross.now) m c labels.new inks.new }
 {
-    let mut e = 0;
-    while e < k {
+    for e in 0..k {
         sow_box(
             labels, inks, boxes, n, targets, e, upright, lines, m, cross, c,
         );
-        e += 1;
     }
 }

@@ -24,30 +24,26 @@ use Rattle.ledger_laws.proofs.Stored.{length-entries, length-strips}
 use Rattle.ledger_laws.proofs.Rules.{of-asked, to-asked}
 use Rattle.ledger_laws.proofs.Sound.{SoundAs, of-sound-as, to-sound-as, as_long, length-read, read-numbers}
 use Rattle.ledger_laws.proofs.Sound.{front-written, is-written, zeros-written}
-use Rattle.zones.specs.Table.{Sized}
-use Rattle.zones.proofs.Tables.{foil-sized}
+use Rattle.zones.specs.Table.{Small, Table}
+use Rattle.zones.proofs.Tables.{foil-sized, table_of}
+use Rattle.std.specs.Prelude.{Option, Some, None}
+use Rattle.strips.specs.Built.{Rebuilt}
 use Rattle.strips.specs.Decided.{Decided}
 use Rattle.state.specs.Tests.{Zeros, sizes_ok, ruled, StripsRight}
 
 -- ---- the strips
 
--- c counts the strips ss, which were built anew
+-- the strips ss, which were built anew
 module _ (ss : List Strip) (count : ℕ) (s : List ℕ) where
-  pub too_many : max_strips < length ss → StripsRight ss count s → ⊥
-  too_many h r = omega (arith, r.few)
-
-  pub miscounted : (c : ℕ) → c ≡ length ss → (c ≡ count → ⊥) → StripsRight ss count s → ⊥
-  miscounted c e d r = d (e ∙ sym r.counted)
-
   ns : List ℕ
   ns = each strip_numbers ss
 
-  -- the list has the same front, or not
-  pub compared : (out o : List ℕ) (c : ℕ) (r : Bool) → c ≡ length ss → c ≤ max_strips
-      → out ≡ written strips_size (each strip_numbers ss) o → c ≡ count
+  -- they are as many as counted, and the list has the same front, or not
+  pub compared : (out o : List ℕ) (c : Option ℕ) (r : Bool) → Rebuilt o out ss c → c ≡ Some count
       → Decided (take strips_size out ≡ take strips_size s) r → Decided (StripsRight ss count s) r
   unfolding ns
-  compared out o c r n few e k h = go r h
+  compared out o None r z k h = absurd (cc)
+  compared out o (Some c) r (n, few, e) k h = go r h
     where
       fits : length ns ≤ strips_size
       fits = omega (arith, length-strips ss)
@@ -60,10 +56,30 @@ module _ (ss : List Strip) (count : ℕ) (s : List ℕ) where
       go true h =
           record {
             few = omega arith;
-            counted = sym k ∙ n;
+            counted = cc;
             listed = is-written strips_size ns s fits (sym h ∙ front ∙ front-written strips_size ns s fits);
           }
       go false h = λ q. h (front ∙ ap (take strips_size) (sym q.listed))
+
+-- ---- the sizes
+
+-- an answer that is true
+pub told : (P : Type 0) (r : Bool) → Decided P r → r ≡ true → P
+told P true d e = d
+told P false d e = clash e refl
+
+pub few_of_sizes : (w h n : ℕ) → sizes_ok w h n ≡ true → n ≤ max_entries
+unfolding sizes_ok
+few_of_sizes w h n y =
+    let few : leb n max_entries ≡ true = search parts in
+    leb-true n max_entries few
+
+pub table_of_tests : (t : List ℕ) (n : ℕ) (rule : Rule) (w h : ℕ) → Small rule → table_size ≤ length t
+    → sizes_ok w h n ≡ true → all (entry_ok w h) (map (entry_at t) (range 0 n)) ≡ true → Table t n rule w h
+unfolding sizes_ok
+table_of_tests t n rule w h small long y entries =
+    let few = few_of_sizes w h n y in
+    table_of t n rule w h few (omega (arith, few)) small (foil-sized w h (search parts) (search parts)) entries
 
 -- ---- the whole check by a rule
 
@@ -83,16 +99,15 @@ module _ (rule : Rule) (w h n count : ℕ) (t s : List ℕ) where
   pub short-strips : length s < strips_size → false ≡ right
   short-strips l = not_right (λ k. omega (arith, (as_long (ruled rule) w h n count t s k).1))
 
-  pub bad-sizes : (r : Bool) → r ≡ sizes_ok w h n → r ≡ false → false ≡ right
+  pub bad-sizes : sizes_ok w h n ≡ false → false ≡ right
   unfolding sizes_ok
-  bad-sizes r e f =
+  bad-sizes f =
       not_right (λ k.
       let g = of-asked (ruled rule) w h es k.kept in
-      clash (let y : sizes_ok w h n ≡ true = simp (g.width, g.height, le-leb n max_entries k.few) in y)
-      (sym e ∙ f))
+      clash (let y : sizes_ok w h n ≡ true = simp (g.width, g.height, le-leb n max_entries k.few) in y) f)
 
-  pub bad-entries : (r : Bool) → r ≡ all (entry_ok w h) es → r ≡ false → false ≡ right
-  bad-entries r e f = not_right (λ k. clash (of-asked (ruled rule) w h es k.kept).entries (sym e ∙ f))
+  pub bad-entries : all (entry_ok w h) es ≡ false → false ≡ right
+  bad-entries f = not_right (λ k. clash (of-asked (ruled rule) w h es k.kept).entries f)
 
   zeros-after : SoundAs (ruled rule) w h n count t s → Zeros t (n * 5) table_size
   zeros-after k =
@@ -110,53 +125,31 @@ module _ (rule : Rule) (w h n count : ℕ) (t s : List ℕ) where
   bad-rest true z f = clash refl f
   bad-rest false z f = not_right (λ k. z (zeros-after k))
 
-  -- what the test of the sizes says
-  pub record SizesFit : Type 0 where
-    pub yes : sizes_ok w h n ≡ true
-    pub few : n ≤ max_entries
-    pub sized : Sized w h
-
-  pub sizes-fit : (r : Bool) → r ≡ sizes_ok w h n → r ≡ true → SizesFit
-  unfolding sizes_ok
-  sizes-fit r e f =
-      let y : sizes_ok w h n ≡ true = sym e ∙ f in
-      let few : leb n max_entries ≡ true = search parts in
-      record {
-        yes = y;
-        few = leb-true n max_entries few;
-        sized = foil-sized w h (search parts) (search parts);
-      }
-
   -- what the tests before that of the strips have shown
   pub record Shown : Type 0 where
     pub long : table_size ≤ length t
-    pub sizes : SizesFit
+    pub sizes : sizes_ok w h n ≡ true
     pub entries : all (entry_ok w h) es ≡ true
     pub rest : Zeros t (n * 5) table_size
-
-  pub shown : table_size ≤ length t → SizesFit → (r : Bool) → r ≡ all (entry_ok w h) es → r ≡ true
-      → (q : Bool) → Decided (Zeros t (n * 5) table_size) q → q ≡ true → Shown
-  shown len fits r e f true z k = record { long = len; sizes = fits; entries = sym e ∙ f; rest = z }
-  shown len fits r e f false z k = clash k refl
 
   all-kept : Shown → length (strips_by rule w h es) ≤ max_strips → keeps_asked (ruled rule) w h es ≡ true
   unfolding sizes_ok ruled
   all-kept k f =
-      let y = k.sizes.yes in
+      let y = k.sizes in
       to-asked (ruled rule) w h es
       (record {
         width = search parts;
         height = search parts;
         allowed = refl;
         entries = k.entries;
-        long = le-leb (length es) max_entries (omega (arith, length-read t n, k.sizes.few));
+        long = le-leb (length es) max_entries (omega (arith, length-read t n, few_of_sizes w h n y));
         besides = refl;
         fine = le-ltb max_strips (length (strips_by rule w h es)) f;
       })
 
   table-right : Shown → t ≡ written table_size (each entry_numbers es) t
   table-right k =
-      let f = k.sizes.few in
+      let f = few_of_sizes w h n k.sizes in
       zeros-written (n * 5) table_size t (omega arith) k.long k.rest.zero-at
       ∙ ap (λ (ns : List ℕ). written table_size ns t) (sym (read-numbers t n (omega (arith, k.long))))
 

@@ -1,7 +1,6 @@
 -- Laws that the proofs of the state check use.
-pub mod Shapes
-pub mod Entries
 pub mod Fronts
 pub mod Crossings
 pub mod Checking
 pub mod Rising
+pub mod Rows

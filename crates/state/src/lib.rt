@@ -21,7 +21,7 @@ pub use arguments::{box_ok, net_ok, pen_ok, reach_ok, size_ok};
 pub use crossing::{no_crossing, over_leg, patch_margin, under_patch};
 use foil_spec::{Board, Entry, MAX_ENTRIES, OldBoard, Rule, STRIPS_SIZE, TABLE_SIZE};
 use places::entry_at;
-use strips::{Built, rebuild};
+use strips::rebuild;
 use zones::{BOXES_SIZE, pen_rule, zones};
 
 // Whether the record, the table and the strips keep today's rules, whatever they hold.
@@ -32,34 +32,6 @@ pub fn is_sound(table: &[u16], strips: &[u16], board: Board) -> bool
         return false;
     }
     let rule = pen_rule(board.half, board.gap);
-    let n = board.entries;
-    if !keeps_rule(
-        table,
-        strips,
-        rule,
-        board.width,
-        board.height,
-        n,
-        board.strips,
-    ) {
-        return false;
-    }
-    no_crossing(table, n, rule.patch)
-}
-
-// Whether a record, a table and strips of document 01 keep its rules, whatever they hold.
-pub fn old_sound(table: &[u16], strips: &[u16], board: OldBoard) -> bool
-    ensures { result ≡ old_sound (old board table.now strips.now) }
-{
-    let d = board.reach;
-    if !arguments::reach_ok(d) {
-        return false;
-    }
-    let rule = Rule {
-        patch: d,
-        leg: d,
-        edge: 0,
-    };
     keeps_rule(
         table,
         strips,
@@ -68,11 +40,34 @@ pub fn old_sound(table: &[u16], strips: &[u16], board: OldBoard) -> bool
         board.height,
         board.entries,
         board.strips,
-    )
+    ) && no_crossing(table, board.entries, rule.patch)
+}
+
+// Whether a record, a table and strips of document 01 keep its rules, whatever they hold.
+pub fn old_sound(table: &[u16], strips: &[u16], board: OldBoard) -> bool
+    ensures { result ≡ old_sound (old board table.now strips.now) }
+{
+    let d = board.reach;
+    let rule = Rule {
+        patch: d,
+        leg: d,
+        edge: 0,
+    };
+    arguments::reach_ok(d)
+        && keeps_rule(
+            table,
+            strips,
+            rule,
+            board.width,
+            board.height,
+            board.entries,
+            board.strips,
+        )
 }
 
 // Whether a record of w by h, n entries and so many strips, the table and the strips keep the rules of
 // the foil and the strips, where points are blocked by this rule.
+#[tactic(auto, using(crate::proofs::Checking::few_of_sizes))]
 fn keeps_rule(
     table: &[u16],
     strips: &[u16],
@@ -85,35 +80,20 @@ fn keeps_rule(
     requires { Small rule }
     ensures { result ≡ sound_by (ruled rule) w h n count table.now strips.now }
 {
-    if table.len() < TABLE_SIZE {
-        return false;
-    }
-    if strips.len() < STRIPS_SIZE {
-        return false;
-    }
-    if !sizes_ok(w, h, n) {
-        return false;
-    }
-    if !entries_ok(table, n, w, h) {
-        return false;
-    }
-    if !zeros(table, n * 5, TABLE_SIZE) {
-        return false;
-    }
-    strips_ok(table, strips, rule, w, h, n, count)
+    table.len() >= TABLE_SIZE
+        && strips.len() >= STRIPS_SIZE
+        && sizes_ok(w, h, n)
+        && entries_ok(table, n, w, h)
+        && zeros(table, n * 5, TABLE_SIZE)
+        && strips_ok(table, strips, rule, w, h, n, count)
 }
 
 // Whether width, height and number of entries are in their limits.
+#[tactic(auto, unfolding(crate::specs::Tests::sizes_ok))]
 fn sizes_ok(w: u16, h: u16, n: usize) -> bool
     ensures { result ≡ sizes_ok w h n }
 {
-    if !arguments::size_ok(w) {
-        return false;
-    }
-    if !arguments::size_ok(h) {
-        return false;
-    }
-    n <= MAX_ENTRIES
+    arguments::size_ok(w) && arguments::size_ok(h) && n <= MAX_ENTRIES
 }
 
 // Whether the strips are those of the table's first n entries, by the rule, and so many.
@@ -132,19 +112,21 @@ fn strips_ok(
         count strips.now) result }
 {
     let mut out = [0u16; STRIPS_SIZE];
-    let built = strips_of(&mut out, table, n, rule, w, h);
-    let Built::Strips(found) = built else {
-        return false;
-    };
-    if found != count {
-        return false;
-    }
-    same_front(&out, strips, STRIPS_SIZE)
+    strips_of(&mut out, table, n, rule, w, h) == Some(count)
+        && same_front(&out, strips, STRIPS_SIZE)
 }
 
 // Writes the strips that the table's first n entries leave of a foil of w by h, by the rule, to out, and
-// zeros after them up to 4,096 places. Where there are too many, what out holds is undecided.
-pub fn strips_of(out: &mut [u16], table: &[u16], n: usize, rule: Rule, w: u16, h: u16) -> Built
+// zeros after them up to 4,096 places. Answers how many there are, none for more than 4,096; then what out holds is
+// undecided.
+pub fn strips_of(
+    out: &mut [u16],
+    table: &[u16],
+    n: usize,
+    rule: Rule,
+    w: u16,
+    h: u16,
+) -> Option<usize>
     requires table { Table table.now n rule w h }
     requires strips_size_in_bounds { strips_size ≤ length out.old }
     ensures { Rebuilt out.old out.new
@@ -156,13 +138,11 @@ pub fn strips_of(out: &mut [u16], table: &[u16], n: usize, rule: Rule, w: u16, h
 }
 
 // Whether the entry is one that a table of a foil of w by h may hold.
+#[tactic(auto, unfolding(foil_spec::specs::Foil::entry_ok, foil_spec::specs::Foil::box_ok))]
 pub fn entry_ok(e: Entry, w: u16, h: u16) -> bool
     ensures { result ≡ entry_ok w h e }
 {
-    if !arguments::box_ok(w, h, e.x0, e.y0, e.x1, e.y1) {
-        return false;
-    }
-    arguments::shape_ok(e.net, e.x0, e.y0, e.x1, e.y1)
+    arguments::box_ok(w, h, e) && arguments::shape_ok(e)
 }
 
 // Whether the first n entries of the table are such.
@@ -170,14 +150,7 @@ fn entries_ok(table: &[u16], n: usize, w: u16, h: u16) -> bool
     requires { n * 5 ≤ length table.now }
     ensures { result ≡ all (entry_ok w h) (map (entry_at table.now) (range 0 n)) }
 {
-    let mut k = 0;
-    while k < n {
-        if !entry_ok(entry_at(table, k), w, h) {
-            return false;
-        }
-        k += 1;
-    }
-    true
+    (0..n).all(|k| entry_ok(entry_at(table, k), w, h))
 }
 
 // Whether the numbers from place a up to place b are zero.
@@ -185,29 +158,13 @@ fn zeros(list: &[u16], a: usize, b: usize) -> bool
     requires { (a ≤ b) × (b ≤ length list.now) }
     ensures { Decided (Zeros list.now a b) result }
 {
-    let mut i = a;
-    while i < b {
-        if list[i] != 0 {
-            return false;
-        }
-        i += 1;
-    }
-    true
+    list[a..b].iter().all(|x| *x == 0)
 }
 
-// Whether the first n numbers of the lists are the same. It goes on where they differ: a loop that is left at one place
-// only is compiled to vectors, and every check of a state has it.
+// Whether the first n numbers of the lists are the same.
 fn same_front(a: &[u16], b: &[u16], n: usize) -> bool
     requires { (n ≤ length a.now) × (n ≤ length b.now) }
     ensures { Decided (take n a.now ≡ take n b.now) result }
 {
-    let mut same = true;
-    let mut i = 0;
-    while i < n {
-        if a[i] != b[i] {
-            same = false;
-        }
-        i += 1;
-    }
-    same
+    a[..n] == b[..n]
 }

@@ -1,15 +1,15 @@
 -- The loop that joins one row, run by run.
-use Prim.Native.Nat.{ℕ, suc, ◌+◌, ◌*◌, ◌-◌, ◌≤◌, ◌<◌}
+use Prim.Native.Nat.{ℕ, ◌+◌, ◌*◌, ◌-◌, ◌≤◌, ◌<◌}
 use native.Mathlib.Omega.{arith}
 use mathlib.Core.Path.{◌≡◌, refl, sym, ap, ◌∙◌, subst}
 use mathlib.Core.Bool.{Bool, true, false}
 use mathlib.Core.List.{List, ◌∷◌, ◌++◌}
 use mathlib.Core.Logic.{◌⊎◌, inl, inr}
 use lib.ListN.{length, get_or, set, take, drop, length-set}
+use Rattle.std.specs.Prelude.{Some, None}
 use Rattle.foil_spec.specs.Strips.{run, runs_from, is_run, row_of, is_top, Strip, strip_at, begun, strips_from}
 use Rattle.foil_spec.specs.Limits.{max_strips}
 use Rattle.zones.specs.Boxes.{box_free}
-use Rattle.strip_laws.proofs.Runs.{outside-past}
 use Rattle.strip_laws.proofs.Strips.{begun-top, begun-old}
 use Rattle.strips.specs.Rows.{Change}
 use Rattle.strips.specs.Sweep.{Behind, SweptRun, SweptOut}
@@ -150,33 +150,14 @@ module _
                 (rest-is o J) len p)
 
         -- there is no room for it
-        pub row-full : count ≡ max_strips → JoinsRow f w h out₀ last₀ c y z out last (suc max_strips)
+        pub row-full : count ≡ max_strips → JoinsRow f w h out₀ last₀ c y z out last None
         row-full q o J₀ =
-            record {
-              held = λ l. absurd (omega arith);
-              over = λ l. (
-                refl,
-                joined-full f w h o out last count y z x (ahead f w h y z x) (ahead f w h y z e)
-                    (strip_at f w h y (run a b)) (rest-is o (s.joined o J₀)) q (s.joined o J₀),
-              );
-            }
+            joined-full f w h o out last count y z x (ahead f w h y z x) (ahead f w h y z e)
+            (strip_at f w h y (run a b)) (rest-is o (s.joined o J₀)) q (s.joined o J₀)
 
     -- no run is left
-    pub row-none : SweptOut (row_of f y) w x → JoinsRow f w h out₀ last₀ c y z out last count
+    pub row-none : SweptOut (row_of f y) w x → JoinsRow f w h out₀ last₀ c y z out last (Some count)
     unfolding begun
     row-none r o J₀ =
-        record {
-          held = λ l.
-              joined-none f w h y z ch o out last count x w (ahead f w h y z x) (strips_from f w h z) s.xw
-              (ap (λ (l : List Strip). l ++ strips_from f w h z) (ap (begun f w h y) r.next)) r.blocked
-              (s.joined o J₀);
-          over = λ l. absurd (omega (arith, s.small));
-        }
-
-    pub row-end : w ≤ x → JoinsRow f w h out₀ last₀ c y z out last count
-    row-end l =
-        row-none
-        (record {
-          blocked = λ u a b. absurd (omega arith);
-          next = outside-past (row_of f y) w x l;
-        })
+        joined-none f w h y z ch o out last count x w (ahead f w h y z x) (strips_from f w h z) s.xw
+        (ap (λ (l : List Strip). l ++ strips_from f w h z) (ap (begun f w h y) r.next)) r.blocked (s.joined o J₀)

@@ -8,6 +8,7 @@ pub mod Listing
 pub mod RowToRow
 pub mod RowRuns
 pub mod NextRun
+pub mod Deciding
 pub mod OpenStrips
 pub mod JoiningRow
 pub mod Placing

@@ -1,19 +1,16 @@
 -- The flat list of strips: its parts, and how it is written.
 use Prim.Native.Nat.{ℕ, zero, suc, ◌+◌, ◌*◌, ◌-◌, ◌≤◌, ◌<◌}
 use native.Mathlib.Omega.{arith}
-use native.Mathlib.Numerals.{add-one}
-use native.Mathlib.Nat.{sub_self}
 use mathlib.Core.Path.{◌≡◌, refl, sym, ap, ap₂, ◌∙◌}
 use mathlib.Core.List.{List, [], ◌∷◌, ◌++◌, append_assoc}
-use lib.ListN.{length, get_or, set, take, drop, replicate, length-append, length-set, length-replicate}
-use lib.ListN.{replicate-append-replicate, take-append-drop}
-use lib.Seq.{sets, set_at, sets-eq, append_snoc, take_at, length-take-le, drop-cons, drop-drop, drop-append-add}
+use lib.ListN.{length, set, take, drop, replicate, length-drop}
+use lib.Seq.{sets, sets-eq, take_at, length-take-le, drop-drop, drop-append-add}
 use Rattle.foil_spec.specs.Lists.{each}
 use Rattle.foil_spec.specs.Strips.{Strip}
 use Rattle.foil_spec.specs.Lent.{strip_numbers, written, listed_strip}
+use Rattle.std.specs.Prelude.{Some}
 use Rattle.strips.specs.Built.{Listed, Rebuilt}
 use Rattle.strips.specs.Joining.{at}
-use Rattle.strips.specs.declared.Built.TheVariants.{Strips}
 
 pub length-strips : (ss : List Strip) → length (each strip_numbers ss) ≡ length ss * 4
 unfolding strip_numbers
@@ -89,69 +86,24 @@ module _ (ss : List Strip) (o out : List ℕ) (count : ℕ) (n : length ss ≡ c
       ∙ sym (append_assoc (each strip_numbers ss) (each strip_numbers (s ∷ [])) (drop ((count + 1) * 4) o))
       ∙ ap (λ (z : List ℕ). z ++ drop ((count + 1) * 4) o) (sym (strips-append ss (s ∷ [])))
 
--- zeros from `from` up to k
-module _ (o : List ℕ) (from : ℕ) where
-  abbrev pub cleared : ℕ → List ℕ
-  cleared k = take from o ++ (replicate (k - from) 0 ++ drop k o)
-
-  pub cleared-start : o ≡ cleared from
-  cleared-start = rw sub_self (sym (take-append-drop from o))
-
-  cleared_more : (k : ℕ) → from ≤ k → k < length o → set (cleared k) k 0 ≡ cleared (k + 1)
-  cleared_more k a l =
-      let p : List ℕ = take from o ++ replicate (k - from) 0 in
-      let lp : length p ≡ k =
-      length-append (take from o) (replicate (k - from) 0)
-      ∙ omega (arith, length-take-le from o (omega arith), length-replicate {A = ℕ} (k - from) 0) in
-      let q : k + 1 - from ≡ (k - from) + 1 = omega arith in
-      ap (λ (z : List ℕ). set (take from o ++ (replicate (k - from) 0 ++ z)) k 0) (drop-cons o k 0 l)
-      ∙ ap (λ (z : List ℕ). set z k 0)
-      (sym (append_assoc (take from o) (replicate (k - from) 0) (get_or o k 0 ∷ drop (suc k) o)))
-      ∙ set_at p (get_or o k 0) (drop (suc k) o) 0 k lp
-      ∙ append_assoc (take from o) (replicate (k - from) 0) (0 ∷ drop (suc k) o)
-      ∙ ap (λ (z : List ℕ). take from o ++ z)
-      (sym (append_snoc (replicate (k - from) 0) 0 (drop (suc k) o))
-      ∙ ap (λ (z : List ℕ). z ++ drop (suc k) o) (replicate-append-replicate (k - from) 1 0))
-      ∙ ap₂ (λ (i j : ℕ). take from o ++ (replicate i 0 ++ drop j o)) (sym q) (sym (add-one k))
-
--- the zeros are written up to k
-pub record Clearing (o out : List ℕ) (from to k : ℕ) : Type 0 where
-  pub ge : from ≤ k
-  pub le : k ≤ to
-  pub same : length out ≡ length o
-  pub held : out ≡ cleared o from k
-
-module _ (o out : List ℕ) (from to k : ℕ) where
-  pub clearing-more : k < to → to ≤ length o → Clearing o out from to k → Clearing o (set out k 0) from to (k + 1)
-  clearing-more l m h =
-      record {
-        ge = omega (arith, h.ge);
-        le = omega arith;
-        same = length-set out k 0 ∙ h.same;
-        held = ap (λ (z : List ℕ). set z k 0) h.held ∙ cleared_more o from k h.ge (omega arith);
-      }
-
-  pub clearing-done : to ≤ k → Clearing o out from to k → out ≡ cleared o from to
-  clearing-done l h =
-      let q : k ≡ to = omega (arith, h.le) in
-      rw q at h.held
-
--- the strips, then zeros
-pub rebuilt : (o out out' : List ℕ) (r : ℕ) (ss : List Strip) → length out ≡ length o → 16384 ≤ length o → r ≤ 4096
-    → Listed o out r ss → out' ≡ cleared out (r * 4) 16384 → Rebuilt o out' ss (Strips r)
+-- the strips, and zeros in the place of what follows them up to 4,096 places
+pub rebuilt : (o out : List ℕ) (r : ℕ) (ss : List Strip) (zs : List ℕ) → 16384 ≤ length out → Listed o out (Some r) ss
+    → zs ≡ replicate (length (take (16384 - r * 4) (drop (r * 4) out))) 0
+    → Rebuilt o (take (r * 4) out ++ (zs ++ drop (16384 - r * 4) (drop (r * 4) out))) ss (Some r)
 unfolding written
-rebuilt o out out' r ss len big l z q =
-    let n : length ss ≡ r = omega (arith, z.count) in
-    let m : r * 4 + (16384 - r * 4) ≡ 16384 = omega arith in
-    let c : r * 4 ≡ length (each strip_numbers ss) = omega (arith, length-strips ss) in
-    let a : take (r * 4) out ≡ each strip_numbers ss = take-strips ss o out r n (z.held l) in
-    let b : drop 16384 out ≡ drop 16384 o =
-    ap (λ (j : ℕ). drop j out) (sym m)
-    ∙ drop-strips ss o out r n (z.held l) (16384 - r * 4)
-    ∙ ap (λ (j : ℕ). drop j o) m in (
-      sym n,
-      l,
-      q
-          ∙ ap₂ (λ (u v : List ℕ). u ++ (replicate (16384 - r * 4) 0 ++ v)) a b
-          ∙ ap (λ (j : ℕ). each strip_numbers ss ++ (replicate (16384 - j) 0 ++ drop 16384 o)) c,
+rebuilt o out r ss zs big z q =
+    let m : r * 4 + (16384 - r * 4) ≡ 16384 = omega (arith, z.1) in
+    let c : r * 4 ≡ length (each strip_numbers ss) = omega (arith, z.0, length-strips ss) in
+    let a : take (r * 4) out ≡ each strip_numbers ss = take-strips ss o out r (sym z.0) z.2 in
+    let b : drop (16384 - r * 4) (drop (r * 4) out) ≡ drop 16384 o =
+    drop-drop (16384 - r * 4) (r * 4) out
+    ∙ drop-strips ss o out r (sym z.0) z.2 (16384 - r * 4)
+    ∙ ap (λ (j : ℕ). drop j o) m in
+    let n : length (take (16384 - r * 4) (drop (r * 4) out)) ≡ 16384 - r * 4 =
+    length-take-le (16384 - r * 4) (drop (r * 4) out) (omega (arith, length-drop (r * 4) out)) in (
+      z.0,
+      z.1,
+      ap₂ (λ (u v : List ℕ). u ++ (zs ++ v)) a b
+          ∙ ap (λ (x : List ℕ). each strip_numbers ss ++ (x ++ drop 16384 o))
+          (q ∙ ap (λ (j : ℕ). replicate j 0) (n ∙ ap (λ (j : ℕ). 16384 - j) c)),
     )

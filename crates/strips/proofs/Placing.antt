@@ -8,6 +8,7 @@ use mathlib.Core.List.{List, map}
 use mathlib.Core.Logic.{⊎_elim, by_cases}
 use lib.Dec.{leb, ltb, eqb}
 use borrow.Author.Tests.{lt-leb, le-ltb, ltb-true, eqb-true}
+use Rattle.std.specs.Prelude.{Some, None}
 use Rattle.foil_spec.specs.Lists.{range, any}
 use Rattle.foil_spec.specs.Foil.{Point}
 use Rattle.foil_spec.specs.Strips.{Strip, strips, holds, place_of}
@@ -17,7 +18,6 @@ use Rattle.list_laws.proofs.Members.{in-any, none_of, Sorted, sorted-places}
 use Rattle.strip_laws.specs.Rules.{strip_before}
 use Rattle.strip_laws.proofs.Laws.{in-a-strip, only-free, strips-in-order}
 use Rattle.strips.specs.Places.{place_in, ByRow}
-use Rattle.strips.specs.declared.Place.TheVariants.{At, Nowhere}
 
 -- a point beside a strip
 module _ (p : Point) (s : Strip) where
@@ -40,11 +40,11 @@ module _ (p : Point) (s : Strip) where
       (and-no-r (ltb p.x s.x1) _ (and-no-r (leb s.y0 p.y) _ (le-ltb _ _ a)))
 
 module _ (p : Point) where
-  place-yes : (ss : List Strip) → any (holds p) ss ≡ true → place_in p ss ≡ At (place_of p ss)
+  place-yes : (ss : List Strip) → any (holds p) ss ≡ true → place_in p ss ≡ Some (place_of p ss)
   unfolding place_in
   place-yes ss e = rw e refl
 
-  place-no : (ss : List Strip) → any (holds p) ss ≡ false → place_in p ss ≡ Nowhere
+  place-no : (ss : List Strip) → any (holds p) ss ≡ false → place_in p ss ≡ None
   unfolding place_in
   place-no ss e = rw e refl
 
@@ -73,23 +73,23 @@ module _ (p : Point) where
   -- the loop's answers
   module _ (l : List ℕ) (count : ℕ) where
     pub place_none : ((i : ℕ) → i < count → holds p (listed_strip l i) ≡ false)
-        → place_in p (listed_strips l count) ≡ Nowhere
+        → place_in p (listed_strips l count) ≡ None
     unfolding listed_strips
     place_none h =
         place-no (map (listed_strip l) (range 0 count))
         (none-holds (listed_strip l) count 0 (λ i a b. h i (omega arith)))
 
     pub place_at : (k : ℕ) → k < count → ((i : ℕ) → i < k → holds p (listed_strip l i) ≡ false)
-        → holds p (listed_strip l k) ≡ true → place_in p (listed_strips l count) ≡ At k
+        → holds p (listed_strip l k) ≡ true → place_in p (listed_strips l count) ≡ Some k
     unfolding listed_strips
     place_at k lt h e =
         let q : 0 + k ≡ k = omega arith in
         let r = first_holds (listed_strip l) count k 0 lt (λ i a b. h i (omega arith)) (rw q e) in
-        place-yes (map (listed_strip l) (range 0 count)) r.0 ∙ ap At r.1
+        place-yes (map (listed_strip l) (range 0 count)) r.0 ∙ ap Some r.1
 
     -- a list by y0 has nothing more for a point once a strip begins past it
     pub place-past : (k : ℕ) → ((i : ℕ) → i < k → holds p (listed_strip l i) ≡ false)
-        → p.y < (listed_strip l k).y0 → ByRow l count → place_in p (listed_strips l count) ≡ Nowhere
+        → p.y < (listed_strip l k).y0 → ByRow l count → place_in p (listed_strips l count) ≡ None
     place-past k h past by =
         place_none λ i lt.
         ⊎_elim
@@ -100,12 +100,12 @@ module _ (p : Point) where
 -- on a foil a free point has a place, and no other point has
 module _ (f : ℕ → ℕ → Bool) (W H : ℕ) (p : Point) where
   pub place-free : p.x < W → p.y < H → f p.x p.y ≡ true
-      → place_in p (strips f W H) ≡ At (place_of p (strips f W H))
+      → place_in p (strips f W H) ≡ Some (place_of p (strips f W H))
   place-free lx ly e =
       let s = in-a-strip f W H p lx ly e in
       place-yes p (strips f W H) (in-any (holds p) s.0 (strips f W H) s.1 s.2)
 
-  pub place-blocked : f p.x p.y ≡ false → place_in p (strips f W H) ≡ Nowhere
+  pub place-blocked : f p.x p.y ≡ false → place_in p (strips f W H) ≡ None
   place-blocked e =
       place-no p (strips f W H)
       (none_of (holds p) (strips f W H)

@@ -7,6 +7,7 @@ use mathlib.Core.List.{List, [], ◌∷◌, ◌++◌, append-nil}
 use borrow.Author.Tests.{lt-ltb, le-ltb}
 use lib.ListN.{length, drop, length-append}
 use lib.Seq.{ext_get_or}
+use Rattle.std.specs.Prelude.{Some}
 use Rattle.foil_spec.specs.Lists.{each}
 use Rattle.foil_spec.specs.Limits.{max_strips}
 use Rattle.foil_spec.specs.Lent.{strip_numbers}
@@ -89,15 +90,15 @@ module _
       omega (arith, p.known-y1, bound-out h h 0 (at j.done k).x0 (omega arith), p.rows.le) in
       λ i. record { x0 = p.same-x0 i; y0 = p.same-y0 i; x1 = p.same-x1 i; y1 = q i }
 
-  joined-done : Listed o out count (strips f w h)
+  joined-done : Listed o out (Some count) (strips f w h)
   joined-done =
       let e : j.cur ≡ j.done =
       ext_get_or no_strip j.cur j.done (j.len ∙ sym j.counted) (λ k l. settled k (omega (arith, j.len))) in
-      let q : strips f w h ≡ j.done = j.split ∙ append-nil j.done in
-      record {
-        count = omega (arith, ap length q, j.counted, j.small);
-        held = λ l. j.held ∙ ap (λ (s : List Strip). each strip_numbers s ++ drop (count * 4) o) (e ∙ sym q);
-      }
+      let q : strips f w h ≡ j.done = j.split ∙ append-nil j.done in (
+        omega (arith, ap length q, j.counted),
+        j.small,
+        j.held ∙ ap (λ (s : List Strip). each strip_numbers s ++ drop (count * 4) o) (e ∙ sym q),
+      )
 
 -- one strip more than there is room for
 pub joined-full : (f : ℕ → ℕ → Bool) (w h : ℕ) (o out last : List ℕ) (count v z x : ℕ) (rest more : List Strip)
@@ -117,18 +118,15 @@ module _ (f : ℕ → ℕ → Bool) (w h : ℕ) (o out last : List ℕ) (count y
       (λ a l. bound-out y y 0 a (omega arith) ∙ sym (bound-out y z 0 a (omega arith)))
       (strips_from f w h y) (strips_from f w h y) refl j
 
-  pub joined-next : RowJoined f w h o out last count y z → count ≤ max_strips
+  pub joined-next : RowJoined f w h o out last (Some count) y z
       → Joined f w h o out last count z z 0 (strips_from f w h z)
-  joined-next r l =
+  joined-next r =
       joined-turn f w h o out last count y z w z z 0
       (λ a m. bound-in y z w a m ∙ sym (bound-out z z 0 a (omega arith)))
-      (strips_from f w h z) (strips_from f w h z) refl (r.held l)
-
-  pub joined-over : RowJoined f w h o out last count y z → max_strips < count → Listed o out count (strips f w h)
-  joined-over r l = record { count = omega (arith, (r.over l).0, (r.over l).1); held = λ m. absurd (omega arith) }
+      (strips_from f w h z) (strips_from f w h z) refl r
 
 pub joined_end : (f : ℕ → ℕ → Bool) (w h : ℕ) (o out last : List ℕ) (count y : ℕ) → h ≤ y → y ≤ h
-    → Joined f w h o out last count y y 0 (strips_from f w h y) → Listed o out count (strips f w h)
+    → Joined f w h o out last count y y 0 (strips_from f w h y) → Listed o out (Some count) (strips f w h)
 joined_end f w h o out last count y a b j =
     let q : y ≡ h = omega arith in
     joined-done f w h o out last count

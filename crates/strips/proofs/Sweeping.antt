@@ -6,6 +6,7 @@ use mathlib.Core.Bool.{Bool, true, false}
 use mathlib.Core.List.{List, ◌∷◌}
 use mathlib.Core.Logic.{◌⊎◌, ⊎_elim, inl, inr}
 use lib.ListN.{get_or}
+use Rattle.std.specs.Prelude.{Some, None}
 use Rattle.foil_spec.specs.Strips.{Run, run, runs_from, row_of}
 use Rattle.foil_spec.specs.Lent.{entry_at}
 use Rattle.list_laws.proofs.Tests.{both, lt-or-le}
@@ -17,7 +18,10 @@ use Rattle.strip_laws.proofs.Runs.{skip, take-run, outside-past}
 use Rattle.strips.specs.Rows.{is_on_row}
 use Rattle.strips.specs.RowBoxes.{listed_box, OnRow}
 use Rattle.strips.specs.Sweep.{Behind, Sweep}
-use Rattle.strips.specs.declared.sweep.Swept.TheVariants.{Run as found, Nothing}
+use Rattle.strips.specs.declared.sweep.Swept.{Swept}
+
+abbrev pub found : ℕ → ℕ → ℕ → ℕ → Swept
+found a b e j = record { from = a; to = b; behind = e; left = j }
 
 -- the sweep at column `at`, with j boxes to come: the columns from x up to there are blocked
 pub record Sweeping (t o : List ℕ) (n m w y x at j : ℕ) : Type 0 where
@@ -77,7 +81,7 @@ module _ (t o : List ℕ) (n m w h y x : ℕ) where
         blocked-row : (u : ℕ) → x ≤ u → u < at → free u ≡ false
         blocked-row u a b = covered-at w h n t u y (s.blocked u a b)
 
-        pub sweep-none : w ≤ at → Sweep free t o m w x Nothing
+        pub sweep-none : w ≤ at → Sweep free t o m w x None
         sweep-none l =
             let q : w ≡ x + (w - x) = omega (arith, s.from, s.le) in
             record {
@@ -119,7 +123,7 @@ module _ (t o : List ℕ) (n m w h y x : ℕ) where
           found-run : (b e i : ℕ) → at < b → Stop free w at b → b ≤ e → e ≤ w
               → ((u : ℕ) → b ≤ u → u < e → free u ≡ false) → (e ≡ w) ⊎ (free (e - 1) ≡ false) → i ≤ m
               → Behind t o m e i
-              → Sweep free t o m w x (found at b e i)
+              → Sweep free t o m w x (Some (found at b e i))
           found-run b e i gt st be ew gap edge im far =
               let q : at ≡ x + (at - x) = omega (arith, s.from) in
               let p : e ≡ b + (e - b) = omega arith in
@@ -144,7 +148,7 @@ module _ (t o : List ℕ) (n m w h y x : ℕ) where
               }
 
           -- no box is left
-          pub sweep-last : j ≡ 0 → Sweep free t o m w x (found at w w 0)
+          pub sweep-last : j ≡ 0 → Sweep free t o m w x (Some (found at w w 0))
           sweep-last q =
               found-run w w 0 lt
               (record {
@@ -159,7 +163,7 @@ module _ (t o : List ℕ) (n m w h y x : ℕ) where
 
           -- the next box, from b up to e, begins after `at`
           pub sweep-run : 0 < j → (b e : ℕ) → b ≡ (listed_box t o (j - 1)).x0 → e ≡ (listed_box t o (j - 1)).x1 → at < b
-              → Sweep free t o m w x (found at b e (j - 1))
+              → Sweep free t o m w x (Some (found at b e (j - 1)))
           sweep-run pos b e qb qe low =
               let lx : b < e = omega (arith, tab.x-order (get_or o (j - 1) 0) in_table) in
               let ew : e ≤ w = omega (arith, tab.x-end (get_or o (j - 1) 0) in_table) in
@@ -204,12 +208,12 @@ pub record LeftAt (t o : List ℕ) (n m w y x at : ℕ) : Type 0 where
 module _
     (t o : List ℕ) (n m w h y x at : ℕ) (tab : Boxes t n w h) (row : OnRow t o n m y) (yh : y < h)
     (l : LeftAt t o n m w y x at) where
-  pub left-run : at < w → Sweep (row_of (box_free w h n t) y) t o m w x (found at w w 0)
+  pub left-run : at < w → Sweep (row_of (box_free w h n t) y) t o m w x (Some (found at w w 0))
   left-run lt =
       ⊎_elim
       (λ q. absurd (omega arith))
       (λ q. sweep-last t o n m w h y x tab row at l.j l.sweeping yh lt q)
       l.why
 
-  pub left-none : w ≤ at → Sweep (row_of (box_free w h n t) y) t o m w x Nothing
+  pub left-none : w ≤ at → Sweep (row_of (box_free w h n t) y) t o m w x None
   left-none q = sweep-none t o n m w h y x tab row at l.j l.sweeping yh q

@@ -1,5 +1,6 @@
 -- Strips that are joined row by row: each strip's y1 moves on as its run goes on.
-use Rattle.std.specs.Prelude.{ℕ, suc, ◌+◌, ◌*◌, ◌-◌, ◌≤◌, ◌<◌, min, ◌≡◌, Bool, true, false, List, ◌++◌, ltb, length, get_or, drop}
+use Rattle.std.specs.Prelude.{ℕ, ◌+◌, ◌*◌, ◌-◌, ◌≤◌, ◌<◌, min, ◌≡◌, Bool, true, false, ltb, Option, Some, None}
+use Rattle.std.specs.Prelude.{List, ◌++◌, length, get_or, drop}
 use Rattle.foil_spec.specs.Lists.{each}
 use Rattle.foil_spec.specs.Limits.{max_strips}
 use Rattle.foil_spec.specs.Strips.{run, is_run, row_of, Strip, strips_from, strips}
@@ -53,13 +54,13 @@ pub record Joined
   pub opens : (a b : ℕ) → a < w → 0 < bound v z x a → is_run (row_of f (bound v z x a - 1)) w (run a b) ≡ true
       → Open last cur count a b (bound v z x a)
 
--- row y, and with it all rows up to z, is joined: there are r strips so far, or there are too many
-pub record RowJoined (f : ℕ → ℕ → Bool) (w h : ℕ) (o out last : List ℕ) (r y z : ℕ) : Type 0 where
-  pub held : r ≤ max_strips → Joined f w h o out last r y z w (strips_from f w h z)
-  pub over : max_strips < r → (r ≡ suc max_strips) × (max_strips < length (strips f w h))
+-- row y, and with it all rows up to z, is joined: there are c strips so far, or there are too many
+abbrev pub RowJoined : (ℕ → ℕ → Bool) → ℕ → ℕ → List ℕ → List ℕ → List ℕ → Option ℕ → ℕ → ℕ → Type 0
+RowJoined f w h o out last (Some c) y z = Joined f w h o out last c y z w (strips_from f w h z)
+RowJoined f w h o out last None y z = max_strips < length (strips f w h)
 
 -- row y is joined to the c strips before, whatever list o they were begun on
-abbrev pub JoinsRow : (ℕ → ℕ → Bool) → ℕ → ℕ → List ℕ → List ℕ → ℕ → ℕ → ℕ → List ℕ → List ℕ → ℕ → Type 0
+abbrev pub JoinsRow : (ℕ → ℕ → Bool) → ℕ → ℕ → List ℕ → List ℕ → ℕ → ℕ → ℕ → List ℕ → List ℕ → Option ℕ → Type 0
 JoinsRow f w h out last c y z out' last' r =
     (o : List ℕ) → Joined f w h o out last c y z 0 (strips_from f w h y) → RowJoined f w h o out' last' r y z
 

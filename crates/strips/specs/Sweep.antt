@@ -1,11 +1,10 @@
 -- The next run of a row, as the sweep of its boxes finds it.
-use Rattle.std.specs.Prelude.{ℕ, ◌-◌, ◌≤◌, ◌<◌, ◌≡◌, Bool, false, List, [], ◌∷◌, ◌⊎◌}
+use Rattle.std.specs.Prelude.{ℕ, ◌-◌, ◌≤◌, ◌<◌, ◌≡◌, Bool, false, List, [], ◌∷◌, ◌⊎◌, Option, Some, None}
 use Rattle.foil_spec.specs.Strips.{run, runs_from, row_of}
 use Rattle.zones.specs.Boxes.{box_free}
 use Rattle.strip_laws.specs.Rules.{Stop}
 use Rattle.strips.specs.RowBoxes.{listed_box}
 use Rattle.strips.specs.declared.sweep.Swept.{Swept}
-use Rattle.strips.specs.declared.sweep.Swept.TheVariants.{Run as found, Nothing}
 
 -- of the m boxes of the list o those from place j on have no point from column `at` on
 abbrev pub Behind : List ℕ → List ℕ → ℕ → ℕ → ℕ → Type 0
@@ -32,10 +31,10 @@ pub record SweptOut (g : ℕ → Bool) (w x : ℕ) : Type 0 where
   pub next : runs_from g w x ≡ []
 
 -- what the sweep from column x of the row g answers
-abbrev pub Sweep : (ℕ → Bool) → List ℕ → List ℕ → ℕ → ℕ → ℕ → Swept → Type 0
-Sweep g t o m w x (found a b e j) = SweptRun g t o m w x a b e j
-Sweep g t o m w x Nothing = SweptOut g w x
+abbrev pub Sweep : (ℕ → Bool) → List ℕ → List ℕ → ℕ → ℕ → ℕ → Option Swept → Type 0
+Sweep g t o m w x (Some r) = SweptRun g t o m w x r.from r.to r.behind r.left
+Sweep g t o m w x None = SweptOut g w x
 
 -- the same for row y of the foil
-abbrev pub Sweeps : List ℕ → List ℕ → ℕ → ℕ → ℕ → ℕ → ℕ → ℕ → Swept → Type 0
+abbrev pub Sweeps : List ℕ → List ℕ → ℕ → ℕ → ℕ → ℕ → ℕ → ℕ → Option Swept → Type 0
 Sweeps t o n m w h y x r = Sweep (row_of (box_free w h n t) y) t o m w x r

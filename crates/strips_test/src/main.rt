@@ -4,7 +4,6 @@
 #![tactic(auto)]
 
 mod drawing;
-mod lists;
 mod show;
 mod spoilt;
 
@@ -42,10 +41,11 @@ fn sizes() {
 fn begin(w: u16, h: u16, half: u16, gap: u16) {
     let mut table = [7u16; 2560];
     let mut strips = [7u16; 16384];
-    let done = new_foil(&mut table, &mut strips, no_foils(), 0, w, h, half, gap);
+    let mut sheet = no_foils();
+    let answer = new_foil(&mut table, &mut strips, &mut sheet, 0, w, h, half, gap);
     show::size(w, h);
     show::pen(b", ", half, gap);
-    show::done(b": ", done);
+    show::answer(b": ", answer);
     show::end();
 }
 
@@ -63,23 +63,25 @@ fn edges() {
 fn bare(w: u16, h: u16, half: u16, gap: u16, x: u16, y: u16) {
     let mut table = [7u16; 2560];
     let mut strips = [7u16; 16384];
-    let done = new_foil(&mut table, &mut strips, no_foils(), 0, w, h, half, gap);
+    let mut sheet = no_foils();
+    let _ = new_foil(&mut table, &mut strips, &mut sheet, 0, w, h, half, gap);
     show::pen(b"", half, gap);
     io::write_all(1, b", ");
-    show::record(done.sheet);
+    show::record(sheet);
     io::write_all(1, b", ");
-    show::point(&table, &strips, done.sheet, x, y);
+    show::point(&table, &strips, sheet, x, y);
 }
 
 // 20 by 20 with a pen of half width 2 and gap 1: a patch and the edge block 3 points away, and a leg 5.
 fn pens() {
     let mut table = [7u16; 2560];
     let mut strips = [7u16; 16384];
-    let begun = new_foil(&mut table, &mut strips, no_foils(), 0, 20, 20, 2, 1);
-    let drawn = draw(&mut table, &mut strips, begun.sheet, 0, 8, 8, 10, 10);
-    show::three_strips(&strips, drawn.sheet);
-    show::point(&table, &strips, drawn.sheet, 5, 5);
-    show::point(&table, &strips, drawn.sheet, 4, 8);
+    let mut sheet = no_foils();
+    let _ = new_foil(&mut table, &mut strips, &mut sheet, 0, 20, 20, 2, 1);
+    let _ = draw(&mut table, &mut strips, &mut sheet, 0, 8, 8, 10, 10);
+    show::three_strips(&strips, sheet);
+    show::point(&table, &strips, sheet, 5, 5);
+    show::point(&table, &strips, sheet, 4, 8);
     let leg = Entry {
         net: 3,
         x0: 1,
@@ -87,16 +89,17 @@ fn pens() {
         x1: 19,
         y1: 2,
     };
-    let put = put_leg(&mut table, &mut strips, drawn.sheet, 0, leg);
-    show::three_strips(&strips, put.sheet);
+    let _ = put_leg(&mut table, &mut strips, &mut sheet, 0, leg);
+    show::three_strips(&strips, sheet);
 }
 
 // A table that is one number short; 12 comes before 1.
 fn short_table() {
     let mut table = [7u16; 2559];
     let mut strips = [7u16; 16384];
-    let done = new_foil(&mut table, &mut strips, no_foils(), 0, 0, 1, 0, 0);
-    show::done(b"2559 numbers of a table: ", done);
+    let mut sheet = no_foils();
+    let answer = new_foil(&mut table, &mut strips, &mut sheet, 0, 0, 1, 0, 0);
+    show::answer(b"2559 numbers of a table: ", answer);
     show::end();
 }
 
@@ -104,8 +107,9 @@ fn short_table() {
 fn short_strips() {
     let mut table = [7u16; 2560];
     let mut strips = [7u16; 16383];
-    let done = new_foil(&mut table, &mut strips, no_foils(), 0, 0, 1, 0, 0);
-    show::done(b"16383 numbers of a strip list: ", done);
+    let mut sheet = no_foils();
+    let answer = new_foil(&mut table, &mut strips, &mut sheet, 0, 0, 1, 0, 0);
+    show::answer(b"16383 numbers of a strip list: ", answer);
     show::end();
 }
 
@@ -136,13 +140,14 @@ fn looked_up(table: &[u16], strips: &[u16], sheet: Sheet) {
 fn too_fine_foil() {
     let mut table = [7u16; 2565];
     let mut strips = [7u16; 16388];
-    let sheet = drawing::lined(&mut table, &mut strips, 129, 127, 129, 125);
+    let mut sheet = drawing::lined(&mut table, &mut strips, 129, 127, 129, 125);
     show::foil(sheet);
     let old_table = table;
     let old_strips = strips;
-    let done = drawing::line(&mut table, &mut strips, sheet, true, 0, 125);
-    show::done(b"line at y = 125: ", done);
-    show::kept(&table, &old_table, &strips, &old_strips, done.sheet, sheet);
+    let old_sheet = sheet;
+    let answer = drawing::line(&mut table, &mut strips, &mut sheet, true, 0, 125);
+    show::answer(b"line at y = 125: ", answer);
+    show::kept(&table, &old_table, &strips, &old_strips, sheet, old_sheet);
     show::tails(&table, &strips);
 }
 
@@ -150,26 +155,28 @@ fn too_fine_foil() {
 fn hidden_pattern() {
     let mut table = [7u16; 2565];
     let mut strips = [7u16; 16388];
-    let sheet = drawing::beside_track(&mut table, &mut strips);
+    let mut sheet = drawing::beside_track(&mut table, &mut strips);
     show::foil(sheet);
     let old_table = table;
     let old_strips = strips;
-    let done = lift(&mut table, &mut strips, sheet, 0, 5);
-    show::done(b"lift of the track at x = 0: ", done);
-    show::kept(&table, &old_table, &strips, &old_strips, done.sheet, sheet);
+    let old_sheet = sheet;
+    let answer = lift(&mut table, &mut strips, &mut sheet, 0, 5);
+    show::answer(b"lift of the track at x = 0: ", answer);
+    show::kept(&table, &old_table, &strips, &old_strips, sheet, old_sheet);
 }
 
 // 128 equal patches, and one more.
 fn full_table() {
     let mut table = [7u16; 2565];
     let mut strips = [7u16; 16388];
-    let sheet = drawing::equal_patches(&mut table, &mut strips);
+    let mut sheet = drawing::equal_patches(&mut table, &mut strips);
     show::foil(sheet);
     let old_table = table;
     let old_strips = strips;
-    let done = draw(&mut table, &mut strips, sheet, 0, 1, 1, 2, 2);
-    show::done(b"one more: ", done);
-    show::kept(&table, &old_table, &strips, &old_strips, done.sheet, sheet);
+    let old_sheet = sheet;
+    let answer = draw(&mut table, &mut strips, &mut sheet, 0, 1, 1, 2, 2);
+    show::answer(b"one more: ", answer);
+    show::kept(&table, &old_table, &strips, &old_strips, sheet, old_sheet);
     show::tails(&table, &strips);
 }
 
@@ -177,21 +184,20 @@ fn full_table() {
 fn lifted_track() {
     let mut table = [7u16; 2565];
     let mut strips = [7u16; 16388];
-    let sheet = drawing::job_track(&mut table, &mut strips);
+    let mut sheet = drawing::job_track(&mut table, &mut strips);
     show::three_strips(&strips, sheet);
-    lift_of(&mut table, &mut strips, sheet, 0);
-    lift_of(&mut table, &mut strips, sheet, 1000);
-    lift_of(&mut table, &mut strips, sheet, 4);
-    let after = lift_of(&mut table, &mut strips, sheet, 5);
-    show::three_strips(&strips, after);
-    lift_of(&mut table, &mut strips, after, 5);
+    lift_of(&mut table, &mut strips, &mut sheet, 0);
+    lift_of(&mut table, &mut strips, &mut sheet, 1000);
+    lift_of(&mut table, &mut strips, &mut sheet, 4);
+    lift_of(&mut table, &mut strips, &mut sheet, 5);
+    show::three_strips(&strips, sheet);
+    lift_of(&mut table, &mut strips, &mut sheet, 5);
 }
 
-// Lifts a net and writes the answer. The record after it.
-fn lift_of(table: &mut [u16], strips: &mut [u16], sheet: Sheet, net: u16) -> Sheet {
-    let done = lift(table, strips, sheet, 0, net);
-    show::count(b"lift ", net as u64);
-    show::done(b": ", done);
+// Lifts a net and writes the answer.
+fn lift_of(table: &mut [u16], strips: &mut [u16], sheet: &mut Sheet, net: u16) {
+    let answer = lift(table, strips, sheet, 0, net);
+    show::count(b"lift ", u64::from(net));
+    show::answer(b": ", answer);
     show::end();
-    done.sheet
 }

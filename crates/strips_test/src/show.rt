@@ -1,10 +1,9 @@
 // What is written.
 ghost use Rattle.std.specs.Prelude.{◌≤◌, length};
 
-use crate::lists;
-use foil::Answer;
-use foil_spec::Board;
-use sheet::{Sheet, SheetDone, look_up};
+use foil::{Accepted, Answer};
+use foil_spec::Point;
+use sheet::{Sheet, look_up};
 use sheet_rows::board_at;
 
 // Ends a line.
@@ -19,32 +18,26 @@ pub(crate) fn count(words: &[u8], n: u64) {
 }
 
 // Words, then an answer: the number of a refusal, the place of a strip, or 0.
-fn answer(words: &[u8], answer: Answer) {
+pub(crate) fn answer(words: &[u8], answer: Answer) {
     io::write_all(1, words);
     match answer {
-        Answer::Refused(number) => count(b"", number as u64),
-        Answer::Accepted | Answer::Laid(_, _) | Answer::Wrote(_) => count(b"", 0),
-        Answer::Found(place) => count(b"strip ", place as u64),
+        Err(refusal) => count(b"", u64::from(refusal.number())),
+        Ok(Accepted::Found(place)) => count(b"strip ", place as u64),
+        Ok(_) => count(b"", 0),
     }
-}
-
-// Words, then the answer of a call.
-pub(crate) fn done(words: &[u8], done: SheetDone) {
-    let said = done.answer;
-    answer(words, said);
 }
 
 // The size of a foil.
 pub(crate) fn size(w: u16, h: u16) {
-    count(b"", w as u64);
-    count(b" by ", h as u64);
+    count(b"", u64::from(w));
+    count(b" by ", u64::from(h));
 }
 
 // Words, then a pen.
 pub(crate) fn pen(words: &[u8], half: u16, gap: u16) {
     io::write_all(1, words);
-    count(b"half width ", half as u64);
-    count(b", gap ", gap as u64);
+    count(b"half width ", u64::from(half));
+    count(b", gap ", u64::from(gap));
 }
 
 // Foil 0 by its record.
@@ -63,9 +56,9 @@ pub(crate) fn foil(sheet: Sheet) {
 
 // A line on a point that is looked up.
 pub(crate) fn point(table: &[u16], strips: &[u16], sheet: Sheet, x: u16, y: u16) {
-    count(b"point ", x as u64);
-    count(b",", y as u64);
-    answer(b": ", look_up(table, strips, sheet, 0, x, y));
+    count(b"point ", u64::from(x));
+    count(b",", u64::from(y));
+    answer(b": ", look_up(table, strips, sheet, 0, Point { x, y }));
     end();
 }
 
@@ -81,10 +74,10 @@ pub(crate) fn three_strips(list: &[u16], sheet: Sheet)
 
 // A line on a strip.
 fn strip(x0: u16, y0: u16, x1: u16, y1: u16) {
-    count(b"strip ", x0 as u64);
-    count(b" ", y0 as u64);
-    count(b" ", x1 as u64);
-    count(b" ", y1 as u64);
+    count(b"strip ", u64::from(x0));
+    count(b" ", u64::from(y0));
+    count(b" ", u64::from(x1));
+    count(b" ", u64::from(y1));
     end();
 }
 
@@ -97,29 +90,24 @@ pub(crate) fn kept(
     sheet: Sheet,
     old_sheet: Sheet,
 ) {
-    if lists::same(table, old_table)
-        && lists::same(strips, old_strips)
-        && same_foil(sheet, old_sheet)
-    {
+    if table == old_table && strips == old_strips && board_at(sheet, 0) == board_at(old_sheet, 0) {
         io::write_all(1, b", nothing changed\n");
     } else {
         io::write_all(1, b", changed\n");
     }
 }
 
-// Whether foil 0 has the same record.
-fn same_foil(a: Sheet, b: Sheet) -> bool {
-    let new = board_at(a, 0);
-    let old = board_at(b, 0);
-    lists::same_board(new, old)
-}
-
 // A line on the places past 512 of the table and past 4,096 of the strip list.
 pub(crate) fn tails(table: &[u16], strips: &[u16]) {
     io::write_all(1, b"past 512 and 4096 places: ");
-    if lists::sevens(table, 2560) && lists::sevens(strips, 16384) {
+    if sevens(table, 2560) && sevens(strips, 16384) {
         io::write_all(1, b"untouched\n");
     } else {
         io::write_all(1, b"changed\n");
     }
+}
+
+// Whether the list still holds sevens from place `from` on.
+fn sevens(list: &[u16], from: usize) -> bool {
+    list.iter().skip(from).all(|n| *n == 7)
 }

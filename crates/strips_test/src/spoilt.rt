@@ -2,8 +2,10 @@
 // is the one that it was. Unused numbers of the table are not its state. Then one with legs.
 ghost use Rattle.std.specs.Prelude.{◌<◌};
 
-use crate::{drawing, lists, show};
-use sheet::{Sheet, SheetDone, draw, new_foil};
+use crate::{drawing, show};
+use foil::Answer;
+use foil_spec::Board;
+use sheet::{Sheet, draw, new_foil};
 use sheet_rows::{no_foils, only_foil_0};
 
 // Numbers of the strip list, of the table and of the record.
@@ -26,9 +28,10 @@ pub(crate) fn states() {
 
 // The foil, with the record as it is after the draw.
 fn drawn(table: &mut [u16], strips: &mut [u16]) -> Sheet {
-    let begun = new_foil(table, strips, no_foils(), 0, 3, 3, 0, 0);
-    let done = draw(table, strips, begun.sheet, 0, 1, 0, 2, 3);
-    done.sheet
+    let mut sheet = no_foils();
+    let _ = new_foil(table, strips, &mut sheet, 0, 3, 3, 0, 0);
+    let _ = draw(table, strips, &mut sheet, 0, 1, 0, 2, 3);
+    sheet
 }
 
 // Looks a point up after a number of the strip list is set.
@@ -40,7 +43,7 @@ fn strips_number(at: usize, n: u16)
     let sheet = drawn(&mut table, &mut strips);
     strips[at] = n;
     show::count(b"strip list at ", at as u64);
-    show::count(b" set to ", n as u64);
+    show::count(b" set to ", u64::from(n));
     io::write_all(1, b", ");
     show::point(&table, &strips, sheet, 2, 2);
 }
@@ -51,13 +54,13 @@ fn table_number(at: usize, n: u16)
 {
     let mut table = [7u16; 2560];
     let mut strips = [7u16; 16384];
-    let sheet = drawn(&mut table, &mut strips);
+    let mut sheet = drawn(&mut table, &mut strips);
     table[at] = n;
     show::count(b"table at ", at as u64);
-    show::count(b" set to ", n as u64);
-    show::done(
+    show::count(b" set to ", u64::from(n));
+    show::answer(
         b", empty patch: ",
-        draw(&mut table, &mut strips, sheet, 0, 1, 1, 1, 1),
+        draw(&mut table, &mut strips, &mut sheet, 0, 1, 1, 1, 1),
     );
     show::end();
 }
@@ -66,32 +69,33 @@ fn table_number(at: usize, n: u16)
 fn unused_number() {
     let mut table = [7u16; 2560];
     let mut strips = [7u16; 16384];
-    let sheet = drawn(&mut table, &mut strips);
+    let mut sheet = drawn(&mut table, &mut strips);
     table[2559] = 1;
-    let refused = draw(&mut table, &mut strips, sheet, 0, 1, 1, 1, 1);
+    let refused = draw(&mut table, &mut strips, &mut sheet, 0, 1, 1, 1, 1);
     drew(
         b"table at 2559 set to 1, empty patch: ",
         refused,
         table[2559],
     );
-    let accepted = draw(&mut table, &mut strips, sheet, 0, 0, 0, 1, 1);
+    let accepted = draw(&mut table, &mut strips, &mut sheet, 0, 0, 0, 1, 1);
     drew(b"; a patch: ", accepted, table[2559]);
     show::end();
 }
 
 // Words, then the answer of a draw, and a number of the table after it.
-fn drew(words: &[u8], done: SheetDone, n: u16) {
-    show::done(words, done);
-    show::count(b", then it is ", n as u64);
+fn drew(words: &[u8], answer: Answer, n: u16) {
+    show::answer(words, answer);
+    show::count(b", then it is ", u64::from(n));
 }
 
 // Of two equal legs the second is made a patch: the strips are still those of the table, and the patch is over a leg.
 fn crossing() {
     let mut table = [7u16; 2560];
     let mut strips = [7u16; 16384];
-    let begun = new_foil(&mut table, &mut strips, no_foils(), 0, 3, 3, 0, 0);
-    let first = drawing::leg(&mut table, &mut strips, begun.sheet, 1, 0, 2, 3);
-    let sheet = drawing::leg(&mut table, &mut strips, first, 1, 0, 2, 3);
+    let mut sheet = no_foils();
+    let _ = new_foil(&mut table, &mut strips, &mut sheet, 0, 3, 3, 0, 0);
+    drawing::leg(&mut table, &mut strips, &mut sheet, 1, 0, 2, 3);
+    drawing::leg(&mut table, &mut strips, &mut sheet, 1, 0, 2, 3);
     table[5] = 0;
     io::write_all(1, b"a leg made a patch over another, ");
     show::point(&table, &strips, sheet, 2, 2);
@@ -102,7 +106,14 @@ fn record(side: u16, half: u16, gap: u16, entries: usize, count: usize) {
     let mut table = [7u16; 2560];
     let mut strips = [7u16; 16384];
     drawn(&mut table, &mut strips);
-    let sheet = only_foil_0(lists::square(side, half, gap, entries, count));
+    let sheet = only_foil_0(Board {
+        width: side,
+        height: side,
+        half,
+        gap,
+        entries,
+        strips: count,
+    });
     show::pen(b"record with ", half, gap);
     io::write_all(1, b", ");
     show::record(sheet);

@@ -1,7 +1,6 @@
 -- Laws that the proofs of tables in the making use.
 pub mod Filling
 pub mod Appending
-pub mod Copying
 pub mod Nets
 pub mod Putting
 pub mod Taking

@@ -1,20 +1,20 @@
 -- How many strips a small foil has at most, and what stands in a list when strips are put there.
-use Prim.Native.Nat.{ℕ, zero, suc, ◌+◌, ◌*◌, ◌-◌, ◌≤◌, ◌<◌}
+use Prim.Native.Nat.{ℕ, zero, suc, ◌+◌, ◌*◌, ◌-◌, ◌≤◌}
 use native.Mathlib.Omega.{arith}
-use native.Mathlib.Nat.{zero-add}
-use mathlib.Core.Path.{◌≡◌, ap₂}
+use mathlib.Core.Path.{◌≡◌, sym, ap, ◌∙◌}
 use mathlib.Core.Bool.{Bool}
 use mathlib.Core.List.{List, ◌++◌}
-use lib.ListN.{length, drop, length-append, length-map}
-use lib.Seq.{paste}
+use lib.ListN.{length, take, drop, replicate, length-append, length-drop, length-map}
+use Rattle.std.specs.Prelude.{Option, Some, None}
 use Rattle.foil_spec.specs.Lists.{range, keep, each}
 use Rattle.foil_spec.specs.Limits.{max_strips, strips_size}
 use Rattle.foil_spec.specs.Strips.{outside, since, scan, scan_at, runs, row_of, is_top, Strip, strip_at, begun, row_strips}
 use Rattle.foil_spec.specs.Strips.{strips_from, strips}
 use Rattle.list_laws.proofs.Tests.{both}
 use Rattle.list_laws.proofs.Members.{length-keep}
-use Rattle.strips.specs.Built.{Listed}
-use Rattle.strips.proofs.Listing.{take-strips, cleared, rebuilt}
+use Rattle.strips.specs.Built.{Listed, Rebuilt}
+use Rattle.strips.proofs.Listing.{length-strips, take-strips, rebuilt}
+use Rattle.foil_spec.specs.Lent.{strip_numbers}
 use Rattle.tables.specs.StripList.{PutStrips}
 
 -- a run of a row takes two columns, but for the last one
@@ -59,31 +59,28 @@ module _ (f : ℕ → ℕ → Bool) (w h : ℕ) (narrow : w ≤ 127) where
   unfolding strips_from
   few-strips low = omega (arith, in_rows (h - 0) 0)
 
-module _ (l : List ℕ) (c : ℕ) (ss : List Strip) (long : strips_size ≤ length l) where
-  -- the strips stand at the front of the list, and what follows them is set to zero
-  pub put-here : (l₁ l' : List ℕ) → length l₁ ≡ length l → c ≤ max_strips → Listed l l₁ c ss
-      → l' ≡ cleared l₁ (c * 4) strips_size → PutStrips l l' c ss
-  put-here l₁ l' len few z q =
-      record {
-        count = z.count;
-        held = λ m. (rebuilt l l₁ l' c ss len long few z q).2;
-        same = λ m. absurd (omega arith);
-      }
+-- few strips are put in the list itself
+pub put-here : (l l' : List ℕ) (ss : List Strip) (r : Option ℕ) → length ss ≤ max_strips → Rebuilt l l' ss r
+    → PutStrips l l' r ss
+put-here l l' ss (Some c) few z = z
+put-here l l' ss None few z = absurd (omega (arith, z.0))
 
-  -- they were built in another list
-  module _ (o out : List ℕ) (z : Listed o out c ss) where
-    pub put-over : (l₁ l' : List ℕ) → length l₁ ≡ length l → c ≤ max_strips → l₁ ≡ paste l 0 out (c * 4)
-        → l' ≡ cleared l₁ (c * 4) strips_size → PutStrips l l' c ss
-    put-over l₁ l' len few p q = put-here l₁ l' len few (rw p over) q
-      where
-        over : Listed l (paste l 0 out (c * 4)) c ss
-        over =
-            record {
-              count = z.count;
-              held = λ m.
-                  ap₂ (λ (a : List ℕ) (k : ℕ). a ++ drop k l)
-                  (take-strips ss o out c (omega (arith, z.count)) (z.held m)) (zero-add (c * 4));
-            }
-
-    pub put-none : (l' : List ℕ) → max_strips < c → l' ≡ l → PutStrips l l' c ss
-    put-none l' many e = record { count = z.count; held = λ m. absurd (omega arith); same = λ m. e }
+-- they were built in another list, are copied to the front, and zeros are put after them
+pub put-over : (o out l xs zs : List ℕ) (c : ℕ) (ss : List Strip) → strips_size ≤ length l → Listed o out (Some c) ss
+    → xs ≡ take (c * 4) out
+    → zs ≡ replicate (length (take (strips_size - c * 4) (drop (c * 4) (xs ++ drop (c * 4) l)))) 0
+    → PutStrips l
+    (take (c * 4) (xs ++ drop (c * 4) l) ++ (zs ++ drop (strips_size - c * 4) (drop (c * 4) (xs ++ drop (c * 4) l))))
+    (Some c) ss
+put-over o out l xs zs c ss long z p =
+    let e : xs ≡ each strip_numbers ss = p ∙ take-strips ss o out c (sym z.0) z.2 in
+    rebuilt l (xs ++ drop (c * 4) l) c ss zs
+    (omega (
+      arith,
+      length-append xs (drop (c * 4) l),
+      length-drop (c * 4) l,
+      ap length e,
+      length-strips ss,
+      z.0,
+    ))
+    (z.0, z.1, ap (λ (x : List ℕ). x ++ drop (c * 4) l) e)

@@ -1,13 +1,11 @@
 -- What stands in a list of strips when others are put there.
-use Rattle.std.specs.Prelude.{ℕ, suc, ◌≤◌, ◌<◌, min, ◌≡◌, List, length}
+use Rattle.std.specs.Prelude.{ℕ, ◌≤◌, ◌<◌, ◌≡◌, List, length, Option, Some, None}
 use Rattle.foil_spec.specs.Lists.{each}
 use Rattle.foil_spec.specs.Limits.{max_strips, strips_size}
 use Rattle.foil_spec.specs.Strips.{Strip}
 use Rattle.foil_spec.specs.Lent.{strip_numbers, written}
 
--- r counts the strips up to 4,097. Where there are no more than 4,096 they stand in the list, zeros after them; else it
--- is as it was.
-pub record PutStrips (l l' : List ℕ) (r : ℕ) (ss : List Strip) : Type 0 where
-  pub count : r ≡ min (length ss) (suc max_strips)
-  pub held : r ≤ max_strips → l' ≡ written strips_size (each strip_numbers ss) l
-  pub same : max_strips < r → l' ≡ l
+-- c counts the strips, and they stand in the list, zeros after them; or there are too many, and it is as it was
+abbrev pub PutStrips : List ℕ → List ℕ → Option ℕ → List Strip → Type 0
+PutStrips l l' (Some c) ss = (c ≡ length ss) × (c ≤ max_strips) × (l' ≡ written strips_size (each strip_numbers ss) l)
+PutStrips l l' None ss = (max_strips < length ss) × (l' ≡ l)

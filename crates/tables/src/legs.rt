@@ -7,26 +7,20 @@ ghost use Rattle.tables.specs.Rows.{Appended};
 ghost use Rattle.tables.specs.Legs.{Corners, Legs};
 
 use foil_spec::Entry;
-use places::{corner_at, larger, put_entry, smaller};
+use places::{corner_at, put_entry};
 
 // How many entries a path of k corners makes: one for each leg, and one for a single corner.
 pub fn leg_count(k: usize) -> usize
     ensures { result ≡ max 1 (k - 1) }
 {
-    if k < 2 {
-        return 1;
-    }
-    k - 1
+    k.saturating_sub(1).max(1)
 }
 
 // How many bends a path of k corners has.
 pub fn bend_count(k: usize) -> usize
     ensures { result ≡ k - 2 }
 {
-    if k < 2 {
-        return 0;
-    }
-    k - 2
+    k.saturating_sub(2)
 }
 
 // Puts the leg between corners i and j of the path at place n, the first unused one of the rows.
@@ -42,10 +36,10 @@ fn append_leg(rows: &mut [u16], n: usize, net: u16, path: &[u16], i: usize, j: u
     let b = corner_at(path, j);
     let leg = Entry {
         net,
-        x0: smaller(a.x, b.x),
-        y0: smaller(a.y, b.y),
-        x1: larger(a.x, b.x) + 1,
-        y1: larger(a.y, b.y) + 1,
+        x0: a.x.min(b.x),
+        y0: a.y.min(b.y),
+        x1: a.x.max(b.x) + 1,
+        y1: a.y.max(b.y) + 1,
     };
     put_entry(rows, n, leg);
 }
@@ -61,10 +55,8 @@ pub fn append_legs(rows: &mut [u16], n: usize, net: u16, path: &[u16], k: usize)
         append_leg(rows, n, net, path, 0, 0);
         return n + 1;
     }
-    let mut j = 0;
-    while j + 1 < k {
+    for j in 0..k - 1 {
         append_leg(rows, n + j, net, path, j, j + 1);
-        j += 1;
     }
-    n + j
+    n + k - 1
 }

@@ -14,28 +14,21 @@ ghost use Rattle.zones.specs.Table.{Table};
 ghost use Rattle.tables.specs.Rows.{rows_of};
 ghost use Rattle.tables.specs.Booked.{Booking};
 
-use foil_spec::{Board, MAX_STRIPS, TABLE_SIZE};
+use foil_spec::{Board, TABLE_SIZE};
 pub use legs::{append_legs, bend_count, leg_count};
-pub use rows::{copy_front, in_use, without};
+pub use rows::{in_use, without};
 use strip_list::put_strips;
 use zones::{BOXES_SIZE, pen_zones};
 
-// The record after a booking, or that there would be too many strips.
-#[derive(Clone, Copy)]
-pub enum Booked {
-    Taken(Board),
-    TooFine,
-}
-
 // Takes the rows' n entries over as the table, with their strips, on a board of the record's size and
-// pen. Where there would be too many strips nothing is changed.
+// pen, and answers the record then. Where there would be too many strips nothing is changed.
 pub fn take_over(
     table: &mut [u16],
     strips: &mut [u16],
     rows: &[u16],
     n: usize,
     board: Board,
-) -> Booked
+) -> Option<Board>
     requires table { Table rows.now n (pen_rule (pen_in board)) board.width board.height }
     requires rows_value { rows.now ≡ rows_of (map (entry_at rows.now) (range 0 n)) }
     requires table_size_in_bounds { (table_size ≤ length table.old) × (strips_size ≤ length strips.old) }
@@ -44,17 +37,11 @@ pub fn take_over(
 {
     let mut boxes = [0u16; BOXES_SIZE];
     let m = pen_zones(&mut boxes, rows, n, board);
-    let count = put_strips(strips, &boxes, m, board.width, board.height);
-    if MAX_STRIPS < count {
-        return Booked::TooFine;
-    }
-    copy_front(table, rows, TABLE_SIZE);
-    Booked::Taken(Board {
-        width: board.width,
-        height: board.height,
-        half: board.half,
-        gap: board.gap,
+    let count = put_strips(strips, &boxes, m, board.width, board.height)?;
+    table[..TABLE_SIZE].copy_from_slice(rows);
+    Some(Board {
         entries: n,
         strips: count,
+        ..board
     })
 }

@@ -2,7 +2,7 @@
 use Prim.Native.Nat.{ℕ, ◌+◌, ◌*◌, ◌-◌, ◌≤◌, ◌<◌, min}
 use native.Mathlib.Omega.{arith}
 use native.Mathlib.Decide.{ℕ_discrete}
-use mathlib.Core.Path.{◌≡◌, refl, sym, ap, ap₂, subst, ◌∙◌, fun_ext}
+use mathlib.Core.Path.{◌≡◌, sym, ap, ap₂, subst, ◌∙◌, fun_ext}
 use mathlib.Core.Bool.{Bool, true, false, ◌&&◌}
 use mathlib.Core.Logic.{⊎_elim, by_cases}
 use mathlib.Core.List.{List, map}
@@ -57,9 +57,6 @@ pub record Zoning (t : List ℕ) (n : ℕ) (r : Rule) (w h : ℕ) (o out : List 
   pub zone : (i : ℕ) → i < k → entry_at out i ≡ zone_of (margin r (entry_at t i)) w h (entry_at t i)
 
 module _ (t : List ℕ) (n : ℕ) (r : Rule) (w h : ℕ) (o : List ℕ) where
-  pub zoning-start : Zoning t n r w h o o 0
-  zoning-start = record { kn = omega arith; same = refl; zone = λ i l. absurd (omega arith) }
-
   pub zoning-more : (out out' : List ℕ) (k : ℕ) (e : Entry) → k < n → length out' ≡ length out
       → Zoning t n r w h o out k → e ≡ zone_of (margin r (entry_at t k)) w h (entry_at t k) → BoxPut out out' k e
       → Zoning t n r w h o out' (k + 1)
@@ -74,21 +71,13 @@ module _ (t : List ℕ) (n : ℕ) (r : Rule) (w h : ℕ) (o : List ℕ) where
 
 -- ---- what the functions make
 
--- a zone by its numbers
-pub zone-made : (m d w h x0 y0 x1 y1 : ℕ) (e b : Entry) → d ≡ m → b ≡ entry 0 x0 y0 x1 y1 → x0 ≡ e.x0 - d
-    → y0 ≡ e.y0 - d → x1 ≡ min (e.x1 + d) w → y1 ≡ min (e.y1 + d) h → b ≡ zone_of m w h e
-unfolding zone_of
-zone-made m d w h x0 y0 x1 y1 e b far is left top right bottom =
-    subst (λ (k : ℕ). b ≡ entry 0 (e.x0 - k) (e.y0 - k) (min (e.x1 + k) w) (min (e.y1 + k) h)) far
-    (is ∙ (λ i. entry 0 (left i) (top i) (right i) (bottom i)))
-
 -- an entry blocks no further than a leg by the widest pen
 pub margin-small : (r : Rule) (e : Entry) → Small r → margin r e ≤ 29
 unfolding margin
 margin-small r e s =
     both (eqb e.net 0) (λ t. rw t (omega (arith, s.patch))) (λ t. rw t (omega (arith, s.leg)))
 
--- two boxes put one after the other, and two pairs of them along the edge
+-- two boxes put one after the other
 pub two-put : (o a b : List ℕ) (n : ℕ) (e f : Entry) → BoxPut o a n e → BoxPut a b (n + 1) f → PutTwo o b n e f
 two-put o a b n e f p q =
     record {
@@ -96,22 +85,6 @@ two-put o a b n e f p q =
       second = q.here;
       before = λ j l. q.before j (omega arith) ∙ p.before j l;
     }
-
-module _ (n m w h : ℕ) where
-  pub edge-put : (o a b : List ℕ) (left right above below : Entry) (x1 x0 y1 y0 : ℕ) → PutTwo o a n left right
-      → PutTwo a b (n + 2) above below → left ≡ entry 0 0 0 x1 h → x1 ≡ min m w → right ≡ entry 0 x0 0 w h
-      → x0 ≡ w - m → above ≡ entry 0 0 0 w y1 → y1 ≡ min m h → below ≡ entry 0 0 y0 w h → y0 ≡ h - m
-      → Edged o b n m w h
-  edge-put o a b left right above below x1 x0 y1 y0 p q is-left is-x1 is_right is-x0 is-above is-y1 is_below is-y0 =
-      record {
-        left =
-            q.before n (omega arith) ∙ p.first ∙ is-left ∙ ap (λ (k : ℕ). entry 0 0 0 k h) is-x1;
-        right =
-            q.before (n + 1) (omega arith) ∙ p.second ∙ is_right ∙ ap (λ (k : ℕ). entry 0 k 0 w h) is-x0;
-        above = q.first ∙ is-above ∙ ap (λ (k : ℕ). entry 0 0 0 w k) is-y1;
-        below = q.second ∙ is_below ∙ ap (λ (k : ℕ). entry 0 0 k w h) is-y0;
-        before = λ j l. q.before j (omega arith) ∙ p.before j l;
-      }
 
 -- ---- the edge, along one axis
 

@@ -10,7 +10,7 @@ ghost use Rattle.zones.specs.Boxes.{max_boxes, Zoned, zone_of, PutTwo, Edged};
 ghost use Rattle.zones.specs.Table.{Small, Table};
 
 use foil_spec::{Board, Entry, Rule};
-use places::{entry_at, put_entry, smaller};
+use places::{entry_at, put_entry};
 
 // How many boxes a table of boxes has room for, and how many numbers they are in a flat list.
 pub const MAX_BOXES: usize = 132;
@@ -52,11 +52,9 @@ fn put_zones(out: &mut [u16], table: &[u16], n: usize, rule: Rule, w: u16, h: u1
     ensures { (k : ℕ) → k < n → entry_at out.new k
         ≡ zone_of (margin rule (entry_at table.now k)) w h (entry_at table.now k) }
 {
-    let mut k: usize = 0;
-    while k < n {
+    for k in 0..n {
         let zone = zone_of(entry_at(table, k), rule, w, h);
         put_entry(out, k, zone);
-        k += 1;
     }
 }
 
@@ -65,10 +63,10 @@ fn put_edge(out: &mut [u16], n: usize, m: u16, w: u16, h: u16)
     requires { (n ≤ max_entries) × (n * 5 + 20 ≤ length out.old) }
     ensures { Edged out.old out.new n m w h }
 {
-    let left = box_of(0, 0, smaller(m, w), h);
-    let right = box_of(back(w, m), 0, w, h);
-    let above = box_of(0, 0, w, smaller(m, h));
-    let below = box_of(0, back(h, m), w, h);
+    let left = box_of(0, 0, m.min(w), h);
+    let right = box_of(w.saturating_sub(m), 0, w, h);
+    let above = box_of(0, 0, w, m.min(h));
+    let below = box_of(0, h.saturating_sub(m), w, h);
     put_two(out, n, left, right);
     put_two(out, n + 2, above, below);
 }
@@ -96,49 +94,38 @@ fn box_of(x0: u16, y0: u16, x1: u16, y1: u16) -> Entry
 }
 
 // What an entry blocks by the rule, clipped to a foil of w by h.
+#[tactic(auto, unfolding(crate::specs::Boxes::zone_of))]
 fn zone_of(e: Entry, rule: Rule, w: u16, h: u16) -> Entry
     requires { (e.x1 + margin rule e ≤ 8192) × (e.y1 + margin rule e ≤ 8192) }
     ensures { result ≡ zone_of (margin rule e) w h e }
 {
     let d = margin_of(rule, e);
     box_of(
-        back(e.x0, d),
-        back(e.y0, d),
-        smaller(e.x1 + d, w),
-        smaller(e.y1 + d, h),
+        e.x0.saturating_sub(d),
+        e.y0.saturating_sub(d),
+        (e.x1 + d).min(w),
+        (e.y1 + d).min(h),
     )
 }
 
 // How far away an entry blocks by the rule.
+#[tactic(auto, unfolding(foil_spec::specs::Foil::margin))]
 fn margin_of(rule: Rule, e: Entry) -> u16
     ensures { result ≡ margin rule e }
 {
-    if e.net == 0 {
-        return rule.patch;
-    }
-    rule.leg
+    if e.net == 0 { rule.patch } else { rule.leg }
 }
 
 // The rule of a pen of half width `half` with a gap.
+#[tactic(auto, unfolding(foil_spec::specs::Foil::pen_rule))]
 pub fn pen_rule(half: u16, gap: u16) -> Rule
     requires { Small (pen_rule (pen half gap)) }
     ensures { result ≡ pen_rule (pen half gap) }
 {
     let near = half + gap;
-    let far = half + near;
     Rule {
         patch: near,
-        leg: far,
+        leg: half + near,
         edge: near,
     }
-}
-
-// The number d before v, or 0.
-fn back(v: u16, d: u16) -> u16
-    ensures { result ≡ v - d }
-{
-    if v < d {
-        return 0;
-    }
-    v - d
 }

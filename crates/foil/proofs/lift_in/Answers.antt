@@ -7,8 +7,8 @@ use Rattle.foil.proofs.Lifting.{no-net, not_there, lifted-again, lifted-table, l
 use Rattle.foil.proofs.lift_in.Goals as goal
 
 pub returns-then-not-net_ok : goal.returns-then-not-net_ok
-returns-then-not-net_ok c = no-net _ _ _ _ c.requires _ c.net_ok.ensures
-    c.if-not-net_ok.true _ c.refuse.ensures
+returns-then-not-net_ok c =
+    rw c.into.ensures (no-net _ _ _ _ c.requires _ c.net_ok.ensures c.if-not-net_ok.true)
 
 pub in_use-requires : goal.in_use-requires
 in_use-requires c = omega (
@@ -18,49 +18,24 @@ in_use-requires c = omega (
 )
 
 pub returns-then-not-in_use : goal.returns-then-not-in_use
-returns-then-not-in_use c = not_there _ _ _ _ c.requires _
-    c.net_ok.ensures c.if-not-net_ok.false _
-    c.in_use.ensures c.if-not-in_use.true _ c.refuse-then-not-in_use.ensures
+returns-then-not-in_use c =
+    rw c.into-then-not-in_use.ensures
+    (not_there _ _ _ _ c.requires _ c.net_ok.ensures c.if-not-net_ok.false _ c.in_use.ensures c.if-not-in_use.true)
 
 pub without-left-requires : goal.without-left-requires
-without-left-requires c = (
-  (held-limits _ _ _ (of-sound _ c.requires)
-      ).few,
-  omega (
-    arith,
-    (sound-long _ c.requires).table,
-    (held-limits _ _ _ (of-sound _ c.requires)
-        ).few,
-  ),
-  no_rows,
-)
+without-left-requires c =
+    let few = (held-limits _ _ _ (of-sound _ c.requires)).few in
+    (few, omega (arith, (sound-long _ c.requires).table, few), no_rows)
 
 pub settle-requires : goal.settle-requires
 settle-requires c = record {
-  table = lifted-table _ _ _ _ c.requires _
-      c.net_ok.ensures
-      c.if-not-net_ok.false _
-      c.in_use.ensures
-      c.if-not-in_use.false _ _
-      c.without-left.ensures;
-  rows_value = lifted-again _ _ _ _ c.requires _
-      c.net_ok.ensures
-      c.if-not-net_ok.false _
-      c.in_use.ensures
-      c.if-not-in_use.false _ _
-      c.without-left.ensures;
-  table_size_in_bounds = (
-    (sound-long _ c.requires).table,
-    (sound-long _
-        (c
-        ).requires).strips,
-  );
+  table = lifted-table _ _ _ _ c.requires _ c.net_ok.ensures c.if-not-net_ok.false _ c.in_use.ensures
+      c.if-not-in_use.false _ _ c.without-left.ensures;
+  rows_value = lifted-again _ _ _ _ c.requires _ c.net_ok.ensures c.if-not-net_ok.false _ c.in_use.ensures
+      c.if-not-in_use.false _ _ c.without-left.ensures;
+  table_size_in_bounds = ((sound-long _ c.requires).table, (sound-long _ c.requires).strips);
 }
 
 pub returns : goal.returns
-returns c = lifted _ _ _ _ c.requires _
-    c.net_ok.ensures
-    c.if-not-net_ok.false _ c.in_use.ensures
-    c.if-not-in_use.false _ _
-    c.without-left.ensures _ _ _
-    c.settle.ensures
+returns c = lifted _ _ _ _ c.requires _ c.net_ok.ensures c.if-not-net_ok.false _ c.in_use.ensures
+    c.if-not-in_use.false _ _ c.without-left.ensures _ _ _ _ c.settle.ensures

@@ -1,30 +1,30 @@
 -- `foil::look_up_in` answers by the strip that holds the point, if one does.
 use mathlib.Core.Path.{sym, ◌∙◌}
+use Rattle.std.proofs.Common.{rules, ◌≡◌, Some, None, Err}
 use Rattle.ledger_laws.proofs.Sound.{of-sound}
 use Rattle.state.proofs.Rising.{by-row-of}
-use Rattle.foil_spec.specs.Foil.{point}
-use Rattle.foil.proofs.Looking.{off-right, off-below, strips-long, nowhere, somewhere}
+use Rattle.foil.proofs.Looking.{off-foil, strips-long, nowhere, somewhere}
 use Rattle.foil.proofs.look_up_in.Goals as goal
 
-pub returns-then-board-x : goal.returns-then-board-x
-returns-then-board-x c = off-right _ _ _ _ c.requires c.if-board-x.true
+pub returns-then-board-point : goal.returns-then-board-point
+returns-then-board-point c = rw c.into.ensures (off-foil _ _ _ c.args.point c.requires c.then-board-point.either)
 
-pub returns-then-board-y : goal.returns-then-board-y
-returns-then-board-y c = off-below _ _ _ _ c.requires c.if-board-y.true
-
-pub locate-place-requires : goal.locate-place-requires
-locate-place-requires c = record {
-  count_in_bounds = strips-long _ _ _ (point c.args.x c.args.y) c.requires;
+pub locate-requires : goal.locate-requires
+locate-requires c = record {
+  count_in_bounds = strips-long _ _ _ c.args.point c.requires;
   by_row = by-row-of _ (of-sound _ c.requires);
 }
 
-pub returns-in_default : goal.returns-in_default
-returns-in_default c = nowhere _ _ _ _ c.requires
-    c.if-board-x.false c.if-board-y.false
-    (sym c.locate-place.ensures ∙ c.in_default.is)
+pub returns-in_err-place : goal.returns-in_err-place
+returns-in_err-place c =
+    let none : c.locate.result ≡ None = search rules in
+    let told : c.from_residual.result ≡ Err 8 = search rules in
+    rw told
+    (nowhere _ _ _ c.args.point c.requires c.if-board-point.false c.if-board-point-2.false
+    (sym c.locate.ensures ∙ none))
 
 pub returns : goal.returns
-returns c = somewhere _ _ _ _
-    c.requires
-    c.if-board-x.false c.if-board-y.false _
-    (sym c.locate-place.ensures ∙ c.in-At.is)
+returns c =
+    let some : c.locate.result ≡ Some c.in_ok-place.place = search rules in
+    somewhere _ _ _ c.args.point c.requires c.if-board-point.false c.if-board-point-2.false _
+    (sym c.locate.ensures ∙ some)

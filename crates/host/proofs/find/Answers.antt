@@ -1,8 +1,7 @@
--- `find` meets its contract: what was read from the numbers that were loaded was read from the table.
-use Rattle.sheet_rows.proofs.Records.{eight}
+-- What was read from the numbers that were loaded was read from the table.
 use Rattle.host.proofs.Tables.{whole-read}
 use Rattle.host.proofs.find.Goals as goal
 
 pub returns : goal.returns
 returns c =
-    whole-read _ _ _ _ _ _ _ _ _ _ c.copy_of-s.ensures (eight c.copy_of-s.result c.copy_of-s.type_inv) c.load-t.ensures c.find.ensures
+    whole-read _ _ _ c.eight.ensures _ _ _ c.load-numbers.ensures c.numbers_lent-n.ensures _ _ _ _ c.find.ensures

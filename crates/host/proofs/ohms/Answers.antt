@@ -1,8 +1,7 @@
--- `ohms` meets its contract: what was read from the numbers that were loaded was read from the table.
-use Rattle.sheet_rows.proofs.Records.{eight}
+-- What was read from the numbers that were loaded was read from the table.
 use Rattle.host.proofs.Tables.{whole-ohms}
 use Rattle.host.proofs.ohms.Goals as goal
 
 pub returns : goal.returns
 returns c =
-    whole-ohms _ _ _ _ _ _ _ _ _ c.copy_of-s.ensures (eight c.copy_of-s.result c.copy_of-s.type_inv) c.load-t.ensures c.ohms.ensures
+    whole-ohms _ _ _ c.eight.ensures _ _ _ c.load-numbers.ensures c.numbers_lent-n.ensures _ _ _ c.ohms.ensures

@@ -15,20 +15,20 @@ loop-init c = (
   first-comes _ _ _,
 )
 
-pub write_lines-requires : goal.write_lines-requires
-write_lines-requires c = next-lines _ _ _ _ _ c.loop.invariant.1 (omega arith) _ _ _ _ _ _ _ c.report_record-done.ensures.record_reported
+pub write_front-written-requires : goal.write_front-written-requires
+write_front-written-requires c = next-lines _ _ _ _ _ c.loop.invariant.1 (omega arith) _ _ _ _ _ _ _ _ c.report_record-done.ensures.record_reported
     c.report_record-done.ensures.size_bound
 
 pub returns-in_default : goal.returns-in_default
-returns-in_default c = ends _ _ _ _ _ c.loop.invariant.1 (omega arith) _ _ _ _ _ _ _ c.report_record-done.ensures.record_reported
-    c.report_record-done.ensures.size_bound _ c.write_lines.ensures c.in_default.is
+returns-in_default c = ends _ _ _ _ _ c.loop.invariant.1 (omega arith) _ _ _ _ _ _ _ _ c.report_record-done.ensures.record_reported
+    c.report_record-done.ensures.size_bound _ c.write_front-written.ensures c.in_default.is
 
 pub loop-preserved : goal.loop-preserved
 loop-preserved c = (
   omega arith,
-  goes_on _ _ _ _ _ c.loop.invariant.1 (omega arith) _ _ _ _ _ _ _ c.report_record-done.ensures.record_reported
-      c.report_record-done.ensures.size_bound _ c.write_lines.ensures _ c.in-At.is,
-  reported-comes _ _ _ _ _ _ _ _ _ _ _ _ c.report_record-done.ensures.record_reported _ c.in-At.is,
+  goes_on _ _ _ _ _ c.loop.invariant.1 (omega arith) _ _ _ _ _ _ _ _ c.report_record-done.ensures.record_reported
+      c.report_record-done.ensures.size_bound _ c.write_front-written.ensures _ c.in-Some.is,
+  reported-comes _ _ _ _ _ _ _ _ _ _ _ _ _ c.report_record-done.ensures.record_reported _ c.in-Some.is,
 )
 
 pub returns : goal.returns

@@ -25,5 +25,5 @@ first_path_to-requires c = net-aimed c.requires.known c.without-j.ensures c.own_
 
 pub returns : goal.returns
 returns c = net-found c.requires.known c.without-j.ensures c.own_legs-k.ensures
-    c.pen_rule-rule.ensures c.zones-n.ensures.0 c.zones-n.ensures.1 _ _
+    c.pen_rule-rule.ensures c.zones-n.ensures.0 c.zones-n.ensures.1 _
     c.first_path_to.ensures

@@ -1,11 +1,8 @@
 -- Crossing after crossing.
-use Prim.Native.Nat.{◌-◌, ◌≤◌}
+use Prim.Native.Nat.{◌≤◌}
 use Rattle.labels.specs.Pass.{RunFilled}
 use Rattle.labels.proofs.fill_run.Given as goal
 
 abbrev pub invariant-loop-k : goal.invariant-loop-k
 invariant-loop-k l =
-    (l.lo ≤ l.k) × (l.k ≤ l.hi) × (l.new ≤ l.k) × RunFilled l.line l.lo l.k l.v l.initial.labels l.labels l.new
-
-abbrev pub decreases-loop-k : goal.decreases-loop-k
-decreases-loop-k l = l.hi - l.k
+    (l.new ≤ l.k) × RunFilled l.line l.lo l.k l.v l.initial.labels l.labels l.new

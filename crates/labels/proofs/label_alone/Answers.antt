@@ -1,5 +1,4 @@
 -- The crossing's own label, else the first stop of its run, else none.
-use native.Mathlib.Omega.{arith}
 use Rattle.labels.specs.Pass.{had, gets, misses}
 use Rattle.labels.proofs.Part.{run-misses, run-least}
 use Rattle.labels.proofs.label_alone.Goals as goal
@@ -11,18 +10,6 @@ pub returns-then-h-hi : goal.returns-then-h-hi
 returns-then-h-hi c = misses c.if-labels-line-ne0.false
     (run-misses c.requires.2 c.run_start-lo.ensures c.run_end-hi.ensures
     c.first_stop-h.ensures c.if-h-hi.true)
-
-pub ink_at-requires : goal.ink_at-requires
-ink_at-requires c = (
-  c.requires.0,
-  record {
-    hi-in = c.run_end-hi.ensures.le;
-    from = omega arith;
-    to = omega (arith, c.first_stop-h.ensures.le, c.if-h-hi.false);
-    stop = c.first_stop-h.ensures.stop (omega (arith, c.first_stop-h.ensures.le, c.if-h-hi.false));
-  },
-  c.requires.2,
-)
 
 pub returns : goal.returns
 returns c = gets _ c.if-labels-line-ne0.false

@@ -10,17 +10,17 @@ use Rattle.labels.proofs.label_pass.Given as goal
 
 abbrev pub invariant-loop-k : goal.invariant-loop-k
 invariant-loop-k l =
-    (l.k ≤ l.n) × (length l.marks ≡ length l.initial.marks) × (length l.ahead ≡ length l.initial.ahead) × (length l.behind ≡ length l.initial.behind)
-    × PassTo l.other l.inks l.link l.cross l.m l.n l.v (l.k * stride) l.initial.labels l.labels l.initial.own l.own l.marks l.new
-
-abbrev pub decreases-loop-k : goal.decreases-loop-k
-decreases-loop-k l = l.n - l.k
+    (length l.marks ≡ length l.initial.marks) × (length l.ahead ≡ length l.initial.ahead) × (length l.behind ≡ length
+    l.initial.behind)
+    × PassTo l.other l.inks l.link l.cross l.m l.n l.v (l.k * stride) l.initial.labels l.labels l.initial.own l.own
+    l.marks l.new
 
 abbrev pub invariant-loop-line : goal.invariant-loop-line
 invariant-loop-line l =
     (l.line ≤ l.end) × (l.line < l.end → along l.other l.k l.line ≡ l.v) × (length l.marks ≡ length l.initial.marks)
     × (length l.ahead ≡ length l.initial.ahead) × (length l.behind ≡ length l.initial.behind)
-    × PassOn l.other l.inks l.link l.cross l.m l.n l.v (l.k * stride + l.initial.line) (l.k * stride + l.line) l.initial.labels l.labels l.initial.own l.own l.initial.marks l.marks
+    × PassOn l.other l.inks l.link l.cross l.m l.n l.v (l.k * stride + l.initial.line) (l.k * stride + l.line)
+    l.initial.labels l.labels l.initial.own l.own l.initial.marks l.marks
     l.initial.new l.new
 
 abbrev pub decreases-loop-line : goal.decreases-loop-line

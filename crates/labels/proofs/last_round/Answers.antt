@@ -2,18 +2,19 @@
 use native.Mathlib.Omega.{arith}
 use mathlib.Core.Path.{refl}
 use Rattle.runs.proofs.Inks.{lean-low}
-use Rattle.labels.proofs.Pass.{on_line, line-lists}
+use Rattle.labels.proofs.Pass.{line-lists}
 use Rattle.labels.proofs.Part.{alone-lean}
-use Rattle.labels.proofs.Last.{level-way, upright-way, sized_same, tried-level, tried-upright}
+use Rattle.labels.proofs.Last.{upright-way, sized_same, tried-level, tried-upright}
 use Rattle.labels.proofs.last_round.Goals as goal
 
-pub label_alone-along-requires : goal.label_alone-along-requires
-label_alone-along-requires c = let way = level-way c.requires.0 in
-    (on_line way c.requires.1.j-in c.requires.1.pos c.requires.1.top c.requires.1.upright-lean, line-lists way c.requires.1.j-in refl refl, c.requires.1.i-in)
-
 pub label_alone-up-requires : goal.label_alone-up-requires
-label_alone-up-requires c = let lean = alone-lean c.requires.1.i-in c.requires.0.column-lines.few c.requires.0.column-lines c.requires.1.pos c.label_alone-along.ensures
-    (omega (arith, c.requires.0.level, c.label_alone-along.auto.labels)) (omega (arith, c.requires.0.level-inks, c.label_alone-along.auto.own))
+label_alone-up-requires c = let lean = alone-lean c.requires.1.i-in c.requires.0.column-lines.few
+    c.requires.0.column-lines c.requires.1.pos c.label_alone-along.ensures
+    (omega (arith, c.requires.0.level, c.label_alone-along.auto.labels)) (omega (
+      arith,
+      c.requires.0.level-inks,
+      c.label_alone-along.auto.own,
+    ))
     c.requires.1.upright-lean c.requires.1.level-lean in (
       record {
         line-in = omega (arith, c.requires.0.column-lines.few);
@@ -28,13 +29,13 @@ label_alone-up-requires c = let lean = alone-lean c.requires.1.i-in c.requires.0
     )
 
 pub returns-then-along : goal.returns-then-along
-returns-then-along c = tried-level
+returns-then-along c = rw c.if-along.true (tried-level
     (sized_same c.requires.0 c.label_alone-along.auto.labels c.label_alone-up.auto.labels
     c.label_alone-along.auto.own c.label_alone-up.auto.own)
-    c.requires.1.i-in c.requires.1.j-in c.label_alone-along.ensures c.label_alone-up.ensures c.if-along.true
+    c.requires.1.i-in c.requires.1.j-in c.label_alone-along.ensures c.label_alone-up.ensures c.if-along.true)
 
-pub returns : goal.returns
-returns c = tried-upright
+pub returns-else-along : goal.returns-else-along
+returns-else-along c = tried-upright
     (sized_same c.requires.0 c.label_alone-along.auto.labels c.label_alone-up.auto.labels
     c.label_alone-along.auto.own c.label_alone-up.auto.own)
     c.requires.1.i-in c.requires.1.j-in c.label_alone-along.ensures c.label_alone-up.ensures c.if-along.false

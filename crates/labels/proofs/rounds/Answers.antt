@@ -6,11 +6,11 @@ use Rattle.labels.proofs.Going.{going_start, going-second, going-lean, going_nex
 use Rattle.labels.proofs.Last.{level-way, upright-way, sized_same, tried-last, tried-on, tried_same}
 use Rattle.labels.proofs.rounds.Goals as goal
 
-pub mark_targets-requires : goal.mark_targets-requires
-mark_targets-requires c = record { m_le_stride = (c.requires.sized.0.row-lines.few, c.requires.sized.0.column-lines.few, c.requires.sized.0.level, omega arith); below = (c.requires.begun.level-low, no-marks 538 _) }
+pub mark_targets-requires-clause-below : goal.mark_targets-requires-clause-below
+mark_targets-requires-clause-below c = (c.requires.begun.level-low, no-marks 538 _)
 
-pub mark_targets-requires-2 : goal.mark_targets-requires-2
-mark_targets-requires-2 c = record { m_le_stride = (c.requires.sized.0.column-lines.few, c.requires.sized.0.row-lines.few, c.requires.sized.0.upright, omega arith); below = (c.requires.begun.upright-low, no-marks 538 _) }
+pub mark_targets-requires-2-clause-below : goal.mark_targets-requires-2-clause-below
+mark_targets-requires-2-clause-below c = (c.requires.begun.upright-low, no-marks 538 _)
 
 pub loop-ahead-init : goal.loop-ahead-init
 loop-ahead-init c = (
@@ -26,98 +26,62 @@ loop-ahead-init c = (
       c.mark_targets-2.ensures,
 )
 
-pub last_round-requires : goal.last_round-requires
-last_round-requires c = (
-  sized_same c.requires.sized.0 c.loop-ahead.invariant.0 c.loop-ahead.invariant.1 c.loop-ahead.invariant.2 c.loop-ahead.invariant.3,
-  record {
-    i-in = c.requires.sized.1;
-    j-in = c.requires.sized.2;
-    pos = c.loop-ahead.invariant.8.pos;
-    top = omega (arith, c.loop-ahead.invariant.8.top);
-    level-lean = c.loop-ahead.invariant.8.level-lean;
-    upright-lean = c.loop-ahead.invariant.8.upright-lean;
-  },
-)
-
-pub shape_of-level-then-last_round : goal.shape_of-level-then-last_round
-shape_of-level-then-last_round c = c.last_round.auto.level ∙ c.loop-ahead.invariant.0
-
-pub shape_of-upright-then-last_round : goal.shape_of-upright-then-last_round
-shape_of-upright-then-last_round c = c.last_round.auto.upright ∙ c.loop-ahead.invariant.1
-
-pub shape_of-il-then-last_round : goal.shape_of-il-then-last_round
-shape_of-il-then-last_round c = c.last_round.auto.il ∙ c.loop-ahead.invariant.2
-
-pub shape_of-iu-then-last_round : goal.shape_of-iu-then-last_round
-shape_of-iu-then-last_round c = c.last_round.auto.iu ∙ c.loop-ahead.invariant.3
-
 pub returns-then-last_round : goal.returns-then-last_round
-returns-then-last_round c = tried-last c.last_round.ensures c.if-last_round.true (omega (arith, c.loop-ahead.invariant.8.top)) c.loop-ahead.invariant.8.rounds
+returns-then-last_round c = tried-last c.last_round.ensures c.if-last_round.true (omega (
+  arith,
+  c.loop-ahead.invariant.8.top,
+)) c.loop-ahead.invariant.8.rounds
 
 pub label_pass-le-requires : goal.label_pass-le-requires
-label_pass-le-requires c = let going = (tried-on c.last_round.ensures c.if-last_round.false c.loop-ahead.invariant.8).0 in (
-  level-way (sized_same c.requires.sized.0 (c.last_round.auto.level ∙ c.loop-ahead.invariant.0) (c.last_round.auto.upright ∙ c.loop-ahead.invariant.1) (c.last_round.auto.il ∙ c.loop-ahead.invariant.2)
-      (c.last_round.auto.iu ∙ c.loop-ahead.invariant.3)),
-  record {
-    pos = going.pos;
-    top = omega (arith, going.top);
-    few = omega (arith, c.requires.begun.level-few, c.loop-ahead.invariant.0, c.last_round.auto.level);
-    lean = going.upright-lean;
-    marked = going.upright-marked;
-    full = going.level-full;
-  },
-  record {
-    from-room = omega (arith, c.loop-ahead.invariant.5);
-    marks-room = omega arith;
-    marks-fit = no-marks 538 _;
-    ahead-room = omega (arith, c.loop-ahead.invariant.6);
-    behind-room = omega (arith, c.loop-ahead.invariant.7);
-  },
-)
-
-pub slice_bounds-label_pass-end-in-loop-ahead-7 : goal.slice_bounds-label_pass-end-in-loop-ahead-7
-slice_bounds-label_pass-end-in-loop-ahead-7 c = omega (arith, c.loop-ahead.invariant.4)
+label_pass-le-requires c = let going = (tried-on c.last_round.ensures c.if-last_round.false
+    c.loop-ahead.invariant.8).0 in (
+      level-way (sized_same c.requires.sized.0 (c.last_round.auto.level ∙ c.loop-ahead.invariant.0)
+          (c.last_round.auto.upright ∙ c.loop-ahead.invariant.1) (c.last_round.auto.il ∙ c.loop-ahead.invariant.2)
+          (c.last_round.auto.iu ∙ c.loop-ahead.invariant.3)),
+      record {
+        pos = going.pos;
+        top = omega (arith, going.top);
+        few = omega (arith, c.requires.begun.level-few, c.loop-ahead.invariant.0, c.last_round.auto.level);
+        lean = going.upright-lean;
+        marked = going.upright-marked;
+        full = going.level-full;
+      },
+      record {
+        from-room = omega (arith, c.loop-ahead.invariant.5);
+        marks-room = omega arith;
+        marks-fit = no-marks 538 _;
+        ahead-room = omega (arith, c.loop-ahead.invariant.6);
+        behind-room = omega (arith, c.loop-ahead.invariant.7);
+      },
+    )
 
 pub label_pass-ue-requires : goal.label_pass-ue-requires
-label_pass-ue-requires c = let going = (tried-on c.last_round.ensures c.if-last_round.false c.loop-ahead.invariant.8).0 in (
-  upright-way (sized_same c.requires.sized.0 (c.label_pass-le.ensures.visited.size ∙ (c.last_round.auto.level ∙ c.loop-ahead.invariant.0)) (c.last_round.auto.upright ∙ c.loop-ahead.invariant.1)
-      (c.label_pass-le.ensures.inked.size ∙ (c.last_round.auto.il ∙ c.loop-ahead.invariant.2)) (c.last_round.auto.iu ∙ c.loop-ahead.invariant.3)),
-  record {
-    pos = going.pos;
-    top = omega (arith, going.top);
-    few = omega (arith, c.requires.begun.upright-few, c.loop-ahead.invariant.1, c.last_round.auto.upright);
-    lean = going-lean c.requires.sized.0.column-lines c.requires.sized.0.row-lines going c.label_pass-le.ensures;
-    marked = going-second c.requires.sized.0.column-lines c.requires.sized.0.row-lines going c.label_pass-le.ensures;
-    full = going.upright-full;
-  },
-  record {
-    from-room = omega (arith, c.loop-ahead.invariant.4);
-    marks-room = omega arith;
-    marks-fit = no-marks 538 _;
-    ahead-room = omega (arith, c.loop-ahead.invariant.6, c.label_pass-le.auto.ahead);
-    behind-room = omega (arith, c.loop-ahead.invariant.7, c.label_pass-le.auto.behind);
-  },
-)
+label_pass-ue-requires c = let going = (tried-on c.last_round.ensures c.if-last_round.false
+    c.loop-ahead.invariant.8).0 in (
+      upright-way (sized_same c.requires.sized.0 (c.label_pass-le.ensures.visited.size ∙ (c.last_round.auto.level ∙
+          c.loop-ahead.invariant.0)) (c.last_round.auto.upright ∙ c.loop-ahead.invariant.1)
+          (c.label_pass-le.ensures.inked.size ∙ (c.last_round.auto.il ∙ c.loop-ahead.invariant.2)) (c.last_round.auto.iu
+          ∙ c.loop-ahead.invariant.3)),
+      record {
+        pos = going.pos;
+        top = omega (arith, going.top);
+        few = omega (arith, c.requires.begun.upright-few, c.loop-ahead.invariant.1, c.last_round.auto.upright);
+        lean = going-lean c.requires.sized.0.column-lines c.requires.sized.0.row-lines going c.label_pass-le.ensures;
+        marked = going-second c.requires.sized.0.column-lines c.requires.sized.0.row-lines going c.label_pass-le.ensures;
+        full = going.upright-full;
+      },
+      record {
+        from-room = omega (arith, c.loop-ahead.invariant.4);
+        marks-room = omega arith;
+        marks-fit = no-marks 538 _;
+        ahead-room = omega (arith, c.loop-ahead.invariant.6, c.label_pass-le.auto.ahead);
+        behind-room = omega (arith, c.loop-ahead.invariant.7, c.label_pass-le.auto.behind);
+      },
+    )
 
 pub overflow_add-le : goal.overflow_add-le
 overflow_add-le c = let going = (tried-on c.last_round.ensures c.if-last_round.false c.loop-ahead.invariant.8).0 in
     omega (arith, going.few, c.label_pass-le.ensures.visited.count, c.label_pass-ue.ensures.visited.count)
-
-pub shape_of-level-then-le-ue-eq0 : goal.shape_of-level-then-le-ue-eq0
-shape_of-level-then-le-ue-eq0 c = c.label_pass-le.ensures.visited.size
-    ∙ (c.last_round.auto.level ∙ c.loop-ahead.invariant.0)
-
-pub shape_of-upright-then-le-ue-eq0 : goal.shape_of-upright-then-le-ue-eq0
-shape_of-upright-then-le-ue-eq0 c = c.label_pass-ue.ensures.visited.size
-    ∙ (c.last_round.auto.upright ∙ c.loop-ahead.invariant.1)
-
-pub shape_of-il-then-le-ue-eq0 : goal.shape_of-il-then-le-ue-eq0
-shape_of-il-then-le-ue-eq0 c = c.label_pass-le.ensures.inked.size
-    ∙ (c.last_round.auto.il ∙ c.loop-ahead.invariant.2)
-
-pub shape_of-iu-then-le-ue-eq0 : goal.shape_of-iu-then-le-ue-eq0
-shape_of-iu-then-le-ue-eq0 c = c.label_pass-ue.ensures.inked.size
-    ∙ (c.last_round.auto.iu ∙ c.loop-ahead.invariant.3)
 
 pub returns-then-le-ue-eq0 : goal.returns-then-le-ue-eq0
 returns-then-le-ue-eq0 c = let on = tried-on c.last_round.ensures c.if-last_round.false c.loop-ahead.invariant.8 in
@@ -125,22 +89,27 @@ returns-then-le-ue-eq0 c = let on = tried-on c.last_round.ensures c.if-last_roun
     c.label_pass-le.ensures
     c.label_pass-ue.ensures _ _ c.if-le-ue-eq0.true on.1 on.2
 
-pub overflow_add-v : goal.overflow_add-v
-overflow_add-v c = omega (arith, c.loop-ahead.invariant.8.top)
-
 pub loop-ahead-smaller : goal.loop-ahead-smaller
 loop-ahead-smaller c = let same = tried_same c.last_round.ensures c.if-last_round.false in
-    omega (arith, same, c.if-le-ue-eq0.false, c.label_pass-le.ensures.visited.count, c.label_pass-ue.ensures.visited.count)
+    omega (
+      arith,
+      same,
+      c.if-le-ue-eq0.false,
+      c.label_pass-le.ensures.visited.count,
+      c.label_pass-ue.ensures.visited.count,
+    )
 
 pub loop-ahead-preserved : goal.loop-ahead-preserved
-loop-ahead-preserved c = let going = (tried-on c.last_round.ensures c.if-last_round.false c.loop-ahead.invariant.8).0 in (
-  c.label_pass-le.ensures.visited.size ∙ (c.last_round.auto.level ∙ c.loop-ahead.invariant.0),
-  c.label_pass-ue.ensures.visited.size ∙ (c.last_round.auto.upright ∙ c.loop-ahead.invariant.1),
-  c.label_pass-le.ensures.inked.size ∙ (c.last_round.auto.il ∙ c.loop-ahead.invariant.2),
-  c.label_pass-ue.ensures.inked.size ∙ (c.last_round.auto.iu ∙ c.loop-ahead.invariant.3),
-  c.label_pass-le.auto.marks,
-  c.label_pass-ue.auto.marks,
-  c.label_pass-ue.auto.ahead ∙ (c.label_pass-le.auto.ahead ∙ c.loop-ahead.invariant.6),
-  c.label_pass-ue.auto.behind ∙ (c.label_pass-le.auto.behind ∙ c.loop-ahead.invariant.7),
-  going_next c.requires.sized.0.column-lines c.requires.sized.0.row-lines going c.label_pass-le.ensures c.label_pass-ue.ensures c.requires.shallow c.if-le-ue-eq0.false,
-)
+loop-ahead-preserved c = let going = (tried-on c.last_round.ensures c.if-last_round.false c.loop-ahead.invariant.8).0
+    in (
+      c.label_pass-le.ensures.visited.size ∙ (c.last_round.auto.level ∙ c.loop-ahead.invariant.0),
+      c.label_pass-ue.ensures.visited.size ∙ (c.last_round.auto.upright ∙ c.loop-ahead.invariant.1),
+      c.label_pass-le.ensures.inked.size ∙ (c.last_round.auto.il ∙ c.loop-ahead.invariant.2),
+      c.label_pass-ue.ensures.inked.size ∙ (c.last_round.auto.iu ∙ c.loop-ahead.invariant.3),
+      c.label_pass-le.auto.marks,
+      c.label_pass-ue.auto.marks,
+      c.label_pass-ue.auto.ahead ∙ (c.label_pass-le.auto.ahead ∙ c.loop-ahead.invariant.6),
+      c.label_pass-ue.auto.behind ∙ (c.label_pass-le.auto.behind ∙ c.loop-ahead.invariant.7),
+      going_next c.requires.sized.0.column-lines c.requires.sized.0.row-lines going c.label_pass-le.ensures
+          c.label_pass-ue.ensures c.requires.shallow c.if-le-ue-eq0.false,
+    )

@@ -1,25 +1,13 @@
--- Crossing after crossing.
-use native.Mathlib.Omega.{arith}
-use Rattle.labels.proofs.Marks.{summed-none, summed-more, summed-done}
+-- The labels of the line, each of which is 1 at most.
+use Rattle.std.proofs.Common.{arith, rules}
+use Rattle.labels.proofs.Marks.{sum-few, summed}
 use Rattle.labels.proofs.sum_of.Goals as goal
 
-pub loop-k-init : goal.loop-k-init
-loop-k-init c = (omega arith, summed-none _ _)
-
-pub overflow_add-sum-in-loop-k : goal.overflow_add-sum-in-loop-k
-overflow_add-sum-in-loop-k c = omega (
-  arith,
-  c.requires.3 c.loop-k.k (omega (arith, c.loop-k-test)),
-  c.loop-k.invariant.1.le,
-  c.requires.1,
-  c.loop-k.invariant.0,
-)
-
-pub loop-k-preserved : goal.loop-k-preserved
-loop-k-preserved c = (
-  omega (arith, c.loop-k-test),
-  summed-more (c.requires.3 c.loop-k.k (omega (arith, c.loop-k-test))) c.loop-k.invariant.1,
-)
+pub sum-requires-clause-fits : goal.sum-requires-clause-fits
+sum-requires-clause-fits c =
+    let few = sum-few _ _ _ (omega (arith, c.requires.1, c.requires.2)) c.requires.3 in
+    let n = c.requires.1 in
+    search rules
 
 pub returns : goal.returns
-returns c = summed-done (omega (arith, c.loop-k.invariant.0, c.loop-k-test)) c.loop-k.invariant.1
+returns c = summed _ _ _ (omega (arith, c.requires.1, c.requires.2)) c.requires.3 (search rules)

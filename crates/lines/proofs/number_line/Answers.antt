@@ -5,7 +5,7 @@ use Rattle.lines.proofs.number_line.Goals as goal
 
 pub returns : goal.returns
 returns c = record {
-  put = put_then (put_then c.put_bytes-a.ensures c.put_item-b.ensures.put)
-      c.put_bytes.ensures;
+  put = rw c.from.ensures at (put_then (put_then c.put_bytes-a.ensures c.put_item-b.ensures.put)
+      c.put_bytes.ensures);
   upper_bound = omega arith;
 }

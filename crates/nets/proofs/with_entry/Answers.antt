@@ -11,15 +11,15 @@ pub returns-then-leg-net : goal.returns-then-leg-net
 returns-then-leg-net c = measured-skip _ _ _ _ c.requires.measured
     (λ e. omega (arith, c.if-leg-net.true, ap (λ (x : Entry). x.net) c.entry_at-leg.ensures, e))
 
-pub leg_steps-more-requires : goal.leg_steps-more-requires
-leg_steps-more-requires c = subst Box (sym c.entry_at-leg.ensures) c.requires.fact
+pub leg_steps-requires : goal.leg_steps-requires
+leg_steps-requires c = subst Box (sym c.entry_at-leg.ensures) c.requires.fact
 
 pub overflow_add-result-2 : goal.overflow_add-result-2
 overflow_add-result-2 c = omega (
   arith,
   c.requires.k_lt_max_entries.0,
   c.requires.measured.short,
-  c.leg_steps-more.ensures,
+  c.leg_steps.ensures,
   ap leg_steps c.entry_at-leg.ensures,
   steps-most _ c.requires.fact,
 )
@@ -28,4 +28,4 @@ pub returns : goal.returns
 returns c = measured-more _ _ _ _ c.requires.measured _
     (omega (arith, c.if-leg-net.false, ap (λ (x : Entry). x.net) c.entry_at-leg.ensures))
     c.requires.fact
-    (c.leg_steps-more.ensures ∙ ap leg_steps c.entry_at-leg.ensures)
+    (c.leg_steps.ensures ∙ ap leg_steps c.entry_at-leg.ensures)

@@ -3,18 +3,19 @@ use Rattle.ohms.proofs.Answering.{no-net, not_there, no-ink, ohms-are, has-leg}
 use Rattle.ohms.proofs.net_ohms.Goals as goal
 
 pub returns-then-not-net_ok : goal.returns-then-not-net_ok
-returns-then-not-net_ok c = no-net _ _ _ _ _ c.net_ok.ensures c.if-not-net_ok.true
+returns-then-not-net_ok c = rw (c.into.ensures, c.from.ensures) (no-net _ _ _ _ _ c.net_ok.ensures c.if-not-net_ok.true)
 
 pub in_use-requires : goal.in_use-requires
 in_use-requires c = c.requires.len
 
 pub returns-then-not-in_use : goal.returns-then-not-in_use
-returns-then-not-in_use c = not_there _ _ _ _ _ c.net_ok.ensures c.if-not-net_ok.false _ c.in_use.ensures
-    c.if-not-in_use.true
+returns-then-not-in_use c = rw (c.into-then-not-in_use.ensures, c.from-then-not-in_use.ensures)
+    (not_there _ _ _ _ _ c.net_ok.ensures c.if-not-net_ok.false _ c.in_use.ensures c.if-not-in_use.true)
 
 pub returns-then-not-ink_ok : goal.returns-then-not-ink_ok
-returns-then-not-ink_ok c = no-ink _ _ _ _ _ c.net_ok.ensures c.if-not-net_ok.false _ c.in_use.ensures
-    c.if-not-in_use.false _ c.ink_ok.ensures c.if-not-ink_ok.true
+returns-then-not-ink_ok c = rw (c.into-then-not-ink_ok.ensures, c.from-then-not-ink_ok.ensures)
+    (no-ink _ _ _ _ _ c.net_ok.ensures c.if-not-net_ok.false _ c.in_use.ensures c.if-not-in_use.false _ c.ink_ok.ensures
+    c.if-not-ink_ok.true)
 
 pub measure-track-requires : goal.measure-track-requires
 measure-track-requires c = c.requires

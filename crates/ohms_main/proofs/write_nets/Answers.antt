@@ -1,21 +1,20 @@
 -- After each net the lines up to it are written; and after net 999 all are.
 use native.Mathlib.Omega.{arith}
-use Rattle.ohms_main.proofs.Printing.{none_written, all-written}
+use Rattle.ohms_main.proofs.Printing.{none_written, all-written, net-next, net-written}
 use Rattle.ohms_main.proofs.write_nets.Goals as goal
 
 pub loop-k-init : goal.loop-k-init
-loop-k-init c = (omega arith, none_written _ _ _ c.requires.written_value)
+loop-k-init c = none_written _ _
 
-pub write_net-requires : goal.write_net-requires
-write_net-requires c = record {
-  k_bound = omega arith;
-  written_to = c.loop-k.invariant.1;
-  in_bounds = c.requires.in_bounds;
-  reached = c.requires.reached;
-}
+pub write_front-written-requires : goal.write_front-written-requires
+write_front-written-requires c =
+    net-next _ _ _ _ _ c.requires _ _ c.loop-k.invariant _ c.ink_of.ensures c.put_ohms_of-n.ensures.put
+    c.put_ohms_of-n.ensures.upper_bound (omega arith)
 
 pub loop-k-preserved : goal.loop-k-preserved
-loop-k-preserved c = (omega arith, c.write_net.ensures)
+loop-k-preserved c =
+    net-written _ _ _ _ _ c.requires _ _ c.loop-k.invariant _ c.ink_of.ensures c.put_ohms_of-n.ensures.put
+    c.put_ohms_of-n.ensures.upper_bound _ c.write_front-written.ensures
 
 pub returns : goal.returns
-returns c = all-written _ _ _ _ _ c.requires.reached _ _ c.loop-k.invariant.1 c.loop-k.invariant.0 (omega arith)
+returns c = all-written _ _ _ _ _ c.requires _ _ c.loop-k.invariant (omega arith) (omega arith)

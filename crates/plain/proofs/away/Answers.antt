@@ -8,8 +8,8 @@ use Rattle.plain.proofs.away.Goals as goal
 
 pub returns-then-table-i-eq0 : goal.returns-then-table-i-eq0
 unfolding pen_rule margin entry_at
-returns-then-table-i-eq0 c = (omega arith, rw (eq-eqb _ 0 c.if-table-i-eq0.true) refl)
+returns-then-table-i-eq0 c = (omega arith, rw (eq-eqb _ 0 c.if-table-i-eq0.true) (omega (arith, c.from-half.ensures, c.from-gap.ensures)))
 
-pub returns : goal.returns
+pub returns-else-table-i-eq0 : goal.returns-else-table-i-eq0
 unfolding pen_rule margin entry_at
-returns c = (omega arith, rw (ne_eqb _ 0 c.if-table-i-eq0.false) refl)
+returns-else-table-i-eq0 c = (omega arith, rw (ne_eqb _ 0 c.if-table-i-eq0.false) (omega (arith, c.from-half.ensures, c.from-gap.ensures)))

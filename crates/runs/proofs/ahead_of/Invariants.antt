@@ -7,6 +7,3 @@ use Rattle.runs.proofs.ahead_of.Given as goal
 abbrev pub invariant-loop-k : goal.invariant-loop-k
 invariant-loop-k l =
     (length l.ahead ≡ length l.initial.ahead) × Down l.other l.inks l.cross l.line l.v l.lo l.hi l.k l.best l.ahead
-
-abbrev pub decreases-loop-k : goal.decreases-loop-k
-decreases-loop-k l = l.k

@@ -1,10 +1,6 @@
--- All crossings from lo on to the crossing at are joined.
-use Prim.Native.Nat.{◌≤◌}
+-- All crossings from k on to the crossing at are joined.
 use Rattle.runs.specs.Line.{Linked}
 use Rattle.runs.proofs.back_from.Given as goal
 
-abbrev pub invariant-loop-lo : goal.invariant-loop-lo
-invariant-loop-lo l = (l.lo ≤ l.at) × Linked l.link l.line l.lo l.at
-
-abbrev pub decreases-loop-lo : goal.decreases-loop-lo
-decreases-loop-lo l = l.lo
+abbrev pub invariant-loop-k : goal.invariant-loop-k
+invariant-loop-k l = Linked l.link l.line l.k l.at

@@ -1,12 +1,8 @@
 -- Crossing after crossing, none so far has the label.
-use Prim.Native.Nat.{ℕ, ◌-◌, ◌≤◌, ◌<◌}
+use Prim.Native.Nat.{ℕ, ◌≤◌, ◌<◌}
 use mathlib.Core.Logic.{◌≢◌}
 use Rattle.runs.specs.Line.{across}
 use Rattle.runs.proofs.first_stop.Given as goal
 
 abbrev pub invariant-loop-k : goal.invariant-loop-k
-invariant-loop-k l =
-    (l.lo ≤ l.k) × (l.k ≤ l.hi) × ((q : ℕ) → q < l.k → l.lo ≤ q → across l.other l.line q ≢ l.v)
-
-abbrev pub decreases-loop-k : goal.decreases-loop-k
-decreases-loop-k l = l.hi - l.k
+invariant-loop-k l = (q : ℕ) → q < l.k → l.lo ≤ q → across l.other l.line q ≢ l.v

@@ -1,5 +1,5 @@
 -- All crossings from lo up to k are joined, and none of them is such a stop.
-use Prim.Native.Nat.{ℕ, ◌-◌, ◌≤◌, ◌<◌}
+use Prim.Native.Nat.{ℕ, ◌≤◌, ◌<◌}
 use mathlib.Core.Path.{◌≡◌}
 use mathlib.Core.Bool.{false}
 use Rattle.runs.specs.Line.{Linked, is_stop}
@@ -7,8 +7,5 @@ use Rattle.runs.proofs.scan.Given as goal
 
 abbrev pub invariant-loop-k : goal.invariant-loop-k
 invariant-loop-k l =
-    (l.lo ≤ l.k) × (l.k ≤ l.n) × Linked l.link l.line l.lo l.k
+    Linked l.link l.line l.lo l.k
     × ((j : ℕ) → j < l.k → l.lo ≤ j → is_stop l.other l.inks l.cross l.line l.x l.v l.s j ≡ false)
-
-abbrev pub decreases-loop-k : goal.decreases-loop-k
-decreases-loop-k l = l.n - l.k

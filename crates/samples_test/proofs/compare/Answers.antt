@@ -11,5 +11,5 @@ pub loop-preserved : goal.loop-preserved
 loop-preserved c = (
   omega arith,
   omega (arith, c.alike-k.ensures),
-  reported-comes _ _ _ _ _ _ _ _ _ _ _ _ c.report_record-done.ensures.record_reported _ c.in-At.is,
+  reported-comes _ _ _ _ _ _ _ _ _ _ _ _ _ c.report_record-done.ensures.record_reported _ c.in-Some.is,
 )

@@ -7,20 +7,15 @@ pub loop-k-init : goal.loop-k-init
 loop-k-init c = fine-none _ _ _ _ _
 
 pub too_fine-requires : goal.too_fine-requires
-too_fine-requires c = table-front _ (omega (arith, c.loop-k-test.true)) c.requires
+too_fine-requires c = table-front _ (omega arith) c.requires
 
 pub returns-then-too_fine : goal.returns-then-too_fine
-returns-then-too_fine c = fine-not _ _ _ _ _ _ _ (omega (arith, c.loop-k-test.true)) c.too_fine.ensures c.if-too_fine.true
-
-pub overflow_add-k : goal.overflow_add-k
-overflow_add-k c = omega (arith, c.loop-k-test.true, c.requires.few)
-
-pub loop-k-smaller : goal.loop-k-smaller
-loop-k-smaller c = omega (arith, c.loop-k-test.true)
+returns-then-too_fine c = fine-not _ _ _ _ _ _ _ (omega arith) c.too_fine.ensures c.if-too_fine.true
 
 pub loop-k-preserved : goal.loop-k-preserved
-loop-k-preserved c = fine_more _ _ _ _ _ _ _ (omega (arith, c.loop-k-test.true)) c.too_fine.ensures c.if-too_fine.false
-    c.loop-k.invariant
+loop-k-preserved c = fine_more _ _ _ _ _ _ _ (omega arith) c.too_fine.ensures c.if-too_fine.false c.loop-k.invariant
 
-pub returns : goal.returns
-returns c = fine-all _ _ _ _ _ _ (omega (arith, c.loop-k-test.false)) c.loop-k.invariant
+pub returns-else-too_fine : goal.returns-else-too_fine
+returns-else-too_fine c =
+    fine-all _ _ _ _ _ _ (omega arith)
+    (fine_more _ _ _ _ _ _ _ (omega arith) c.too_fine.ensures c.if-too_fine.false c.loop-k.invariant)

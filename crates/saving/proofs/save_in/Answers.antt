@@ -10,15 +10,18 @@ pub beginning_too_fine-requires : goal.beginning_too_fine-requires
 beginning_too_fine-requires c = held-table _ _ _ c.requires
 
 pub returns-then-beginning_too_fine : goal.returns-then-beginning_too_fine
-returns-then-beginning_too_fine c = begins-too-fine _ _ _ _ c.requires _ c.beginning_too_fine.ensures c.if-beginning_too_fine.true
+returns-then-beginning_too_fine c = rw c.into.ensures
+    (begins-too-fine _ _ _ _ c.requires _ c.beginning_too_fine.ensures c.if-beginning_too_fine.true)
 
 pub write_file-size-requires : goal.write_file-size-requires
 write_file-size-requires c = let table = held-table _ _ _ c.requires in
     record { file_size_in_bounds = omega arith; entries_le_max_entries = (table.few, table.len) }
 
 pub returns-then-out-size : goal.returns-then-out-size
-returns-then-out-size c = no_room _ _ _ _ c.requires _ c.beginning_too_fine.ensures c.if-beginning_too_fine.false
-    c.write_file-size.ensures (omega (arith, c.if-out-size.true))
+returns-then-out-size c =
+    rw c.into-then-out-size.ensures
+    (no_room _ _ _ _ c.requires _ c.beginning_too_fine.ensures c.if-beginning_too_fine.false c.write_file-size.ensures
+    (omega (arith, c.if-out-size.true)))
 
 pub slice_bounds-put_bytes-end : goal.slice_bounds-put_bytes-end
 slice_bounds-put_bytes-end c = sym (front_long c.write_file-size.ensures)

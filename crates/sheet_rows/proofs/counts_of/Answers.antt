@@ -1,13 +1,10 @@
--- `sheet_rows::counts_of` lists the number of one record a turn.
-use native.Mathlib.Omega.{arith}
-use Rattle.sheet_rows.proofs.Records.{eight, counted_none, counted-more, counted-all}
+-- `sheet_rows::counts_of` takes the number of each record.
+use Rattle.std.proofs.Common.{rules, tests}
+use Rattle.sheet_rows.proofs.Records.{eight, counted}
+use Rattle.foil_spec.specs.Sheet.{no_board}
 use Rattle.sheet_rows.proofs.counts_of.Goals as goal
 
-pub loop-i-init : goal.loop-i-init
-loop-i-init c = counted_none _
-
-pub loop-i-preserved : goal.loop-i-preserved
-loop-i-preserved c = counted-more _ (eight c.args.sheet c.well_formed.0) _ _ (omega arith) c.loop-i.invariant
-
 pub returns : goal.returns
-returns c = counted-all _ (eight c.args.sheet c.well_formed.0) _ _ (omega arith) c.loop-i.invariant
+returns c =
+    counted _ _ (eight c.args.sheet c.well_formed.0) c.map.ensures.items.long
+    (λ i l. let (p, q, h) = c.map.ensures.items.at i no_board 0 l in search (rules, tests))

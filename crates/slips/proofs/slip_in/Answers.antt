@@ -9,7 +9,8 @@ pub put_page-size-requires : goal.put_page-size-requires
 put_page-size-requires c = (tracks _ _ _ c.requires, omega arith)
 
 pub returns-then-out-size : goal.returns-then-out-size
-returns-then-out-size c = no_room _ _ _ c.requires _ c.put_page-size.ensures (omega (arith, c.if-out-size.true))
+returns-then-out-size c =
+    rw c.into.ensures (no_room _ _ _ c.requires _ c.put_page-size.ensures (omega (arith, c.if-out-size.true)))
 
 pub slice_bounds-put_bytes-end : goal.slice_bounds-put_bytes-end
 slice_bounds-put_bytes-end c = sym (front_long c.put_page-size.ensures)

@@ -4,6 +4,3 @@ use Rattle.sowing.proofs.boxes_near.Given as goal
 
 abbrev pub invariant-loop-k : goal.invariant-loop-k
 invariant-loop-k l = Enough l.n l.boxes l.target l.k
-
-abbrev pub decreases-loop-k : goal.decreases-loop-k
-decreases-loop-k l = l.k

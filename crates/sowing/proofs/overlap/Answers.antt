@@ -1,15 +1,19 @@
 -- Side after side.
-use Rattle.sowing.proofs.Near.{right_of, left-of, below, by_last}
+use Rattle.std.proofs.Common.{rules, tests}
+use Rattle.sowing.specs.Seeds.{overlap}
+use Rattle.sowing.proofs.overlap.Goals.{then-a-b, else-a-b, then-b-a, else-b-a}
 use Rattle.sowing.proofs.overlap.Goals as goal
 
-pub returns-then-b-a : goal.returns-then-b-a
-returns-then-b-a c = right_of _ _ c.if-b-a.true
+pub returns-then-a-b-2 : goal.returns-then-a-b-2
+unfolding overlap
+returns-then-a-b-2 c = search (rules, tests)
 
-pub returns-then-a-b : goal.returns-then-a-b
-returns-then-a-b c = left-of _ _ c.if-a-b.true
-
-pub returns-then-b-a-2 : goal.returns-then-b-a-2
-returns-then-b-a-2 c = below _ _ c.if-b-a-2.true
-
-pub returns : goal.returns
-returns c = by_last _ _ c.if-b-a.false c.if-a-b.false c.if-b-a-2.false
+pub returns-else-a-b-2 : goal.returns-else-a-b-2
+unfolding overlap
+returns-else-a-b-2 c = elim c.if-b-a.branch [
+  | then-b-a w ↦ rw w.t-4-is (search (rules, tests))
+  | else-b-a w ↦ elim c.if-a-b.branch [
+    | then-a-b v ↦ rw (w.t-4-is, v.t-5-is) (search (rules, tests))
+    | else-a-b v ↦ rw (w.t-4-is, v.t-5-is) (search (rules, tests))
+  ]
+]

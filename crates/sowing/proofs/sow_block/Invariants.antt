@@ -1,5 +1,4 @@
 -- Line after line.
-use Prim.Native.Nat.{◌-◌, ◌≤◌}
 use mathlib.Core.Path.{◌≡◌}
 use lib.ListN.{length}
 use Rattle.sowing.specs.Seeds.{BlockSown, clear_at}
@@ -7,8 +6,5 @@ use Rattle.sowing.proofs.sow_block.Given as goal
 
 abbrev pub invariant-loop-line : goal.invariant-loop-line
 invariant-loop-line l =
-    (l.a ≤ l.line) × (l.line ≤ l.b) × (length l.labels ≡ length l.initial.labels) × (length l.inks ≡ length l.initial.inks)
+    (length l.labels ≡ length l.initial.labels) × (length l.inks ≡ length l.initial.inks)
     × BlockSown l.a l.line l.lo l.hi (clear_at l.n l.boxes l.upright l.lines l.cross) l.initial.labels l.initial.inks l.labels l.inks
-
-abbrev pub decreases-loop-line : goal.decreases-loop-line
-decreases-loop-line l = l.b - l.line

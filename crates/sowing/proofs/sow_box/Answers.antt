@@ -4,21 +4,6 @@ use Rattle.sowing.proofs.Boxed.{block-ordered, box-sown}
 use Rattle.sowing.proofs.Near.{near-sown}
 use Rattle.sowing.proofs.sow_box.Goals as goal
 
-pub first_from-a-requires : goal.first_from-a-requires
-first_from-a-requires c = c.requires.along-lines
-
-pub first_from-b-requires : goal.first_from-b-requires
-first_from-b-requires c = c.requires.along-lines
-
-pub extent_of-along-requires : goal.extent_of-along-requires
-extent_of-along-requires c = c.requires.target
-
-pub first_from-lo-requires : goal.first_from-lo-requires
-first_from-lo-requires c = c.requires.along-cross
-
-pub first_from-hi-requires : goal.first_from-hi-requires
-first_from-hi-requires c = c.requires.along-cross
-
 pub sow_block-requires : goal.sow_block-requires
 sow_block-requires c = record {
   boxes = omega (arith, c.requires.boxes, c.boxes_near-near.ensures.le);

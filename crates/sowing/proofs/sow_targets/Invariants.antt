@@ -1,5 +1,4 @@
 -- Target box after target box.
-use Prim.Native.Nat.{◌-◌, ◌≤◌}
 use mathlib.Core.Path.{◌≡◌}
 use lib.ListN.{length}
 use Rattle.sowing.specs.Seeds.{Sown, aimed_at}
@@ -7,8 +6,5 @@ use Rattle.sowing.proofs.sow_targets.Given as goal
 
 abbrev pub invariant-loop-e : goal.invariant-loop-e
 invariant-loop-e l =
-    (l.e ≤ l.k) × (length l.labels ≡ length l.initial.labels) × (length l.inks ≡ length l.initial.inks)
+    (length l.labels ≡ length l.initial.labels) × (length l.inks ≡ length l.initial.inks)
     × Sown (aimed_at l.n l.boxes l.e l.targets l.upright l.lines l.cross) l.m l.c l.labels l.inks
-
-abbrev pub decreases-loop-e : goal.decreases-loop-e
-decreases-loop-e l = l.k - l.e

@@ -1,18 +1,14 @@
--- `state::entries_ok` meets its contract: the entries before place k are ones that a table may hold.
-use native.Mathlib.Omega.{arith}
-use Rattle.state.proofs.Entries.{passed_none, passed-more, passed-all, passed-not}
+-- `state::entries_ok` tests one entry after the other.
+use Rattle.std.proofs.Common.{◌∙◌, refl, rules, tests, arith}
+use Rattle.std.proofs.lemmas.Iterator.{YieldsList-from_range}
+use Rattle.std.proofs.lemmas.Iterator.Search.{all_from_yields_List}
+use Rattle.foil_spec.specs.Foil.{entry_ok}
+use Rattle.foil_spec.specs.Lent.{entry_at}
+use Rattle.state.proofs.Rows.{all-row}
 use Rattle.state.proofs.entries_ok.Goals as goal
 
-pub loop-k-init : goal.loop-k-init
-loop-k-init c = passed_none _ _ _ _
-
-pub returns-then-not-entry_ok : goal.returns-then-not-entry_ok
-returns-then-not-entry_ok c = passed-not c.args.table.now c.args.n c.args.w c.args.h _ c.loop-k-test.true _
-    c.entry_at.ensures _ c.entry_ok.ensures c.if-not-entry_ok.true
-
-pub loop-k-preserved : goal.loop-k-preserved
-loop-k-preserved c = passed-more _ _ _ _ _ c.loop-k-test.true _ c.entry_at.ensures _
-    c.entry_ok.ensures c.if-not-entry_ok.false c.loop-k.invariant
-
 pub returns : goal.returns
-returns c = passed-all _ _ _ _ _ (omega arith) c.loop-k.invariant
+returns c =
+    all_from_yields_List (λ k. entry_ok c.args.w c.args.h (entry_at c.args.table.now k)) _ _ _ c.all.ensures.ran
+    (YieldsList-from_range 0 c.args.n c.args.n refl (omega arith)) (λ x b q k. search (rules, tests))
+    ∙ all-row (entry_ok c.args.w c.args.h) (entry_at c.args.table.now) 0 c.args.n

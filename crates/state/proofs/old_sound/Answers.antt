@@ -5,13 +5,13 @@ use Rattle.zones.proofs.Tables.{reach-small}
 use Rattle.state.proofs.Checking.{bad-reach, old-rule}
 use Rattle.state.proofs.old_sound.Goals as goal
 
-pub returns-then-not-reach_ok : goal.returns-then-not-reach_ok
-returns-then-not-reach_ok c = bad-reach _ _ _ _ c.reach_ok.ensures c.if-not-reach_ok.true
-
 pub keeps_rule-requires : goal.keeps_rule-requires
 unfolding reach_rule
-keeps_rule-requires c = reach-small _ (sym c.reach_ok.ensures ∙ c.if-not-reach_ok.false)
+keeps_rule-requires c = reach-small _ (sym c.reach_ok.ensures ∙ c.if-reach_ok.true)
 
-pub returns : goal.returns
+pub returns-then-reach_ok : goal.returns-then-reach_ok
 unfolding reach_rule
-returns c = old-rule _ _ _ _ c.reach_ok.ensures c.if-not-reach_ok.false _ c.keeps_rule.ensures
+returns-then-reach_ok c = old-rule _ _ _ _ c.reach_ok.ensures c.if-reach_ok.true _ c.keeps_rule.ensures
+
+pub returns-else-reach_ok : goal.returns-else-reach_ok
+returns-else-reach_ok c = c.if-reach_ok.false ∙ bad-reach _ _ _ _ c.reach_ok.ensures c.if-reach_ok.false

@@ -1,16 +1,11 @@
--- `state::zeros` meets its contract: the numbers before place i are zero.
-use native.Mathlib.Omega.{arith}
-use Rattle.state.proofs.Fronts.{zeros-none, zeros-more, zeros-all, zeros-not}
+-- `state::zeros` tests one number after the other.
+use Rattle.std.proofs.Common.{◌≡◌, ◌≢◌, rules, tests}
+use Rattle.std.proofs.lemmas.Iterator.{YieldsList-from_slice, cases_from_all}
+use Rattle.state.proofs.Fronts.{told-zeros}
 use Rattle.state.proofs.zeros.Goals as goal
 
-pub loop-i-init : goal.loop-i-init
-loop-i-init c = (omega arith, omega arith, zeros-none _ _)
-
-pub returns-then-list-i-ne0 : goal.returns-then-list-i-ne0
-returns-then-list-i-ne0 c = zeros-not _ _ _ _ (omega arith) (omega arith) c.if-list-i-ne0.true
-
-pub loop-i-preserved : goal.loop-i-preserved
-loop-i-preserved c = (omega arith, omega arith, zeros-more _ _ _ c.if-list-i-ne0.false c.loop-i.invariant.2)
-
 pub returns : goal.returns
-returns c = zeros-all _ _ _ _ (omega arith) c.loop-i.invariant.2
+returns c =
+    told-zeros _ _ _ c.requires.0 c.requires.1 _
+    (cases_from_all _ _ _ (λ x. x ≡ 0) (λ x. x ≢ 0) c.all.ensures.ran (YieldsList-from_slice _ (cc))
+    (λ x q k. search (rules, tests)) (λ x q k. search (rules, tests)))

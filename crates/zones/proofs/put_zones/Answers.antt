@@ -4,14 +4,8 @@ use mathlib.Core.Path.{◌≡◌, ap, ◌∙◌}
 use Rattle.foil_spec.specs.Foil.{Entry, margin}
 use Rattle.foil_spec.specs.Lent.{entry_at}
 use Rattle.zones.specs.Boxes.{zone_of}
-use Rattle.zones.proofs.Zoning.{box-put, zoning-start, zoning-more, margin-small}
+use Rattle.zones.proofs.Zoning.{box-put, zoning-more, margin-small}
 use Rattle.zones.proofs.put_zones.Goals as goal
-
-pub loop-k-init : goal.loop-k-init
-loop-k-init c = zoning-start _ _ _ _ _ _
-
-pub entry_at-requires : goal.entry_at-requires
-entry_at-requires c = omega (arith, c.loop-k-test.true, c.requires.table.len)
 
 pub zone_of-zone-requires : goal.zone_of-zone-requires
 zone_of-zone-requires c = let m = margin-small c.args.rule (entry_at c.args.table.now c.loop-k.k) c.requires.table.small in
@@ -19,15 +13,6 @@ zone_of-zone-requires c = let m = margin-small c.args.rule (entry_at c.args.tabl
       omega (arith, m, c.requires.table.sized.width, c.requires.table.x-end _ c.loop-k-test.true),
       omega (arith, m, c.requires.table.sized.height, c.requires.table.y-end _ c.loop-k-test.true),
     )
-
-pub put_entry-requires : goal.put_entry-requires
-put_entry-requires c = omega (arith, c.loop-k-test.true, c.requires.table.few, c.requires.max_boxes_in_bounds, c.loop-k.invariant.same)
-
-pub overflow_add-k : goal.overflow_add-k
-overflow_add-k c = omega (arith, c.loop-k-test.true, c.requires.table.few)
-
-pub loop-k-smaller : goal.loop-k-smaller
-loop-k-smaller c = omega (arith, c.loop-k-test.true)
 
 pub loop-k-preserved : goal.loop-k-preserved
 loop-k-preserved c = let zone-is : c.zone_of-zone.result
@@ -43,9 +28,3 @@ loop-k-preserved c = let zone-is : c.zone_of-zone.result
     (box-put _ _ _ _
     (omega (arith, c.loop-k-test.true, c.requires.table.few, c.requires.max_boxes_in_bounds, c.loop-k.invariant.same))
     c.put_entry.ensures)
-
-pub shape_of-out : goal.shape_of-out
-shape_of-out c = c.loop-k.invariant.same
-
-pub returns : goal.returns
-returns c k l = c.loop-k.invariant.zone k (omega (arith, l, c.loop-k-test.false))

@@ -3,21 +3,12 @@ use native.Mathlib.Omega.{arith}
 use Rattle.zones.proofs.Zoning.{zones-alone, zones-edged}
 use Rattle.zones.proofs.zones.Goals as goal
 
-pub put_zones-requires : goal.put_zones-requires
-put_zones-requires c = c.requires
-
 pub returns-then-m-eq0 : goal.returns-then-m-eq0
 returns-then-m-eq0 c = (
   zones-alone _ _ _ _ _ c.requires.table _ c.put_zones.ensures (omega (arith, c.requires.max_boxes_in_bounds, c.put_zones.auto.out))
       c.if-m-eq0.true,
   omega arith,
 )
-
-pub put_edge-requires : goal.put_edge-requires
-put_edge-requires c = (c.requires.table.few, omega (arith, c.requires.max_boxes_in_bounds, c.requires.table.few, c.put_zones.auto.out))
-
-pub overflow_add-result : goal.overflow_add-result
-overflow_add-result c = omega (arith, c.requires.table.few)
 
 pub returns : goal.returns
 returns c = (

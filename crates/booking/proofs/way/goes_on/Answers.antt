@@ -7,34 +7,13 @@ use Rattle.booking.proofs.way.goes_on.Goals as goal
 pub loop-j-init : goal.loop-j-init
 loop-j-init c = going-first _ _ _ _ c.requires.le_k.0
 
-pub overflow_add-j : goal.overflow_add-j
-overflow_add-j c = omega (arith, c.loop-j.invariant.le)
-
-pub corner_at-p-requires : goal.corner_at-p-requires
-corner_at-p-requires c = omega (arith, c.requires.le_k.1, c.loop-j-test.true)
-
-pub overflow_add-j-in-loop-j : goal.overflow_add-j-in-loop-j
-overflow_add-j-in-loop-j c = omega (arith, c.loop-j-test.true)
-
-pub corner_at-q-requires : goal.corner_at-q-requires
-corner_at-q-requires c = omega (arith, c.requires.le_k.1, c.loop-j-test.true)
-
-pub segment-requires : goal.segment-requires
-segment-requires c = c.requires.boxes
-
 pub returns-then-not-segment : goal.returns-then-not-segment
-returns-then-not-segment c = going-not _ _ _ _ _ _ c.loop-j.invariant (omega (arith, c.loop-j-test.true)) _ _
+returns-then-not-segment c = going-not _ _ _ _ _ _ c.loop-j.invariant (omega arith) _ _
     c.corner_at-p.ensures c.corner_at-q.ensures _ c.segment.ensures (ap not c.if-not-segment.true)
 
-pub overflow_add-j-in-loop-j-2 : goal.overflow_add-j-in-loop-j-2
-overflow_add-j-in-loop-j-2 c = omega (arith, c.loop-j-test.true)
-
-pub loop-j-smaller : goal.loop-j-smaller
-loop-j-smaller c = omega (arith, c.loop-j-test.true)
-
 pub loop-j-preserved : goal.loop-j-preserved
-loop-j-preserved c = going_more _ _ _ _ _ _ c.loop-j.invariant (omega (arith, c.loop-j-test.true)) _ _
+loop-j-preserved c = going_more _ _ _ _ _ _ c.loop-j.invariant (omega arith) _ _
     c.corner_at-p.ensures c.corner_at-q.ensures _ c.segment.ensures (ap not c.if-not-segment.false)
 
 pub returns : goal.returns
-returns c = going_done _ _ _ _ _ _ c.loop-j.invariant (omega (arith, c.loop-j-test.false))
+returns c = going_done _ _ _ _ _ _ c.loop-j.invariant (omega arith)

@@ -1,11 +1,7 @@
 -- `booking::way::goes_on` takes one segment a turn, upright and level by turns.
-use Prim.Native.Nat.{◌-◌}
 use Rattle.zones.specs.Boxes.{box_free}
 use Rattle.booking.proofs.Walking.{Going}
 use Rattle.booking.proofs.way.goes_on.Given as goal
 
 abbrev pub invariant-loop-j : goal.invariant-loop-j
 invariant-loop-j l = Going (box_free l.w l.h l.n l.boxes) l.list l.k l.first l.upright l.j
-
-abbrev pub decreases-loop-j : goal.decreases-loop-j
-decreases-loop-j l = l.k - l.j

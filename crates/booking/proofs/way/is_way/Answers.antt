@@ -3,12 +3,14 @@ use Rattle.std.proofs.Common.{ap, not}
 use native.Mathlib.Omega.{arith}
 use Rattle.booking.proofs.Walking.{half_place, no-corner, first-blocked, one-corner, more-corners}
 use Rattle.booking.proofs.way.is_way.Goals as goal
+use Rattle.booking.proofs.way.is_way.Goals.{then-list-ne0-via-then-list-ne0}
+use Rattle.booking.proofs.way.is_way.Goals.{then-list-ne0-via-else-list-ne0+then-k-eq0}
 
 pub returns-then-list-ne0 : goal.returns-then-list-ne0
-returns-then-list-ne0 c = half_place _ _ c.if-list-ne0.true
-
-pub returns-then-k-eq0 : goal.returns-then-k-eq0
-returns-then-k-eq0 c = no-corner _ _ c.if-list-ne0.false c.if-k-eq0.true
+returns-then-list-ne0 c = elim c.then-list-ne0.branch [
+  | then-list-ne0-via-then-list-ne0 w ↦ half_place _ _ w.if-list-ne0.true
+  | then-list-ne0-via-else-list-ne0+then-k-eq0 w ↦ no-corner _ _ w.if-list-ne0.false w.if-k-eq0.true
+]
 
 pub corner_at-first-requires : goal.corner_at-first-requires
 corner_at-first-requires c = omega (arith, c.if-k-eq0.false)

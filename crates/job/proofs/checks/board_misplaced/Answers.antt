@@ -8,6 +8,5 @@ returns-then-at-eq0 c = first-board _ _ _ c.has-board.ensures c.if-at-eq0.true
 pub returns-then-board : goal.returns-then-board
 returns-then-board c = later-board _ _ _ c.has-board.ensures c.if-at-eq0.false c.if-board.true
 
-pub returns : goal.returns
-returns c = later-pen _ _ _ c.has-board.ensures c.if-at-eq0.false c.if-board.false _
-    c.has.ensures
+pub returns-else-board : goal.returns-else-board
+returns-else-board c = later-pen _ _ _ c.has-board.ensures c.if-at-eq0.false c.if-board.false _ c.has.ensures

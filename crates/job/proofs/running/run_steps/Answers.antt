@@ -1,42 +1,36 @@
 -- After the bits below k, what they have left is what the definitions give for them.
 use native.Mathlib.Omega.{arith}
-use mathlib.Core.Path.{◌≡◌, refl}
-use Rattle.foil_spec.specs.Job.{step_bits}
+use mathlib.Core.Path.{refl}
+use Rattle.job.specs.Contract.{next_of}
 use Rattle.job.proofs.Stepping.{ran-none, bit-ready, next_bit, steps-done}
 use Rattle.job.proofs.running.run_steps.Goals as goal
 
 pub loop-k-init : goal.loop-k-init
-loop-k-init c = (omega arith, refl, refl, refl, ran-none _ _ _ _ _ _ _)
+loop-k-init c = record { table = refl; strips = refl; corners = refl; ran = ran-none _ _ _ _ _ _ _ }
 
 pub run_bit-so_far-requires-clause-may_run : goal.run_bit-so_far-requires-clause-may_run
 run_bit-so_far-requires-clause-may_run c =
-    bit-ready _ _ _ _ _ c.requires.ready _ _ _ _ _ c.loop-k.invariant.4 (omega arith) c.loop-k.invariant.1
-    c.loop-k.invariant.2
+    bit-ready _ _ _ _ _ c.requires.ready _ _ _ _ _ _ c.loop-k.invariant.ran (omega arith) c.loop-k.invariant.table
+    c.loop-k.invariant.strips
 
 pub loop-k-preserved : goal.loop-k-preserved
-loop-k-preserved c = (
-  omega arith,
-  omega (arith, c.run_bit-so_far.auto.table, c.loop-k.invariant.1),
-  omega (arith, c.run_bit-so_far.auto.strips, c.loop-k.invariant.2),
-  omega (arith, c.run_bit-so_far.auto.corners, c.loop-k.invariant.3),
-  next_bit _ _ _ _ _ c.requires.ready _ _ _ _ _ _ _ _ _
-      c.run_bit-so_far.ensures c.loop-k.invariant.3
-      c.loop-k.invariant.4,
-)
+loop-k-preserved c = record {
+  table = omega (arith, c.run_bit-so_far.auto.table, c.loop-k.invariant.table);
+  strips = omega (arith, c.run_bit-so_far.auto.strips, c.loop-k.invariant.strips);
+  corners = omega (arith, c.run_bit-so_far.auto.corners, c.loop-k.invariant.corners);
+  ran =
+      next_bit _ _ _ _ _ c.requires.ready _ _ _ _ _ _ _ _ _ _ _ c.run_bit-so_far.ensures c.loop-k.invariant.corners
+      c.loop-k.invariant.ran;
+}
 
-pub fields_at-requires : goal.fields_at-requires
-fields_at-requires c = record { begun = c.requires.ready.whole.begun; k_le_map_bits = omega arith }
+pub fields_at-requires-clause-begun : goal.fields_at-requires-clause-begun
+fields_at-requires-clause-begun c = c.requires.ready.whole.begun
 
-pub shape_of-table : goal.shape_of-table
-shape_of-table c = omega (arith, c.loop-k.invariant.1)
-
-pub shape_of-strips : goal.shape_of-strips
-shape_of-strips c = omega (arith, c.loop-k.invariant.2)
-
-pub shape_of-corners : goal.shape_of-corners
-shape_of-corners c = omega (arith, c.loop-k.invariant.3)
+pub returns-then-so_far : goal.returns-then-so_far
+unfolding next_of
+returns-then-so_far c = steps-done _ _ _ _ _ _ _ _ _ _ _ c.loop-k.invariant.ran (omega arith) _ (rw c.if-so_far.true refl)
 
 pub returns : goal.returns
-returns c = let last : c.loop-k.k ≡ step_bits = omega (arith, c.loop-k.invariant.0) in
-    steps-done _ _ _ _ _ _ _ _ _ _ c.loop-k.invariant.4 last _ c.fields_at.ensures
-    _ c.next_place-next.ensures
+unfolding next_of
+returns c =
+    steps-done _ _ _ _ _ _ _ _ _ _ _ c.loop-k.invariant.ran (omega arith) _ (rw (c.if-so_far.false, c.fields_at.ensures) refl)

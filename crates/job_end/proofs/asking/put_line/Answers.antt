@@ -7,5 +7,5 @@ pub returns : goal.returns
 unfolding item
 returns c = put_then
     (put_then c.put_bytes-a.ensures
-    (put_then c.put_bytes-b.ensures c.put_number-c.ensures.put))
+    (put_then c.put_bytes-b.ensures (rw c.from.ensures at c.put_number-c.ensures.put)))
     c.put_bytes.ensures

@@ -1,31 +1,48 @@
--- The lines of the bits below k are put.
+-- The lines of the five bits are put one after the other.
 use native.Mathlib.Omega.{arith}
-use mathlib.Core.Path.{◌≡◌}
-use Rattle.foil_spec.specs.Job.{step_bits}
-use Rattle.putting.proofs.Putting.{put-length}
-use Rattle.job_report.proofs.Telling.{lines_none, lines_more, lines-all}
+use mathlib.Core.Path.{refl}
+use Rattle.job.specs.Contract.{told_by_bits}
+use Rattle.job_report.proofs.Telling.{lines_none, lines_more}
 use Rattle.job_report.proofs.answers.put_answers.Goals as goal
 
-pub loop-k-init : goal.loop-k-init
-loop-k-init c = (omega arith, lines_none _ _ _ _, omega arith)
-
 pub put_bit-a-requires : goal.put_bit-a-requires
-put_bit-a-requires c = record {
-  k_lt_step_bits = (omega arith, c.loop-k.invariant.2, omega (arith, put-length c.loop-k.invariant.1));
-  from_bit = rw c.told_by.ensures (c.requires.from_bits.bit _ (omega arith));
+unfolding told_by_bits
+put_bit-a-requires c =
+    record { k_lt_step_bits = (omega arith, omega arith, omega arith); from_bit = c.requires.from_bits.bit 0 (omega arith) }
+
+pub put_bit-b-requires : goal.put_bit-b-requires
+unfolding told_by_bits
+put_bit-b-requires c = record {
+  k_lt_step_bits = (omega arith, c.put_bit-a.ensures.upper_bound, omega arith);
+  from_bit = c.requires.from_bits.bit 1 (omega arith);
 }
 
-pub loop-k-preserved : goal.loop-k-preserved
-loop-k-preserved c = (
-  omega arith,
-  lines_more _ _ _ _ _ _ c.told_by.ensures c.loop-k.invariant.1
-      c.put_bit-a.ensures.put,
-  c.put_bit-a.ensures.upper_bound,
-)
+pub put_bit-c-requires : goal.put_bit-c-requires
+unfolding told_by_bits
+put_bit-c-requires c = record {
+  k_lt_step_bits = (omega arith, c.put_bit-b.ensures.upper_bound, omega arith);
+  from_bit = c.requires.from_bits.bit 2 (omega arith);
+}
 
-pub shape_of-out : goal.shape_of-out
-shape_of-out c = put-length c.loop-k.invariant.1
+pub put_bit-d-requires : goal.put_bit-d-requires
+unfolding told_by_bits
+put_bit-d-requires c = record {
+  k_lt_step_bits = (omega arith, c.put_bit-c.ensures.upper_bound, omega arith);
+  from_bit = c.requires.from_bits.bit 3 (omega arith);
+}
+
+pub put_bit-requires : goal.put_bit-requires
+unfolding told_by_bits
+put_bit-requires c = record {
+  k_lt_step_bits = (omega arith, c.put_bit-d.ensures.upper_bound, omega arith);
+  from_bit = c.requires.from_bits.bit 4 (omega arith);
+}
 
 pub returns : goal.returns
-returns c = let last : c.loop-k.k ≡ step_bits = omega arith in
-    lines-all _ _ _ _ _ last c.loop-k.invariant.1
+unfolding told_by_bits
+returns c =
+    let two = lines_more _ _ _ _ 0 _ refl (lines_none _ _ _ _) c.put_bit-a.ensures.put in
+    let three = lines_more _ _ _ _ 1 _ refl two c.put_bit-b.ensures.put in
+    let four = lines_more _ _ _ _ 2 _ refl three c.put_bit-c.ensures.put in
+    let five = lines_more _ _ _ _ 3 _ refl four c.put_bit-d.ensures.put in
+    lines_more _ _ _ _ 4 _ refl five c.put_bit.ensures.put

@@ -22,7 +22,7 @@ pub returns-then-k-eq0 : goal.returns-then-k-eq0
 unfolding bytes_below
 returns-then-k-eq0 c = record {
   put =
-      line-board _ _ _ _ _ c.in-Said.is c.if-k-eq0.true _
+      line-board _ _ _ _ _ c.in-Some.is c.if-k-eq0.true _
       c.number_of.ensures c.board_line.ensures.put;
   upper_bound = line-end c.requires.k_lt_step_bits 0 64 c.if-k-eq0.true refl c.board_line.ensures.upper_bound;
 }
@@ -35,32 +35,32 @@ pub returns-then-k-eq1 : goal.returns-then-k-eq1
 unfolding bytes_below
 returns-then-k-eq1 c = record {
   put =
-      line-patch _ _ _ _ _ c.in-Said.is c.if-k-eq1.true _
+      line-patch _ _ _ _ _ c.in-Some.is c.if-k-eq1.true _
       c.number_of-then-k-eq1.ensures c.patch_line.ensures.put;
   upper_bound = line-end c.requires.k_lt_step_bits 1 64 c.if-k-eq1.true refl c.patch_line.ensures.upper_bound;
 }
 
-pub net_of-net-requires : goal.net_of-net-requires
+pub net_of-requires : goal.net_of-requires
 unfolding field_count
-net_of-net-requires c = net-given _ c.in-Said.is c.requires.from_bit 2 c.if-k-eq2.true (omega arith)
+net_of-requires c = net-given _ c.in-Some.is c.requires.from_bit 2 c.if-k-eq2.true (omega arith)
     (omega arith)
 
 pub put_track-requires : goal.put_track-requires
 unfolding bytes_below
-put_track-requires c = record { at_in_bounds = line-room c.requires.k_lt_step_bits 2 98368 c.if-k-eq2.true refl; in_list = c.requires.from_bit.corners _ c.in-Said.is }
+put_track-requires c = record { at_in_bounds = line-room c.requires.k_lt_step_bits 2 98368 c.if-k-eq2.true refl; in_list = c.requires.from_bit.corners _ c.in-Some.is }
 
 pub returns-then-k-eq2 : goal.returns-then-k-eq2
 unfolding bytes_below
 returns-then-k-eq2 c = record {
   put =
-      line-track _ _ _ _ _ c.in-Said.is c.if-k-eq2.true _
-      c.net_of-net.ensures c.put_track.ensures.put;
+      line-track _ _ _ _ _ c.in-Some.is c.if-k-eq2.true _
+      c.net_of.ensures c.put_track.ensures.put;
   upper_bound = line-end c.requires.k_lt_step_bits 2 98368 c.if-k-eq2.true refl c.put_track.ensures.upper_bound;
 }
 
-pub net_of-net-requires-then-k-eq3 : goal.net_of-net-requires-then-k-eq3
+pub net_of-requires-then-k-eq3 : goal.net_of-requires-then-k-eq3
 unfolding field_count
-net_of-net-requires-then-k-eq3 c = net-given _ c.in-Said.is c.requires.from_bit 3 c.if-k-eq3.true (omega arith)
+net_of-requires-then-k-eq3 c = net-given _ c.in-Some.is c.requires.from_bit 3 c.if-k-eq3.true (omega arith)
     (omega arith)
 
 pub lift_line-requires : goal.lift_line-requires
@@ -71,15 +71,15 @@ pub returns-then-k-eq3 : goal.returns-then-k-eq3
 unfolding bytes_below
 returns-then-k-eq3 c = record {
   put =
-      line-lift _ _ _ _ _ c.in-Said.is c.if-k-eq3.true _
-      c.net_of-net-then-k-eq3.ensures _ c.number_of-then-k-eq3.ensures
+      line-lift _ _ _ _ _ c.in-Some.is c.if-k-eq3.true _
+      c.net_of-then-k-eq3.ensures _ c.number_of-then-k-eq3.ensures
       c.lift_line.ensures.put;
   upper_bound = line-end c.requires.k_lt_step_bits 3 64 c.if-k-eq3.true refl c.lift_line.ensures.upper_bound;
 }
 
-pub net_of-net-requires-2 : goal.net_of-net-requires-2
+pub net_of-requires-2 : goal.net_of-requires-2
 unfolding field_count
-net_of-net-requires-2 c = let is-leg : c.args.k ≡ 4 = omega (
+net_of-requires-2 c = let is-leg : c.args.k ≡ 4 = omega (
   arith,
   c.requires.k_lt_step_bits.0,
   c.if-k-eq0.false,
@@ -87,7 +87,7 @@ net_of-net-requires-2 c = let is-leg : c.args.k ≡ 4 = omega (
   c.if-k-eq2.false,
   c.if-k-eq3.false,
 ) in
-    net-given _ c.in-Said.is c.requires.from_bit 4 is-leg (omega arith)
+    net-given _ c.in-Some.is c.requires.from_bit 4 is-leg (omega arith)
     (omega arith)
 
 pub leg_line-requires : goal.leg_line-requires
@@ -112,8 +112,8 @@ returns c = let is-leg : c.args.k ≡ 4 = omega (
   c.if-k-eq2.false,
   c.if-k-eq3.false,
 ) in record {
-  put = line-leg _ _ _ _ _ c.in-Said.is is-leg _
-      c.net_of-net-2.ensures _ c.number_of-2.ensures
+  put = line-leg _ _ _ _ _ c.in-Some.is is-leg _
+      c.net_of-2.ensures _ c.number_of-2.ensures
       c.leg_line.ensures.put;
   upper_bound = line-end c.requires.k_lt_step_bits 4 64 is-leg refl c.leg_line.ensures.upper_bound;
 }

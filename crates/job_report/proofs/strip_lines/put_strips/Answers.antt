@@ -8,22 +8,21 @@ use Rattle.job_report.proofs.strip_lines.put_strips.Goals as goal
 
 pub loop-k-init : goal.loop-k-init
 unfolding listed_strips
-loop-k-init c = (omega arith, put-none _ _ (omega arith), omega arith)
+loop-k-init c = (put-none _ _ (omega arith), omega arith)
 
 pub strip_line-a-requires : goal.strip_line-a-requires
-strip_line-a-requires c = omega (arith, put-length c.loop-k.invariant.1)
+strip_line-a-requires c = omega (arith, put-length c.loop-k.invariant.0)
 
 pub loop-k-preserved : goal.loop-k-preserved
 unfolding listed_strips
 loop-k-preserved c = (
-  omega arith,
-  row_more strip_line (listed_strip _) _ c.loop-k.invariant.1
+  row_more strip_line (listed_strip _) _ c.loop-k.invariant.0
       (rw c.strip_at.ensures at c.strip_line-a.ensures.put),
   omega arith,
 )
 
 pub shape_of-out : goal.shape_of-out
-shape_of-out c = put-length c.loop-k.invariant.1
+shape_of-out c = put-length c.loop-k.invariant.0
 
 pub returns : goal.returns
-returns c = let all : c.loop-k.k ≡ c.args.count = omega arith in record { put = rw (← all) c.loop-k.invariant.1; upper_bound = omega arith }
+returns c = let all : c.loop-k.k ≡ c.args.count = omega arith in record { put = rw (← all) c.loop-k.invariant.0; upper_bound = omega arith }

@@ -1,5 +1,5 @@
 -- The lines of the first k strips are put.
-use Prim.Native.Nat.{◌-◌, ◌*◌, ◌≤◌}
+use Prim.Native.Nat.{◌*◌, ◌≤◌}
 use Rattle.foil_spec.specs.Lists.{each}
 use Rattle.foil_spec.specs.Lent.{listed_strips}
 use Rattle.putting.specs.Put.{Put}
@@ -8,7 +8,4 @@ use Rattle.job_report.proofs.strip_lines.put_strips.Given as goal
 
 abbrev pub invariant-loop-k : goal.invariant-loop-k
 invariant-loop-k l =
-    (l.k ≤ l.count) × Put l.initial.out 0 (each strip_line (listed_strips l.list l.k)) l.out l.a × (l.a ≤ 30 * l.k)
-
-abbrev pub decreases-loop-k : goal.decreases-loop-k
-decreases-loop-k l = l.count - l.k
+    Put l.initial.out 0 (each strip_line (listed_strips l.list l.k)) l.out l.a × (l.a ≤ 30 * l.k)

@@ -5,13 +5,9 @@ use Rattle.list_laws.proofs.Digits.{decimal-short}
 use Rattle.putting.proofs.Putting.{put_then}
 use Rattle.lines.proofs.put.put_corner.Goals as goal
 
-pub overflow_cast-corner : goal.overflow_cast-corner
-overflow_cast-corner c = omega (arith, c.struct_known-1.given.1.0)
-
 pub returns : goal.returns
 unfolding corner_item
-returns c = record {
-  put = put_then (put_then c.put_item-a.ensures.put c.put_bytes-b.ensures)
-      c.put_number.ensures.put;
-  upper_bound = omega (arith, decimal-short c.args.corner.y c.struct_known-1.given.1.0.fits);
-}
+returns c =
+    let put = rw c.from.ensures at (put_then (put_then c.put_item-a.ensures.put c.put_bytes-b.ensures)
+    c.put_number.ensures.put) in
+    record { put = put; upper_bound = omega (arith, decimal-short c.from.result (omega (arith, c.from.ensures))) }

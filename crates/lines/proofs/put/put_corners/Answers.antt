@@ -8,22 +8,21 @@ use Rattle.lines.proofs.put.put_corners.Goals as goal
 
 pub loop-k-init : goal.loop-k-init
 unfolding corners_in
-loop-k-init c = (omega arith, put-none _ _ (omega arith), omega arith)
+loop-k-init c = (put-none _ _ (omega arith), omega arith)
 
 pub put_corner-a-requires : goal.put_corner-a-requires
-put_corner-a-requires c = omega (arith, put-length c.loop-k.invariant.1)
+put_corner-a-requires c = omega (arith, put-length c.loop-k.invariant.0)
 
 pub loop-k-preserved : goal.loop-k-preserved
 unfolding corners_in
 loop-k-preserved c = (
-  omega arith,
-  row_more corner_item (corner_at _) _ c.loop-k.invariant.1
+  row_more corner_item (corner_at _) _ c.loop-k.invariant.0
       (rw c.corner_at.ensures at c.put_corner-a.ensures.put),
   omega arith,
 )
 
 pub shape_of-out : goal.shape_of-out
-shape_of-out c = put-length c.loop-k.invariant.1
+shape_of-out c = put-length c.loop-k.invariant.0
 
 pub returns : goal.returns
-returns c = let all : c.loop-k.k ≡ c.args.count = omega arith in record { put = rw (← all) c.loop-k.invariant.1; upper_bound = omega arith }
+returns c = let all : c.loop-k.k ≡ c.args.count = omega arith in record { put = rw (← all) c.loop-k.invariant.0; upper_bound = omega arith }

@@ -1,5 +1,5 @@
 -- `lines::put::put_corners` meets its contract: the loop has put the first k corners.
-use Prim.Native.Nat.{◌+◌, ◌-◌, ◌*◌, ◌≤◌}
+use Prim.Native.Nat.{◌+◌, ◌*◌, ◌≤◌}
 use Rattle.foil_spec.specs.Lists.{each}
 use Rattle.foil_spec.specs.Corners.{corners_in}
 use Rattle.lines.specs.Lines.{corner_item}
@@ -8,7 +8,4 @@ use Rattle.lines.proofs.put.put_corners.Given as goal
 
 abbrev pub invariant-loop-k : goal.invariant-loop-k
 invariant-loop-k l =
-    (l.k ≤ l.count) × Put l.initial.out l.at (each corner_item (corners_in l.corners l.k)) l.out l.a × (l.a ≤ l.at + 12 * l.k)
-
-abbrev pub decreases-loop-k : goal.decreases-loop-k
-decreases-loop-k l = l.count - l.k
+    Put l.initial.out l.at (each corner_item (corners_in l.corners l.k)) l.out l.a × (l.a ≤ l.at + 12 * l.k)

@@ -7,4 +7,6 @@ use Rattle.lines.proofs.put.put_item.Goals as goal
 
 pub returns : goal.returns
 unfolding item
-returns c = record { put = put_then c.put_bytes-a.ensures c.put_number.ensures.put; upper_bound = omega (arith, decimal-short c.args.n c.ranges.n.fits) }
+returns c =
+    let put = rw c.from.ensures at (put_then c.put_bytes-a.ensures c.put_number.ensures.put) in
+    record { put = put; upper_bound = omega (arith, put.next, decimal-short c.args.n c.ranges.n.fits) }

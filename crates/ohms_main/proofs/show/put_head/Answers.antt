@@ -6,4 +6,4 @@ use Rattle.ohms_main.proofs.show.put_head.Goals as goal
 
 pub returns : goal.returns
 unfolding item
-returns c = record { put = put_then c.put_bytes-a.ensures c.put_number.ensures.put; upper_bound = omega (arith, c.put_bytes-a.ensures.next, c.put_number.ensures.upper_bound) }
+returns c = record { put = put_then c.put_bytes-a.ensures (rw c.from.ensures at c.put_number.ensures.put); upper_bound = omega (arith, c.put_bytes-a.ensures.next, c.put_number.ensures.upper_bound) }

@@ -10,7 +10,7 @@ unfolding net_line item
 returns c = record {
   put = put_then
       (put_then c.put_head-a.ensures.put
-      (put_then c.put_bytes-b.ensures c.put_number-c.ensures.put))
+      (put_then c.put_bytes-b.ensures (rw c.from.ensures at c.put_number-c.ensures.put)))
       c.put_bytes.ensures;
   upper_bound = omega (
     arith,

@@ -1,9 +1,6 @@
 -- `plain::walk::is_way` is safe and ends: the loop counts up to the last corner, and p is a point.
-use Prim.Native.Nat.{◌≤◌, ◌<◌, ◌-◌}
+use Prim.Native.Nat.{◌<◌}
 use Rattle.plain.proofs.walk.is_way.Given as goal
 
 abbrev pub invariant-loop-i : goal.invariant-loop-i
-invariant-loop-i l = (l.p < 4096) × (1 ≤ l.i) × (l.i ≤ l.k)
-
-abbrev pub decreases-loop-i : goal.decreases-loop-i
-decreases-loop-i l = l.k - l.i
+invariant-loop-i l = l.p < 4096

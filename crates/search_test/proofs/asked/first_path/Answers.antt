@@ -13,4 +13,4 @@ pen_zones-count-requires c =
 
 pub first_path-requires : goal.first_path-requires
 first_path-requires c = posed c.pen_zones-count.ensures (c.is_free.ensures.0 c.if-not-is_free.false)
-    (c.is_free-2.ensures.0 c.if-not-is_free-2.false)
+    (c.is_free-else-not-is_free.ensures.0 c.if-not-is_free-2.false)

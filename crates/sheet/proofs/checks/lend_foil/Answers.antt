@@ -1,19 +1,31 @@
 -- `sheet::checks::lend_foil` takes the foil out where the checks are passed.
-use Rattle.foil.proofs.Giving.{none_first, number-first}
+use Rattle.foil.proofs.Giving.{none_first}
 use Rattle.sheet_rows.specs.Rows.{sheet_lent}
 use Rattle.sheet_rows.proofs.Records.{eight}
 use Rattle.sheet.proofs.Checking.{on-sheet, in-limits, all-passed}
 use Rattle.sheet.proofs.checks.lend_foil.Goals as goal
 
-pub returns-in-Refused : goal.returns-in-Refused
-returns-in-Refused c = number-first _ _ c.sheet_checks-checked.ensures _ c.in-Refused.is
+pub take_out-requires-clause-eight_foils : goal.take_out-requires-clause-eight_foils
+take_out-requires-clause-eight_foils c =
+    let m = sheet_lent c.args.sheet.boards c.args.table.now c.args.strips.now in
+    in-limits c.args.k m (eight c.args.sheet c.well_formed.1.1.1.0)
+    (none_first _ _ c.sheet_checks.ensures _ c.in_ok-sheet_checks.was)
 
-pub take_out-requires : goal.take_out-requires
-take_out-requires c = let size = eight c.args.sheet c.well_formed.1.1.1.0 in
-    let goes = none_first _ _ c.sheet_checks-checked.ensures c.in_default.is in
-    let m = sheet_lent c.args.sheet.boards c.args.table.now c.args.strips.now in record { eight_foils = in-limits c.args.k m size goes; k_lt_sheet_foils = (on-sheet c.args.k m size goes, c.requires) }
+pub take_out-requires-clause-k_lt_sheet_foils : goal.take_out-requires-clause-k_lt_sheet_foils
+take_out-requires-clause-k_lt_sheet_foils c =
+    let m = sheet_lent c.args.sheet.boards c.args.table.now c.args.strips.now in (
+      on-sheet c.args.k m (eight c.args.sheet c.well_formed.1.1.1.0)
+          (none_first _ _ c.sheet_checks.ensures _ c.in_ok-sheet_checks.was),
+      c.requires,
+    )
+
+pub board_at-requires : goal.board_at-requires
+board_at-requires c =
+    let m = sheet_lent c.args.sheet.boards c.args.table.now c.args.strips.now in
+    on-sheet c.args.k m (eight c.args.sheet c.well_formed.1.1.1.0)
+    (none_first _ _ c.sheet_checks.ensures _ c.in_ok-sheet_checks.was)
 
 pub returns : goal.returns
-returns c = let size = eight c.args.sheet c.well_formed.1.1.1.0 in
-    let goes = none_first _ _ c.sheet_checks-checked.ensures c.in_default.is in
-    all-passed _ _ size goes _ c.take_out.ensures
+returns c =
+    all-passed _ _ (eight c.args.sheet c.well_formed.1.1.1.0)
+    (none_first _ _ c.sheet_checks.ensures _ c.in_ok-sheet_checks.was) _ _ c.take_out.ensures c.board_at.ensures

@@ -1,5 +1,6 @@
 -- `sheet::queries::save` takes foil k out, and is `save_in` of it.
 use mathlib.Core.Path.{refl}
+use Rattle.std.proofs.Common.{◌≡◌, Err, rules}
 use Rattle.foil_spec.specs.Ledger.{reads}
 use Rattle.foil_spec.specs.Sheet.{writes}
 use Rattle.tables.proofs.Filling.{no_rows}
@@ -8,22 +9,21 @@ use Rattle.sheet.proofs.Checking.{opened, not_opened, keeps-rules}
 use Rattle.sheet.proofs.Reading.{read-refused, read_done}
 use Rattle.sheet.proofs.queries.save.Goals as goal
 
-pub open_foil-checked-requires : goal.open_foil-checked-requires
-open_foil-checked-requires c = no_rows
+pub open_foil-requires : goal.open_foil-requires
+open_foil-requires c = no_rows
 
-pub returns-in-Refused : goal.returns-in-Refused
+pub returns-in_err-board : goal.returns-in_err-board
 unfolding reads_foil reads
-returns-in-Refused c = read-refused _ _ _ _ _
-    (not_opened _ _ _ _ c.open_foil-checked.ensures _ c.in-Refused.is _ _ refl)
-
-pub board_at-board-requires : goal.board_at-board-requires
-board_at-board-requires c = (opened _ _ _ _ c.open_foil-checked.ensures c.in_default.is).out.here
+returns-in_err-board c =
+    let same : c.from_residual.result ≡ Err c.in_err-board.field-0.0 = search rules in
+    rw same
+    (read-refused _ _ _ _ _ (not_opened _ _ _ _ c.open_foil.ensures _ c.in_err-board.was _ _ refl))
 
 pub save_in-requires : goal.save_in-requires
-save_in-requires c = let o = opened _ _ _ _ c.open_foil-checked.ensures c.in_default.is in
-    keeps-rules _ _ _ o _ c.board_at-board.ensures
+save_in-requires c = keeps-rules _ _ _ _ (opened _ _ _ _ c.open_foil.ensures _ c.in_ok-board.was)
 
 pub returns : goal.returns
 unfolding writes
-returns c = let o = opened _ _ _ _ c.open_foil-checked.ensures c.in_default.is in
-    read_done _ _ _ _ _ o.out _ c.board_at-board.ensures refl _ _ c.save_in.ensures
+returns c =
+    let o = opened _ _ _ _ c.open_foil.ensures _ c.in_ok-board.was in
+    read_done _ _ _ _ _ _ o.out refl _ _ c.save_in.ensures

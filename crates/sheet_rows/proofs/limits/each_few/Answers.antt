@@ -1,16 +1,16 @@
--- `sheet_rows::limits::each_few` tests one number a turn.
-use native.Mathlib.Omega.{arith}
-use Rattle.sheet_rows.proofs.Counting.{few-none, few-over, few-more, few-done}
+-- `sheet_rows::limits::each_few` tests one number after the other.
+use Rattle.std.proofs.Common.{◌∙◌, rules, tests}
+use Rattle.std.proofs.lemmas.Iterator.{YieldsList-from_slice}
+use Rattle.std.proofs.lemmas.Iterator.Search.{all_from_yields_List}
+use lib.Dec.{leb}
+use Rattle.foil_spec.specs.Limits.{max_entries}
+use Rattle.foil_spec.specs.Sheet.{each_few}
+use Rattle.sheet_rows.proofs.Counting.{all-tests}
 use Rattle.sheet_rows.proofs.limits.each_few.Goals as goal
 
-pub loop-i-init : goal.loop-i-init
-loop-i-init c = few-none _
-
-pub returns-then-counts-i-gt-MAX_ENTRIES : goal.returns-then-counts-i-gt-MAX_ENTRIES
-returns-then-counts-i-gt-MAX_ENTRIES c = few-over c.args.counts (omega arith) _ (omega arith) c.if-counts-i-gt-MAX_ENTRIES.true
-
-pub loop-i-preserved : goal.loop-i-preserved
-loop-i-preserved c = few-more c.args.counts (omega arith) _ (omega arith) c.if-counts-i-gt-MAX_ENTRIES.false c.loop-i.invariant
-
 pub returns : goal.returns
-returns c = few-done c.args.counts (omega arith) _ (omega arith) c.loop-i.invariant
+unfolding each_few
+returns c =
+    all_from_yields_List (λ n. leb n max_entries) _ _ _ c.all.ensures.ran (YieldsList-from_slice c.args.counts (cc))
+    (λ x b q k. search (rules, tests))
+    ∙ all-tests (λ n. leb n max_entries) c.args.counts

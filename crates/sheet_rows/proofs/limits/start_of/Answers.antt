@@ -1,24 +1,24 @@
--- `sheet_rows::limits::start_of` adds the numbers of one foil a turn.
-use native.Mathlib.Omega.{arith}
-use Rattle.sheet_rows.proofs.Counting.{begun-none, begun-small, begun_more, begun-done}
-use Rattle.sheet_laws.proofs.Counts.{few-at, ok-few}
+-- `sheet_rows::limits::start_of` adds the numbers of the foils before foil k.
+use Rattle.std.proofs.Common.{◌≡◌, ◌<◌, ◌^◌, ◌∙◌, rules, arith, take, sum}
+use Rattle.sheet_laws.specs.Places.{start_of}
+use Rattle.sheet_rows.proofs.Counting.{sum-total, start_small}
 use Rattle.sheet_rows.proofs.limits.start_of.Goals as goal
 
-pub loop-i-init : goal.loop-i-init
-loop-i-init c = begun-none _ _
+pub sum-requires-clause-fits : goal.sum-requires-clause-fits
+unfolding start_of
+sum-requires-clause-fits c =
+    let h : sum (take c.args.k c.args.counts) < 2 ^ 64 =
+    omega (arith, sum-total (take c.args.k c.args.counts), start_small c.args.counts c.args.k c.requires.1) in
+    search rules
 
-pub overflow_mul-start : goal.overflow_mul-start
-overflow_mul-start c = omega (arith, few-at c.args.counts c.loop-i.i (ok-few _ c.requires.1) (omega arith))
-
-pub overflow_add-start : goal.overflow_add-start
-overflow_add-start c = omega (
-  arith,
-  few-at c.args.counts c.loop-i.i (ok-few _ c.requires.1) (omega arith),
-  begun-small c.args.counts c.requires.1 _ _ _ c.loop-i.invariant,
-)
-
-pub loop-i-preserved : goal.loop-i-preserved
-loop-i-preserved c = begun_more c.args.counts c.requires.1 _ _ _ (omega arith) (omega arith) c.loop-i.invariant
+pub overflow_mul-result : goal.overflow_mul-result
+unfolding start_of
+overflow_mul-result c =
+    let e : c.sum.result ≡ sum (take c.args.k c.args.counts) = search rules in
+    omega (arith, e ∙ sum-total (take c.args.k c.args.counts), start_small c.args.counts c.args.k c.requires.1)
 
 pub returns : goal.returns
-returns c = begun-done c.args.counts c.requires.1 _ _ _ (omega arith) c.loop-i.invariant
+unfolding start_of
+returns c =
+    let e : c.sum.result ≡ sum (take c.args.k c.args.counts) = search rules in
+    omega (arith, e ∙ sum-total (take c.args.k c.args.counts))

@@ -1,13 +1,9 @@
--- `sheet_rows::table::replace` copies what stands behind apart, if anything does, and puts it behind the rows.
-use Rattle.sheet_rows.proofs.Copying.{replacing-last, replacing}
+-- `sheet_rows::table::replace` moves what stands behind, puts the rows before it, and zeros after it.
+use Rattle.sheet_rows.proofs.Copying.{replaced-in}
 use Rattle.sheet_rows.proofs.table.replace.Goals as goal
 
-pub returns-then-rest-end : goal.returns-then-rest-end
-returns-then-rest-end c = replacing-last c.args.table.now c.args.rows.now c.args.m c.args.start c.args.rest
-    c.args.end c.requires.rest_bound.0 c.requires.rest_bound.1 c.requires.rest_bound.2 c.requires.sheet_size_in_bounds.0 c.requires.sheet_size_in_bounds.1 _ c.if-rest-end.true
-    c.put_last.ensures
-
 pub returns : goal.returns
-returns c = replacing c.args.table.now c.args.rows.now c.args.m c.args.start c.args.rest c.args.end
-    c.requires.rest_bound.0 c.requires.rest_bound.1 c.requires.rest_bound.2 c.requires.sheet_size_in_bounds.0 c.requires.sheet_size_in_bounds.1 _ _ _ c.copy.ensures
-    c.put_last-2.ensures c.copy-2.ensures
+returns c =
+    replaced-in c.args.table.now c.args.rows.now c.args.start c.args.rest c.args.end c.requires.rest_bound.0
+    c.requires.rest_bound.1 c.requires.rest_bound.2 c.requires.sheet_size_in_bounds c.copy_within.new.self
+    c.copy_within.ensures.after _ c.copy_from_slice.ensures.after _ (c.fill.ensures.after (λ y q. q))

@@ -22,10 +22,11 @@ put_bytes-requires c = omega (
 
 pub returns : goal.returns
 unfolding slip_line
-returns c = put_then
+returns c = rw (c.from.ensures, c.from-2.ensures, c.from-3.ensures) at
+    (put_then
     (put_then
     (put_then
     (put_then (put_then c.put_right-a.ensures.put c.put_column-b.ensures.put) c.put_column-c.ensures.put)
     c.put_column-d.ensures.put)
     c.put_column-e.ensures.put)
-    c.put_bytes.ensures
+    c.put_bytes.ensures)

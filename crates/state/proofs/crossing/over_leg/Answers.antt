@@ -1,21 +1,20 @@
--- `state::crossing::over_leg` meets its contract: the patch is over none of the legs before place k.
-use native.Mathlib.Omega.{arith}
-use Rattle.state.proofs.Crossings.{without-none, over-more, over_yes, over_no, leg-not-over}
+-- `state::crossing::over_leg` tries a patch with one entry after the other.
+use Rattle.std.proofs.Common.{◌∙◌, refl, rules, tests, arith}
+use Rattle.std.proofs.lemmas.Iterator.{YieldsList-from_range}
+use Rattle.std.proofs.lemmas.Iterator.Search.{any_from_yields_List}
+use borrow.Author.Tests.{ne_eqb}
+use Rattle.foil_spec.specs.Foil.{crosses, over_leg}
+use Rattle.foil_spec.specs.Lent.{entry_at}
+use Rattle.state.proofs.Crossings.{leg-not-over}
+use Rattle.state.proofs.Rows.{any-row}
 use Rattle.state.proofs.crossing.over_leg.Goals as goal
 
-pub returns-then-p-ne0 : goal.returns-then-p-ne0
-returns-then-p-ne0 c = leg-not-over _ _ _ c.if-p-ne0.true
+pub returns-then-p-eq0 : goal.returns-then-p-eq0
+unfolding over_leg
+returns-then-p-eq0 c =
+    any_from_yields_List (λ k. crosses c.args.m c.args.p (entry_at c.args.table.now k)) _ _ _ c.any.ensures.ran
+    (YieldsList-from_range 0 c.args.n c.args.n refl (omega arith)) (λ x b q k. search (rules, tests))
+    ∙ any-row (crosses c.args.m c.args.p) (entry_at c.args.table.now) 0 c.args.n
 
-pub loop-k-init : goal.loop-k-init
-loop-k-init c = without-none _ _ _
-
-pub returns-then-crosses_leg : goal.returns-then-crosses_leg
-returns-then-crosses_leg c = over_yes _ _ _ _ _ c.loop-k-test.true _ c.entry_at.ensures _
-    c.crosses_leg.ensures c.if-crosses_leg.true
-
-pub loop-k-preserved : goal.loop-k-preserved
-loop-k-preserved c = over-more _ _ _ _ _ c.loop-k-test.true _ c.entry_at.ensures _
-    c.crosses_leg.ensures c.if-crosses_leg.false c.loop-k.invariant
-
-pub returns : goal.returns
-returns c = over_no _ _ _ _ _ (omega arith) c.loop-k.invariant
+pub returns-else-p-eq0 : goal.returns-else-p-eq0
+returns-else-p-eq0 c = ne_eqb _ 0 c.if-p-eq0.false ∙ leg-not-over _ _ _ c.if-p-eq0.false

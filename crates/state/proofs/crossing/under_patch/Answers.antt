@@ -1,18 +1,15 @@
--- `state::crossing::under_patch` meets its contract: none of the patches before place k is over the leg.
-use native.Mathlib.Omega.{arith}
-use Rattle.state.proofs.Crossings.{without-none, under_more, under-yes, under-no}
+-- `state::crossing::under_patch` tries one entry after the other.
+use Rattle.std.proofs.Common.{◌∙◌, refl, rules, tests, arith}
+use Rattle.std.proofs.lemmas.Iterator.{YieldsList-from_range}
+use Rattle.std.proofs.lemmas.Iterator.Search.{any_from_yields_List}
+use Rattle.foil_spec.specs.Foil.{Entry, crosses, under_patch}
+use Rattle.foil_spec.specs.Lent.{entry_at}
+use Rattle.state.proofs.Rows.{any-row}
 use Rattle.state.proofs.crossing.under_patch.Goals as goal
 
-pub loop-k-init : goal.loop-k-init
-loop-k-init c = without-none _ _ _
-
-pub returns-then-crosses_leg : goal.returns-then-crosses_leg
-returns-then-crosses_leg c = under-yes _ _ _ _ _ c.loop-k-test.true _ c.entry_at.ensures _
-    c.crosses_leg.ensures c.if-crosses_leg.true
-
-pub loop-k-preserved : goal.loop-k-preserved
-loop-k-preserved c = under_more _ _ _ _ _ c.loop-k-test.true _ c.entry_at.ensures _
-    c.crosses_leg.ensures c.if-crosses_leg.false c.loop-k.invariant
-
 pub returns : goal.returns
-returns c = under-no _ _ _ _ _ (omega arith) c.loop-k.invariant
+unfolding under_patch
+returns c =
+    any_from_yields_List (λ k. crosses c.args.m (entry_at c.args.table.now k) c.args.e) _ _ _ c.any.ensures.ran
+    (YieldsList-from_range 0 c.args.n c.args.n refl (omega arith)) (λ x b q k. search (rules, tests))
+    ∙ any-row (λ (p : Entry). crosses c.args.m p c.args.e) (entry_at c.args.table.now) 0 c.args.n

@@ -3,9 +3,10 @@ use Prim.Native.Nat.{◌-◌}
 use Rattle.strips.proofs.JoiningRow.{JoiningRow}
 use Rattle.strips.proofs.row_joining.join_row.Given as goal
 
-abbrev pub invariant-loop-x : goal.invariant-loop-x
-invariant-loop-x l =
-    JoiningRow l.boxes l.row l.n l.m l.w l.h l.y l.z l.c l.initial.out l.initial.last l.out l.last l.x l.j l.count
+abbrev pub invariant-loop-next : goal.invariant-loop-next
+invariant-loop-next l =
+    JoiningRow l.boxes l.row.places l.n l.row.count l.w l.h l.y l.z l.c l.initial.out l.initial.last l.out l.last l.x
+    l.left l.count
 
-abbrev pub decreases-loop-x : goal.decreases-loop-x
-decreases-loop-x l = l.w - l.x
+abbrev pub decreases-loop-next : goal.decreases-loop-next
+decreases-loop-next l = l.w - l.x

@@ -10,7 +10,7 @@ use Rattle.strips.proofs.row_joining.join_rows.Given as goal
 
 abbrev pub invariant-loop-y : goal.invariant-loop-y
 invariant-loop-y l =
-    (l.y ≤ l.h) × (length l.last ≡ length l.initial.last) × (length l.row ≡ length l.initial.row) × Before l.boxes l.row l.n l.m l.y
+    (l.y ≤ l.h) × (length l.last ≡ length l.initial.last) × Before l.boxes l.row.places l.n l.row.count l.y
     × Joined (box_free l.w l.h l.n l.boxes) l.w l.h l.initial.out l.out l.last l.count l.y l.y 0
     (strips_from (box_free l.w l.h l.n l.boxes) l.w l.h l.y)
 

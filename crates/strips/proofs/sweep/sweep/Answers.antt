@@ -2,62 +2,35 @@
 -- the row's list on have none from `at` on. The inner loop leaves `at` as it is until a box goes on past it.
 use Prim.Native.Nat.{◌-◌, ◌<◌, ◌≤◌}
 use native.Mathlib.Omega.{arith}
-use mathlib.Core.Path.{◌≡◌, refl, ap}
+use mathlib.Core.Path.{◌≡◌, ap}
 use mathlib.Core.Logic.{inl, inr}
-use lib.ListN.{length, get_or}
 use Rattle.foil_spec.specs.Foil.{Entry}
 use Rattle.strips.specs.RowBoxes.{listed_box}
 use Rattle.strips.proofs.Standing.{fits}
-use Rattle.strips.proofs.Sweeping.{sweeping-start, sweeping-on, sweep-run}
+use Rattle.strips.proofs.Sweeping.{sweeping-on, sweep-run}
 use Rattle.strips.proofs.Sweeping.{LeftAt, left-run, left-none}
 use Rattle.strips.proofs.sweep.sweep.Goals.{else-scan-test, then-scan-test+then-j-eq0}
 use Rattle.strips.proofs.sweep.sweep.Goals as goal
 
-pub scan-init : goal.scan-init
-scan-init c = sweeping-start _ _ _ _ _ c.args.h _ _ _ c.requires.x_le_w.0 c.requires.x_le_w.2 c.requires.behind
-
-pub loop-j-init : goal.loop-j-init
-loop-j-init c = (refl, omega arith, c.scan.invariant)
-
-pub overflow_sub-j : goal.overflow_sub-j
-overflow_sub-j c = let pos : 0 < c.loop-j.j = omega (arith, c.if-j-eq0.false) in
-    omega (arith, pos)
-
 pub offset_bounds-row-j : goal.offset_bounds-row-j
-offset_bounds-row-j c = let pos : 0 < c.loop-j.j = omega (arith, c.if-j-eq0.false) in
-    let in_row : c.loop-j.j - 1 < c.args.m = omega (arith, pos, c.loop-j.invariant.2.jm) in
-    let long : c.loop-j.j - 1 < length c.args.row.now = omega (arith, in_row, fits _ _ _ _ _ _ _ c.requires.on_row) in
-    omega (arith, long)
+offset_bounds-row-j c = omega (arith, (fits _ _ _ _ _ _ _ c.requires.on_row).0, c.requires.boxes.few, c.loop-j.invariant.2.jm, c.if-j-eq0.false)
 
 pub bounds-row-j : goal.bounds-row-j
-bounds-row-j c = let pos : 0 < c.loop-j.j = omega (arith, c.if-j-eq0.false) in
-    let in_row : c.loop-j.j - 1 < c.args.m = omega (arith, pos, c.loop-j.invariant.2.jm) in
-    let long : c.loop-j.j - 1 < length c.args.row.now = omega (arith, in_row, fits _ _ _ _ _ _ _ c.requires.on_row) in
-    omega (arith, long)
-
-pub entry_at-zone-requires : goal.entry_at-zone-requires
-entry_at-zone-requires c = let pos : 0 < c.loop-j.j = omega (arith, c.if-j-eq0.false) in
-    let in_row : c.loop-j.j - 1 < c.args.m = omega (arith, pos, c.loop-j.invariant.2.jm) in
-    let in_table : get_or c.args.row.now (c.loop-j.j - 1) 0 < c.args.n = c.requires.on_row.below _ in_row in
-    omega (arith, in_table, c.requires.boxes.len)
+bounds-row-j c = omega (arith, (fits _ _ _ _ _ _ _ c.requires.on_row).0, c.requires.boxes.few, c.loop-j.invariant.2.jm, c.if-j-eq0.false)
 
 pub returns-then-at-zone : goal.returns-then-at-zone
 returns-then-at-zone c = let pos : 0 < c.loop-j.j = omega (arith, c.if-j-eq0.false) in
     let in-width : c.loop-j.at < c.args.w = omega (arith, c.loop-j.invariant.0, c.scan-test.true) in
-    let box : Entry = listed_box c.args.boxes.now c.args.row.now
+    let box : Entry = listed_box c.args.boxes.now c.args.row.now.places
     (c.loop-j.j - 1) in
     let x0-is : c.entry_at-zone.result.x0 ≡ box.x0 = ap (λ (e : Entry). e.x0) c.entry_at-zone.ensures in
     let x1-is : c.entry_at-zone.result.x1 ≡ box.x1 = ap (λ (e : Entry). e.x1) c.entry_at-zone.ensures in
     sweep-run _ _ _ _ _ _ _ _ c.requires.boxes c.requires.on_row _ _ c.loop-j.invariant.2 c.requires.x_le_w.1 in-width pos _ _
     x0-is x1-is c.if-at-zone.true
 
-pub scan-smaller : goal.scan-smaller
-scan-smaller c = let pos : 0 < c.loop-j.j = omega (arith, c.if-j-eq0.false) in
-    omega (arith, pos, c.loop-j.invariant.1)
-
 pub scan-preserved : goal.scan-preserved
 scan-preserved c = let pos : 0 < c.loop-j.j = omega (arith, c.if-j-eq0.false) in
-    let box : Entry = listed_box c.args.boxes.now c.args.row.now
+    let box : Entry = listed_box c.args.boxes.now c.args.row.now.places
     (c.loop-j.j - 1) in
     let x1-is : c.entry_at-zone.result.x1 ≡ box.x1 = ap (λ (e : Entry). e.x1) c.entry_at-zone.ensures in
     let x0-is : c.entry_at-zone.result.x0 ≡ box.x0 = ap (λ (e : Entry). e.x0) c.entry_at-zone.ensures in
@@ -65,13 +38,9 @@ scan-preserved c = let pos : 0 < c.loop-j.j = omega (arith, c.if-j-eq0.false) in
     sweeping-on _ _ _ _ _ _ _ _ c.requires.boxes c.requires.on_row _ _ c.loop-j.invariant.2 pos begun _
     (omega (arith, c.if-at-zone-2.true, x1-is))
 
-pub loop-j-smaller : goal.loop-j-smaller
-loop-j-smaller c = let pos : 0 < c.loop-j.j = omega (arith, c.if-j-eq0.false) in
-    omega (arith, pos)
-
 pub loop-j-preserved : goal.loop-j-preserved
 loop-j-preserved c = let pos : 0 < c.loop-j.j = omega (arith, c.if-j-eq0.false) in
-    let box : Entry = listed_box c.args.boxes.now c.args.row.now
+    let box : Entry = listed_box c.args.boxes.now c.args.row.now.places
     (c.loop-j.j - 1) in
     let x1-is : c.entry_at-zone.result.x1 ≡ box.x1 = ap (λ (e : Entry). e.x1) c.entry_at-zone.ensures in
     let x0-is : c.entry_at-zone.result.x0 ≡ box.x0 = ap (λ (e : Entry). e.x0) c.entry_at-zone.ensures in
@@ -84,7 +53,7 @@ loop-j-preserved c = let pos : 0 < c.loop-j.j = omega (arith, c.if-j-eq0.false) 
 
 pub returns-then-at-w : goal.returns-then-at-w
 returns-then-at-w c =
-    let left_at : LeftAt c.args.boxes.now c.args.row.now c.args.n c.args.m c.args.w c.args.y c.args.x c.scan-test.at =
+    let left_at : LeftAt c.args.boxes.now c.args.row.now.places c.args.n c.args.row.now.count c.args.w c.args.y c.args.x c.scan-test.at =
     elim c.scan-test.branch [
       | else-scan-test w ↦ record { j = c.scan.j; sweeping = rw w.at-is c.scan.invariant; why = inl (rw w.at-is w.scan-test.false) }
       | then-scan-test+then-j-eq0 w ↦ record { j = w.loop-j.j; sweeping = rw w.at-is w.loop-j.invariant.2; why = inr w.if-j-eq0.true }
@@ -93,7 +62,7 @@ returns-then-at-w c =
 
 pub returns : goal.returns
 returns c =
-    let left_at : LeftAt c.args.boxes.now c.args.row.now c.args.n c.args.m c.args.w c.args.y c.args.x c.scan-test.at =
+    let left_at : LeftAt c.args.boxes.now c.args.row.now.places c.args.n c.args.row.now.count c.args.w c.args.y c.args.x c.scan-test.at =
     elim c.scan-test.branch [
       | else-scan-test w ↦ record { j = c.scan.j; sweeping = rw w.at-is c.scan.invariant; why = inl (rw w.at-is w.scan-test.false) }
       | then-scan-test+then-j-eq0 w ↦ record { j = w.loop-j.j; sweeping = rw w.at-is w.loop-j.invariant.2; why = inr w.if-j-eq0.true }

@@ -6,13 +6,15 @@ use Rattle.strips.proofs.Sweeping.{Sweeping}
 use Rattle.strips.proofs.sweep.sweep.Given as goal
 
 abbrev pub invariant-loop-j : goal.invariant-loop-j
-invariant-loop-j l = (l.at ≡ l.initial.at) × (l.j ≤ l.initial.j) × Sweeping l.boxes l.row l.n l.m l.w l.y l.x l.at l.j
+invariant-loop-j l =
+    (l.at ≡ l.initial.at) × (l.j ≤ l.initial.j)
+    × Sweeping l.boxes l.row.places l.n l.row.count l.w l.y l.x l.at l.j
 
 abbrev pub decreases-loop-j : goal.decreases-loop-j
 decreases-loop-j l = l.j
 
 abbrev pub invariant-scan : goal.invariant-scan
-invariant-scan l = Sweeping l.boxes l.row l.n l.m l.w l.y l.x l.at l.j
+invariant-scan l = Sweeping l.boxes l.row.places l.n l.row.count l.w l.y l.x l.at l.j
 
 abbrev pub decreases-scan : goal.decreases-scan
 decreases-scan l = l.j

@@ -1,18 +1,16 @@
--- `tables::rows::in_use` meets its contract: the entries before place k are of other nets.
+-- `tables::rows::in_use` meets its contract.
+use Prim.Native.Nat.{ℕ}
 use native.Mathlib.Omega.{arith}
-use Rattle.tables.proofs.Nets.{others-none, others-more, others-all, used-here}
+use mathlib.Core.Path.{refl}
+use Rattle.std.proofs.Common.{rules, tests}
+use Rattle.std.proofs.lemmas.Iterator.{cases_from_any, YieldsList-from_range}
+use Rattle.tables.proofs.Nets.{Of, used-by}
 use Rattle.tables.proofs.rows.in_use.Goals as goal
 
-pub loop-k-init : goal.loop-k-init
-loop-k-init c = others-none _ _ _
-
-pub returns-then-entry_at-net : goal.returns-then-entry_at-net
-returns-then-entry_at-net c = used-here c.args.table.now c.args.n c.args.net _ c.loop-k-test.true _
-    c.entry_at.ensures c.if-entry_at-net.true
-
-pub loop-k-preserved : goal.loop-k-preserved
-loop-k-preserved c = others-more _ _ _ _ c.loop-k-test.true _ c.entry_at.ensures c.if-entry_at-net.false
-    c.loop-k.invariant
-
 pub returns : goal.returns
-returns c = others-all _ _ _ _ (omega arith) c.loop-k.invariant
+returns c =
+    used-by c.args.table.now c.args.n c.args.net _
+    (cases_from_any _ _ _ (Of c.args.table.now c.args.n c.args.net)
+    (λ (k : ℕ). Of c.args.table.now c.args.n c.args.net k → ⊥) c.any.ensures.ran
+    (YieldsList-from_range 0 c.args.n c.args.n refl (omega arith)) (λ x q k. search (rules, tests))
+    (λ x q k. search (rules, tests)))

@@ -1,8 +1,0 @@
--- `table::append_join` meets its contract: what the step has done to the numbers that were loaded, it has done to the table.
-use Rattle.sheet_rows.proofs.Records.{eight}
-use Rattle.host.proofs.Tables.{whole-wrote}
-use Rattle.host.proofs.table.append_join.Goals as goal
-
-pub returns : goal.returns
-returns c =
-    whole-wrote _ _ _ _ _ _ _ _ _ _ _ (eight c.args.s c.well_formed.0) c.load-t.ensures c.join-out.ensures c.store.ensures

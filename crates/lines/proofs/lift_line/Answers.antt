@@ -1,8 +1,0 @@
--- `lines::lift_line` meets its contract: a line of a word, a net and a number.
-use native.Mathlib.Omega.{arith}
-use Rattle.lines.specs.Lines.{lift_line}
-use Rattle.lines.proofs.lift_line.Goals as goal
-
-pub returns : goal.returns
-unfolding lift_line
-returns c = record { put = c.net_line.ensures.put; upper_bound = omega arith }

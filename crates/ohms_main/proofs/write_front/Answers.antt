@@ -1,7 +1,0 @@
--- The part that is written lies in the list.
-use mathlib.Core.Path.{sym}
-use lib.Seq.{length-take-le}
-use Rattle.ohms_main.proofs.write_front.Goals as goal
-
-pub slice_bounds-write_all-end : goal.slice_bounds-write_all-end
-slice_bounds-write_all-end c = sym (length-take-le _ _ c.requires.there)
