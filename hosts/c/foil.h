@@ -12,7 +12,7 @@
 
    A call may be lent any lists: one that is too short is refused by 12, and of a longer one the places past the first
    FOIL_PLACES or FOIL_STRIPS are neither read nor written. Lists must not overlap each other nor the records. A refused
-   call writes to no list, and to the records what they held; a foil number above 7 is refused by 23, before all else.
+   call writes to no list, and the records keep what they held; a foil number above 7 is refused by 23, before all else.
 
    Nothing is kept between calls but what is lent: sheets that share no list may be called from several threads at once.
    A call needs up to FOIL_STACK bytes of stack. */
