@@ -3,7 +3,7 @@ import json
 import resource
 import socket
 import time
-from typing import List
+from typing import Any, List
 from unittest import mock
 
 from screen import holding, serving
@@ -111,18 +111,32 @@ class Connections(given.Served):
         with mock.patch.object(self.server, "most", 1 + len(self.server.held)):
             watching = self.connected()
             watching.sendall(self.request("watch", b'{"screen":"one"}', 16)[:-1])
-            self.wait_for_one_that_is_answered()
+            self.wait_until_answered(watching)
             idle = [self.connected() for _ in range(3)]
+            for one in idle[:2]:
+                self.assertEqual(everything(one), b"")
             watching.sendall(b"}")
             self.assertEqual(watching.recv(12), b"HTTP/1.1 200")
-            self.assertTrue(idle)
 
-    def wait_for_one_that_is_answered(self) -> None:
-        """Waits until the request of a connection is being answered."""
+    def wait_until_answered(self, made: socket.socket) -> None:
+        """Waits until the request of this connection is being answered, as that of the page may be still."""
         until = time.monotonic() + LONGEST
-        while None not in list(self.server.held.values()):
+        while made.getsockname() not in self.answered():
             self.assertLess(time.monotonic(), until)
             time.sleep(0.01)
+
+    def answered(self) -> List[Any]:
+        """The other sides of the connections whose requests are being answered."""
+        with self.server.room:
+            return [other_side(one) for one, known in self.server.held.items() if known is None]
+
+
+def other_side(held: socket.socket) -> Any:
+    """The address of the other side of a connection; none where it is gone."""
+    try:
+        return held.getpeername()
+    except OSError:
+        return None
 
 
 def everything(made: socket.socket) -> bytes:
