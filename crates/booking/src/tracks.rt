@@ -9,7 +9,7 @@ ghost use Rattle.booking.specs.Tracks.{MayTrack, Searched, Tracked};
 use crate::book_path;
 use foil::{Accepted, Answer};
 use foil_spec::{Board, Reason};
-use tables::{bend_count, leg_count};
+use tables::{bend_count, copy, leg_count};
 
 // The numbers of the corners of a path whose legs fit an empty table: what a search writes a path to before it is
 // booked.
@@ -43,6 +43,6 @@ pub fn book_found(
         return Err(Reason::TableFull.into());
     }
     *board = book_path(table, strips, *board, net, path, k).ok_or(Reason::TooManyStrips)?;
-    corners[..k * 2].copy_from_slice(&path[..k * 2]);
+    copy(&mut corners[..k * 2], &path[..k * 2]);
     Ok(Accepted::Laid(k, bend_count(k)))
 }

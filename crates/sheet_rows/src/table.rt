@@ -12,6 +12,7 @@ ghost use Rattle.sheet_rows.specs.Rows.{PutBack};
 use crate::limits::start_of;
 use crate::{FOILS, SHEET_ENTRIES, SHEET_SIZE, Sheet, counts_of, with_board};
 use foil_spec::Board;
+use tables::copy;
 
 // How many places of a lent table of n a call goes over: the first 512.
 pub fn places_lent(n: usize) -> usize
@@ -29,7 +30,7 @@ pub fn take_out(rows: &mut [u16], table: &[u16], sheet: Sheet, k: usize)
     let counts = counts_of(sheet);
     let start = start_of(counts, k);
     let size = counts[k] * 5;
-    rows[..size].copy_from_slice(&table[start..][..size]);
+    copy(&mut rows[..size], &table[start..][..size]);
 }
 
 // Gives foil k this record and the first entries of the rows, as many as the record says: those of the foils behind it
@@ -68,6 +69,6 @@ fn replace(table: &mut [u16], rows: &[u16], start: usize, rest: usize, end: usiz
 {
     let behind = start + rows.len();
     table.copy_within(rest..end, behind);
-    table[start..behind].copy_from_slice(rows);
+    copy(&mut table[start..behind], rows);
     table[behind + (end - rest)..SHEET_SIZE].fill(0);
 }

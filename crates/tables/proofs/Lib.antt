@@ -4,3 +4,4 @@ pub mod Appending
 pub mod Nets
 pub mod Putting
 pub mod Taking
+pub mod Copying

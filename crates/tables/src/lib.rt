@@ -16,7 +16,7 @@ ghost use Rattle.tables.specs.Booked.{Booking};
 
 use foil_spec::{Board, TABLE_SIZE};
 pub use legs::{append_legs, bend_count, leg_count};
-pub use rows::{in_use, without};
+pub use rows::{copy, in_use, without};
 use strip_list::put_strips;
 use zones::{BOXES_SIZE, pen_zones};
 
@@ -38,7 +38,7 @@ pub fn take_over(
     let mut boxes = [0u16; BOXES_SIZE];
     let m = pen_zones(&mut boxes, rows, n, board);
     let count = put_strips(strips, &boxes, m, board.width, board.height)?;
-    table[..TABLE_SIZE].copy_from_slice(rows);
+    copy(&mut table[..TABLE_SIZE], rows);
     Some(Board {
         entries: n,
         strips: count,

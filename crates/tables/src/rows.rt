@@ -8,6 +8,17 @@ ghost use Rattle.tables.specs.Rows.{rows_of, Kept};
 
 use places::{entry_at, put_entry};
 
+// Copies a list to one that is as long. The two do not overlap, and the compiler sees it here: this becomes `memcpy`,
+// where std's copy becomes `memmove`, which the library for C does not ask of its hosts.
+pub fn copy(to: &mut [u16], from: &[u16])
+    requires { length to.old ≡ length from.now }
+    ensures { to.new ≡ from.now }
+{
+    for i in 0..from.len() {
+        to[i] = from[i];
+    }
+}
+
 // Whether one of the first n entries of the table is of the net.
 pub fn in_use(table: &[u16], n: usize, net: u16) -> bool
     requires { n * 5 ≤ length table.now }

@@ -14,8 +14,8 @@ returns-in_err-count c =
     rw c.from_residual.ensures
     (refused _ _ _ _ _ _ _ _ (zoned-strips _ _ _ _ _ _ _ c.pen_zones-m.ensures) _ _ c.in_err-count.ensures refl)
 
-pub copy_from_slice-requires : goal.copy_from_slice-requires
-copy_from_slice-requires c =
+pub copy-requires : goal.copy-requires
+copy-requires c =
     omega (
       arith,
       rows_long c.args.n c.args.rows.now c.requires.table.few c.requires.rows_value,
@@ -26,4 +26,4 @@ pub returns : goal.returns
 returns c =
     taken _ _ _ _ _ _ _ _ (zoned-strips _ _ _ _ _ _ _ c.pen_zones-m.ensures) _ _ _ c.requires.table.few
     c.requires.rows_value c.in_ok-count.ensures
-    (ap (λ (x : List ℕ). x ++ drop 640 c.args.table.now) c.copy_from_slice.ensures.after)
+    (ap (λ (x : List ℕ). x ++ drop 640 c.args.table.now) c.copy.ensures)

@@ -72,4 +72,4 @@ returns c =
     (p.corners _ some)
     c.if-corners-k.false _ c.leg_count.ensures c.if-limit-n.false _ _ _ _ _ c.bend_count.ensures
     (stored-by _ c.book_path.ensures _ after)
-    (ap (λ (x : List ℕ). x ++ drop (c.in_ok-k.k * 2) c.args.corners.now) c.copy_from_slice.ensures.after)
+    (ap (λ (x : List ℕ). x ++ drop (c.in_ok-k.k * 2) c.args.corners.now) c.copy.ensures)

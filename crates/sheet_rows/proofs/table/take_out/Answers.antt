@@ -16,8 +16,8 @@ pub overflow_mul-size : goal.overflow_mul-size
 overflow_mul-size c =
     omega (arith, part-small _ _ c.requires.eight_foils _ c.requires.k_lt_sheet_foils.0 _ c.counts_of-counts.ensures)
 
-pub slice_bounds-copy_from_slice-end : goal.slice_bounds-copy_from_slice-end
-slice_bounds-copy_from_slice-end c =
+pub slice_bounds-copy-end : goal.slice_bounds-copy-end
+slice_bounds-copy-end c =
     omega (
       arith,
       part-small _ _ c.requires.eight_foils _ c.requires.k_lt_sheet_foils.0 _ c.counts_of-counts.ensures,
@@ -28,8 +28,8 @@ slice_bounds-copy_from_slice-end c =
 rows-long : (rows : List ℕ) (m : ℕ) → m ≤ table_size → rows ≡ rows_of [] → m ≡ length (take m rows)
 rows-long rows m h e = sym (length-take-le m rows (omega (arith, ap length e, length-rows [] (omega arith))))
 
-pub slice_bounds-copy_from_slice-end-2 : goal.slice_bounds-copy_from_slice-end-2
-slice_bounds-copy_from_slice-end-2 c =
+pub slice_bounds-copy-end-2 : goal.slice_bounds-copy-end-2
+slice_bounds-copy-end-2 c =
     rows-long _ _ (part-small _ _ c.requires.eight_foils _ c.requires.k_lt_sheet_foils.0 _ c.counts_of-counts.ensures)
     c.requires.k_lt_sheet_foils.1
 
@@ -41,16 +41,16 @@ offset_bounds-table-start c =
           c.start_of-start.ensures,
     )
 
-pub slice_bounds-copy_from_slice-count : goal.slice_bounds-copy_from_slice-count
-slice_bounds-copy_from_slice-count c =
+pub slice_bounds-copy-count : goal.slice_bounds-copy-count
+slice_bounds-copy-count c =
     omega (
       arith,
       part-inside _ _ c.requires.eight_foils _ c.requires.k_lt_sheet_foils.0 _ c.counts_of-counts.ensures _
           c.start_of-start.ensures,
     )
 
-pub slice_bounds-copy_from_slice-start : goal.slice_bounds-copy_from_slice-start
-slice_bounds-copy_from_slice-start c =
+pub slice_bounds-copy-start : goal.slice_bounds-copy-start
+slice_bounds-copy-start c =
     let h : c.start_of-start.result ≤ length c.args.table.now =
     omega (
       arith,
@@ -64,14 +64,14 @@ part-long : (table : List ℕ) (start m : ℕ) → start + m ≤ length table
 part-long table start m h =
     sym (length-take-le m _ (omega (arith, length-take (length table - start) (drop start table), length-drop start table)))
 
-pub slice_bounds-copy_from_slice-end-4 : goal.slice_bounds-copy_from_slice-end-4
-slice_bounds-copy_from_slice-end-4 c =
+pub slice_bounds-copy-end-4 : goal.slice_bounds-copy-end-4
+slice_bounds-copy-end-4 c =
     part-long c.args.table.now c.start_of-start.result _
     (part-inside _ _ c.requires.eight_foils _ c.requires.k_lt_sheet_foils.0 _ c.counts_of-counts.ensures _
     c.start_of-start.ensures)
 
-pub copy_from_slice-requires : goal.copy_from_slice-requires
-copy_from_slice-requires c =
+pub copy-requires : goal.copy-requires
+copy-requires c =
     sym (rows-long _ _
     (part-small _ _ c.requires.eight_foils _ c.requires.k_lt_sheet_foils.0 _ c.counts_of-counts.ensures)
     c.requires.k_lt_sheet_foils.1)
@@ -84,7 +84,7 @@ returns c =
     taking _ _ c.requires.eight_foils _ c.requires.k_lt_sheet_foils.0 _ c.counts_of-counts.ensures _ _ _
     c.start_of-start.ensures c.requires.k_lt_sheet_foils.1
     (ap (λ (x : List ℕ). x ++ drop (get_or c.counts_of-counts.result c.args.k 0 * 5) c.args.rows.now)
-    (c.copy_from_slice.ensures.after
+    (c.copy.ensures
     ∙ ap (take (get_or c.counts_of-counts.result c.args.k 0 * 5))
     (take_all _ (drop c.start_of-start.result c.args.table.now)
     (omega (arith, length-drop c.start_of-start.result c.args.table.now)))))
