@@ -1,12 +1,12 @@
 -- The answer to a question to the foil that a job leaves is written whole, and nothing else.
-use Prim.Native.Nat.{ℕ, ◌≤◌}
+use Prim.Native.Nat.{ℕ, ◌^◌, ◌≤◌, ◌<◌}
 use native.Mathlib.Omega.{arith}
 use mathlib.Core.Path.{◌≡◌, refl, sym, ap, ◌∙◌, subst}
 use mathlib.Core.List.{List, ◌∷◌, ◌++◌}
 use mathlib.Core.Option.{Option, none, some}
 use lib.IntN.{ℤ, pos}
 use lib.ListN.{length, take, drop, replicate, length-append}
-use lib.Seq.{length-take-le, take-append_seam}
+use lib.Seq.{length-take-le, take_all, take-append_seam}
 use Rattle.std.proofs.Common.{w32, FitsSigned, to_z, of_z}
 use Rattle.std.proofs.Math.Facts.{to_z-of_z, sfits_lit}
 use Rattle.std.proofs.lemmas.List.{take-append-le}
@@ -33,6 +33,7 @@ use Rattle.sheet_laws.specs.Jobs.{only_foil0}
 use Rattle.sheet_laws.proofs.Jobs.{all-to-one}
 use Rattle.sheet_rows.specs.Rows.{sheet_lent}
 use Rattle.sheet.specs.Contract.{on_sheet, Tells, SheetReadDone}
+use Rattle.job_report.specs.Writing.{NextOf}
 use Rattle.job_report.proofs.Writing.{put_front}
 use Rattle.job_end.specs.Left.{ended_of, job_end, board_left, JobLeft}
 use Rattle.job_end.specs.Asked.{unused, end_of, Said, to_output, to_error, step_of, word_of}
@@ -47,6 +48,14 @@ use Rattle.job_end.specs.declared.asking.Question.TheVariants.{Save, Slip}
 
 pub all-written : (list : List ℕ) (fd : ℤ) (n : ℕ) (x : Said) → Holds list fd n x → n ≡ length x.bytes
 all-written list fd n x h = sym (length-take-le n list h.there) ∙ ap length h.bytes
+
+pub all-next : (list : List ℕ) (fd : ℤ) (n : ℕ) (x : Said) → Holds list fd n x → n < 2 ^ 64 → NextOf x.bytes 0 list n
+all-next list fd n x h small =
+    record {
+      there = h.there;
+      bytes = take_all n x.bytes (omega (arith, all-written list fd n x h)) ∙ sym h.bytes;
+      counted = omega arith;
+    }
 
 -- a line
 pub line-holds : {o o' line : List ℕ} {n : ℕ} → Put o 0 line o' n → (x : Said) → x ≡ to_error line
@@ -187,9 +196,18 @@ said-fits q m = go _ (plain q _ m)
     go a (plain-number n e) = rw e (sfits_lit tt)
     go a (plain-bytes bs e) = rw e (sfits_lit tt)
 
-pub fd-kept : (q : Question) (m : SheetLent) (list : List ℕ) (fd : ℤ) (n : ℕ) → Holds list fd n (foil_said q m)
+all-fit : (q : Question) (bs : List ℕ) → FitsSigned w32 (said_of q bs).fd
+unfolding said_of end_said foil_said asked_of
+all-fit q bs = go (end_of bs)
+  where
+    go : (x : Ended) → FitsSigned w32 (end_said q bs x).fd
+    go (AtMark b) = said-fits q (job_end bs unused).state
+    go (ByBoard n) = sfits_lit tt
+    go (ByFile n) = sfits_lit tt
+
+pub fd-kept : (q : Question) (bs list : List ℕ) (fd : ℤ) (n : ℕ) → Holds list fd n (said_of q bs)
     → to_z w32 (of_z w32 fd) ≡ fd
-fd-kept q m list fd n h = to_z-of_z (subst (FitsSigned w32) (sym h.to) (said-fits q m))
+fd-kept q bs list fd n h = to_z-of_z (subst (FitsSigned w32) (sym h.to) (all-fit q bs))
 
 pub said-as : (q q' : Question) (m : SheetLent) → q ≡ q' → foil_said q m ≡ foil_said q' m
 said-as q q' m e = ap (λ (x : Question). foil_said x m) e

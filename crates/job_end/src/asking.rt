@@ -6,6 +6,7 @@ ghost use Rattle.foil_spec.specs.Text.{ascii};
 ghost use Rattle.lines.specs.Lines.{item};
 ghost use Rattle.putting.specs.Put.{Put};
 ghost use Rattle.sheet_laws.specs.Jobs.{only_foil0};
+ghost use Rattle.job_report.specs.Writing.{NextOf};
 ghost use Rattle.job_end.specs.Asked.{foil_said, said_of, Holds};
 
 use crate::{Ended, run_job};
@@ -37,20 +38,29 @@ pub fn answer_input(bytes: &mut [u8], question: Question)
     answer_job(&bytes[..n], question);
 }
 
-// Runs a job file, and writes the answer at its end mark, or the line of a job that ended before it, `file N` or
-// `board N`; how many bytes that are.
+// Runs a job file, and writes the answer; how many bytes that are.
 fn answer_job(bytes: &[u8], question: Question) -> usize
     ensures { result ≡ length (said_of question bytes.now).bytes }
 {
+    let mut out = [0u8; PAGE_SIZE];
+    let (fd, n) = put_said(&mut out, bytes, question);
+    let mut written = 0;
+    write_front(&mut written, fd, &out, n, bytes, question);
+    written
+}
+
+// Runs a job file, and puts what is to be written at the front of a list: the answer at its end mark, or the line of a
+// job that ended before it, `file N` or `board N`. The descriptor that it is for, and how many bytes it has.
+fn put_said(out: &mut [u8; PAGE_SIZE], bytes: &[u8], question: Question) -> (i32, usize)
+    ensures { Holds out.new result.0 result.1 (said_of question bytes.now) }
+{
     let mut table = [0u16; SHEET_SIZE];
     let mut strips = [0u16; STRIPS_SIZE];
-    let mut out = [0u8; PAGE_SIZE];
-    let (fd, n) = match run_job(&mut table, &mut strips, bytes) {
-        Ended::AtMark(board) => put_answer(&mut out, &table, &strips, board, question),
-        Ended::ByBoard(number) => (2, put_line(&mut out, b"board", number)),
-        Ended::ByFile(number) => (2, put_line(&mut out, b"file", number)),
-    };
-    write_front(fd, &out, n, bytes, question)
+    match run_job(&mut table, &mut strips, bytes) {
+        Ended::AtMark(board) => put_answer(out, &table, &strips, board, question),
+        Ended::ByBoard(number) => (2, put_line(out, b"board", number)),
+        Ended::ByFile(number) => (2, put_line(out, b"file", number)),
+    }
 }
 
 // Asks foil 0 of a sheet else empty, and puts what is to be written at the front of a list: the answer's bytes, or the
@@ -94,11 +104,19 @@ pub fn put_line(out: &mut [u8], word: &[u8], number: u8) -> usize
     put_bytes(out, c, b"\n")
 }
 
-// Writes the first n bytes of a list, which are all that is to be written for a file.
-fn write_front(fd: i32, list: &[u8], n: usize, bytes: &[u8], question: Question) -> usize
-    requires { Holds list.now fd n (said_of question bytes.now) }
-    ensures { result ≡ length (said_of question bytes.now).bytes }
+// Writes the first n bytes of a list, which are the next of those that are to be written there, and counts them.
+fn write_front(
+    written: &mut usize,
+    fd: i32,
+    list: &[u8],
+    n: usize,
+    bytes: &[u8],
+    question: Question,
+)
+    requires fd_value { fd ≡ (said_of question bytes.now).fd }
+    requires next_of { NextOf (said_of question bytes.now).bytes written.old list.now n }
+    ensures { written.new ≡ written.old + n }
 {
     write_all(fd, &list[..n]);
-    n
+    *written += n;
 }

@@ -47,7 +47,7 @@ fn write_job(bytes: &[u8]) -> usize
             bytes,
             at,
         );
-        written = write_front(written, &out, done.size, bytes);
+        write_front(&mut written, &out, done.size, bytes);
         let Some(place) = done.next else {
             return written;
         };
@@ -56,11 +56,11 @@ fn write_job(bytes: &[u8]) -> usize
     written
 }
 
-// Writes the first n bytes of a list, which are the next of the job's output after so many; how many are written then.
-fn write_front(written: usize, list: &[u8], n: usize, bytes: &[u8]) -> usize
-    requires { NextOf (output bytes.now) written list.now n }
-    ensures { result ≡ written + n }
+// Writes the first n bytes of a list, which are the next of the job's output, and counts them.
+fn write_front(written: &mut usize, list: &[u8], n: usize, bytes: &[u8])
+    requires { NextOf (output bytes.now) written.old list.now n }
+    ensures { written.new ≡ written.old + n }
 {
     io::write_all(1, &list[..n]);
-    written + n
+    *written += n;
 }

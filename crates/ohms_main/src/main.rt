@@ -45,32 +45,37 @@ fn write_job(bytes: &[u8], given: &[u8; 24]) -> usize
     let mut table = [0u16; SHEET_SIZE];
     let mut strips = [0u16; STRIPS_SIZE];
     let mut line = [0u8; 32];
+    let mut written = 0;
     let n = match run_job(&mut table, &mut strips, bytes) {
-        Ended::AtMark(board) => return write_nets(&table, &strips, board, bytes, given),
+        Ended::AtMark(board) => {
+            write_nets(&mut written, &table, &strips, board, bytes, given);
+            return written;
+        }
         Ended::ByBoard(number) => put_line(&mut line, b"board", number),
         Ended::ByFile(number) => put_line(&mut line, b"file", number),
     };
-    write_front(0, &line, n, bytes, given)
+    write_front(&mut written, &line, n, bytes, given);
+    written
 }
 
-// Writes the ohms of each net on foil 0 of a sheet else empty; how many bytes that are.
+// Writes the ohms of each net on foil 0 of a sheet else empty, and counts their bytes.
 fn write_nets(
+    written: &mut usize,
     table: &[u16; SHEET_SIZE],
     strips: &[u16; STRIPS_SIZE],
     board: Board,
     bytes: &[u8],
     given: &[u8; 24],
-) -> usize
-    requires { Reached bytes.now board table.now strips.now }
-    ensures { result ≡ length (ohms_output given.now bytes.now) }
+)
+    requires written_value { written.old ≡ 0 }
+    requires reached { Reached bytes.now board table.now strips.now }
+    ensures { written.new ≡ length (ohms_output given.now bytes.now) }
 {
-    let mut written = 0;
     for k in 0..999 {
         let mut line = [0u8; 64];
         let n = put_ohms_of(&mut line, table, strips, board, k + 1, ink_of(given));
-        written = write_front(written, &line, n, bytes, given);
+        write_front(written, &line, n, bytes, given);
     }
-    written
 }
 
 // Puts the line of a net at the front of a list, if it is on the foil, whose entries come first. The places after the
@@ -93,12 +98,11 @@ fn put_ohms_of(
     put_net(out, net, answer)
 }
 
-// Writes the first n bytes of a list, which are the next of those that are to be written, of which so many are written;
-// how many are then.
-fn write_front(written: usize, list: &[u8], n: usize, bytes: &[u8], given: &[u8; 24]) -> usize
-    requires { NextOf (ohms_output given.now bytes.now) written list.now n }
-    ensures { result ≡ written + n }
+// Writes the first n bytes of a list, which are the next of those that are to be written, and counts them.
+fn write_front(written: &mut usize, list: &[u8], n: usize, bytes: &[u8], given: &[u8; 24])
+    requires { NextOf (ohms_output given.now bytes.now) written.old list.now n }
+    ensures { written.new ≡ written.old + n }
 {
     io::write_all(1, &list[..n]);
-    written + n
+    *written += n;
 }

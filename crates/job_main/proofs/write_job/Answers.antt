@@ -15,19 +15,19 @@ loop-init c = (
   first-comes _ _ _,
 )
 
-pub write_front-written-requires : goal.write_front-written-requires
-write_front-written-requires c = next-lines _ _ _ _ _ c.loop.invariant.1 (omega arith) _ _ _ _ _ _ _ _ c.report_record-done.ensures.record_reported
-    c.report_record-done.ensures.size_bound
+pub write_front-requires : goal.write_front-requires
+write_front-requires c = next-lines _ _ _ _ _ c.loop.invariant.1 (omega arith) _ _ _ _ _ _ _ _
+    c.report_record-done.ensures.record_reported c.report_record-done.ensures.size_bound
 
 pub returns-in_default : goal.returns-in_default
 returns-in_default c = ends _ _ _ _ _ c.loop.invariant.1 (omega arith) _ _ _ _ _ _ _ _ c.report_record-done.ensures.record_reported
-    c.report_record-done.ensures.size_bound _ c.write_front-written.ensures c.in_default.is
+    c.report_record-done.ensures.size_bound _ c.write_front.ensures c.in_default.is
 
 pub loop-preserved : goal.loop-preserved
 loop-preserved c = (
   omega arith,
   goes_on _ _ _ _ _ c.loop.invariant.1 (omega arith) _ _ _ _ _ _ _ _ c.report_record-done.ensures.record_reported
-      c.report_record-done.ensures.size_bound _ c.write_front-written.ensures _ c.in-Some.is,
+      c.report_record-done.ensures.size_bound _ c.write_front.ensures _ c.in-Some.is,
   reported-comes _ _ _ _ _ _ _ _ _ _ _ _ _ c.report_record-done.ensures.record_reported _ c.in-Some.is,
 )
 

@@ -6,7 +6,7 @@ use Rattle.ohms_main.proofs.write_job.Goals as goal
 use Rattle.ohms_main.proofs.write_job.Goals.{in-ByBoard, in-ByFile}
 
 pub write_nets-requires : goal.write_nets-requires
-write_nets-requires c = reached _ _ _ _ c.run_job.ensures _ c.in-AtMark.is
+write_nets-requires c = record { written_value = omega arith; reached = reached _ _ _ _ c.run_job.ensures _ c.in-AtMark.is }
 
 pub write_front-requires : goal.write_front-requires
 write_front-requires c = elim c.match-run_job.branch [

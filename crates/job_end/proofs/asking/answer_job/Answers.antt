@@ -1,17 +1,14 @@
--- What is to be written is the answer at the end mark, and else the line of how the job ended.
-use Rattle.job_end.proofs.Answering.{fd-kept, mark-said, board-said, file-said, line-holds}
+-- What is put is all that is to be written, and nothing is written before it.
+use native.Mathlib.Omega.{arith}
+use mathlib.Core.Path.{◌∙◌}
+use Rattle.job_end.proofs.Answering.{all-next, all-written, fd-kept}
 use Rattle.job_end.proofs.asking.answer_job.Goals as goal
-use Rattle.job_end.proofs.asking.answer_job.Goals.{in-AtMark, in-ByBoard, in-ByFile}
 
 pub write_front-requires : goal.write_front-requires
-write_front-requires c = elim c.match-run_job.branch [
-  | in-AtMark w ↦
-      rw (w.out-is, w.fd-is, fd-kept _ _ _ _ _ w.put_answer.ensures)
-      (rw (mark-said _ _ _ _ c.run_job.ensures _ _ w.in-AtMark.is) w.put_answer.ensures)
-  | in-ByBoard w ↦
-      rw (w.out-is, w.fd-is)
-      (line-holds w.put_line.ensures _ (board-said _ _ _ _ c.run_job.ensures _ _ w.in-ByBoard.is))
-  | in-ByFile w ↦
-      rw (w.out-is, w.fd-is)
-      (line-holds w.put_line-in-ByFile.ensures _ (file-said _ _ _ _ c.run_job.ensures _ _ w.in-ByFile.is))
-]
+write_front-requires c = record {
+  fd_value = fd-kept _ _ _ _ _ c.put_said-fd.ensures ∙ c.put_said-fd.ensures.to;
+  next_of = all-next _ _ _ _ c.put_said-fd.ensures (omega arith);
+}
+
+pub returns : goal.returns
+returns c = omega (arith, c.write_front.ensures, all-written _ _ _ _ c.put_said-fd.ensures)
