@@ -213,5 +213,5 @@ pub fn choose(map: &[bool; 4096], x: u16, y: u16) -> usize
     ensures { result ≤ 4096 }
 {
     let later = first_free(map, usize::from(y) * 64 + usize::from(x));
-    later.or(first_free(map, 0)).unwrap_or(4096)
+    later.or_else(|| first_free(map, 0)).unwrap_or(4096)
 }

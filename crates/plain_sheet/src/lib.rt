@@ -9,5 +9,5 @@ mod wants;
 
 pub use asks::{Asked, Four, Kind, Short, Terms, Wrong, choose, elbow, list_size};
 pub use records::record_of;
-pub use rows::{Kept, foil_at, none_begun, sum, write_strips, write_table};
+pub use rows::{Kept, foil_at, no_foil, none_begun, sum, write_strips, write_table};
 pub use wants::{Want, want_of};

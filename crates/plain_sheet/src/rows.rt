@@ -3,24 +3,39 @@ ghost use Rattle.std.specs.Prelude.{◌*◌, ◌≤◌};
 
 use plain_foil::{Foil, strips};
 
-// A foil, and the row of its entries.
+// A foil's size, the half width and the gap of its pen, and how many entries it has, whatever the number is; and the
+// row of its entries.
 #[derive(Clone, Copy)]
 pub struct Kept {
-    pub foil: Foil,
+    pub width: u16,
+    pub height: u16,
+    pub half: u16,
+    pub gap: u16,
+    pub entries: usize,
     pub row: [u16; 640],
 }
 
 // Eight foils that are not begun.
 pub fn none_begun() -> [Kept; 8] {
-    let none = Kept {
-        foil: no_foil(),
-        row: [0; 640],
-    };
-    [none; 8]
+    [with_row(no_foil(), [0; 640]); 8]
+}
+
+// A foil with its row.
+pub(crate) fn with_row(foil: Foil, row: [u16; 640]) -> Kept {
+    Kept {
+        width: foil.width,
+        height: foil.height,
+        half: foil.half,
+        gap: foil.gap,
+        entries: foil.entries,
+        row,
+    }
 }
 
 // A foil that is not begun.
-fn no_foil() -> Foil {
+pub fn no_foil() -> Foil
+    ensures { result.entries ≤ 128 }
+{
     Foil {
         width: 0,
         height: 0,
@@ -30,12 +45,20 @@ fn no_foil() -> Foil {
     }
 }
 
-// Foil k; where the sheet has none, one that is not begun.
-pub fn foil_at(all: &[Kept; 8], k: usize) -> Foil {
-    if 7 < k {
+// Foil k, which has at most 128 entries; where the sheet has none, one that is not begun.
+pub fn foil_at(all: &[Kept; 8], k: usize) -> Foil
+    ensures { result.entries ≤ 128 }
+{
+    if 7 < k || 128 < all[k].entries {
         return no_foil();
     }
-    all[k].foil
+    Foil {
+        width: all[k].width,
+        height: all[k].height,
+        half: all[k].half,
+        gap: all[k].gap,
+        entries: all[k].entries,
+    }
 }
 
 // The sum over the foils of the larger of `least` and a foil's entries.
@@ -45,7 +68,7 @@ pub fn sum(all: &[Kept; 8], least: usize) -> usize
 {
     let mut sum: usize = 0;
     for k in 0..8 {
-        sum += all[k].foil.entries.max(least);
+        sum += foil_at(all, k).entries.max(least);
     }
     sum
 }
@@ -55,33 +78,33 @@ pub fn write_table(table: &mut [u16; 2565], all: &[Kept; 8]) {
     table[..2560].fill(0);
     let mut at: usize = 0;
     for k in 0..8 {
-        at = put_row(table, at, all[k]);
+        at = put_row(table, at, &all[k].row, foil_at(all, k));
     }
 }
 
 // Puts the entries of a foil into a table from a place on, if they end in it, and answers the place after them.
-fn put_row(table: &mut [u16; 2565], at: usize, one: Kept) -> usize
+fn put_row(table: &mut [u16; 2565], at: usize, row: &[u16; 640], foil: Foil) -> usize
     requires { at ≤ 2560 }
     ensures { result ≤ 2560 }
 {
-    let n = one.foil.entries * 5;
+    let n = foil.entries * 5;
     let end = at + n;
     if 2560 < end {
         return at;
     }
-    table[at..end].copy_from_slice(&one.row[..n]);
+    table[at..end].copy_from_slice(&row[..n]);
     end
 }
 
 // Writes the strips of foil k, zeros after them up to 4,096 places, and answers how many they are. The list stays as it
 // is where the foil is not begun.
 pub fn write_strips(list: &mut [u16; 16388], all: &[Kept; 8], k: usize) -> usize {
-    if 7 < k || all[k].foil.width == 0 {
+    let foil = foil_at(all, k);
+    if foil.width == 0 {
         return 0;
     }
-    let row = all[k].row;
     let mut anew = [0u16; 16384];
-    let count = strips(&mut anew, &row, all[k].foil);
+    let count = strips(&mut anew, &all[k % 8].row, foil);
     list[..16384].copy_from_slice(&anew);
     count
 }

@@ -3,7 +3,7 @@ ghost use Rattle.std.specs.Prelude.{◌≡◌, ◌+◌, ◌<◌, ◌≤◌};
 
 use crate::asks::{Asked, Kind, Short, Wrong, elbow, list_size};
 use crate::records::{record_of, spell};
-use crate::rows::{Kept, sum};
+use crate::rows::{Kept, foil_at, sum, with_row};
 use foil_spec::{Entry, Reason};
 use places::entry_at;
 use plain_foil::{Foil, Ran};
@@ -67,17 +67,21 @@ fn called(all: &mut [Kept; 8], path: &mut [u16; 8192], asked: Asked) -> Result<u
     if 7 < k {
         return Err(Reason::NoSuchFoil);
     }
-    let mut one = all[k];
-    check_lent(one.foil, asked)?;
-    let answer = alone(&mut one, path, asked)?;
-    all[k] = one;
+    let mut foil = foil_at(all, k);
+    check_lent(foil, asked)?;
+    let mut row = all[k].row;
+    let answer = alone(&mut row, &mut foil, path, asked)?;
+    all[k] = with_row(foil, row);
     Ok(answer)
 }
 
 // What the call would come to on a foil of its own.
-fn alone(one: &mut Kept, path: &mut [u16; 8192], asked: Asked) -> Result<usize, Reason> {
-    let row = &mut one.row;
-    let foil = &mut one.foil;
+fn alone(
+    row: &mut [u16; 640],
+    foil: &mut Foil,
+    path: &mut [u16; 8192],
+    asked: Asked,
+) -> Result<usize, Reason> {
     let net = asked.net;
     let room = asked.room;
     let f = asked.four;

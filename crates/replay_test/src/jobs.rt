@@ -203,7 +203,9 @@ fn fields(bytes: &mut [u8; 12000], map: u16, cursor: Cursor, size: Size, crowded
 }
 
 // The part of a foil that patches keep to.
-fn part(size: Size, crowded: bool) -> Size {
+fn part(size: Size, crowded: bool) -> Size
+    ensures { result.width ≤ size.width }
+{
     let w = size.width;
     Size {
         width: if crowded { w - w / 2 } else { w },
