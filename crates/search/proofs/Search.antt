@@ -292,15 +292,22 @@ module _ {z t : List ℕ} {a : Aim} (P : Aimed z t a) {cols rows kl ku : List �
             };
           }
 
-  searched : {s : Start} → Labelling z t a cols rows kl ku nc nr i j true l u wl wu
+  searched-from : {s : Start} → Labelling z t a cols rows kl ku nc nr i j true l u wl wu
       → Starts l u wl wu ku rows nc nr i j s
       → Searched (path_to z t a) cols rows kl ku l u wl wu (Some s)
-  searched {s} B (goes up c) = record {
+  searched-from {s} B (goes up c) = record {
     nowhere = λ n. absurd (none-some s (sym n));
     begins = λ r n.
         subst (λ (q : Start). Begins (path_to z t a) cols rows kl ku l u wl wu q)
         (ap (λ (q : std.Option Start). unwrap_or q s) n) (searched-some B up c);
   }
+
+  -- whether the target was found or not
+  pub searched : {found : Bool} {s : Start} → Labelling z t a cols rows kl ku nc nr i j found l u wl wu
+      → (found ≡ true → Starts l u wl wu ku rows nc nr i j s)
+      → Searched (path_to z t a) cols rows kl ku l u wl wu (then_some found s)
+  searched {found = false} B S = searched-none P G B
+  searched {found = true} B S = searched-from B (S refl)
 
 module _ {z t : List ℕ} {a : Aim} (P : Aimed z t a) {cols rows kl ku : List ℕ} {nc nr : ℕ}
     (G : Grid z t a cols rows kl ku nc nr) {l u wl wu : List ℕ} where
@@ -323,4 +330,4 @@ module _ {z t : List ℕ} {a : Aim} (P : Aimed z t a) {cols rows kl ku : List �
       where
         go : {r : Arrived} {s : Start} → Labelled z t a cols rows kl ku nc nr l u wl wu (Some r)
             → Starts l u wl wu ku rows nc nr r.i r.j s → Searched (path_to z t a) cols rows kl ku l u wl wu (Some s)
-        go (arrived i j B) S = searched P G Z B S
+        go (arrived i j B) S = searched P G Z B (λ found. S)
