@@ -75,8 +75,9 @@ class Lines(unittest.TestCase):
 
     def test_a_library_that_has_an_old_result(self):
         self.end("host")
-        time.sleep(0.02)
         self.logs.joinpath("host.say").write_text("")
+        before = time.time() - 0.5
+        os.utime(self.logs / "host.res", (before, before))
         with contextlib.redirect_stderr(io.StringIO()):
             shown = progress.Progress(["host"], {}, self.logs)
         self.assertEqual(shown.under_way(), ["host"])
